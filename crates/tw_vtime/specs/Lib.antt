@@ -1,0 +1,3 @@
+pub mod Advance
+pub mod Refusals
+pub mod Stamps

@@ -1,6 +1,6 @@
 -- When a component has its next own step after a transition (Chow and Zeigler 1994; superdense time with a greatest microstep).
 --     advanced at ta micro_limit      after the transition at this stamp, with this time advance
-use Rattle.std.specs.Prelude.{◌==◌, ◌+◌, ◌≤◌, ℕ, nat_le, Option, None, Some, Result, Ok, Err, if◌then◌else◌}
+use Rattle.std.specs.Prelude.{◌==◌, ◌+◌, ℕ, nat_le, Option, None, Some, Result, Ok, Err, if◌then◌else◌}
 use Rattle.tw_vtime.specs.declared.limits.Limit.{Limit}
 use Rattle.tw_vtime.specs.declared.limits.Limit.TheVariants.{Microstep, Tick}
 use Rattle.tw_vtime.specs.Stamps.{max_tick, stamp, tick_of, micro_of}

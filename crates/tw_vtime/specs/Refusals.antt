@@ -62,6 +62,10 @@ refusal_name WriteFailed = codes "WriteFailed"
 abbrev pub refusal_text : Refusal → List ℕ
 refusal_text r = decimal (refusal_number r) ++ codes " " ++ refusal_name r
 
+-- the refusal of a growth of memory
+abbrev pub no_memory : Refusal
+no_memory = OutOfMemory
+
 -- the refusal of what is no stamp
 abbrev pub refused_range : Refusal
 refused_range = Range

@@ -1,8 +1,9 @@
 //! The refusals of the whole workspace, in one table.
 
 ghost use Rattle.std.specs.Prelude.{◌≡◌, Some};
-ghost use Rattle.tw_vtime.specs.Refusals.{refusal_number, refusal_name, refusal_text};
+ghost use Rattle.tw_vtime.specs.Refusals.{refusal_number, refusal_name, refusal_text, no_memory};
 
+use std::alloc::{AllocError, AllocFailed};
 use std::fmt;
 
 /// What a call, a file or a command line is refused for.
@@ -99,6 +100,23 @@ impl Refusal {
             Refusal::BadLine => "BadLine",
             Refusal::WriteFailed => "WriteFailed",
         }
+    }
+}
+
+impl From<AllocError> for Refusal {
+    ghost from_gives = { λ _ refusal. refusal ≡ no_memory };
+
+    fn from(_error: AllocError) -> Refusal {
+        Refusal::OutOfMemory
+    }
+}
+
+/// What could not be stored is given up.
+impl<T: Drop> From<AllocFailed<T>> for Refusal {
+    ghost from_gives = { λ _ refusal. refusal ≡ no_memory };
+
+    fn from(failed: AllocFailed<T>) -> Refusal {
+        Refusal::from(AllocError::from(failed))
     }
 }
 

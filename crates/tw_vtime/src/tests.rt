@@ -127,6 +127,7 @@ fn advances_as_listed(rt: HostRuntime) -> Result<(), Fail> {
 
 #[test]
 fn numbers_and_names_refusals(rt: HostRuntime) -> Result<(), Fail> {
+    assert_eq!(rt; Refusal::from(std::alloc::AllocError), Refusal::OutOfMemory);
     for (refusal, text) in [
         (Refusal::from(Range), "1 Range"),
         (Refusal::from(Limit::Microstep), "2 Microstep"),

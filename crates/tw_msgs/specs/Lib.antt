@@ -1,0 +1,4 @@
+pub mod Bags
+pub mod Counting
+pub mod Messages
+pub mod Words

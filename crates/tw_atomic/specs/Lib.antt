@@ -1,0 +1,2 @@
+pub mod Atomic
+pub mod Counter

@@ -1,0 +1,200 @@
+-- How a sound executive shows the end of the run.
+use Rattle.std.proofs.Common.{◌≡◌, ℕ, zero, suc, ◌+◌, ◌<◌, ◌≤◌, List, [], ◌∷◌, Bool, true, false, cond, not, ◌&&◌, true≢false, Option, Some, None, Result, Ok, Err, refl, sym, ap, ◌∙◌, subst, arith}
+use Rattle.std.specs.Prelude.{slice_get, slice_index_or, filter, ◌==◌, nat_lt, ◌≢◌}
+use Rattle.std.specs.List.{AllByRecursion as Each}
+use Rattle.std.proofs.lemmas.Bool.{and_parts, eq-eqb, eqb-true, leb-true, ltb-true, cond_both}
+use Rattle.std.proofs.lemmas.Option.{same_Some, none-some}
+use Rattle.tw_laws.specs.Ending.{ShowsFault, EndingLaw, State, Complete, Fault, Going, is_empty, none_at, all_quiet, all_empty, limit_of, fault_at, first_fault, all_past, state, StateLaw}
+use Rattle.tw_msgs.specs.declared.message.Item.{Item}
+use Rattle.tw_msgs.specs.declared.message.Message.{Message}
+use Rattle.tw_theory.specs.Contents.{Process, next}
+use Rattle.tw_theory.specs.Executive.{World}
+use Rattle.tw_theory.specs.LocalRun.{Made, NothingDue, OverLimit, local_step, NoStep}
+use Rattle.tw_theory.specs.Network.{Network, IsNetwork}
+use Rattle.tw_theory.specs.Simulator.{sequential, up_to, records_before}
+use Rattle.tw_theory.specs.Soundness.{IsSound}
+use Rattle.tw_vtime.specs.Stamps.{stamp, max_tick, phase_of}
+use Rattle.tw_vtime.specs.declared.limits.Limit.{Limit}
+use Rattle.tw_laws.proofs.History.Faults.{fault_law}
+use Rattle.tw_laws.proofs.History.Committed.{fault_stamp}
+use Rattle.tw_laws.proofs.Settled.{held_by, settled, faulting, all_phase_one, process_at}
+
+module _ {S : Type 0} (net : Network S) (until : ℕ) (ok : IsNetwork net) (bound : until ≤ max_tick) (w : World S) (h : IsSound net until w) where
+  fault_shown : (c : ℕ) (limit : Limit) → ShowsFault net until w c limit → (sequential net until).fault ≡ Some (c, w.gvt, limit)
+  fault_shown c limit shows =
+      let before = shows.before in
+      let same : up_to until w.gvt ≡ w.gvt = omega arith in
+      fault_law net until (up_to until w.gvt) (held_by until w) bound (settled net until ok w h) c limit (faulting net until ok w h c limit shows)
+      ∙ ap (λ (g : ℕ). Some (c, g, limit)) same
+
+  no_fault : ((c : ℕ) (p : Process S) → slice_get w.processes c ≡ Some p → stamp until 0 0 ≤ p.line) → (f : Option (ℕ × ℕ × Limit)) → (sequential net until).fault ≡ f → f ≡ None
+  no_fault past None e = refl
+  no_fault past (Some f) e =
+      let within = fault_stamp net until bound (all_phase_one net net.inputs ok.inputs) f.0 f.1 f.2 e in
+      let q = process_at net until ok w h f.0 within.0 in
+      let late = past f.0 q.0 q.1 in
+      let stops = (h.each f.0 q.0 q.1).line_le_fault f.0 f.1 f.2 e in
+      let early = within.1 in
+      absurd (omega arith)
+
+  complete : ((c : ℕ) (p : Process S) → slice_get w.processes c ≡ Some p → stamp until 0 0 ≤ p.line)
+      → ((sequential net until).fault ≡ None) × ((c : ℕ) (p : Process S) → slice_get w.processes c ≡ Some p → slice_index_or w.columns c [] ≡ records_before net until c (stamp until 0 0))
+  complete past = (
+    no_fault past (sequential net until).fault refl,
+    λ c p at.
+        let late = past c p at in
+        let same : up_to until p.line ≡ up_to until (stamp until 0 0) = omega arith in
+        (h.each c p at).column_is ∙ ap (λ n. filter (λ r. (r.component == c) && nat_lt r.stamp n) (sequential net until).records) same,
+  )
+
+pub ending_law : {S : Type 0} → EndingLaw S
+ending_law = record {
+  fault = λ net until w ok bound h c limit shows. fault_shown net until ok bound w h c limit shows;
+  complete = λ net until w ok bound h past. complete net until ok bound w h past;
+}
+
+-- ---- what the state says
+
+empty_is : {X : Type 0} (xs : List X) → is_empty xs ≡ true → xs ≡ []
+empty_is [] e = refl
+empty_is (x ∷ xs) e = absurd (true≢false (sym e))
+
+none_at_is : (s : ℕ) (ms : List Message) → none_at s ms ≡ true → Each (λ m. m.stamp ≢ s) ms
+none_at_is s [] e = tt
+none_at_is s (m ∷ ms) e =
+    let parts = and_parts _ _ e in
+    ((λ same. true≢false (sym (eq-eqb m.stamp s same) ∙ not-true (m.stamp == s) parts.0)), none_at_is s ms parts.1)
+  where
+    not-true : (b : Bool) → not b ≡ true → b ≡ false
+    not-true true k = absurd (true≢false (sym k))
+    not-true false k = refl
+
+empty_mail : (mail : List (List Item)) → all_empty mail ≡ true → Each (λ box. box ≡ []) mail
+empty_mail [] e = tt
+empty_mail (box ∷ mail) e = let parts = and_parts _ _ e in (empty_is box parts.0, empty_mail mail parts.1)
+
+quiet_at : {S : Type 0} (g : ℕ) (ps : List (Process S)) → all_quiet g ps ≡ true → (d : ℕ) (q : Process S) → slice_get ps d ≡ Some q → (q.outgoing ≡ []) × Each (λ m. m.stamp ≢ g) q.owed
+quiet_at g [] e d q at = absurd (none-some q at)
+quiet_at {S} g (p ∷ ps) e zero q at =
+    let parts = and_parts (is_empty p.outgoing && none_at g p.owed) (all_quiet g ps) e in
+    let more = and_parts (is_empty p.outgoing) (none_at g p.owed) parts.0 in
+    subst (λ (x : Process S). (x.outgoing ≡ []) × Each (λ m. m.stamp ≢ g) x.owed) (same_Some p q at) (empty_is p.outgoing more.0, none_at_is g p.owed more.1)
+quiet_at g (p ∷ ps) e (suc d) q at = quiet_at g ps (and_parts (is_empty p.outgoing && none_at g p.owed) (all_quiet g ps) e).1 d q at
+
+past_at : {S : Type 0} (end : ℕ) (ps : List (Process S)) → all_past end ps ≡ true → (d : ℕ) (q : Process S) → slice_get ps d ≡ Some q → end ≤ q.line
+past_at end [] e d q at = absurd (none-some q at)
+past_at {S} end (p ∷ ps) e zero q at = subst (λ (x : Process S). end ≤ x.line) (same_Some p q at) (leb-true end p.line (and_parts _ _ e).0)
+past_at end (p ∷ ps) e (suc d) q at = past_at end ps (and_parts _ _ e).1 d q at
+
+limit_is : {S : Type 0} (r : Result (Made S) NoStep) (limit : Limit) → limit_of r ≡ Some limit → r ≡ Err (OverLimit limit)
+limit_is (Ok made) limit e = absurd (none-some limit e)
+limit_is (Err (OverLimit other)) limit e = ap (λ l. Err (OverLimit l)) (same_Some other limit e)
+limit_is (Err NothingDue) limit e = absurd (none-some limit e)
+
+-- the first process of the list that meets a limit at g
+record Found {S : Type 0} (net : Network S) (g b : ℕ) (ps : List (Process S)) (c s : ℕ) (limit : Limit) : Type 0 where
+  place : ℕ
+  is : c ≡ b + place
+  stamp_is : s ≡ g
+  process : Process S
+  at : slice_get ps place ≡ Some process
+  next_is : next process ≡ g
+  meets : local_step net c process.now process.pending ≡ Err (OverLimit limit)
+  least : (d : ℕ) (q : Process S) (other : Limit) → slice_get ps d ≡ Some q → d < place → next q ≡ g → local_step net (b + d) q.now q.pending ≡ Err (OverLimit other) → ⊥
+
+module _ {S : Type 0} (net : Network S) (g : ℕ) where
+  first_fault_is : (b : ℕ) (ps : List (Process S)) (c s : ℕ) (limit : Limit) → first_fault net g b ps ≡ Fault c s limit → Found net g b ps c s limit
+  first_fault_is b [] c s limit e = absurd (let bad : Going ≡ Fault c s limit = e in cc)
+  first_fault_is b (p ∷ ps) c s limit e = go (λ k. first_fault_is (suc b) ps c s limit k) (next p == g) refl e
+    where
+      later : ((other : Limit) → next p ≡ g → local_step net b p.now p.pending ≡ Err (OverLimit other) → ⊥) → Found net g (suc b) ps c s limit → Found net g b (p ∷ ps) c s limit
+      later none f = record {
+        place = suc f.place;
+        is = let i = f.is in omega arith;
+        stamp_is = f.stamp_is;
+        process = f.process;
+        at = f.at;
+        next_is = f.next_is;
+        meets = f.meets;
+        least = rest;
+      }
+        where
+          rest : (d : ℕ) (q : Process S) (other : Limit) → slice_get (p ∷ ps) d ≡ Some q → d < suc f.place → next q ≡ g → local_step net (b + d) q.now q.pending ≡ Err (OverLimit other) → ⊥
+          rest zero q other at l n met =
+              let same : p ≡ q = same_Some p q at in
+              let here : b + 0 ≡ b = omega arith in
+              none other (ap (λ (x : Process S). next x) same ∙ n) (ap (λ (x : Process S). local_step net b x.now x.pending) same ∙ ap (λ k. local_step net k q.now q.pending) (sym here) ∙ met)
+          rest (suc d) q other at l n met =
+              let here : suc b + d ≡ b + suc d = omega arith in
+              f.least d q other at (omega arith) n (ap (λ k. local_step net k q.now q.pending) here ∙ met)
+
+      met : (first_fault net g (suc b) ps ≡ Fault c s limit → Found net g (suc b) ps c s limit) → next p ≡ g → (o : Option Limit) → limit_of (local_step net b p.now p.pending) ≡ o → fault_at b g o (first_fault net g (suc b) ps) ≡ Fault c s limit → Found net g b (p ∷ ps) c s limit
+      met ih n None q k = later (λ other m bad. none-some other (sym q ∙ ap (limit_of {S = S}) bad)) (ih k)
+      met ih n (Some found) q k =
+          let same : Fault b g found ≡ Fault c s limit = k in
+          let a : b ≡ c = cc in
+          let t : g ≡ s = cc in
+          let l : found ≡ limit = cc in
+          record {
+            place = 0;
+            is = omega arith;
+            stamp_is = sym t;
+            process = p;
+            at = refl;
+            next_is = n;
+            meets = subst (λ x. local_step net x p.now p.pending ≡ Err (OverLimit limit)) a (limit_is (local_step net b p.now p.pending) limit (q ∙ ap (λ (x : Limit). Some x) l));
+            least = λ d r other at early. absurd (omega arith);
+          }
+
+      go : (first_fault net g (suc b) ps ≡ Fault c s limit → Found net g (suc b) ps c s limit) → (t : Bool) → (next p == g) ≡ t → fault_at b g (cond t (limit_of (local_step net b p.now p.pending)) None) (first_fault net g (suc b) ps) ≡ Fault c s limit → Found net g b (p ∷ ps) c s limit
+      go ih true n k = met ih (eqb-true (next p) g n) _ refl k
+      go ih false n k = later (λ other m bad. true≢false (sym (eq-eqb (next p) g m) ∙ n)) (ih k)
+
+module _ {S : Type 0} (net : Network S) (until : ℕ) (w : World S) where
+  shows : (c s : ℕ) (limit : Limit) → (all_quiet w.gvt w.processes && all_empty w.mail && nat_lt w.gvt (stamp until 0 0) && (phase_of w.gvt == 1)) ≡ true → Found net w.gvt 0 w.processes c s limit → ShowsFault net until w c limit
+  shows c s limit e f =
+      let three = and_parts (all_quiet w.gvt w.processes && all_empty w.mail && nat_lt w.gvt (stamp until 0 0)) (phase_of w.gvt == 1) e in
+      let two = and_parts (all_quiet w.gvt w.processes && all_empty w.mail) (nat_lt w.gvt (stamp until 0 0)) three.0 in
+      let one = and_parts (all_quiet w.gvt w.processes) (all_empty w.mail) two.0 in
+      let same : f.place ≡ c = let i = f.is in omega arith in
+      record {
+        before = ltb-true w.gvt (stamp until 0 0) two.1;
+        odd = eqb-true (phase_of w.gvt) 1 three.1;
+        outgoing = λ d q at. (quiet_at w.gvt w.processes one.0 d q at).0;
+        mail = empty_mail w.mail one.1;
+        owed = λ d q at. (quiet_at w.gvt w.processes one.0 d q at).1;
+        process = f.process;
+        at = subst (λ k. slice_get w.processes k ≡ Some f.process) same f.at;
+        next_is = f.next_is;
+        meets = f.meets;
+        least = λ d q other at l n met. let zero_d : 0 + d ≡ d = omega arith in f.least d q other at (omega arith) n (ap (λ k. local_step net k q.now q.pending) zero_d ∙ met);
+      }
+
+  state_fault : IsNetwork net → until ≤ max_tick → IsSound net until w → (c s : ℕ) (limit : Limit) → state net until w ≡ Fault c s limit → (s ≡ w.gvt) × ((sequential net until).fault ≡ Some (c, s, limit))
+  unfolding state
+  state_fault ok bound h c s limit =
+      cond_both (all_past (stamp until 0 0) w.processes) _ _ (λ (x : State). x ≡ Fault c s limit → (s ≡ w.gvt) × ((sequential net until).fault ≡ Some (c, s, limit)))
+      (λ e bad. absurd (let k : Complete ≡ Fault c s limit = bad in cc))
+      (λ e. cond_both (all_quiet w.gvt w.processes && all_empty w.mail && nat_lt w.gvt (stamp until 0 0) && (phase_of w.gvt == 1)) _ _ (λ (x : State). x ≡ Fault c s limit → (s ≡ w.gvt) × ((sequential net until).fault ≡ Some (c, s, limit)))
+      (λ d k. let f = first_fault_is net w.gvt 0 w.processes c s limit k in (f.stamp_is, fault_shown net until ok bound w h c limit (shows c s limit d f) ∙ ap (λ x. Some (c, x, limit)) (sym f.stamp_is)))
+      (λ d bad. absurd (let k : Going ≡ Fault c s limit = bad in cc)))
+
+  not_complete : (ps : List (Process S)) (b : ℕ) → first_fault net w.gvt b ps ≡ Complete → ⊥
+  not_complete [] b e = let k : Going ≡ Complete = e in cc
+  not_complete (p ∷ ps) b e = go (λ k. not_complete ps (suc b) k) (cond (next p == w.gvt) (limit_of (local_step net b p.now p.pending)) None) e
+    where
+      go : (first_fault net w.gvt (suc b) ps ≡ Complete → ⊥) → (o : Option Limit) → fault_at b w.gvt o (first_fault net w.gvt (suc b) ps) ≡ Complete → ⊥
+      go ih None k = ih k
+      go ih (Some limit) k = let bad : Fault b w.gvt limit ≡ Complete = k in cc
+
+  state_complete : IsNetwork net → until ≤ max_tick → IsSound net until w → state net until w ≡ Complete → (sequential net until).fault ≡ None
+  unfolding state
+  state_complete ok bound h =
+      cond_both (all_past (stamp until 0 0) w.processes) _ _ (λ (x : State). x ≡ Complete → (sequential net until).fault ≡ None)
+      (λ e k. (complete net until ok bound w h (λ c p at. past_at (stamp until 0 0) w.processes e c p at)).0)
+      (λ e. cond_both (all_quiet w.gvt w.processes && all_empty w.mail && nat_lt w.gvt (stamp until 0 0) && (phase_of w.gvt == 1)) _ _ (λ (x : State). x ≡ Complete → (sequential net until).fault ≡ None)
+      (λ d k. absurd (not_complete w.processes 0 k))
+      (λ d bad. absurd (let k : Going ≡ Complete = bad in cc)))
+
+pub state_law : {S : Type 0} → StateLaw S
+state_law = record { fault = λ net until w ok bound h. state_fault net until w ok bound h; complete = λ net until w ok bound h. state_complete net until w ok bound h }

@@ -1,0 +1,14 @@
+pub mod Agreement
+pub mod Bags
+pub mod Clock
+pub mod Committed
+pub mod Components
+pub mod Consumed
+pub mod Counts
+pub mod Faults
+pub mod GoingOn
+pub mod LocalRuns
+pub mod RecordOrder
+pub mod RoundBags
+pub mod RoundTurns
+pub mod Rounds

@@ -1,0 +1,82 @@
+-- The simulator's fault stands before the end of the run, and no line passes it; gvt never falls.
+use Rattle.std.proofs.Common.{◌≡◌, ℕ, ◌<◌, ◌≤◌, Option, Some, None, Result, Ok, Err, subst, arith, slice_get}
+use Rattle.std.specs.Prelude.{◌==◌, ◌≢◌, nat_lt}
+use Rattle.std.proofs.lemmas.Bool.{eq-eqb, cond_both}
+use Rattle.tw_laws.specs.Committed.{LinesLaw}
+use Rattle.tw_msgs.specs.Bags.{Bag}
+use Rattle.tw_msgs.specs.declared.message.Item.{Item}
+use Rattle.tw_theory.specs.Contents.{Process, next}
+use Rattle.tw_theory.specs.Executive.{World, Action, Post, Deliver, Back, Raise, Harvest, Answer, act, act_step, act_post, act_deliver, act_back, act_harvest, if_made, mail_of}
+use Rattle.tw_theory.specs.LocalRun.{Moment, Made, output, NoStep}
+use Rattle.tw_theory.specs.Network.{Network, IsNetwork}
+use Rattle.tw_theory.specs.Simulator.{Moves, Stays, sequential}
+use Rattle.tw_theory.specs.Soundness.{new_world, IsSound}
+use Rattle.tw_vtime.specs.Stamps.{stamp, max_tick, phase_of}
+use Rattle.tw_vtime.specs.declared.limits.Limit.{Limit}
+use Rattle.tw_laws.proofs.History.Clock.{NoLimit, act_if, clock_step, clock}
+use Rattle.tw_laws.proofs.History.Clock as clocked
+use Rattle.tw_laws.proofs.History.Committed.{extent}
+use Rattle.tw_laws.proofs.Settled.{all_phase_one}
+use Rattle.tw_laws.proofs.Starting.{start_sound}
+use Rattle.tw_laws.proofs.Harvesting.{replay_sound}
+
+module _ {S : Type 0} (net : Network S) where
+  -- no limit is met at an output stamp
+  even_calm : (c s : ℕ) (bag : Bag) (o : Option (Moment S)) → phase_of s ≡ 0 → NoLimit (act_if net c s bag o)
+  unfolding NoLimit act_if clocked.act
+  even_calm c s bag None even = tt
+  even_calm c s bag (Some now) even =
+      rw (eq-eqb (phase_of s) 0 even) (cond_both (now.due == s) (Moves (output net c now s)) Stays (NoLimit {S = S}) (λ e. tt) (λ e. tt))
+
+  fault_within : (until : ℕ) → IsNetwork net → until ≤ max_tick → (b s : ℕ) (limit : Limit) → (sequential net until).fault ≡ Some (b, s, limit) → s < stamp until 0 0
+  unfolding NoLimit
+  fault_within until ok bound b s limit q =
+      let x = extent net until (all_phase_one net net.inputs ok.inputs) bound in
+      let f = x.1.fault (b, s, limit) q in
+      let calm : phase_of x.0 ≢ 0 = λ even. subst NoLimit f.2 (even_calm b x.0 _ _ even) in
+      let within = x.1.within in
+      let same = f.0 in
+      let not_end : x.0 ≢ stamp until 0 0 = λ e. calm (omega arith) in
+      omega arith
+
+pub lines_law : {S : Type 0} → LinesLaw S
+lines_law {S} net cancel until actions ok bound c p at b s limit q =
+    let h = (replay_sound net until (new_world net cancel) actions ok bound (start_sound net cancel until ok)).each c p at in
+    let within = fault_within net until ok bound b s limit q in
+    let l = h.line_le_fault b s limit q in
+    (within, omega arith)
+
+module _ {S : Type 0} (net : Network S) (until : ℕ) (w : World S) where
+  made_gvt : (c : ℕ) (p : Process S) (r : Result (Made S) NoStep) → w.gvt ≤ (if_made w c p r).1.gvt
+  made_gvt c p (Ok made) = omega arith
+  made_gvt c p (Err why) = omega arith
+
+  step_gvt : (c : ℕ) (o : Option (Process S)) → w.gvt ≤ (act_step net until w c o).1.gvt
+  step_gvt c None = omega arith
+  step_gvt c (Some p) = cond_both (nat_lt (next p) (stamp until 0 0)) _ _ (λ (r : Answer × World S). w.gvt ≤ r.1.gvt) (λ e. made_gvt c p _) (λ e. omega arith)
+
+  post_gvt : (c : ℕ) (o : Option (Process S)) → w.gvt ≤ (act_post w c o).1.gvt
+  post_gvt c None = omega arith
+  post_gvt c (Some p) = omega arith
+
+  deliver_gvt : (c i : ℕ) (o : Option (Process S)) (x : Option Item) → w.gvt ≤ (act_deliver w c i o x).1.gvt
+  deliver_gvt c i None x = omega arith
+  deliver_gvt c i (Some p) None = omega arith
+  deliver_gvt c i (Some p) (Some x) = omega arith
+
+  back_gvt : (c s : ℕ) (o : Option (Process S)) → w.gvt ≤ (act_back w c s o).1.gvt
+  back_gvt c s None = omega arith
+  back_gvt c s (Some p) = cond_both (nat_lt s w.gvt) _ _ (λ (r : Answer × World S). w.gvt ≤ r.1.gvt) (λ e. omega arith) (λ e. omega arith)
+
+  harvest_gvt : (c : ℕ) (o : Option (Process S)) → w.gvt ≤ (act_harvest w c o).1.gvt
+  harvest_gvt c None = omega arith
+  harvest_gvt c (Some p) = omega arith
+
+pub gvt_rises : {S : Type 0} (net : Network S) (until : ℕ) (w : World S) → IsSound net until w → (action : Action) → w.gvt ≤ (act net until w action).1.gvt
+unfolding act
+gvt_rises net until w h (Action.Step c) = step_gvt net until w c (slice_get w.processes c)
+gvt_rises net until w h (Post c) = post_gvt net until w c (slice_get w.processes c)
+gvt_rises net until w h (Deliver c i) = deliver_gvt net until w c i (slice_get w.processes c) (slice_get (mail_of w.mail c) i)
+gvt_rises net until w h (Back c s) = back_gvt net until w c s (slice_get w.processes c)
+gvt_rises net until w h Raise = h.gvt_le
+gvt_rises net until w h (Harvest c) = harvest_gvt net until w c (slice_get w.processes c)

@@ -1,0 +1,73 @@
+-- What a rewind that is not refused leaves.
+use Rattle.std.proofs.Common.{◌≡◌, ℕ, zero, suc, ◌+◌, List, [], ◌∷◌, ◌++◌, length, Bool, true, false, cond, not, Some, refl, sym, ap, ap₂, ◌∙◌, arith}
+use Rattle.std.specs.Prelude.{slice_get, ◌==◌, pos, ◌-ℤ◌}
+use Rattle.std.proofs.lemmas.Int.{ints}
+use Rattle.std.proofs.lemmas.Option.{same_Some, none-some}
+use Rattle.tw_laws.specs.Rewinding.{taken_back, AllCancel, IsCutAt, IsRewound, RewindingLaw}
+use Rattle.tw_msgs.specs.Counting.{total, one_at, when_positive, when_anti, signed_count}
+use Rattle.tw_msgs.specs.declared.message.Message.{Message}
+use Rattle.tw_theory.specs.Balance.{all_outgoing, all_mail, in_transit}
+use Rattle.tw_theory.specs.Contents.{Process, Aggressive, cut, back_to_first, steps_before}
+use Rattle.tw_theory.specs.Executive.{World, Answer, Undone, Refused, NoSuch, Committed}
+use Rattle.tw_theory.specs.Marks.{any_committed, rewound, rewound_steps, rewind}
+use Rattle.tw_theory.proofs.Cuts.{inputs_of_cut}
+use Rattle.tw_laws.proofs.Cutting.{kept_before}
+use Rattle.tw_laws.proofs.Transit.{rewound_transit}
+use Rattle.tw_msgs.proofs.Totals.{total-append}
+
+fewer : (plus minus less plus' minus' : ℕ) → plus' ≡ plus → minus' ≡ minus + less → pos plus' -ℤ pos minus' ≡ (pos plus -ℤ pos minus) -ℤ pos less
+fewer plus minus less plus' minus' p q = omega (arith, ints, p, q)
+
+module _ {S : Type 0} where
+  cut_back : (s : ℕ) (p : Process S) → IsCutAt s p (cut s p)
+  unfolding back_to_first
+  cut_back s p = record { is = refl; keeps = kept_before s p.history; inputs_stay = inputs_of_cut (steps_before s p.history) p; line = refl }
+
+  rewound_at : (ss : List ℕ) (ps : List (Process S)) (c s : ℕ) (p : Process S) → slice_get ss c ≡ Some s → slice_get ps c ≡ Some p → slice_get (rewound ss ps) c ≡ Some (cut s p)
+  rewound_at [] ps c s p a b = absurd (none-some s a)
+  rewound_at (x ∷ ss) [] c s p a b = absurd (none-some p b)
+  rewound_at (x ∷ ss) (y ∷ ps) zero s p a b = ap₂ (λ (k : ℕ) (q : Process S). Some (cut k q)) (same_Some x s a) (same_Some y p b)
+  rewound_at (x ∷ ss) (y ∷ ps) (suc c) s p a b = rewound_at ss ps c s p a b
+
+  -- the world after a rewind to these marks that is not refused
+  abbrev after : World S → List ℕ → World S
+  after w ss = record w { processes = rewound ss w.processes }
+
+  count_after : (w : World S) (ss : List ℕ) → AllCancel Aggressive w.processes → (m : Message)
+      → signed_count m (in_transit (after w ss)) ≡ signed_count m (in_transit w) -ℤ pos (total (one_at m) (taken_back ss w.processes))
+  count_after w ss k m =
+      let plus = when_positive (one_at m) in
+      let minus = when_anti (one_at m) in
+      let out = all_outgoing w.processes in
+      let out' = all_outgoing (rewound ss w.processes) in
+      let mail = all_mail w.mail in
+      fewer (total plus (in_transit w)) (total minus (in_transit w)) _ _ _
+      (total-append plus out' mail ∙ ap (λ n. n + total plus mail) (rewound_transit.positive (one_at m) ss w.processes) ∙ sym (total-append plus out mail))
+      (omega (arith, total-append minus out' mail, total-append minus out mail, (rewound_transit.aggressive (one_at m) ss w.processes k).0))
+
+  rewound_is : (w : World S) (ss : List ℕ) → IsRewound w ss (after w ss)
+  rewound_is w ss = record {
+    process = λ c s p a b. (cut s p, rewound_at ss w.processes c s p a b, cut_back s p);
+    mail = refl;
+    columns = refl;
+    gvt = refl;
+    aggressive = λ k m. count_after w ss k m;
+    lazy = λ k. (
+      ap (λ out. out ++ all_mail w.mail) (rewound_transit.lazy (λ m. 0) ss w.processes k).0,
+      λ m. (rewound_transit.lazy (one_at m) ss w.processes k).1,
+    );
+  }
+
+  -- what a rewind gives, by its two tests
+  abbrev outcome : World S → List ℕ → Bool → Bool → Answer × World S
+  outcome w ss wrong committed = cond wrong (Refused NoSuch, w) (cond committed (Refused Committed, w) (Undone (rewound_steps ss w.processes), after w ss))
+
+  by_tests : (w : World S) (ss : List ℕ) (n : ℕ) (wrong committed : Bool) → (outcome w ss wrong committed).0 ≡ Undone n
+      → (n ≡ rewound_steps ss w.processes) × IsRewound w ss (outcome w ss wrong committed).1
+  by_tests w ss n true committed e = absurd (cc e)
+  by_tests w ss n false true e = absurd (cc e)
+  by_tests w ss n false false e = (let f : rewound_steps ss w.processes ≡ n = cc e in sym f, rewound_is w ss)
+
+  pub rewinding_law : RewindingLaw S
+  unfolding rewind
+  rewinding_law w ss n e = by_tests w ss n (not (length ss == length w.processes)) (any_committed w.gvt ss w.processes w.columns) e

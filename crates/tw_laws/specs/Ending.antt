@@ -1,0 +1,89 @@
+-- How a sound executive shows that the run has ended: all is committed, or the simulator's fault is reached.
+use Rattle.std.specs.Prelude.{ℕ, suc, ◌<◌, ◌≤◌, ◌≡◌, List, [], ◌∷◌, Bool, true, false, not, ◌&&◌, ◌==◌, nat_lt, nat_le, if◌then◌else◌, Option, Some, None, Result, Ok, Err, slice_get, slice_index_or, ◌≢◌}
+use Rattle.std.specs.List.{AllByRecursion as Each}
+use Rattle.tw_msgs.specs.declared.message.Item.{Item}
+use Rattle.tw_msgs.specs.declared.message.Message.{Message}
+use Rattle.tw_theory.specs.Contents.{Process, next}
+use Rattle.tw_theory.specs.Executive.{World}
+use Rattle.tw_theory.specs.LocalRun.{Made, NothingDue, OverLimit, local_step, NoStep}
+use Rattle.tw_theory.specs.Network.{Network, IsNetwork}
+use Rattle.tw_theory.specs.Simulator.{sequential, records_before}
+use Rattle.tw_theory.specs.Soundness.{IsSound}
+use Rattle.tw_vtime.specs.Stamps.{stamp, phase_of, max_tick}
+use Rattle.tw_vtime.specs.declared.limits.Limit.{Limit}
+
+-- Nothing is in transit, no message owed is of stamp gvt, and c is the least component whose next step is at gvt and meets a limit
+pub record ShowsFault {S : Type 0} (net : Network S) (until : ℕ) (w : World S) (c : ℕ) (limit : Limit) : Type 0 where
+  pub before : w.gvt < stamp until 0 0
+  pub odd : phase_of w.gvt ≡ 1
+  pub outgoing : (d : ℕ) (q : Process S) → slice_get w.processes d ≡ Some q → q.outgoing ≡ []
+  pub mail : Each (λ box. box ≡ []) w.mail
+  pub owed : (d : ℕ) (q : Process S) → slice_get w.processes d ≡ Some q → Each (λ m. m.stamp ≢ w.gvt) q.owed
+  pub process : Process S
+  pub at : slice_get w.processes c ≡ Some process
+  pub next_is : next process ≡ w.gvt
+  pub meets : local_step net c process.now process.pending ≡ Err (OverLimit limit)
+  pub least : (d : ℕ) (q : Process S) (other : Limit) → slice_get w.processes d ≡ Some q → d < c → next q ≡ w.gvt → local_step net d q.now q.pending ≡ Err (OverLimit other) → ⊥
+
+-- that is the simulator's fault; and where every line is at the end, the simulator has no fault and the columns are its records
+pub record EndingLaw (S : Type 0) : Type 0 where
+  pub fault : (net : Network S) (until : ℕ) (w : World S) → IsNetwork net → until ≤ max_tick → IsSound net until w
+      → (c : ℕ) (limit : Limit) → ShowsFault net until w c limit → (sequential net until).fault ≡ Some (c, w.gvt, limit)
+  pub complete : (net : Network S) (until : ℕ) (w : World S) → IsNetwork net → until ≤ max_tick → IsSound net until w
+      → ((c : ℕ) (p : Process S) → slice_get w.processes c ≡ Some p → stamp until 0 0 ≤ p.line)
+      → ((sequential net until).fault ≡ None) × ((c : ℕ) (p : Process S) → slice_get w.processes c ≡ Some p → slice_index_or w.columns c [] ≡ records_before net until c (stamp until 0 0))
+
+-- ---- the state of a run
+
+pub data State : Type 0 where
+  Complete : State
+  Fault : (component stamp : ℕ) (limit : Limit) → State
+  Going : State
+
+abbrev pub is_empty : {X : Type 0} → List X → Bool
+is_empty [] = true
+is_empty (x ∷ xs) = false
+
+-- whether no message of this stamp is in the list
+abbrev pub none_at : ℕ → List Message → Bool
+none_at s [] = true
+none_at s (m ∷ ms) = not (m.stamp == s) && none_at s ms
+
+-- nothing is outgoing, and nothing owed is of this stamp
+abbrev pub all_quiet : {S : Type 0} → ℕ → List (Process S) → Bool
+all_quiet g [] = true
+all_quiet g (p ∷ ps) = is_empty p.outgoing && none_at g p.owed && all_quiet g ps
+
+abbrev pub all_empty : List (List Item) → Bool
+all_empty [] = true
+all_empty (box ∷ mail) = is_empty box && all_empty mail
+
+abbrev pub limit_of : {S : Type 0} → Result (Made S) NoStep → Option Limit
+limit_of (Ok made) = None
+limit_of (Err (OverLimit limit)) = Some limit
+limit_of (Err NothingDue) = None
+
+abbrev pub fault_at : ℕ → ℕ → Option Limit → State → State
+fault_at c g None rest = rest
+fault_at c g (Some limit) rest = Fault c g limit
+
+-- the first process, from number b on, whose next step is at g and meets a limit
+abbrev pub first_fault : {S : Type 0} → Network S → ℕ → ℕ → List (Process S) → State
+first_fault net g b [] = Going
+first_fault net g b (p ∷ ps) = fault_at b g (if next p == g then limit_of (local_step net b p.now p.pending) else None) (first_fault net g (suc b) ps)
+
+abbrev pub all_past : {S : Type 0} → ℕ → List (Process S) → Bool
+all_past end [] = true
+all_past end (p ∷ ps) = nat_le end p.line && all_past end ps
+
+unfoldable pub state : {S : Type 0} → Network S → ℕ → World S → State
+state net until w =
+    if all_past (stamp until 0 0) w.processes then Complete
+    else if all_quiet w.gvt w.processes && all_empty w.mail && nat_lt w.gvt (stamp until 0 0) && (phase_of w.gvt == 1) then first_fault net w.gvt 0 w.processes
+    else Going
+
+-- what it says is so
+pub record StateLaw (S : Type 0) : Type 0 where
+  pub fault : (net : Network S) (until : ℕ) (w : World S) → IsNetwork net → until ≤ max_tick → IsSound net until w
+      → (c s : ℕ) (limit : Limit) → state net until w ≡ Fault c s limit → (s ≡ w.gvt) × ((sequential net until).fault ≡ Some (c, s, limit))
+  pub complete : (net : Network S) (until : ℕ) (w : World S) → IsNetwork net → until ≤ max_tick → IsSound net until w → state net until w ≡ Complete → (sequential net until).fault ≡ None

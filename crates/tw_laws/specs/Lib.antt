@@ -1,0 +1,10 @@
+pub mod Applied
+pub mod Cancelling
+pub mod Committed
+pub mod Ending
+pub mod History
+pub mod Inverse
+pub mod Keeping
+pub mod Rewinding
+pub mod Sweeping
+pub mod Traces

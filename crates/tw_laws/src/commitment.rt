@@ -1,0 +1,33 @@
+//! What is committed is what the sequential simulator does.
+
+ghost use Rattle.tw_laws.specs.History.{CommittedHistory, FaultStamp, FaultLaw};
+ghost use Rattle.tw_laws.specs.Committed.{CommittedLaw, LinesLaw, GvtLaw};
+
+/// The law of committed history: local runs that are taken up to a stamp, and that balance before it, are the
+/// sequential simulator's run before it.
+pub fn committed_history<S>()
+    ensures { CommittedHistory S }
+{}
+
+/// Whatever actions are taken from the start, each column is the sequential records of its component before its
+/// commit line.
+pub fn committed_law<S>()
+    ensures { CommittedLaw S }
+{}
+
+/// No commit line passes the sequential simulator's fault.
+pub fn lines_law<S>()
+    ensures { LinesLaw S }
+{}
+
+/// Global virtual time never falls, and Raise sets it to the exact least of all that can still change.
+pub fn gvt_law<S>()
+    ensures { GvtLaw S }
+{}
+
+/// Where nothing is in transit at a stamp either, the least component that meets a limit there is the sequential
+/// simulator's fault; and a fault is of a component of the network, at a transition before the end of the run.
+pub fn fault_law<S>()
+    ensures stamp { FaultStamp S }
+    ensures least { FaultLaw S }
+{}

@@ -1,0 +1,25 @@
+//! The hard theorems, over the definitions of tw_theory alone: whatever list of actions an executive takes, what
+//! each component has committed is what the sequential abstract simulator does up to its commit line, and what was
+//! done since a mark can be taken back.
+//!
+//! | Module | Says |
+//! |---|---|
+//! | [`soundness`] | the start is sound, and every action, rewind and list of actions keeps it so |
+//! | [`commitment`] | columns are the sequential records; global virtual time is the exact least and never falls; no line passes the fault |
+//! | [`inversion`] | steps and a rewind restore everything, with one anti-message for each message sent |
+//! | [`endings`] | a sweep ends; what the state of a run says is so; columns merge to the one sequential trace |
+//! | [`cancellation`] | the way of cancelling stays as it began |
+//! | [`applied`] | all of it on a concrete network |
+//!
+//! The functions do nothing: their contracts are the laws, for states of any type, so for every model. The
+//! statements are in `specs/`. The proofs are in `proofs/`: `History/` has the law of committed history (both
+//! sides are run by a clock over stamps, and compared stamp by stamp), the other files the keeping of soundness,
+//! action by action, and what follows.
+#![tactic(auto)]
+
+pub mod applied;
+pub mod cancellation;
+pub mod commitment;
+pub mod endings;
+pub mod inversion;
+pub mod soundness;

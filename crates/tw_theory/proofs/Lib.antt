@@ -1,0 +1,10 @@
+pub mod Balancing
+pub mod Cancelling
+pub mod Cuts
+pub mod Elements
+pub mod MessageOrder
+pub mod Owing
+pub mod Routes
+pub mod Steps
+pub mod TakingBack
+pub mod Totals

@@ -1,0 +1,14 @@
+pub mod Balance
+pub mod Bundles
+pub mod Contents
+pub mod ExampleActions
+pub mod ExampleModels
+pub mod ExampleNetworks
+pub mod ExampleTraces
+pub mod Executive
+pub mod Laws
+pub mod LocalRun
+pub mod Marks
+pub mod Network
+pub mod Simulator
+pub mod Soundness

@@ -1,0 +1,100 @@
+use Rattle.std.proofs.Common.{◌≡◌, ◌-◌, ◌++◌, length, take, drop, arith, ap, ◌∙◌}
+use Rattle.std.specs.List.{SwappedAt}
+use Rattle.std.specs.List.Sorted.{IsPermutation}
+use Rattle.std.proofs.lemmas.List.Sorted.{IsPermutation-refl}
+use Rattle.tw_heap.specs.declared.entries.Entry.{Entry}
+use Rattle.tw_heap.specs.Entries.{entry_of}
+use Rattle.tw_heap.proofs.EntryLemmas.{entry_of-without_other}
+use Rattle.tw_heap.proofs.EventLemmas.{whole, leaving, place_of, gone, Gone}
+use Rattle.tw_heap.proofs.heap.EventHeap.remove.Goals as goal
+use Rattle.tw_heap.proofs.heap.EventHeap.remove.Goals.{After-pop}
+
+-- what is left after `pop`
+left : (c : After-pop) → Gone c.self.inside.entries.items c.pop.new.self.items c.exchange.new.places c.args.index c.index-place.result.now (c.len-last.result - 1)
+left c =
+    let es = c.self.inside.entries.items in
+    let now = c.exchange.new.entries in
+    let place = c.index-place.result.now in
+    let last = c.len-last.result - 1 in
+    let live = rw (← c.self.view_is) at c.requires in
+    let there = leaving es c.self.inside.places.items c.args.index c.self.invariant live in
+    let len : length now ≡ length es = omega (arith, c.exchange.auto.entries, ap (length {A = Entry}) c.as_mut_slice.ensures.value) in
+    let n : c.len-last.result ≡ length es = omega (arith, c.len-last.ensures, c.self.inside.entries.ok.0) in
+    let cap : c.self.inside.entries.len ≡ length es = omega (arith, c.self.inside.entries.ok.0) in
+    let all = whole c.self.inside.entries.len now es (omega (arith, len, cap)) in
+    let swapped : SwappedAt es now place last = rw c.as_mut_slice.ensures.value at c.exchange.ensures.entries in
+    let permutation : IsPermutation es now = rw c.as_mut_slice.ensures.value at c.exchange.ensures.permutation in
+    let count : c.self.inside.entries.len - 1 ≡ last = omega (arith, n, cap) in
+    let popped : c.pop.new.self.items ≡ take last now = c.pop.ensures.rest ∙ ap (take (c.self.inside.entries.len - 1)) all ∙ ap (λ k. take k now) count in
+    gone es now c.pop.new.self.items c.self.inside.places.items c.exchange.new.places c.args.index place last c.self.invariant live c.index-place.ensures
+    (omega (arith, n, there.within)) len swapped permutation c.exchange.ensures.placed popped
+
+places_left : (c : After-pop) → take c.self.inside.places.len (c.exchange.new.places ++ drop (length c.exchange.new.places) c.self.inside.places.items) ≡ c.exchange.new.places
+places_left c = whole c.self.inside.places.len c.exchange.new.places c.self.inside.places.items (omega (arith, c.exchange.auto.places, c.as_mut_slice-2.ensures.len))
+
+pub index-place-requires : goal.index-place-requires
+index-place-requires c =
+    let live = rw (← c.self.view_is) at c.requires in
+    let at = leaving c.self.inside.entries.items c.self.inside.places.items c.args.index c.self.invariant live in
+    omega (arith, at.inside, c.self.inside.places.ok.0)
+
+pub exchange-requires-clause-first : goal.exchange-requires-clause-first
+exchange-requires-clause-first c =
+    let live = rw (← c.self.view_is) at c.requires in
+    let at = leaving c.self.inside.entries.items c.self.inside.places.items c.args.index c.self.invariant live in
+    let read = place_of c.self.inside.entries.items c.self.inside.places.items c.args.index c.index-place.result.now at c.index-place.ensures in
+    omega (arith, at.within, read, ap (length {A = Entry}) c.as_mut_slice.ensures.value)
+
+pub settle-requires-clause-placed : goal.settle-requires-clause-placed
+settle-requires-clause-placed c =
+    let here = (goal.at.settle-requires-clause-placed c).After-pop in
+    rw (c.as_mut_slice-then-place-last.ensures.value, c.as_mut_slice-then-place-last-2.ensures.value, places_left here) (left here).placed_now
+
+pub settle-requires-clause-heap : goal.settle-requires-clause-heap
+settle-requires-clause-heap c =
+    let here = (goal.at.settle-requires-clause-heap c).After-pop in
+    rw c.as_mut_slice-then-place-last.ensures.value ((left here).around c.if-place-last.true)
+
+pub invariant_of-self : goal.invariant_of-self
+invariant_of-self c =
+    let old = take c.self.inside.places.len (c.exchange.new.places ++ drop (length c.exchange.new.places) c.self.inside.places.items) in
+    let entries = whole c.pop.new.self.len c.settle.new.entries c.pop.new.self.items (omega (arith, c.settle.auto.entries, c.as_mut_slice-then-place-last.ensures.len)) in
+    let places = whole c.self.inside.places.len c.settle.new.places old (omega (arith, c.settle.auto.places, c.as_mut_slice-then-place-last-2.ensures.len)) in
+    rw (entries, places) (record { placed = c.settle.ensures.placed; heap = c.settle.ensures.heap })
+
+pub invariant_of-self-else-place-last : goal.invariant_of-self-else-place-last
+invariant_of-self-else-place-last c =
+    let here = (goal.at.invariant_of-self-else-place-last c).After-pop in
+    rw (places_left here) (record { placed = (left here).placed_now; heap = (left here).heap c.if-place-last.false })
+
+pub returns-then-place-last-clause-entries : goal.returns-then-place-last-clause-entries
+returns-then-place-last-clause-entries c =
+    let here = (goal.at.returns-then-place-last-clause-entries c).After-pop in
+    let entries = whole c.pop.new.self.len c.settle.new.entries c.pop.new.self.items (omega (arith, c.settle.auto.entries, c.as_mut_slice-then-place-last.ensures.len)) in
+    let moved = rw c.as_mut_slice-then-place-last.ensures.value at c.settle.ensures.permutation in
+    rw (entries, ← c.self.view_is) ((left here).order c.settle.new.entries moved)
+
+pub returns-else-place-last-clause-entries : goal.returns-else-place-last-clause-entries
+returns-else-place-last-clause-entries c =
+    let here = (goal.at.returns-else-place-last-clause-entries c).After-pop in
+    rw (← c.self.view_is) ((left here).order c.pop.new.self.items (IsPermutation-refl c.pop.new.self.items))
+
+pub returns-then-place-last-clause-gone : goal.returns-then-place-last-clause-gone
+returns-then-place-last-clause-gone c =
+    let here = (goal.at.returns-then-place-last-clause-gone c).After-pop in
+    let entries = whole c.pop.new.self.len c.settle.new.entries c.pop.new.self.items (omega (arith, c.settle.auto.entries, c.as_mut_slice-then-place-last.ensures.len)) in
+    let moved = rw c.as_mut_slice-then-place-last.ensures.value at c.settle.ensures.permutation in
+    rw entries ((left here).vacant c.settle.new.entries moved)
+
+pub returns-else-place-last-clause-gone : goal.returns-else-place-last-clause-gone
+returns-else-place-last-clause-gone c =
+    let here = (goal.at.returns-else-place-last-clause-gone c).After-pop in
+    (left here).vacant c.pop.new.self.items (IsPermutation-refl c.pop.new.self.items)
+
+pub returns-then-place-last-clause-others : goal.returns-then-place-last-clause-others
+returns-then-place-last-clause-others c = λ other differs.
+    ap (entry_of other) (returns-then-place-last-clause-entries c) ∙ entry_of-without_other c.args.index other c.args.self.now.entries differs
+
+pub returns-else-place-last-clause-others : goal.returns-else-place-last-clause-others
+returns-else-place-last-clause-others c = λ other differs.
+    ap (entry_of other) (returns-else-place-last-clause-entries c) ∙ entry_of-without_other c.args.index other c.args.self.now.entries differs

@@ -1,0 +1,18 @@
+//! Events in the order of their messages: a binary heap in which each event stands under an index.
+//!
+//! An [`EventHeap`] keeps messages, each under an index of the caller's, as that of a node in a pool. It gives the first of them in
+//! constant time, and takes one in or out, wherever it stands, in time logarithmic in their number: each index's place in the heap is
+//! kept beside it. Contracts see the entries as a list in rising order: by message, that is by stamp, port, value and receiver,
+//! and equal messages by index. They say exactly what each call makes of that list.
+//!
+//! Only `reserve` takes memory, for more entries and for greater indices, and it alone can be refused.
+#![tactic(auto)]
+
+mod entries;
+mod heap;
+mod sifting;
+#[cfg(test)]
+mod tests;
+
+pub use entries::Entry;
+pub use heap::EventHeap;

@@ -1,0 +1,59 @@
+use Rattle.std.proofs.Common.{arith, sym, ap, ◌∙◌}
+use Rattle.tw_pool.specs.Lists.{live_count, item_of, AreDistinct, with_item_before, IsLive}
+use Rattle.tw_pool.proofs.ChangeLemmas.{inserted}
+use Rattle.tw_pool.specs.Links.{lists_of}
+use Rattle.tw_pool.proofs.IndexLemmas.{item_of-with_item_before, item_of-with_item_before_other}
+use Rattle.tw_pool.proofs.ReadLemmas.{linked_distinct}
+use Rattle.tw_pool.proofs.lists.Pool.insert_before.Goals as goal
+
+pub link_before-requires-clause-linked : goal.link_before-requires-clause-linked
+link_before-requires-clause-linked g c = (inserted _ _ _ _ _ c.insert_reserved-index.ensures.was_vacant c.insert_reserved-index.ensures.updates c.self.invariant).linked
+
+pub link_before-requires-clause-free : goal.link_before-requires-clause-free
+link_before-requires-clause-free g c = (inserted _ _ _ _ _ c.insert_reserved-index.ensures.was_vacant c.insert_reserved-index.ensures.updates c.self.invariant).free
+
+pub link_before-requires-clause-len_fits : goal.link_before-requires-clause-len_fits
+link_before-requires-clause-len_fits g c = (inserted _ _ _ _ _ c.insert_reserved-index.ensures.was_vacant c.insert_reserved-index.ensures.updates c.self.invariant).fits
+
+pub invariant_of-self : goal.invariant_of-self
+invariant_of-self g c =
+    let new = inserted _ _ _ _ _ c.insert_reserved-index.ensures.was_vacant c.insert_reserved-index.ensures.updates c.self.invariant in
+    let counted = c.self.invariant.counted in
+    let lists = ap live_count new.lists in
+    let len = c.link_before.ensures.same.len in
+    let more = c.insert_reserved-index.ensures.len in
+    let room = ap (λ p. p.room) c.self.view_is in
+    let enough = c.in_default.ensures.room in
+    record {
+      linked = c.link_before.ensures.linked;
+      counted = omega (arith, c.link_before.ensures.more);
+      limited = omega arith;
+    }
+
+pub returns-clause-added : goal.returns-clause-added
+returns-clause-added g c =
+    let new = inserted _ _ _ _ _ c.insert_reserved-index.ensures.was_vacant c.insert_reserved-index.ensures.updates c.self.invariant in
+    let lists = rw new.item at c.link_before.ensures.lists in
+    let was = ap (λ p. p.lists) c.self.view_is ∙ c.reserve.ensures.lists in
+    lists ∙ ap (λ ls. with_item_before c.args.at (c.insert_reserved-index.result, c.args.item) ls) (new.lists ∙ was)
+
+pub returns-clause-fresh : goal.returns-clause-fresh
+returns-clause-fresh g c =
+    let was = ap (λ p. p.lists) c.self.view_is ∙ c.reserve.ensures.lists in
+    ap (item_of c.insert_reserved-index.result) (sym was) ∙ (inserted _ _ _ _ _ c.insert_reserved-index.ensures.was_vacant c.insert_reserved-index.ensures.updates c.self.invariant).fresh
+
+pub link_before-requires-clause-live : goal.link_before-requires-clause-live
+link_before-requires-clause-live g c =
+    let was = ap (λ p. p.lists) c.self.view_is ∙ c.reserve.ensures.lists in
+    let live : IsLive c.args.at (lists_of c.self.inside.nodes c.self.inside.ends) = rw was c.requires in
+    rw (inserted _ _ _ _ _ c.insert_reserved-index.ensures.was_vacant c.insert_reserved-index.ensures.updates c.self.invariant).lists live
+
+pub returns-clause-there : goal.returns-clause-there
+returns-clause-there g c =
+    let was = ap (λ p. p.lists) c.self.view_is ∙ c.reserve.ensures.lists in
+    let distinct : AreDistinct c.args.self.now.lists = rw (← was) (linked_distinct _ _ c.self.invariant.linked) in
+    item_of-with_item_before c.args.at _ _ c.args.self.now.lists _ distinct c.requires (returns-clause-added g c) (linked_distinct _ _ c.link_before.ensures.linked)
+
+pub returns-clause-others : goal.returns-clause-others
+returns-clause-others g c = λ other differs.
+    ap (item_of other) (returns-clause-added g c) ∙ item_of-with_item_before_other c.args.at other _ c.args.self.now.lists (λ same. differs (sym same))

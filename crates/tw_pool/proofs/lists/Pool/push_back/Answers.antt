@@ -1,0 +1,53 @@
+use Rattle.std.proofs.Common.{◌<◌, length, arith, sym, ap, ◌∙◌}
+use Rattle.tw_pool.specs.Lists.{live_count, item_of, with_item_last}
+use Rattle.tw_pool.proofs.ChangeLemmas.{inserted}
+use Rattle.tw_pool.proofs.IndexLemmas.{item_of-with_item_last, item_of-with_item_last_other}
+use Rattle.tw_pool.proofs.ReadLemmas.{within_lists, linked_distinct}
+use Rattle.tw_pool.proofs.lists.Pool.push_back.Goals as goal
+
+pub link_last-requires-clause-linked : goal.link_last-requires-clause-linked
+link_last-requires-clause-linked g c = (inserted _ _ _ _ _ c.insert_reserved-index.ensures.was_vacant c.insert_reserved-index.ensures.updates c.self.invariant).linked
+
+pub link_last-requires-clause-free : goal.link_last-requires-clause-free
+link_last-requires-clause-free g c = (inserted _ _ _ _ _ c.insert_reserved-index.ensures.was_vacant c.insert_reserved-index.ensures.updates c.self.invariant).free
+
+pub link_last-requires-clause-len_fits : goal.link_last-requires-clause-len_fits
+link_last-requires-clause-len_fits g c = (inserted _ _ _ _ _ c.insert_reserved-index.ensures.was_vacant c.insert_reserved-index.ensures.updates c.self.invariant).fits
+
+pub invariant_of-self : goal.invariant_of-self
+invariant_of-self g c =
+    let new = inserted _ _ _ _ _ c.insert_reserved-index.ensures.was_vacant c.insert_reserved-index.ensures.updates c.self.invariant in
+    let counted = c.self.invariant.counted in
+    let lists = ap live_count new.lists in
+    let len = c.link_last.ensures.same.len in
+    let more = c.insert_reserved-index.ensures.len in
+    let room = ap (λ p. p.room) c.self.view_is in
+    let enough = c.in_default.ensures.room in
+    record {
+      linked = c.link_last.ensures.linked;
+      counted = omega (arith, c.link_last.ensures.more);
+      limited = omega arith;
+    }
+
+pub returns-clause-added : goal.returns-clause-added
+returns-clause-added g c =
+    let new = inserted _ _ _ _ _ c.insert_reserved-index.ensures.was_vacant c.insert_reserved-index.ensures.updates c.self.invariant in
+    let lists = rw new.item at c.link_last.ensures.lists in
+    let was = ap (λ p. p.lists) c.self.view_is ∙ c.reserve.ensures.lists in
+    lists ∙ ap (λ ls. with_item_last ls c.args.list (c.insert_reserved-index.result, c.args.item)) (new.lists ∙ was)
+
+pub returns-clause-fresh : goal.returns-clause-fresh
+returns-clause-fresh g c =
+    let was = ap (λ p. p.lists) c.self.view_is ∙ c.reserve.ensures.lists in
+    ap (item_of c.insert_reserved-index.result) (sym was) ∙ (inserted _ _ _ _ _ c.insert_reserved-index.ensures.was_vacant c.insert_reserved-index.ensures.updates c.self.invariant).fresh
+
+pub returns-clause-there : goal.returns-clause-there
+returns-clause-there g c =
+    let within = within_lists c.self.inside.nodes c.self.inside.ends c.args.list (omega arith) in
+    let was = ap (λ p. p.lists) c.self.view_is ∙ c.reserve.ensures.lists in
+    let now : c.args.list < length c.args.self.now.lists = rw (← was) within in
+    item_of-with_item_last _ c.args.list _ c.args.self.now.lists _ now (returns-clause-added g c) (linked_distinct _ _ c.link_last.ensures.linked)
+
+pub returns-clause-others : goal.returns-clause-others
+returns-clause-others g c = λ other differs.
+    ap (item_of other) (returns-clause-added g c) ∙ item_of-with_item_last_other other c.args.list _ c.args.self.now.lists (λ same. differs (sym same))

@@ -13,7 +13,8 @@ use Rattle.tw_laws.proofs.Starting.{start_sound}
 use Rattle.tw_laws.proofs.Stepping.{step_sound, post_sound}
 use Rattle.tw_laws.proofs.Delivering.{deliver_sound, back_sound}
 
-raised_process : {S : Type 0} (net : Network S) (until g g' c : ℕ) (column : List Record) (mail : List Item) (p : Process S) → g ≤ g' → IsSoundProcess net until g c column mail p → IsSoundProcess net until g' c column mail p
+raised_process : {S : Type 0} (net : Network S) (until g g' c : ℕ) (column : List Record) (mail : List Item) (p : Process S) → g ≤ g'
+    → IsSoundProcess net until g c column mail p → IsSoundProcess net until g' c column mail p
 raised_process net until g g' c column mail p l h = record {
   column_is = h.column_is;
   from = h.from;
@@ -31,7 +32,8 @@ raised_process net until g g' c column mail p l h = record {
   line_le_fault = h.line_le_fault;
 }
 
-raise_sound : {S : Type 0} (net : Network S) (until : ℕ) (w : World S) → IsSound net until w → IsSound net until (record { processes = w.processes; mail = w.mail; columns = w.columns; gvt = least_of w })
+raise_sound : {S : Type 0} (net : Network S) (until : ℕ) (w : World S) → IsSound net until w
+    → IsSound net until (record { processes = w.processes; mail = w.mail; columns = w.columns; gvt = least_of w })
 raise_sound net until w h = record {
   processes = h.processes;
   mail = h.mail;

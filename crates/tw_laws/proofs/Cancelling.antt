@@ -70,7 +70,8 @@ module _ {S : Type 0} (cancel : Cancel) where
     at_place : (c : ℕ) (p : Process S) → slice_get w.processes c ≡ Some p → Cancels cancel p
     at_place c p at = each-get (Cancels cancel) w.processes c p at h
 
-    made_cancels : (c : ℕ) (p : Process S) (r : Result (Made S) NoStep) → slice_get w.processes c ≡ Some p → Each (Cancels cancel) (if_made w c p r).1.processes
+    made_cancels : (c : ℕ) (p : Process S) (r : Result (Made S) NoStep) → slice_get w.processes c ≡ Some p
+        → Each (Cancels cancel) (if_made w c p r).1.processes
     made_cancels c p (Ok made) at = each-set (Cancels cancel) w.processes c (with_step p made) (stepped p made (at_place c p at)) h
     made_cancels c p (Err why) at = h
 
@@ -82,7 +83,8 @@ module _ {S : Type 0} (cancel : Cancel) where
     post_cancels c None at = h
     post_cancels c (Some p) at = let k = settled p (at_place c p at) in each-set (Cancels cancel) w.processes c (with_outgoing (settle p) []) (record { is = k.is; nothing_owed = k.nothing_owed }) h
 
-    deliver_cancels : (c i : ℕ) (o : Option (Process S)) (x : Option Item) → slice_get w.processes c ≡ o → Each (Cancels cancel) (act_deliver w c i o x).1.processes
+    deliver_cancels : (c i : ℕ) (o : Option (Process S)) (x : Option Item) → slice_get w.processes c ≡ o
+        → Each (Cancels cancel) (act_deliver w c i o x).1.processes
     deliver_cancels c i None x at = h
     deliver_cancels c i (Some p) None at = h
     deliver_cancels c i (Some p) (Some x) at = each-set (Cancels cancel) w.processes c (receive p x).1 (received p x.sign x.message (at_place c p at)) h

@@ -34,23 +34,27 @@ box_from_least g [] c l = l
 box_from_least g (box ∷ mail) zero l = omega arith
 box_from_least g (box ∷ mail) (suc c) l = box_from_least g mail c (omega arith)
 
-pub least_mail-set : (g : ℕ) (mail : List (List Item)) (c : ℕ) (box : List Item) → g ≤ least_mail mail → g ≤ least_stamp box → g ≤ least_mail (slice_set mail c box)
+pub least_mail-set : (g : ℕ) (mail : List (List Item)) (c : ℕ) (box : List Item) → g ≤ least_mail mail → g ≤ least_stamp box
+    → g ≤ least_mail (slice_set mail c box)
 least_mail-set g [] c box l k = l
 least_mail-set g (b ∷ mail) zero box l k = omega arith
 least_mail-set g (b ∷ mail) (suc c) box l k = let rest = least_mail-set g mail c box (omega arith) k in omega arith
 
-pub process_from_least : {S : Type 0} (g : ℕ) (ps : List (Process S)) (c : ℕ) (p : Process S) → g ≤ least_next ps → slice_get ps c ≡ Some p → (g ≤ next p) × (g ≤ least_stamp p.outgoing) × (g ≤ least_owed p.owed)
+pub process_from_least : {S : Type 0} (g : ℕ) (ps : List (Process S)) (c : ℕ) (p : Process S) → g ≤ least_next ps → slice_get ps c ≡ Some p
+    → (g ≤ next p) × (g ≤ least_stamp p.outgoing) × (g ≤ least_owed p.owed)
 process_from_least g [] c p l e = absurd (none-some p e)
 process_from_least g (x ∷ ps) zero p l e = subst (λ y. (g ≤ next y) × (g ≤ least_stamp y.outgoing) × (g ≤ least_owed y.owed)) (same_Some x p e) (omega arith, omega arith, omega arith)
 process_from_least g (x ∷ ps) (suc c) p l e = process_from_least g ps c p (omega arith) e
 
-pub least_next-set : {S : Type 0} (g : ℕ) (ps : List (Process S)) (c : ℕ) (q : Process S) → g ≤ least_next ps → g ≤ next q → g ≤ least_stamp q.outgoing → g ≤ least_owed q.owed → g ≤ least_next (slice_set ps c q)
+pub least_next-set : {S : Type 0} (g : ℕ) (ps : List (Process S)) (c : ℕ) (q : Process S) → g ≤ least_next ps → g ≤ next q
+    → g ≤ least_stamp q.outgoing → g ≤ least_owed q.owed → g ≤ least_next (slice_set ps c q)
 least_next-set g [] c q l a b d = l
 least_next-set g (x ∷ ps) zero q l a b d = omega arith
 least_next-set g (x ∷ ps) (suc c) q l a b d = let rest = least_next-set g ps c q (omega arith) a b d in omega arith
 
 module _ {S : Type 0} (net : Network S) (until : ℕ) where
-  other_mail : (gvt c : ℕ) (column : List Record) (mail mail' : List Item) (p : Process S) → IsSoundProcess net until gvt c column mail p → Each (λ i. IsFor net c i.message) mail' → IsSoundProcess net until gvt c column mail' p
+  other_mail : (gvt c : ℕ) (column : List Record) (mail mail' : List Item) (p : Process S) → IsSoundProcess net until gvt c column mail p
+      → Each (λ i. IsFor net c i.message) mail' → IsSoundProcess net until gvt c column mail' p
   other_mail gvt c column mail mail' p h m = record {
     column_is = h.column_is;
     from = h.from;
@@ -73,13 +77,15 @@ module _ {S : Type 0} (net : Network S) (until : ℕ) where
     pub boxes : length mail ≡ length w.mail
     pub sound : IsSoundProcess net until w.gvt c (slice_index_or w.columns c []) (mail_of mail c) q
     pub for_mail : (d : ℕ) → Each (λ i. IsFor net d i.message) (mail_of w.mail d) → Each (λ i. IsFor net d i.message) (mail_of mail d)
-    pub balance : (weight : Message → ℕ) → issued weight q + held weight p + total (total (when_anti weight)) mail + total (total (when_positive weight)) w.mail ≡ issued weight p + held weight q + total (total (when_anti weight)) w.mail + total (total (when_positive weight)) mail
+    pub balance : (weight : Message → ℕ)
+        → issued weight q + held weight p + total (total (when_anti weight)) mail + total (total (when_positive weight)) w.mail ≡ issued weight p + held weight q + total (total (when_anti weight)) w.mail + total (total (when_positive weight)) mail
     pub next : w.gvt ≤ next q
     pub outgoing : w.gvt ≤ least_stamp q.outgoing
     pub owed : w.gvt ≤ least_owed q.owed
     pub least : w.gvt ≤ least_mail mail
 
-  pub replaced_sound : (w : World S) (c : ℕ) (p q : Process S) (mail : List (List Item)) → IsSound net until w → slice_get w.processes c ≡ Some p → MayReplace w c p q mail → IsSound net until (with_mail (with_process w c q) mail)
+  pub replaced_sound : (w : World S) (c : ℕ) (p q : Process S) (mail : List (List Item)) → IsSound net until w → slice_get w.processes c ≡ Some p
+      → MayReplace w c p q mail → IsSound net until (with_mail (with_process w c q) mail)
   replaced_sound w c p q mail h at may = record {
     processes = length-set w.processes c q ∙ h.processes;
     mail = may.boxes ∙ h.mail;
@@ -92,5 +98,6 @@ module _ {S : Type 0} (net : Network S) (until : ℕ) where
       here : (d : ℕ) (r : Process S) → (d ≡ c) × (r ≡ q) → IsSoundProcess net until w.gvt d (slice_index_or w.columns d []) (mail_of mail d) r
       here d r same = subst (λ x. IsSoundProcess net until w.gvt x (slice_index_or w.columns x []) (mail_of mail x) r) (sym same.0) (subst (IsSoundProcess net until w.gvt c (slice_index_or w.columns c []) (mail_of mail c)) (sym same.1) may.sound)
 
-      there : (d : ℕ) (r : Process S) → (d ≢ c) × (slice_get w.processes d ≡ Some r) → IsSoundProcess net until w.gvt d (slice_index_or w.columns d []) (mail_of mail d) r
+      there : (d : ℕ) (r : Process S) → (d ≢ c) × (slice_get w.processes d ≡ Some r)
+          → IsSoundProcess net until w.gvt d (slice_index_or w.columns d []) (mail_of mail d) r
       there d r other = let old = h.each d r other.1 in other_mail w.gvt d (slice_index_or w.columns d []) (mail_of w.mail d) (mail_of mail d) r old (may.for_mail d old.for_mail)

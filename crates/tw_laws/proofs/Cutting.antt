@@ -33,7 +33,8 @@ pub kept_before : {S : Type 0} (s : ℕ) (steps : List (Step S)) → AllBefore s
 kept_before s [] = tt
 kept_before s (x ∷ steps) = go (nat_lt x.entry.stamp s) refl (kept_before s steps)
   where
-    go : (b : Bool) → nat_lt x.entry.stamp s ≡ b → AllBefore s (take (steps_before s steps) steps) → AllBefore s (take (cond b (suc (steps_before s steps)) 0) (x ∷ steps))
+    go : (b : Bool) → nat_lt x.entry.stamp s ≡ b → AllBefore s (take (steps_before s steps) steps)
+        → AllBefore s (take (cond b (suc (steps_before s steps)) 0) (x ∷ steps))
     go true e h = (ltb-true x.entry.stamp s e, h)
     go false e h = tt
 
@@ -41,7 +42,8 @@ pub dropped_not_before : {S : Type 0} (s : ℕ) (steps : List (Step S)) → NotB
 dropped_not_before s [] = tt
 dropped_not_before s (x ∷ steps) = go (nat_lt x.entry.stamp s) refl (dropped_not_before s steps)
   where
-    go : (b : Bool) → nat_lt x.entry.stamp s ≡ b → NotBefore s (drop (steps_before s steps) steps) → NotBefore s (drop (cond b (suc (steps_before s steps)) 0) (x ∷ steps))
+    go : (b : Bool) → nat_lt x.entry.stamp s ≡ b → NotBefore s (drop (steps_before s steps) steps)
+        → NotBefore s (drop (cond b (suc (steps_before s steps)) 0) (x ∷ steps))
     go true e h = h
     go false e h = ltb-false x.entry.stamp s e
 
@@ -59,21 +61,24 @@ AllFrom s (step ∷ steps) = (s ≤ step.entry.stamp) × AllFrom s steps
 
 module _ {S : Type 0} (net : Network S) (ok : IsNetwork net) (c : ℕ) where
   -- what each step of a run consumed and sent
-  pub leads_sends : (from : Moment S) (all : List Message) (steps : List (Step S)) (now : Moment S) (pending : List Message) → Leads net c from all steps now pending → Each (λ step. Each (IsSentAt net step.entry.stamp) step.sent) steps
+  pub leads_sends : (from : Moment S) (all : List Message) (steps : List (Step S)) (now : Moment S) (pending : List Message)
+      → Leads net c from all steps now pending → Each (λ step. Each (IsSentAt net step.entry.stamp) step.sent) steps
   leads_sends from all [] now pending h = tt
   leads_sends from all (x ∷ steps) now pending h =
       let f = local_step_follows net c from all h.0 h.1 in
       let here = subst (λ s. Each (IsSentAt net s) h.0.step.sent) (sym f.stamp_is) (local_step_sends net ok c from all h.0 h.1) in
       (subst (λ step. Each (IsSentAt net step.entry.stamp) step.sent) h.2 here, leads_sends h.0.after h.0.left steps now pending h.3)
 
-  pub leads_consumes : (from : Moment S) (all : List Message) (steps : List (Step S)) (now : Moment S) (pending : List Message) → Leads net c from all steps now pending → Each (λ step. Each (λ m. m.stamp ≡ step.entry.stamp) step.consumed) steps
+  pub leads_consumes : (from : Moment S) (all : List Message) (steps : List (Step S)) (now : Moment S) (pending : List Message)
+      → Leads net c from all steps now pending → Each (λ step. Each (λ m. m.stamp ≡ step.entry.stamp) step.consumed) steps
   leads_consumes from all [] now pending h = tt
   leads_consumes from all (x ∷ steps) now pending h =
       let f = local_step_follows net c from all h.0 h.1 in
       let here = subst (λ s. Each (λ m. m.stamp ≡ s) h.0.step.consumed) (sym f.stamp_is) f.consumed_at in
       (subst (λ step. Each (λ m. m.stamp ≡ step.entry.stamp) step.consumed) h.2 here, leads_consumes h.0.after h.0.left steps now pending h.3)
 
-  pub leads_from : (g : ℕ) (from : Moment S) (all : List Message) (steps : List (Step S)) (now : Moment S) (pending : List Message) → Leads net c from all steps now pending → Ascending all → Each (λ m. phase_of m.stamp ≡ 1) all → g ≤ next_of from all → AllFrom g steps
+  pub leads_from : (g : ℕ) (from : Moment S) (all : List Message) (steps : List (Step S)) (now : Moment S) (pending : List Message)
+      → Leads net c from all steps now pending → Ascending all → Each (λ m. phase_of m.stamp ≡ 1) all → g ≤ next_of from all → AllFrom g steps
   leads_from g from all [] now pending h up odd l = tt
   leads_from g from all (x ∷ steps) now pending h up odd l =
       let one = step_in_order net c from all h.0 h.1 up odd in
@@ -81,14 +86,16 @@ module _ {S : Type 0} (net : Network S) (ok : IsNetwork net) (c : ℕ) where
       (omega (arith, at), leads_from g h.0.after h.0.left steps now pending h.3 one.ascending one.odd (omega (arith, one.strict, one.follows.later)))
 
   -- the next stamp before a run, where its first step is at or after s
-  pub leads_next : (g s : ℕ) (from : Moment S) (all : List Message) (steps : List (Step S)) (now : Moment S) (pending : List Message) → Leads net c from all steps now pending → NotBefore s steps → g ≤ s → g ≤ next_of now pending → g ≤ next_of from all
+  pub leads_next : (g s : ℕ) (from : Moment S) (all : List Message) (steps : List (Step S)) (now : Moment S) (pending : List Message)
+      → Leads net c from all steps now pending → NotBefore s steps → g ≤ s → g ≤ next_of now pending → g ≤ next_of from all
   leads_next g s from all [] now pending h late l k = subst (λ x. g ≤ next_of x all) (sym h.0) (subst (λ ms. g ≤ next_of now ms) (sym h.1) k)
   leads_next g s from all (x ∷ steps) now pending h late l k =
       let f = local_step_follows net c from all h.0 h.1 in
       let at : x.entry.stamp ≡ next_of from all = ap (λ step. step.entry.stamp) (sym h.2) ∙ f.stamp_is in
       omega (arith, at, late)
 
-fits_of_sent : {S : Type 0} (net : Network S) (bound : ℕ) → bound < never → (steps : List (Step S)) → AllBefore bound steps → Each (λ step. Each (IsSentAt net step.entry.stamp) step.sent) steps → Each (λ step. Each (Fits net) step.sent) steps
+fits_of_sent : {S : Type 0} (net : Network S) (bound : ℕ) → bound < never → (steps : List (Step S)) → AllBefore bound steps
+    → Each (λ step. Each (IsSentAt net step.entry.stamp) step.sent) steps → Each (λ step. Each (Fits net) step.sent) steps
 fits_of_sent net bound top [] early h = tt
 fits_of_sent net bound top (x ∷ steps) early h = (
   each_weaker (IsSentAt net x.entry.stamp) (Fits net)
@@ -97,7 +104,8 @@ fits_of_sent net bound top (x ∷ steps) early h = (
   fits_of_sent net bound top steps early.1 h.1,
 )
 
-late_sent : {S : Type 0} (net : Network S) (g : ℕ) (steps : List (Step S)) → AllFrom g steps → Each (λ step. Each (IsSentAt net step.entry.stamp) step.sent) steps → Each (λ step. Each (λ m. g ≤ m.stamp) step.sent) steps
+late_sent : {S : Type 0} (net : Network S) (g : ℕ) (steps : List (Step S)) → AllFrom g steps
+    → Each (λ step. Each (IsSentAt net step.entry.stamp) step.sent) steps → Each (λ step. Each (λ m. g ≤ m.stamp) step.sent) steps
 late_sent net g [] late h = tt
 late_sent net g (x ∷ steps) late h =
     (each_weaker (IsSentAt net x.entry.stamp) (λ m. g ≤ m.stamp) (λ m a. let at = a.stamp in let l = late.0 in omega arith) x.sent h.0, late_sent net g steps late.1 h.1)
@@ -114,7 +122,8 @@ pub record IsCutOf {S : Type 0} (net : Network S) (until gvt c : ℕ) (column : 
   pub inputs : inputs q ≡ inputs p
 
 module _ {S : Type 0} (net : Network S) (until : ℕ) (ok : IsNetwork net) (bound : until ≤ max_tick) (gvt c : ℕ) (column : List Record) (mail : List Item) where
-  pub cut_sound : (p : Process S) (s : ℕ) → IsSoundProcess net until gvt c column mail p → gvt ≤ s → gvt ≤ next p → gvt ≤ never → gvt ≤ least_stamp p.outgoing → gvt ≤ least_owed p.owed → IsCutOf net until gvt c column mail p (cut s p) s
+  pub cut_sound : (p : Process S) (s : ℕ) → IsSoundProcess net until gvt c column mail p → gvt ≤ s → gvt ≤ next p → gvt ≤ never
+      → gvt ≤ least_stamp p.outgoing → gvt ≤ least_owed p.owed → IsCutOf net until gvt c column mail p (cut s p) s
   unfolding back_to_first
   cut_sound p s h l n top out owe =
       let xs = take (steps_before s p.history) p.history in

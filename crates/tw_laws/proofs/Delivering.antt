@@ -35,12 +35,14 @@ before_weaker : {S : Type 0} (s t : ℕ) (steps : List (Step S)) → ((k : ℕ) 
 before_weaker s t [] f h = tt
 before_weaker s t (x ∷ steps) f h = (f x.entry.stamp h.0, before_weaker s t steps f h.1)
 
-before_both : {S : Type 0} (s t u : ℕ) (steps : List (Step S)) → ((k : ℕ) → k < s → k < t → k < u) → AllBefore s steps → AllBefore t steps → AllBefore u steps
+before_both : {S : Type 0} (s t u : ℕ) (steps : List (Step S)) → ((k : ℕ) → k < s → k < t → k < u) → AllBefore s steps → AllBefore t steps
+    → AllBefore u steps
 before_both s t u [] f h k = tt
 before_both s t u (x ∷ steps) f h k = (f x.entry.stamp h.0 k.0, before_both s t u steps f h.1 k.1)
 
 -- what steps before s consumed has stamps before s
-consumed_before : {S : Type 0} (s : ℕ) (steps : List (Step S)) → AllBefore s steps → Each (λ step. Each (λ m. m.stamp ≡ step.entry.stamp) step.consumed) steps → Each (λ m. m.stamp < s) (consumed_by steps)
+consumed_before : {S : Type 0} (s : ℕ) (steps : List (Step S)) → AllBefore s steps
+    → Each (λ step. Each (λ m. m.stamp ≡ step.entry.stamp) step.consumed) steps → Each (λ m. m.stamp < s) (consumed_by steps)
 consumed_before s [] h k = tt
 consumed_before s (x ∷ steps) h k =
     each-append (λ m. m.stamp < s) x.consumed (consumed_by steps) (each_weaker (λ m. m.stamp ≡ x.entry.stamp) (λ m. m.stamp < s) (λ m e. let l = h.0 in omega arith) x.consumed k.0) (consumed_before s steps h.1 k.1)
@@ -51,7 +53,9 @@ absent m (n ∷ ms) h e = ⊎_elim (λ s. let same = ap (λ (k : Message). k.sta
 
 module _ {S : Type 0} (net : Network S) (until : ℕ) (ok : IsNetwork net) (bound : until ≤ max_tick) (gvt c : ℕ) (column : List Record) (mail : List Item) where
   -- other messages pending, after every step that was made
-  pending_sound : (p : Process S) (ms : List Message) → IsSoundProcess net until gvt c column mail p → AllBefore (first_stamp ms) p.history → Sorted ms → Each (IsFor net c) ms → ((m : Message) → has m p.waiting ≡ true → has m ms ≡ true → ⊥) → IsSoundProcess net until gvt c column mail (with_pending p ms)
+  pending_sound : (p : Process S) (ms : List Message) → IsSoundProcess net until gvt c column mail p → AllBefore (first_stamp ms) p.history
+      → Sorted ms → Each (IsFor net c) ms → ((m : Message) → has m p.waiting ≡ true → has m ms ≡ true → ⊥)
+      → IsSoundProcess net until gvt c column mail (with_pending p ms)
   pending_sound p ms h before up belong apart =
       let consumed = consumed_before (first_stamp ms) p.history before (leads_consumes net ok c h.from (inputs p) p.history p.now p.pending h.stands) in
       let old = each_parts (IsFor net c) (consumed_by p.history) p.pending h.for_inputs in
@@ -78,7 +82,8 @@ module _ {S : Type 0} (net : Network S) (until : ℕ) (ok : IsNetwork net) (boun
   -- what a process is after a message of weight `less` left its mailbox and one of weight `more` came to count against it
   pub record IsChanged (p q : Process S) (item : Item) : Type 0 where
     pub sound : IsSoundProcess net until gvt c column mail q
-    pub balance : (weight : Message → ℕ) → issued weight q + held weight p + when_positive weight item ≡ issued weight p + held weight q + when_anti weight item
+    pub balance : (weight : Message → ℕ)
+        → issued weight q + held weight p + when_positive weight item ≡ issued weight p + held weight q + when_anti weight item
     pub next : gvt ≤ next q
     pub outgoing : gvt ≤ least_stamp q.outgoing
     pub owed : gvt ≤ least_owed q.owed
@@ -101,7 +106,8 @@ module _ {S : Type 0} (net : Network S) (until : ℕ) (ok : IsNetwork net) (boun
   in_pending : (p : Process S) (m : Message) → has m p.pending ≡ true → has m (inputs p) ≡ true
   in_pending p m e = has-append m (consumed_by p.history) p.pending ∙ or_right _ _ e
 
-  placed_changed : (p : Process S) (m : Message) → IsGiven p m → AllBefore m.stamp p.history → has m p.waiting ≡ false → IsChanged p (placed p m) (record { sign = Positive; message = m })
+  placed_changed : (p : Process S) (m : Message) → IsGiven p m → AllBefore m.stamp p.history → has m p.waiting ≡ false
+      → IsChanged p (placed p m) (record { sign = Positive; message = m })
   placed_changed p m g before free =
       let h = g.sound in
       let o = past p h in
@@ -116,7 +122,8 @@ module _ {S : Type 0} (net : Network S) (until : ℕ) (ok : IsNetwork net) (boun
         owed = g.owed;
       }
 
-  removed_changed : (p : Process S) (m : Message) → IsGiven p m → has m p.pending ≡ true → IsChanged p (removed p m) (record { sign = Anti; message = m })
+  removed_changed : (p : Process S) (m : Message) → IsGiven p m → has m p.pending ≡ true
+      → IsChanged p (removed p m) (record { sign = Anti; message = m })
   removed_changed p m g e =
       let h = g.sound in
       let o = past p h in
@@ -130,7 +137,8 @@ module _ {S : Type 0} (net : Network S) (until : ℕ) (ok : IsNetwork net) (boun
         owed = g.owed;
       }
 
-  waiting_sound : (p : Process S) (ms : List Message) → IsSoundProcess net until gvt c column mail p → Each (IsFor net c) ms → ((m : Message) → has m ms ≡ true → has m (inputs p) ≡ true → ⊥) → IsSoundProcess net until gvt c column mail (with_waiting p ms)
+  waiting_sound : (p : Process S) (ms : List Message) → IsSoundProcess net until gvt c column mail p → Each (IsFor net c) ms
+      → ((m : Message) → has m ms ≡ true → has m (inputs p) ≡ true → ⊥) → IsSoundProcess net until gvt c column mail (with_waiting p ms)
   waiting_sound p ms h belong apart = record {
     column_is = h.column_is;
     from = h.from;
@@ -149,7 +157,8 @@ module _ {S : Type 0} (net : Network S) (until : ℕ) (ok : IsNetwork net) (boun
   }
 
   -- its anti-message no longer waits
-  matched_changed : (p : Process S) (m : Message) → IsGiven p m → has m p.waiting ≡ true → IsChanged p (with_waiting p (without m p.waiting)) (record { sign = Positive; message = m })
+  matched_changed : (p : Process S) (m : Message) → IsGiven p m → has m p.waiting ≡ true
+      → IsChanged p (with_waiting p (without m p.waiting)) (record { sign = Positive; message = m })
   matched_changed p m g e = record {
     sound = waiting_sound p (without m p.waiting) g.sound (each-without (IsFor net c) m p.waiting g.sound.for_waiting) (λ k waits i. g.sound.apart k (has_of_without k m p.waiting waits) i);
     balance = λ weight. omega (arith, total-without weight m p.waiting e);
@@ -159,7 +168,8 @@ module _ {S : Type 0} (net : Network S) (until : ℕ) (ok : IsNetwork net) (boun
   }
 
   -- an anti-message waits
-  waiting_changed : (p : Process S) (m : Message) → IsGiven p m → has m p.pending ≡ false → has m (consumed_by p.history) ≡ false → IsChanged p (with_waiting p (p.waiting ++ m ∷ [])) (record { sign = Anti; message = m })
+  waiting_changed : (p : Process S) (m : Message) → IsGiven p m → has m p.pending ≡ false → has m (consumed_by p.history) ≡ false
+      → IsChanged p (with_waiting p (p.waiting ++ m ∷ [])) (record { sign = Anti; message = m })
   waiting_changed p m g not_pending not_consumed =
       let none : has m (inputs p) ≡ false = has-append m (consumed_by p.history) p.pending ∙ ap (λ b. b || has m p.pending) not_consumed ∙ not_pending in
       record {
@@ -214,12 +224,14 @@ module _ {S : Type 0} (net : Network S) (until : ℕ) (ok : IsNetwork net) (boun
       (λ d. cut_then p (removed (cut m.stamp p) m) m item g (removed_changed (cut m.stamp p) m (after_cut p m g) (pending_after_cut p m g d)))
       (λ d. waiting_changed p m g e d))
 
-  pub received_changed : (p : Process S) (sign : Sign) (m : Message) → IsGiven p m → IsChanged p (receive_signed p sign m).1 (record { sign = sign; message = m })
+  pub received_changed : (p : Process S) (sign : Sign) (m : Message) → IsGiven p m
+      → IsChanged p (receive_signed p sign m).1 (record { sign = sign; message = m })
   received_changed p Positive m g = message_changed p m g
   received_changed p Anti m g = anti_changed p m g
 
 module _ {S : Type 0} (net : Network S) (until : ℕ) (ok : IsNetwork net) (bound : until ≤ max_tick) where
-  mail_sound : (gvt c : ℕ) (column : List Record) (mail mail' : List Item) (p : Process S) → IsSoundProcess net until gvt c column mail p → Each (λ i. IsFor net c i.message) mail' → IsSoundProcess net until gvt c column mail' p
+  mail_sound : (gvt c : ℕ) (column : List Record) (mail mail' : List Item) (p : Process S) → IsSoundProcess net until gvt c column mail p
+      → Each (λ i. IsFor net c i.message) mail' → IsSoundProcess net until gvt c column mail' p
   mail_sound gvt c column mail mail' p h m = record {
     column_is = h.column_is;
     from = h.from;
@@ -237,7 +249,8 @@ module _ {S : Type 0} (net : Network S) (until : ℕ) (ok : IsNetwork net) (boun
     line_le_fault = h.line_le_fault;
   }
 
-  pub deliver_sound : (w : World S) (q i : ℕ) (o : Option (Process S)) (x : Option Item) → IsSound net until w → slice_get w.processes q ≡ o → slice_get (mail_of w.mail q) i ≡ x → IsSound net until (act_deliver w q i o x).1
+  pub deliver_sound : (w : World S) (q i : ℕ) (o : Option (Process S)) (x : Option Item) → IsSound net until w → slice_get w.processes q ≡ o
+      → slice_get (mail_of w.mail q) i ≡ x → IsSound net until (act_deliver w q i o x).1
   deliver_sound w q i None x h at is = h
   deliver_sound w q i (Some p) None h at is = h
   deliver_sound w q i (Some p) (Some item) h at is =
@@ -285,7 +298,8 @@ module _ {S : Type 0} (net : Network S) (until : ℕ) (ok : IsNetwork net) (boun
         least = least_mail-set w.gvt w.mail q (remove box i) least (least_from_each w.gvt (remove box i) top (each-remove (λ j. w.gvt ≤ j.message.stamp) box i stamps));
       })
 
-  pub back_sound : (w : World S) (c s : ℕ) (o : Option (Process S)) → IsSound net until w → slice_get w.processes c ≡ o → IsSound net until (act_back w c s o).1
+  pub back_sound : (w : World S) (c s : ℕ) (o : Option (Process S)) → IsSound net until w → slice_get w.processes c ≡ o
+      → IsSound net until (act_back w c s o).1
   back_sound w c s None h at = h
   back_sound w c s (Some p) h at =
       cond_both (nat_lt s w.gvt) _ _ (λ (r : Answer × World S). IsSound net until r.1)

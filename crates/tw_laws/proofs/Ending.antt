@@ -27,7 +27,8 @@ module _ {S : Type 0} (net : Network S) (until : ℕ) (ok : IsNetwork net) (boun
       fault_law net until (up_to until w.gvt) (held_by until w) bound (settled net until ok w h) c limit (faulting net until ok w h c limit shows)
       ∙ ap (λ (g : ℕ). Some (c, g, limit)) same
 
-  no_fault : ((c : ℕ) (p : Process S) → slice_get w.processes c ≡ Some p → stamp until 0 0 ≤ p.line) → (f : Option (ℕ × ℕ × Limit)) → (sequential net until).fault ≡ f → f ≡ None
+  no_fault : ((c : ℕ) (p : Process S) → slice_get w.processes c ≡ Some p → stamp until 0 0 ≤ p.line) → (f : Option (ℕ × ℕ × Limit))
+      → (sequential net until).fault ≡ f → f ≡ None
   no_fault past None e = refl
   no_fault past (Some f) e =
       let within = fault_stamp net until bound (all_phase_one net net.inputs ok.inputs) f.0 f.1 f.2 e in
@@ -73,7 +74,8 @@ empty_mail : (mail : List (List Item)) → all_empty mail ≡ true → Each (λ 
 empty_mail [] e = tt
 empty_mail (box ∷ mail) e = let parts = and_parts _ _ e in (empty_is box parts.0, empty_mail mail parts.1)
 
-quiet_at : {S : Type 0} (g : ℕ) (ps : List (Process S)) → all_quiet g ps ≡ true → (d : ℕ) (q : Process S) → slice_get ps d ≡ Some q → (q.outgoing ≡ []) × Each (λ m. m.stamp ≢ g) q.owed
+quiet_at : {S : Type 0} (g : ℕ) (ps : List (Process S)) → all_quiet g ps ≡ true → (d : ℕ) (q : Process S) → slice_get ps d ≡ Some q
+    → (q.outgoing ≡ []) × Each (λ m. m.stamp ≢ g) q.owed
 quiet_at g [] e d q at = absurd (none-some q at)
 quiet_at {S} g (p ∷ ps) e zero q at =
     let parts = and_parts (is_empty p.outgoing && none_at g p.owed) (all_quiet g ps) e in
@@ -100,14 +102,16 @@ record Found {S : Type 0} (net : Network S) (g b : ℕ) (ps : List (Process S)) 
   at : slice_get ps place ≡ Some process
   next_is : next process ≡ g
   meets : local_step net c process.now process.pending ≡ Err (OverLimit limit)
-  least : (d : ℕ) (q : Process S) (other : Limit) → slice_get ps d ≡ Some q → d < place → next q ≡ g → local_step net (b + d) q.now q.pending ≡ Err (OverLimit other) → ⊥
+  least : (d : ℕ) (q : Process S) (other : Limit) → slice_get ps d ≡ Some q → d < place → next q ≡ g
+      → local_step net (b + d) q.now q.pending ≡ Err (OverLimit other) → ⊥
 
 module _ {S : Type 0} (net : Network S) (g : ℕ) where
   first_fault_is : (b : ℕ) (ps : List (Process S)) (c s : ℕ) (limit : Limit) → first_fault net g b ps ≡ Fault c s limit → Found net g b ps c s limit
   first_fault_is b [] c s limit e = absurd (let bad : Going ≡ Fault c s limit = e in cc)
   first_fault_is b (p ∷ ps) c s limit e = go (λ k. first_fault_is (suc b) ps c s limit k) (next p == g) refl e
     where
-      later : ((other : Limit) → next p ≡ g → local_step net b p.now p.pending ≡ Err (OverLimit other) → ⊥) → Found net g (suc b) ps c s limit → Found net g b (p ∷ ps) c s limit
+      later : ((other : Limit) → next p ≡ g → local_step net b p.now p.pending ≡ Err (OverLimit other) → ⊥) → Found net g (suc b) ps c s limit
+          → Found net g b (p ∷ ps) c s limit
       later none f = record {
         place = suc f.place;
         is = let i = f.is in omega arith;
@@ -119,7 +123,8 @@ module _ {S : Type 0} (net : Network S) (g : ℕ) where
         least = rest;
       }
         where
-          rest : (d : ℕ) (q : Process S) (other : Limit) → slice_get (p ∷ ps) d ≡ Some q → d < suc f.place → next q ≡ g → local_step net (b + d) q.now q.pending ≡ Err (OverLimit other) → ⊥
+          rest : (d : ℕ) (q : Process S) (other : Limit) → slice_get (p ∷ ps) d ≡ Some q → d < suc f.place → next q ≡ g
+              → local_step net (b + d) q.now q.pending ≡ Err (OverLimit other) → ⊥
           rest zero q other at l n met =
               let same : p ≡ q = same_Some p q at in
               let here : b + 0 ≡ b = omega arith in
@@ -128,7 +133,9 @@ module _ {S : Type 0} (net : Network S) (g : ℕ) where
               let here : suc b + d ≡ b + suc d = omega arith in
               f.least d q other at (omega arith) n (ap (λ k. local_step net k q.now q.pending) here ∙ met)
 
-      met : (first_fault net g (suc b) ps ≡ Fault c s limit → Found net g (suc b) ps c s limit) → next p ≡ g → (o : Option Limit) → limit_of (local_step net b p.now p.pending) ≡ o → fault_at b g o (first_fault net g (suc b) ps) ≡ Fault c s limit → Found net g b (p ∷ ps) c s limit
+      met : (first_fault net g (suc b) ps ≡ Fault c s limit → Found net g (suc b) ps c s limit) → next p ≡ g → (o : Option Limit)
+          → limit_of (local_step net b p.now p.pending) ≡ o → fault_at b g o (first_fault net g (suc b) ps) ≡ Fault c s limit
+          → Found net g b (p ∷ ps) c s limit
       met ih n None q k = later (λ other m bad. none-some other (sym q ∙ ap (limit_of {S = S}) bad)) (ih k)
       met ih n (Some found) q k =
           let same : Fault b g found ≡ Fault c s limit = k in
@@ -146,12 +153,16 @@ module _ {S : Type 0} (net : Network S) (g : ℕ) where
             least = λ d r other at early. absurd (omega arith);
           }
 
-      go : (first_fault net g (suc b) ps ≡ Fault c s limit → Found net g (suc b) ps c s limit) → (t : Bool) → (next p == g) ≡ t → fault_at b g (cond t (limit_of (local_step net b p.now p.pending)) None) (first_fault net g (suc b) ps) ≡ Fault c s limit → Found net g b (p ∷ ps) c s limit
+      go : (first_fault net g (suc b) ps ≡ Fault c s limit → Found net g (suc b) ps c s limit) → (t : Bool) → (next p == g) ≡ t
+          → fault_at b g (cond t (limit_of (local_step net b p.now p.pending)) None) (first_fault net g (suc b) ps) ≡ Fault c s limit
+          → Found net g b (p ∷ ps) c s limit
       go ih true n k = met ih (eqb-true (next p) g n) _ refl k
       go ih false n k = later (λ other m bad. true≢false (sym (eq-eqb (next p) g m) ∙ n)) (ih k)
 
 module _ {S : Type 0} (net : Network S) (until : ℕ) (w : World S) where
-  shows : (c s : ℕ) (limit : Limit) → (all_quiet w.gvt w.processes && all_empty w.mail && nat_lt w.gvt (stamp until 0 0) && (phase_of w.gvt == 1)) ≡ true → Found net w.gvt 0 w.processes c s limit → ShowsFault net until w c limit
+  shows : (c s : ℕ) (limit : Limit)
+      → (all_quiet w.gvt w.processes && all_empty w.mail && nat_lt w.gvt (stamp until 0 0) && (phase_of w.gvt == 1)) ≡ true
+      → Found net w.gvt 0 w.processes c s limit → ShowsFault net until w c limit
   shows c s limit e f =
       let three = and_parts (all_quiet w.gvt w.processes && all_empty w.mail && nat_lt w.gvt (stamp until 0 0)) (phase_of w.gvt == 1) e in
       let two = and_parts (all_quiet w.gvt w.processes && all_empty w.mail) (nat_lt w.gvt (stamp until 0 0)) three.0 in
@@ -170,7 +181,8 @@ module _ {S : Type 0} (net : Network S) (until : ℕ) (w : World S) where
         least = λ d q other at l n met. let zero_d : 0 + d ≡ d = omega arith in f.least d q other at (omega arith) n (ap (λ k. local_step net k q.now q.pending) zero_d ∙ met);
       }
 
-  state_fault : IsNetwork net → until ≤ max_tick → IsSound net until w → (c s : ℕ) (limit : Limit) → state net until w ≡ Fault c s limit → (s ≡ w.gvt) × ((sequential net until).fault ≡ Some (c, s, limit))
+  state_fault : IsNetwork net → until ≤ max_tick → IsSound net until w → (c s : ℕ) (limit : Limit) → state net until w ≡ Fault c s limit
+      → (s ≡ w.gvt) × ((sequential net until).fault ≡ Some (c, s, limit))
   unfolding state
   state_fault ok bound h c s limit =
       cond_both (all_past (stamp until 0 0) w.processes) _ _ (λ (x : State). x ≡ Fault c s limit → (s ≡ w.gvt) × ((sequential net until).fault ≡ Some (c, s, limit)))
@@ -183,7 +195,8 @@ module _ {S : Type 0} (net : Network S) (until : ℕ) (w : World S) where
   not_complete [] b e = let k : Going ≡ Complete = e in cc
   not_complete (p ∷ ps) b e = go (λ k. not_complete ps (suc b) k) (cond (next p == w.gvt) (limit_of (local_step net b p.now p.pending)) None) e
     where
-      go : (first_fault net w.gvt (suc b) ps ≡ Complete → ⊥) → (o : Option Limit) → fault_at b w.gvt o (first_fault net w.gvt (suc b) ps) ≡ Complete → ⊥
+      go : (first_fault net w.gvt (suc b) ps ≡ Complete → ⊥) → (o : Option Limit) → fault_at b w.gvt o (first_fault net w.gvt (suc b) ps) ≡ Complete
+          → ⊥
       go ih None k = ih k
       go ih (Some limit) k = let bad : Fault b w.gvt limit ≡ Complete = k in cc
 

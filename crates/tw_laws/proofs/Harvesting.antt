@@ -51,7 +51,8 @@ all_consumed-append [] ys = refl
 all_consumed-append (x ∷ xs) ys = ap (λ l. consumed_in x ++ l) (all_consumed-append xs ys) ∙ sym (append_assoc (consumed_in x) (all_consumed xs) (all_consumed ys))
 
 module _ {S : Type 0} (law : CommittedHistory S) (net : Network S) (until : ℕ) (ok : IsNetwork net) (bound : until ≤ max_tick) where
-  harvest_sound : (w : World S) (c : ℕ) (o : Option (Process S)) → IsSound net until w → slice_get w.processes c ≡ o → IsSound net until (act_harvest w c o).1
+  harvest_sound : (w : World S) (c : ℕ) (o : Option (Process S)) → IsSound net until w → slice_get w.processes c ≡ o
+      → IsSound net until (act_harvest w c o).1
   harvest_sound w c None h at = h
   harvest_sound w c (Some p) h at =
       let n = steps_before w.gvt p.history in
@@ -137,7 +138,8 @@ acts_soundly {S} net until w ok bound h (Back c s) = act_law net until w ok boun
 acts_soundly {S} net until w ok bound h Raise = act_law net until w ok bound h Raise tt
 acts_soundly {S} net until w ok bound h (Harvest c) = harvest_sound (λ n u g k. committed_history n u g k) net until ok bound w c (slice_get w.processes c) h refl
 
-pub replay_sound : {S : Type 0} (net : Network S) (until : ℕ) (w : World S) (actions : List Action) → IsNetwork net → until ≤ max_tick → IsSound net until w → IsSound net until (replay net until w actions)
+pub replay_sound : {S : Type 0} (net : Network S) (until : ℕ) (w : World S) (actions : List Action) → IsNetwork net → until ≤ max_tick
+    → IsSound net until w → IsSound net until (replay net until w actions)
 replay_sound net until w [] ok bound h = h
 replay_sound net until w (a ∷ actions) ok bound h = replay_sound net until (act net until w a).1 actions ok bound (acts_soundly net until w ok bound h a)
 

@@ -36,7 +36,8 @@ late_more : {S : Type 0} (s : ℕ) (steps : List (Step S)) (step : Step S) → N
 late_more s [] step h l = l
 late_more s (x ∷ steps) step h l = h
 
-reached_more : {S : Type 0} (net : Network S) (c : ℕ) (p p' : Process S) (made : Made S) → local_step net c p'.now p'.pending ≡ Ok made → (steps : List (Step S)) → IsReached p p' steps → IsReached p (with_step p' made) (steps ++ made.step ∷ [])
+reached_more : {S : Type 0} (net : Network S) (c : ℕ) (p p' : Process S) (made : Made S) → local_step net c p'.now p'.pending ≡ Ok made
+    → (steps : List (Step S)) → IsReached p p' steps → IsReached p (with_step p' made) (steps ++ made.step ∷ [])
 reached_more net c p p' made e steps r =
     let f = local_step_follows net c p'.now p'.pending made e in
     let least : next p' ≤ first_stamp p'.pending = omega arith in
@@ -54,7 +55,8 @@ steps_before-append s [] (y ∷ ys) all late = ap (λ b. cond b (suc (steps_befo
 steps_before-append s (x ∷ xs) ys all late =
     ap (λ b. cond b (suc (steps_before s (xs ++ ys))) 0) (lt-ltb x.entry.stamp s all.0) ∙ ap suc (steps_before-append s xs ys all.1 late)
 
-cut_place : {S : Type 0} (p p' : Process S) (steps : List (Step S)) → IsOrdered p → IsReached p p' steps → steps_before (next p) p'.history ≡ length p.history
+cut_place : {S : Type 0} (p p' : Process S) (steps : List (Step S)) → IsOrdered p → IsReached p p' steps
+    → steps_before (next p) p'.history ≡ length p.history
 cut_place p p' steps o r = ap (steps_before (next p)) r.after.history ∙ steps_before-append (next p) p.history steps o.past r.late
 
 cut_restores : {S : Type 0} (p p' : Process S) (steps : List (Step S)) → IsOrdered p → IsReached p p' steps → IsRestoredBy steps p (cut (next p) p')
@@ -88,7 +90,8 @@ all_reached_none (p ∷ ps) o =
     let here : IsReached p p [] = record { after = is_after_none p; late = tt; not_earlier = omega arith; ascending = o.0.ascending } in
     ([] ∷ rest.0, (here, rest.1))
 
-all_reached_set : {S : Type 0} (all : List (List (Step S))) (ps qs : List (Process S)) (c : ℕ) (q q' : Process S) (step : Step S) → AllReached all ps qs → slice_get qs c ≡ Some q
+all_reached_set : {S : Type 0} (all : List (List (Step S))) (ps qs : List (Process S)) (c : ℕ) (q q' : Process S) (step : Step S)
+    → AllReached all ps qs → slice_get qs c ≡ Some q
     → ((p : Process S) (steps : List (Step S)) → IsReached p q steps → IsReached p q' (steps ++ step ∷ []))
     → (all' : List (List (Step S))) × AllReached all' ps (slice_set qs c q')
 all_reached_set [] [] [] c q q' step r e more = ([], tt)
@@ -102,7 +105,8 @@ all_reached_set (steps ∷ all) (p ∷ ps) (x ∷ qs) (suc c) q q' step r e more
     let rest = all_reached_set all ps qs c q q' step r.1 e more in
     (steps ∷ rest.0, (r.0, rest.1))
 
-restored_all : {S : Type 0} (all : List (List (Step S))) (ps qs : List (Process S)) → AllOrdered ps → AllReached all ps qs → RestoredAll all ps (rewound (marks ps) qs) × (rewound_steps (marks ps) qs ≡ count_all all)
+restored_all : {S : Type 0} (all : List (List (Step S))) (ps qs : List (Process S)) → AllOrdered ps → AllReached all ps qs
+    → RestoredAll all ps (rewound (marks ps) qs) × (rewound_steps (marks ps) qs ≡ count_all all)
 restored_all [] [] [] o r = (tt, refl)
 restored_all [] [] (x ∷ qs) o r = absurd r
 restored_all [] (p ∷ ps) qs o r = absurd r
@@ -122,13 +126,15 @@ record WorldReached {S : Type 0} (w w' : World S) : Type 0 where
   gvt : w'.gvt ≡ w.gvt
 
 module _ {S : Type 0} (net : Network S) (until : ℕ) (w : World S) where
-  made_reached : (w' : World S) (c : ℕ) (p' : Process S) (r : Result (Made S) NoStep) → WorldReached w w' → slice_get w'.processes c ≡ Some p' → local_step net c p'.now p'.pending ≡ r → WorldReached w (if_made w' c p' r).1
+  made_reached : (w' : World S) (c : ℕ) (p' : Process S) (r : Result (Made S) NoStep) → WorldReached w w' → slice_get w'.processes c ≡ Some p'
+      → local_step net c p'.now p'.pending ≡ r → WorldReached w (if_made w' c p' r).1
   made_reached w' c p' (Ok made) h at e =
       let set = all_reached_set h.all w.processes w'.processes c p' (with_step p' made) made.step h.processes at (λ p steps r. reached_more net c p p' made e steps r) in
       record { all = set.0; processes = set.1; mail = h.mail; columns = h.columns; gvt = h.gvt }
   made_reached w' c p' (Err why) h at e = h
 
-  step_reached : (w' : World S) (c : ℕ) (o : Option (Process S)) → WorldReached w w' → slice_get w'.processes c ≡ o → WorldReached w (act_step net until w' c o).1
+  step_reached : (w' : World S) (c : ℕ) (o : Option (Process S)) → WorldReached w w' → slice_get w'.processes c ≡ o
+      → WorldReached w (act_step net until w' c o).1
   step_reached w' c None h at = h
   step_reached w' c (Some p') h at =
       cond_both (nat_lt (next p') (stamp until 0 0)) _ _ (λ (r : Answer × World S). WorldReached w r.1)

@@ -1,29 +1,37 @@
-pub mod Acting
-pub mod ActionsKeep
-pub mod Cancelling
+-- The proofs, in the order of the argument.
+
+-- one component by itself: what its steps send and record, how its run goes on and divides
+pub mod Sends
+pub mod Recorded
+pub mod Runs
+-- the start, and each action, keep an executive sound
+pub mod Starting
 pub mod Changing
+pub mod Stepping
 pub mod Cutting
 pub mod Delivering
-pub mod Ending
-pub mod Harvesting
+pub mod ActionsKeep
+pub mod Acting
+-- local runs that balance are the sequential run; so a harvest keeps an executive sound too
 pub mod History
-pub mod Inverse
-pub mod Lines
-pub mod Ordered
-pub mod Recorded
-pub mod Rewinding
-pub mod Runs
-pub mod Sends
 pub mod Settled
-pub mod Starting
-pub mod Stepping
-pub mod Sweeping
-pub mod Traces
-pub mod Transit
-pub mod TransitWeights
-pub mod Keeping
+pub mod Harvesting
+pub mod Lines
 pub mod Least
+-- taking back
+pub mod Ordered
+pub mod Inverse
+pub mod Rewinding
+pub mod TransitWeights
+pub mod Transit
 pub mod Rewound
-pub mod Merging
-pub mod Three
+pub mod Keeping
+-- the end of a sweep, of a run, and the one trace
+pub mod Sweeping
 pub mod SweepEnds
+pub mod Ending
+pub mod Traces
+pub mod Merging
+-- the ways of cancelling, and all laws on a concrete network
+pub mod Cancelling
+pub mod Three

@@ -28,7 +28,8 @@ module _ {S : Type 0} (net : Network S) where
   even_calm c s bag (Some now) even =
       rw (eq-eqb (phase_of s) 0 even) (cond_both (now.due == s) (Moves (output net c now s)) Stays (NoLimit {S = S}) (λ e. tt) (λ e. tt))
 
-  fault_within : (until : ℕ) → IsNetwork net → until ≤ max_tick → (b s : ℕ) (limit : Limit) → (sequential net until).fault ≡ Some (b, s, limit) → s < stamp until 0 0
+  fault_within : (until : ℕ) → IsNetwork net → until ≤ max_tick → (b s : ℕ) (limit : Limit) → (sequential net until).fault ≡ Some (b, s, limit)
+      → s < stamp until 0 0
   unfolding NoLimit
   fault_within until ok bound b s limit q =
       let x = extent net until (all_phase_one net net.inputs ok.inputs) bound in
@@ -72,7 +73,8 @@ module _ {S : Type 0} (net : Network S) (until : ℕ) (w : World S) where
   harvest_gvt c None = omega arith
   harvest_gvt c (Some p) = omega arith
 
-pub gvt_rises : {S : Type 0} (net : Network S) (until : ℕ) (w : World S) → IsSound net until w → (action : Action) → w.gvt ≤ (act net until w action).1.gvt
+pub gvt_rises : {S : Type 0} (net : Network S) (until : ℕ) (w : World S) → IsSound net until w → (action : Action)
+    → w.gvt ≤ (act net until w action).1.gvt
 unfolding act
 gvt_rises net until w h (Action.Step c) = step_gvt net until w c (slice_get w.processes c)
 gvt_rises net until w h (Post c) = post_gvt net until w c (slice_get w.processes c)

@@ -43,7 +43,8 @@ beginning : (g : ℕ) (rs : List Record) → IsTrace rs → (rest : List Record)
 beginning g [] h = ([], refl)
 beginning g (r ∷ rs) h = go (nat_lt r.stamp g) refl (beginning g rs h.1)
   where
-    go : (b : Bool) → nat_lt r.stamp g ≡ b → (rest : List Record) × (before g rs ++ rest ≡ rs) → (rest : List Record) × (cond b (r ∷ before g rs) (before g rs) ++ rest ≡ r ∷ rs)
+    go : (b : Bool) → nat_lt r.stamp g ≡ b → (rest : List Record) × (before g rs ++ rest ≡ rs)
+        → (rest : List Record) × (cond b (r ∷ before g rs) (before g rs) ++ rest ≡ r ∷ rs)
     go true e ih = (ih.0, ap (λ l. r ∷ l) ih.1)
     go false e ih =
         let late : g ≤ r.stamp = ltb-false r.stamp g e in
@@ -52,14 +53,16 @@ beginning g (r ∷ rs) h = go (nat_lt r.stamp g) refl (beginning g rs h.1)
 -- ---- one component's records before a stamp, of those before a later one
 
 -- where all records stand before b
-same_part : (c g u b : ℕ) (rs : List Record) → Each (λ r. r.stamp < b) rs → min g b ≤ u → before g (filter (λ r. (r.component == c) && nat_lt r.stamp u) rs) ≡ of_component c (before g rs)
+same_part : (c g u b : ℕ) (rs : List Record) → Each (λ r. r.stamp < b) rs → min g b ≤ u
+    → before g (filter (λ r. (r.component == c) && nat_lt r.stamp u) rs) ≡ of_component c (before g rs)
 same_part c g u b [] h l = refl
 same_part c g u b (r ∷ rs) h l = go (r.component == c) (nat_lt r.stamp u) (nat_lt r.stamp g) refl refl refl (same_part c g u b rs h.1 l)
   where
     part : List Record
     part = filter (λ r. (r.component == c) && nat_lt r.stamp u) rs
 
-    go : (own early now : Bool) → (r.component == c) ≡ own → nat_lt r.stamp u ≡ early → nat_lt r.stamp g ≡ now → before g part ≡ of_component c (before g rs)
+    go : (own early now : Bool) → (r.component == c) ≡ own → nat_lt r.stamp u ≡ early → nat_lt r.stamp g ≡ now
+        → before g part ≡ of_component c (before g rs)
         → before g (cond (own && early) (r ∷ part) part) ≡ of_component c (cond now (r ∷ before g rs) (before g rs))
     go false early true p e n ih = ih ∙ sym (cond-false (r.component == c) _ _ p)
     go false early false p e n ih = ih
@@ -70,7 +73,8 @@ same_part c g u b (r ∷ rs) h l = go (r.component == c) (nat_lt r.stamp u) (nat
 
 -- ---- no component, no records
 
-absent : {S : Type 0} (net : Network S) (c : ℕ) → slice_get net.models c ≡ None → (s : ℕ) → ((clock net s).place c ≡ None) × ((clock net s).records c ≡ [])
+absent : {S : Type 0} (net : Network S) (c : ℕ) → slice_get net.models c ≡ None → (s : ℕ)
+    → ((clock net s).place c ≡ None) × ((clock net s).records c ≡ [])
 unfolding clock act_if place_after record_after
 absent net c e zero = (ap (option_map start_moment) e, refl)
 absent {S} net c e (suc s) =
@@ -81,7 +85,8 @@ absent {S} net c e (suc s) =
       ap₂ (λ (l : List Record) (o : Option (Moment S)). l ++ record_after (act_if net c s bag o)) ih.1 ih.0,
     )
 
-no_records : {S : Type 0} (net : Network S) (c b : ℕ) (run : Run S) → slice_get net.models c ≡ None → Reached net b run → of_component c run.records ≡ []
+no_records : {S : Type 0} (net : Network S) (c b : ℕ) (run : Run S) → slice_get net.models c ≡ None → Reached net b run
+    → of_component c run.records ≡ []
 no_records net c b run e (Running at) = at.records c ∙ (absent net c e b).1
 no_records net c b run e (Faulted f l at) = at.records c ∙ (absent net c e f).1
 
@@ -102,16 +107,19 @@ module _ {S : Type 0} (net : Network S) (until : ℕ) (ok : IsNetwork net) (boun
       none : {l : List Record} → ◌≡◌ {A = List Record} (r ∷ l) [] → ⊥
       none z = cc z
 
-      go : (own : Bool) → (r.component == c) ≡ own → (of_component c rs ≡ [] → of_component c (before g rs) ≡ []) → of_component c (before g (r ∷ rs)) ≡ []
+      go : (own : Bool) → (r.component == c) ≡ own → (of_component c rs ≡ [] → of_component c (before g rs) ≡ [])
+          → of_component c (before g (r ∷ rs)) ≡ []
       go true p ih = absurd (none (sym (cond-true (r.component == c) _ _ p) ∙ e))
       go false p ih =
           let rest = ih (sym (cond-false (r.component == c) _ _ p) ∙ e) in
           cond_both (nat_lt r.stamp g) (r ∷ before g rs) (before g rs) (λ l. of_component c l ≡ []) (λ z. cond-false (r.component == c) _ _ p ∙ rest) (λ z. rest)
 
-  column_part : (g : ℕ) (w : World S) → IsSound net until w → ((c : ℕ) (p : Process S) → slice_get w.processes c ≡ Some p → g ≤ p.line) → (c : ℕ) → before g (column_of w.columns c) ≡ of_component c (before g whole)
+  column_part : (g : ℕ) (w : World S) → IsSound net until w → ((c : ℕ) (p : Process S) → slice_get w.processes c ≡ Some p → g ≤ p.line) → (c : ℕ)
+      → before g (column_of w.columns c) ≡ of_component c (before g whole)
   column_part g w h lines c = ⊎_elim there past (slice_get_cases w.processes c).1
     where
-      there : (p : Process S) × (c < length w.processes) × (slice_get w.processes c ≡ Some p) × (get_or w.processes c p ≡ p) → before g (column_of w.columns c) ≡ of_component c (before g whole)
+      there : (p : Process S) × (c < length w.processes) × (slice_get w.processes c ≡ Some p) × (get_or w.processes c p ≡ p)
+          → before g (column_of w.columns c) ≡ of_component c (before g whole)
       there (p, l, at, same) =
           let line = lines c p at in
           ap (before g) (h.each c p at).column_is ∙ same_part c g (up_to until p.line) (stamp until 0 0) whole (sequential_trace net until ok bound).1 (omega arith)

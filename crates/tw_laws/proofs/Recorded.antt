@@ -40,7 +40,8 @@ module _ {S : Type 0} (net : Network S) (c : ℕ) where
   unfolding output
   output_recorded now pending s = record { sent = refl; consumed = λ h. refl }
 
-  moved_turn : (s : ℕ) (b : Bool) (bag : Bag) (state : S) (r : Result (Option ℕ) Limit) → IfOk (if_within (moved net c s (kind_of (turn b bag)) bag state) r) (IsTurn s bag)
+  moved_turn : (s : ℕ) (b : Bool) (bag : Bag) (state : S) (r : Result (Option ℕ) Limit)
+      → IfOk (if_within (moved net c s (kind_of (turn b bag)) bag state) r) (IsTurn s bag)
   unfolding moved
   moved_turn s b bag state (Ok due) = record { sent = no_output b bag _ []; consumed = no_output b bag [] _ }
   moved_turn s b bag state (Err limit) = tt
@@ -49,7 +50,8 @@ module _ {S : Type 0} (net : Network S) (c : ℕ) where
   unfolding transition
   transition_turn now s bag = moved_turn s (now.due == s) bag _ _
 
-  turn_recorded : (now : Moment S) (pending : List Message) (s : ℕ) (r : Result (Move S) Limit) → IfOk r (IsTurn s (items_of (front s pending))) → IfOk (if_moved (transition_made now pending s) r) (IsRecorded pending)
+  turn_recorded : (now : Moment S) (pending : List Message) (s : ℕ) (r : Result (Move S) Limit) → IfOk r (IsTurn s (items_of (front s pending)))
+      → IfOk (if_moved (transition_made now pending s) r) (IsRecorded pending)
   turn_recorded now pending s (Ok move) h = record {
     sent = sym h.sent;
     consumed = λ to. sym (h.consumed ∙ again c s (front s pending) (each_parts (λ m. m.to ≡ c) (front s pending) (behind s pending) (subst (Each (λ m. m.to ≡ c)) (sym (front-behind s pending)) to)).0 (front_at s pending));
@@ -67,7 +69,8 @@ module _ {S : Type 0} (net : Network S) (c : ℕ) where
   local_step_recorded now pending made e = IfOk-at_ok (IsRecorded pending) e (step_at_recorded now pending (next_of now pending))
 
   -- the records of a run say what it sent and consumed
-  pub leads_recorded : (from : Moment S) (all : List Message) (steps : List (Step S)) (now : Moment S) (pending : List Message) → Leads net c from all steps now pending → Each (λ m. m.to ≡ c) all
+  pub leads_recorded : (from : Moment S) (all : List Message) (steps : List (Step S)) (now : Moment S) (pending : List Message)
+      → Leads net c from all steps now pending → Each (λ m. m.to ≡ c) all
       → (all_sent net (records_of steps) ≡ sent_by steps) × (all_consumed (records_of steps) ≡ consumed_by steps)
   leads_recorded from all [] now pending h to = (refl, refl)
   leads_recorded from all (x ∷ steps) now pending h to =

@@ -1,4 +1,4 @@
--- A rewind keeps an executive sound.
+-- A rewind keeps an executive sound; and where only steps came since the marks, it restores what was.
 use Rattle.std.proofs.Common.{◌≡◌, ℕ, zero, suc, ◌+◌, ◌≤◌, max, List, [], ◌∷◌, length, Bool, true, false, cond, not, ◌&&◌, ◌||◌, Some, refl, sym, ap, ◌∙◌, subst, arith, ⊎_elim}
 use Rattle.std.specs.Prelude.{slice_get, slice_index_or, ◌==◌, nat_lt, nat_le}
 use Rattle.std.proofs.lemmas.Bool.{cond_both, or_parts, and_cases, lt-ltb, le-ltb, ltb-true, ltb-false, leb-false, leb-true, eqb-true, eq-eqb, cases_lt, not-false}
@@ -26,7 +26,8 @@ use Rattle.tw_laws.proofs.Cutting.{IsCutOf, cut_sound}
 
 -- ---- a cut before gvt that meets no step before gvt
 
-same_place : {S : Type 0} (s g : ℕ) (steps : List (Step S)) → any_between s g (records_of steps) ≡ false → steps_before s steps ≡ steps_before (max s g) steps
+same_place : {S : Type 0} (s g : ℕ) (steps : List (Step S)) → any_between s g (records_of steps) ≡ false
+    → steps_before s steps ≡ steps_before (max s g) steps
 same_place s g [] e = refl
 same_place s g (x ∷ steps) e =
     let parts = or_parts _ _ e in
@@ -44,7 +45,9 @@ same_place s g (x ∷ steps) e =
 same_cut : {S : Type 0} (s g : ℕ) (p : Process S) → any_between s g (records_of p.history) ≡ false → cut (max s g) p ≡ cut s p
 same_cut s g p e = ap (λ n. back_to_first n p) (sym (same_place s g p.history e))
 
-free_at : {S : Type 0} (g : ℕ) (ss : List ℕ) (ps : List (Process S)) (columns : List (List Record)) → any_committed g ss ps columns ≡ false → length columns ≡ length ps → (c s : ℕ) (p : Process S) → slice_get ss c ≡ Some s → slice_get ps c ≡ Some p → any_between s g (records_of p.history) ≡ false
+free_at : {S : Type 0} (g : ℕ) (ss : List ℕ) (ps : List (Process S)) (columns : List (List Record)) → any_committed g ss ps columns ≡ false
+    → length columns ≡ length ps → (c s : ℕ) (p : Process S) → slice_get ss c ≡ Some s → slice_get ps c ≡ Some p
+    → any_between s g (records_of p.history) ≡ false
 free_at g [] ps columns e n c s p a b = absurd (none-some s a)
 free_at g (x ∷ ss) [] columns e n c s p a b = absurd (none-some p b)
 free_at g (x ∷ ss) (y ∷ ps) [] e n c s p a b = absurd (omega arith)
@@ -54,7 +57,8 @@ free_at g (x ∷ ss) (y ∷ ps) (column ∷ columns) e n (suc c) s p a b = free_
 
 -- ---- all processes
 
-rewound_get : {S : Type 0} (ss : List ℕ) (ps : List (Process S)) (c : ℕ) (q : Process S) → length ss ≡ length ps → slice_get (rewound ss ps) c ≡ Some q
+rewound_get : {S : Type 0} (ss : List ℕ) (ps : List (Process S)) (c : ℕ) (q : Process S) → length ss ≡ length ps
+    → slice_get (rewound ss ps) c ≡ Some q
     → (s : ℕ) × (p : Process S) × (slice_get ss c ≡ Some s) × (slice_get ps c ≡ Some p) × (q ≡ cut s p)
 rewound_get [] [] c q n e = absurd (none-some q e)
 rewound_get [] (p ∷ ps) c q n e = absurd (omega arith)
@@ -88,7 +92,8 @@ rewound_least g (s ∷ ss) (p ∷ ps) l h =
     omega arith
 
 module _ {S : Type 0} (net : Network S) (until : ℕ) (ok : IsNetwork net) (bound : until ≤ max_tick) where
-  cut_at : (w : World S) (ss : List ℕ) → IsSound net until w → any_committed w.gvt ss w.processes w.columns ≡ false → (c s : ℕ) (p : Process S) → slice_get ss c ≡ Some s → slice_get w.processes c ≡ Some p
+  cut_at : (w : World S) (ss : List ℕ) → IsSound net until w → any_committed w.gvt ss w.processes w.columns ≡ false → (c s : ℕ) (p : Process S)
+      → slice_get ss c ≡ Some s → slice_get w.processes c ≡ Some p
       → IsCutOf net until w.gvt c (slice_index_or w.columns c []) (mail_of w.mail c) p (cut s p) (max s w.gvt)
   cut_at w ss h free c s p a at =
       let old = process_from_least w.gvt w.processes c p (let g = h.gvt_le in omega arith) at in
@@ -96,7 +101,9 @@ module _ {S : Type 0} (net : Network S) (until : ℕ) (ok : IsNetwork net) (boun
       let k = cut_sound net until ok bound w.gvt c (slice_index_or w.columns c []) (mail_of w.mail c) p (max s w.gvt) (h.each c p at) (omega arith) old.0 top old.1 old.2 in
       subst (λ (q : Process S). IsCutOf net until w.gvt c (slice_index_or w.columns c []) (mail_of w.mail c) p q (max s w.gvt)) (same_cut s w.gvt p (free_at w.gvt ss w.processes w.columns free (h.columns ∙ sym h.processes) c s p a at)) k
 
-  rewound_sound : (w : World S) (ss : List ℕ) → IsSound net until w → length ss ≡ length w.processes → any_committed w.gvt ss w.processes w.columns ≡ false → IsSound net until (record { processes = rewound ss w.processes; mail = w.mail; columns = w.columns; gvt = w.gvt })
+  rewound_sound : (w : World S) (ss : List ℕ) → IsSound net until w → length ss ≡ length w.processes
+      → any_committed w.gvt ss w.processes w.columns ≡ false
+      → IsSound net until (record { processes = rewound ss w.processes; mail = w.mail; columns = w.columns; gvt = w.gvt })
   rewound_sound w ss h n free = record {
     processes = length-rewound ss w.processes ∙ h.processes;
     mail = h.mail;
@@ -118,7 +125,8 @@ module _ {S : Type 0} (net : Network S) (until : ℕ) (ok : IsNetwork net) (boun
       (λ d. rewound_sound w ss h (eqb-true (length ss) (length w.processes) (not-false _ e)) d))
 
 -- the processes of a sound executive are in order
-pub sound_ordered : {S : Type 0} (net : Network S) (until gvt c : ℕ) (column : List Record) (mail : List Item) (p : Process S) → IsSoundProcess net until gvt c column mail p → IsOrdered p
+pub sound_ordered : {S : Type 0} (net : Network S) (until gvt c : ℕ) (column : List Record) (mail : List Item) (p : Process S)
+    → IsSoundProcess net until gvt c column mail p → IsOrdered p
 sound_ordered net until gvt c column mail p h =
     let order = in_order net c h.from (inputs p) p.history p.now p.pending h.stands (inputs_ascending net c (inputs p) h.for_inputs h.sorted) (all_odd net c (inputs p) h.for_inputs) in
     record { past = order.past; ascending = order.ascending }
@@ -141,7 +149,8 @@ no_number s g (r ∷ rs) l = none (nat_le s r.stamp) (nat_lt r.stamp g) (any_bet
     none true false c h e = e
     none false b c h e = e
 
-none_committed : {S : Type 0} (g : ℕ) (ps qs : List (Process S)) (columns : List (List Record)) → g ≤ least_next ps → any_committed g (marks ps) qs columns ≡ false
+none_committed : {S : Type 0} (g : ℕ) (ps qs : List (Process S)) (columns : List (List Record)) → g ≤ least_next ps
+    → any_committed g (marks ps) qs columns ≡ false
 none_committed g [] qs columns l = refl
 none_committed g (p ∷ ps) [] columns l = refl
 none_committed g (p ∷ ps) (q ∷ qs) [] l = refl

@@ -23,7 +23,8 @@ module _ {S : Type 0} where
   unfolding back_to_first
   cut_back s p = record { is = refl; keeps = kept_before s p.history; inputs_stay = inputs_of_cut (steps_before s p.history) p; line = refl }
 
-  rewound_at : (ss : List ℕ) (ps : List (Process S)) (c s : ℕ) (p : Process S) → slice_get ss c ≡ Some s → slice_get ps c ≡ Some p → slice_get (rewound ss ps) c ≡ Some (cut s p)
+  rewound_at : (ss : List ℕ) (ps : List (Process S)) (c s : ℕ) (p : Process S) → slice_get ss c ≡ Some s → slice_get ps c ≡ Some p
+      → slice_get (rewound ss ps) c ≡ Some (cut s p)
   rewound_at [] ps c s p a b = absurd (none-some s a)
   rewound_at (x ∷ ss) [] c s p a b = absurd (none-some p b)
   rewound_at (x ∷ ss) (y ∷ ps) zero s p a b = ap₂ (λ (k : ℕ) (q : Process S). Some (cut k q)) (same_Some x s a) (same_Some y p b)

@@ -27,7 +27,8 @@ front_again : (s : ℕ) (ms other : List Message) → s < first_stamp other → 
 front_again s [] other l = front_none s other l
 front_again s (m ∷ ms) other l = go (m.stamp == s) refl (front_again s ms other l)
   where
-    go : (b : Bool) → (m.stamp == s) ≡ b → front s (front s ms ++ other) ≡ front s ms → front s (cond b (m ∷ front s ms) [] ++ other) ≡ cond b (m ∷ front s ms) []
+    go : (b : Bool) → (m.stamp == s) ≡ b → front s (front s ms ++ other) ≡ front s ms
+        → front s (cond b (m ∷ front s ms) [] ++ other) ≡ cond b (m ∷ front s ms) []
     go true e ih = ap (λ b. cond b (m ∷ front s (front s ms ++ other)) []) e ∙ ap (λ l. m ∷ l) ih
     go false e ih = front_none s other l
 
@@ -43,7 +44,8 @@ first_other : (s : ℕ) (xs ys zs : List Message) → s < first_stamp (xs ++ ys)
 first_other s [] ys zs h l = l
 first_other s (x ∷ xs) ys zs h l = h
 
-next_other : {S : Type 0} (now : Moment S) (xs ys zs : List Message) → next_of now (xs ++ ys) < first_stamp ys → next_of now (xs ++ ys) < first_stamp zs → next_of now (xs ++ zs) ≡ next_of now (xs ++ ys)
+next_other : {S : Type 0} (now : Moment S) (xs ys zs : List Message) → next_of now (xs ++ ys) < first_stamp ys
+    → next_of now (xs ++ ys) < first_stamp zs → next_of now (xs ++ zs) ≡ next_of now (xs ++ ys)
 next_other now [] ys zs h l = omega arith
 next_other now (x ∷ xs) ys zs h l = refl
 
@@ -56,15 +58,19 @@ module _ {S : Type 0} (net : Network S) (c : ℕ) where
     after : again.after ≡ made.after
     left : again.left ≡ other
 
-  at_output : (now : Moment S) (pending : List Message) (s : ℕ) → nat_le never s ≡ false → (phase_of s == 0) ≡ true → step_at net c now pending s ≡ Ok (output_made net c now pending s (output net c now s))
+  at_output : (now : Moment S) (pending : List Message) (s : ℕ) → nat_le never s ≡ false → (phase_of s == 0) ≡ true
+      → step_at net c now pending s ≡ Ok (output_made net c now pending s (output net c now s))
   unfolding step_at
   at_output now pending s e d = rw (e, d) refl
 
-  at_transition : (now : Moment S) (pending : List Message) (s : ℕ) → nat_le never s ≡ false → (phase_of s == 0) ≡ false → step_at net c now pending s ≡ if_moved (transition_made now pending s) (transition net c now s (items_of (front s pending)))
+  at_transition : (now : Moment S) (pending : List Message) (s : ℕ) → nat_le never s ≡ false → (phase_of s == 0) ≡ false
+      → step_at net c now pending s ≡ if_moved (transition_made now pending s) (transition net c now s (items_of (front s pending)))
   unfolding step_at
   at_transition now pending s e d = rw (e, d) refl
 
-  same_transition : (now : Moment S) (pending other : List Message) (s : ℕ) → s < first_stamp other → nat_le never s ≡ false → (phase_of s == 0) ≡ false → (r : Result (Move S) Limit) → transition net c now s (items_of (front s pending)) ≡ r → IfOk (if_moved (transition_made now pending s) r) (Same now s other)
+  same_transition : (now : Moment S) (pending other : List Message) (s : ℕ) → s < first_stamp other → nat_le never s ≡ false
+      → (phase_of s == 0) ≡ false → (r : Result (Move S) Limit) → transition net c now s (items_of (front s pending)) ≡ r
+      → IfOk (if_moved (transition_made now pending s) r) (Same now s other)
   same_transition now pending other s l e d (Ok move) is =
       let f = front_again s pending other l in
       record {
@@ -76,7 +82,8 @@ module _ {S : Type 0} (net : Network S) (c : ℕ) where
       }
   same_transition now pending other s l e d (Err limit) is = tt
 
-  step_at_same : (now : Moment S) (pending other : List Message) (s : ℕ) → s < first_stamp other → IfOk (step_at net c now pending s) (Same now s other)
+  step_at_same : (now : Moment S) (pending other : List Message) (s : ℕ) → s < first_stamp other
+      → IfOk (step_at net c now pending s) (Same now s other)
   unfolding step_at
   step_at_same now pending other s l =
       IfOk-cond (Same now s other) (nat_le never s) _ _
@@ -85,7 +92,8 @@ module _ {S : Type 0} (net : Network S) (c : ℕ) where
       (λ d. record { again = output_made net c now other s (output net c now s); is = at_output now other s e d; step = refl; after = refl; left = refl })
       (λ d. same_transition now pending other s l e d _ refl))
 
-  local_same : (now : Moment S) (pending other : List Message) (made : Made S) → local_step net c now pending ≡ Ok made → next_of now pending < first_stamp made.left → next_of now pending < first_stamp other
+  local_same : (now : Moment S) (pending other : List Message) (made : Made S) → local_step net c now pending ≡ Ok made
+      → next_of now pending < first_stamp made.left → next_of now pending < first_stamp other
       → (again : Made S) × (local_step net c now (made.step.consumed ++ other) ≡ Ok again) × (again.step ≡ made.step) × (again.after ≡ made.after) × (again.left ≡ other)
   unfolding local_step
   local_same now pending other made e h l =
@@ -97,11 +105,14 @@ module _ {S : Type 0} (net : Network S) (c : ℕ) where
 
   -- ---- runs
 
-  pub leads_more : (from : Moment S) (all : List Message) (steps : List (Step S)) (now : Moment S) (pending : List Message) (made : Made S) → Leads net c from all steps now pending → local_step net c now pending ≡ Ok made → Leads net c from all (steps ++ made.step ∷ []) made.after made.left
+  pub leads_more : (from : Moment S) (all : List Message) (steps : List (Step S)) (now : Moment S) (pending : List Message) (made : Made S)
+      → Leads net c from all steps now pending → local_step net c now pending ≡ Ok made
+      → Leads net c from all (steps ++ made.step ∷ []) made.after made.left
   leads_more from all [] now pending made h e = (made, subst₂ (λ x y. local_step net c x y ≡ Ok made) (sym h.0) (sym h.1) e, refl, (refl, refl))
   leads_more from all (x ∷ steps) now pending made h e = (h.0, h.1, h.2, leads_more h.0.after h.0.left steps now pending made h.3 e)
 
-  pub leads_start : (from : Moment S) (all : List Message) (steps : List (Step S)) (now : Moment S) (pending : List Message) → Leads net c from all steps now pending → (before_all steps now ≡ from) × (consumed_by steps ++ pending ≡ all)
+  pub leads_start : (from : Moment S) (all : List Message) (steps : List (Step S)) (now : Moment S) (pending : List Message)
+      → Leads net c from all steps now pending → (before_all steps now ≡ from) × (consumed_by steps ++ pending ≡ all)
   leads_start from all [] now pending h = (sym h.0, sym h.1)
   leads_start from all (x ∷ steps) now pending h =
       let f = local_step_follows net c from all h.0 h.1 in
@@ -110,7 +121,8 @@ module _ {S : Type 0} (net : Network S) (c : ℕ) where
         append_assoc x.consumed (consumed_by steps) pending ∙ ap (λ l. x.consumed ++ l) rest.1 ∙ ap (λ step. step.consumed ++ h.0.left) (sym h.2) ∙ f.messages,
       )
 
-  pub leads_split : (from : Moment S) (all : List Message) (xs ys : List (Step S)) (now : Moment S) (pending : List Message) → Leads net c from all (xs ++ ys) now pending
+  pub leads_split : (from : Moment S) (all : List Message) (xs ys : List (Step S)) (now : Moment S) (pending : List Message)
+      → Leads net c from all (xs ++ ys) now pending
       → Leads net c from all xs (before_all ys now) (consumed_by ys ++ pending) × Leads net c (before_all ys now) (consumed_by ys ++ pending) ys now pending
   leads_split from all [] ys now pending h =
       let start = leads_start from all ys now pending h in
@@ -140,7 +152,8 @@ module _ {S : Type 0} (net : Network S) (c : ℕ) where
     pub strict : next_of from all < first_stamp made.left
     pub odd : AllOdd made.left
 
-  pub step_in_order : (from : Moment S) (all : List Message) (made : Made S) → local_step net c from all ≡ Ok made → Ascending all → AllOdd all → StepInOrder from all made
+  pub step_in_order : (from : Moment S) (all : List Message) (made : Made S) → local_step net c from all ≡ Ok made → Ascending all → AllOdd all
+      → StepInOrder from all made
   step_in_order from all made e up odd =
       let f = local_step_follows net c from all made e in
       let least : next_of from all ≤ first_stamp all = omega arith in
@@ -151,7 +164,8 @@ module _ {S : Type 0} (net : Network S) (c : ℕ) where
         odd = (each_parts (λ m. phase_of m.stamp ≡ 1) made.step.consumed made.left (subst AllOdd (sym f.messages) odd)).1;
       }
 
-  pub in_order : (from : Moment S) (all : List Message) (steps : List (Step S)) (now : Moment S) (pending : List Message) → Leads net c from all steps now pending → Ascending all → AllOdd all → InOrder from all steps now pending
+  pub in_order : (from : Moment S) (all : List Message) (steps : List (Step S)) (now : Moment S) (pending : List Message)
+      → Leads net c from all steps now pending → Ascending all → AllOdd all → InOrder from all steps now pending
   in_order from all [] now pending h up odd = record {
     past = tt;
     not_earlier = subst₂ (λ x y. next_of from all ≤ next_of x y) h.0 h.1 (omega arith);
@@ -168,7 +182,9 @@ module _ {S : Type 0} (net : Network S) (c : ℕ) where
       }
 
   -- the same run, with other messages behind those that it consumed
-  pub leads_other : (from : Moment S) (all : List Message) (steps : List (Step S)) (now : Moment S) (pending other : List Message) → Leads net c from all steps now pending → Ascending all → AllOdd all → AllBefore (first_stamp other) steps → Leads net c from (consumed_by steps ++ other) steps now other
+  pub leads_other : (from : Moment S) (all : List Message) (steps : List (Step S)) (now : Moment S) (pending other : List Message)
+      → Leads net c from all steps now pending → Ascending all → AllOdd all → AllBefore (first_stamp other) steps
+      → Leads net c from (consumed_by steps ++ other) steps now other
   leads_other from all [] now pending other h up odd before = (h.0, refl)
   leads_other from all (x ∷ steps) now pending other h up odd before =
       let one = step_in_order from all h.0 h.1 up odd in

@@ -58,7 +58,8 @@ sum_below-one f (suc n) k l h =
     (λ ne. let near : k < n = omega arith in omega (arith, sum_below-one f n k near (λ c m d. h c (omega arith) d), h n (omega arith) (λ e. ne (sym e))))
     (cases_eq k n)
 
-total_below : {X : Type 0} (f : X → ℕ) (g : ℕ → ℕ) (xs : List X) → ((c : ℕ) (x : X) → slice_get xs c ≡ Some x → g c ≡ f x) → sum_below g (length xs) ≡ total f xs
+total_below : {X : Type 0} (f : X → ℕ) (g : ℕ → ℕ) (xs : List X) → ((c : ℕ) (x : X) → slice_get xs c ≡ Some x → g c ≡ f x)
+    → sum_below g (length xs) ≡ total f xs
 unfolding sum_below
 total_below f g [] h = refl
 total_below f g (x ∷ xs) h = omega (arith, sum_below-first g (length xs), h 0 x refl, total_below f (λ c. g (suc c)) xs (λ c y e. h (suc c) y e))
@@ -104,7 +105,8 @@ count_none : (m : Message) (ms : List Message) → has m ms ≡ false → total 
 count_none m [] e = refl
 count_none m (k ∷ ms) e = go (same_message m k) refl e (λ h. count_none m ms h)
   where
-    go : (b : Bool) → same_message m k ≡ b → (b || has m ms) ≡ false → (has m ms ≡ false → total (one_at m) ms ≡ 0) → cond b 1 0 + total (one_at m) ms ≡ 0
+    go : (b : Bool) → same_message m k ≡ b → (b || has m ms) ≡ false → (has m ms ≡ false → total (one_at m) ms ≡ 0)
+        → cond b 1 0 + total (one_at m) ms ≡ 0
     go true is h ih = absurd (true≢false h)
     go false is h ih = omega (arith, ih h)
 
@@ -155,7 +157,8 @@ consumed_elsewhere m c (r ∷ rs) ne h =
     other : r.component ≢ m.to
     other e = ne (sym h.0 ∙ e)
 
-    here : (k : RecordKind) → total (one_at m) (elim k [ Out ↦ [] | Int ↦ messages_for r.component r.stamp r.bag | Ext ↦ messages_for r.component r.stamp r.bag | Con ↦ messages_for r.component r.stamp r.bag ]) ≡ 0
+    here : (k : RecordKind)
+        → total (one_at m) (elim k [ Out ↦ [] | Int ↦ messages_for r.component r.stamp r.bag | Ext ↦ messages_for r.component r.stamp r.bag | Con ↦ messages_for r.component r.stamp r.bag ]) ≡ 0
     here Out = refl
     here Int = messages_elsewhere m r.component r.stamp r.bag other
     here Ext = messages_elsewhere m r.component r.stamp r.bag other
@@ -192,7 +195,8 @@ module _ {S : Type 0} (net : Network S) (until : ℕ) (ok : IsNetwork net) (w : 
       each_weaker (λ k. w.gvt ≤ k.stamp) (λ k. m ≡ k → ⊥) (λ k late e. let s = ap (λ (x : Message). x.stamp) e in omega arith) p.owed
       (each_from_owed w.gvt p.owed (process_from_least w.gvt w.processes c p (let g = h.gvt_le in omega arith) at).2)
 
-  none_in_mail : (g : ℕ) (m : Message) (mail : List (List Item)) → m.stamp < g → g ≤ least_mail mail → (total (total (when_anti (one_at m))) mail ≡ 0) × (total (total (when_positive (one_at m))) mail ≡ 0)
+  none_in_mail : (g : ℕ) (m : Message) (mail : List (List Item)) → m.stamp < g → g ≤ least_mail mail
+      → (total (total (when_anti (one_at m))) mail ≡ 0) × (total (total (when_positive (one_at m))) mail ≡ 0)
   none_in_mail g m [] l k = (refl, refl)
   none_in_mail g m (box ∷ mail) l k =
       let here = later_items m g box l (each_from_least g box (omega arith)) in
@@ -252,7 +256,8 @@ module _ {S : Type 0} (net : Network S) (until : ℕ) (ok : IsNetwork net) (w : 
         sum_below-add out sent n,
       )
 
-  settled_apart : (m : Message) (p : Process S) → ((k : Message) → has k p.waiting ≡ true → has k (inputs p) ≡ true → ⊥) → (count m p.waiting ≡ 0) ⊎ (count m (inputs p) ≡ 0)
+  settled_apart : (m : Message) (p : Process S) → ((k : Message) → has k p.waiting ≡ true → has k (inputs p) ≡ true → ⊥)
+      → (count m p.waiting ≡ 0) ⊎ (count m (inputs p) ≡ 0)
   settled_apart m p apart =
       ⊎_elim
       (λ e. inr (count_none m (inputs p) (⊎_elim (λ k. absurd (apart m e k)) (λ k. k) (cases_Bool (has m (inputs p))))))
@@ -309,7 +314,8 @@ module _ {S : Type 0} (net : Network S) (until : ℕ) (ok : IsNetwork net) (w : 
     positive = empty_boxes (when_positive (one_at m)) w.mail shows.mail;
   }
 
-  settled_now : (c : ℕ) (below : c < length net.models) (p : Process S) → slice_get w.processes c ≡ Some p → ((settled.stands c below).now ≡ p.now) × ((settled.stands c below).pending ≡ p.pending)
+  settled_now : (c : ℕ) (below : c < length net.models) (p : Process S) → slice_get w.processes c ≡ Some p
+      → ((settled.stands c below).now ≡ p.now) × ((settled.stands c below).pending ≡ p.pending)
   unfolding settled stands_at
   settled_now c below p at =
       let q = process_at c below in

@@ -64,7 +64,8 @@ module _ {S : Type 0} (net : Network S) (cancel : Cancel) where
       let due = ap (λ b. Some (record { state = from.state; last = from.last; due = cond b (from.due + 1) from.due })) (le-ltb from.due 0 (omega arith)) in
       first ∙ second ∙ ap (due_from 0) e ∙ due
 
-  start_process : (until c : ℕ) (p : Process S) → IsNetwork net → slice_get (new_processes net cancel 0 net.models) c ≡ Some p → IsSoundProcess net until 0 c [] [] p
+  start_process : (until c : ℕ) (p : Process S) → IsNetwork net → slice_get (new_processes net cancel 0 net.models) c ≡ Some p
+      → IsSoundProcess net until 0 c [] [] p
   start_process until c p ok e =
       let found = get-new 0 net.models c p e in
       let n : 0 + c ≡ c = omega arith in
@@ -95,7 +96,8 @@ module _ {S : Type 0} (net : Network S) (cancel : Cancel) where
   held_new weight ms b [] = 0
   held_new weight ms b (x ∷ models) = total weight (addressed b ms) + held_new weight ms (suc b) models
 
-  held_is : (weight : Message → ℕ) (b : ℕ) (models : List (Meaning S)) → total (held weight) (new_processes net cancel b models) ≡ held_new weight net.inputs b models
+  held_is : (weight : Message → ℕ) (b : ℕ) (models : List (Meaning S))
+      → total (held weight) (new_processes net cancel b models) ≡ held_new weight net.inputs b models
   unfolding held_new
   held_is weight b [] = refl
   held_is weight b (x ∷ models) = omega (arith, held_is weight (suc b) models, total-sorted_messages weight (addressed b net.inputs))
@@ -105,19 +107,22 @@ module _ {S : Type 0} (net : Network S) (cancel : Cancel) where
   held_none weight b [] = refl
   held_none weight b (x ∷ models) = omega (arith, held_none weight (suc b) models)
 
-  held_skips : (weight : Message → ℕ) (m : Message) (ms : List Message) (b : ℕ) (models : List (Meaning S)) → m.to < b → held_new weight (m ∷ ms) b models ≡ held_new weight ms b models
+  held_skips : (weight : Message → ℕ) (m : Message) (ms : List Message) (b : ℕ) (models : List (Meaning S)) → m.to < b
+      → held_new weight (m ∷ ms) b models ≡ held_new weight ms b models
   unfolding held_new
   held_skips weight m ms b [] l = refl
   held_skips weight m ms b (x ∷ models) l =
       let other = cond-false (m.to == b) (m ∷ addressed b ms) (addressed b ms) (ne_eqb m.to b (λ e. omega arith)) in
       omega (arith, ap (total weight) other, held_skips weight m ms (suc b) models (omega arith))
 
-  held_counts : (weight : Message → ℕ) (m : Message) (ms : List Message) (b : ℕ) (models : List (Meaning S)) → b ≤ m.to → m.to < b + length models → held_new weight (m ∷ ms) b models ≡ weight m + held_new weight ms b models
+  held_counts : (weight : Message → ℕ) (m : Message) (ms : List Message) (b : ℕ) (models : List (Meaning S)) → b ≤ m.to → m.to < b + length models
+      → held_new weight (m ∷ ms) b models ≡ weight m + held_new weight ms b models
   unfolding held_new
   held_counts weight m ms b [] l u = absurd (omega arith)
   held_counts weight m ms b (x ∷ models) l u = go (m.to == b) refl (λ k. held_counts weight m ms (suc b) models k (omega arith))
     where
-      go : (t : Bool) → (m.to == b) ≡ t → (suc b ≤ m.to → held_new weight (m ∷ ms) (suc b) models ≡ weight m + held_new weight ms (suc b) models) → total weight (addressed b (m ∷ ms)) + held_new weight (m ∷ ms) (suc b) models ≡ weight m + (total weight (addressed b ms) + held_new weight ms (suc b) models)
+      go : (t : Bool) → (m.to == b) ≡ t → (suc b ≤ m.to → held_new weight (m ∷ ms) (suc b) models ≡ weight m + held_new weight ms (suc b) models)
+          → total weight (addressed b (m ∷ ms)) + held_new weight (m ∷ ms) (suc b) models ≡ weight m + (total weight (addressed b ms) + held_new weight ms (suc b) models)
       go true e ih = omega (arith, ap (total weight) (cond-true (m.to == b) (m ∷ addressed b ms) (addressed b ms) e), held_skips weight m ms (suc b) models (omega (arith, eqb-true m.to b e)))
       go false e ih =
           let d : m.to ≢ b = eqb-false m.to b e in

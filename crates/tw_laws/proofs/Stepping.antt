@@ -28,7 +28,8 @@ use Rattle.tw_laws.proofs.Sends.{IsSentAt, local_step_sends}
 use Rattle.tw_laws.proofs.Changing.{each_from_least, least_from_each, least_mail_top, box_from_least, least_mail-set, process_from_least, replaced_sound}
 use Rattle.tw_msgs.proofs.Totals.{total-append}
 
-before-push : {S : Type 0} (s : ℕ) (steps : List (Step S)) (step : Step S) → AllBefore s steps → step.entry.stamp < s → AllBefore s (steps ++ step ∷ [])
+before-push : {S : Type 0} (s : ℕ) (steps : List (Step S)) (step : Step S) → AllBefore s steps → step.entry.stamp < s
+    → AllBefore s (steps ++ step ∷ [])
 before-push s [] step h l = (l, tt)
 before-push s (x ∷ steps) step h l = (h.0, before-push s steps step h.1 l)
 
@@ -42,7 +43,8 @@ module _ {S : Type 0} (net : Network S) (until : ℕ) (ok : IsNetwork net) (boun
   inputs_same : (p : Process S) (made : Made S) → made.step.consumed ++ made.left ≡ p.pending → inputs p ≡ inputs (with_step p made)
   inputs_same p made e = sym (rw (consumed_by-append p.history (made.step ∷ []), append-nil made.step.consumed, append_assoc (consumed_by p.history) made.step.consumed made.left, e) refl)
 
-  step_process : (gvt c : ℕ) (column : List Record) (mail : List Item) (p : Process S) (made : Made S) → IsSoundProcess net until gvt c column mail p → local_step net c p.now p.pending ≡ Ok made → next p < stamp until 0 0 → IsSoundProcess net until gvt c column mail (with_step p made)
+  step_process : (gvt c : ℕ) (column : List Record) (mail : List Item) (p : Process S) (made : Made S) → IsSoundProcess net until gvt c column mail p
+      → local_step net c p.now p.pending ≡ Ok made → next p < stamp until 0 0 → IsSoundProcess net until gvt c column mail (with_step p made)
   step_process gvt c column mail p made h e early =
       let f = local_step_follows net c p.now p.pending made e in
       let same = inputs_same p made f.messages in
@@ -65,7 +67,8 @@ module _ {S : Type 0} (net : Network S) (until : ℕ) (ok : IsNetwork net) (boun
       }
 
   -- a step adds the same weight to both sides
-  step_balance : (weight : Message → ℕ) (p : Process S) (made : Made S) → made.step.consumed ++ made.left ≡ p.pending → issued weight (with_step p made) + held weight p ≡ issued weight p + held weight (with_step p made)
+  step_balance : (weight : Message → ℕ) (p : Process S) (made : Made S) → made.step.consumed ++ made.left ≡ p.pending
+      → issued weight (with_step p made) + held weight p ≡ issued weight p + held weight (with_step p made)
   step_balance weight p made e =
       let sent = ap (total weight) (sent_by-append p.history (made.step ∷ []) ∙ ap (λ l. sent_by p.history ++ l) (append-nil made.step.sent)) ∙ total-append weight (sent_by p.history) made.step.sent in
       let new = sent_out p.cancel p.owed made.step.sent in
@@ -73,7 +76,8 @@ module _ {S : Type 0} (net : Network S) (until : ℕ) (ok : IsNetwork net) (boun
       let positive = total-append (when_positive weight) p.outgoing (positives new) in
       omega (arith, sent, anti, positive, anti-positives weight new, positive-positives weight new, total-out weight p.cancel p.owed made.step.sent, ap (total weight) (inputs_same p made e))
 
-  made_sound : (w : World S) (c : ℕ) (p : Process S) (r : Result (Made S) NoStep) → IsSound net until w → slice_get w.processes c ≡ Some p → local_step net c p.now p.pending ≡ r → next p < stamp until 0 0 → IsSound net until (if_made w c p r).1
+  made_sound : (w : World S) (c : ℕ) (p : Process S) (r : Result (Made S) NoStep) → IsSound net until w → slice_get w.processes c ≡ Some p
+      → local_step net c p.now p.pending ≡ r → next p < stamp until 0 0 → IsSound net until (if_made w c p r).1
   made_sound w c p (Err why) h at e early = h
   made_sound w c p (Ok made) h at e early =
       let sound = h.each c p at in
@@ -98,7 +102,8 @@ module _ {S : Type 0} (net : Network S) (until : ℕ) (ok : IsNetwork net) (boun
         least = let g = h.gvt_le in omega arith;
       })
 
-  pub step_sound : (w : World S) (c : ℕ) (o : Option (Process S)) → IsSound net until w → slice_get w.processes c ≡ o → IsSound net until (act_step net until w c o).1
+  pub step_sound : (w : World S) (c : ℕ) (o : Option (Process S)) → IsSound net until w → slice_get w.processes c ≡ o
+      → IsSound net until (act_step net until w c o).1
   step_sound w c None h at = h
   step_sound w c (Some p) h at =
       cond_both (nat_lt (next p) (stamp until 0 0)) _ _ (λ (r : Answer × World S). IsSound net until r.1)
@@ -117,7 +122,9 @@ get_box (box ∷ mail) zero l = refl
 get_box (box ∷ mail) (suc c) l = get_box mail c (omega arith)
 
 -- what holds of each item in the mailbox of its receiver
-each_posted : (P : ℕ → Item → Type 0) (mail : List (List Item)) (items : List Item) → Each (λ i. (i.message.to < length mail) × P i.message.to i) items → (d : ℕ) → Each (P d) (mail_of mail d) → Each (P d) (mail_of (posted mail items) d)
+each_posted : (P : ℕ → Item → Type 0) (mail : List (List Item)) (items : List Item)
+    → Each (λ i. (i.message.to < length mail) × P i.message.to i) items → (d : ℕ) → Each (P d) (mail_of mail d)
+    → Each (P d) (mail_of (posted mail items) d)
 each_posted P mail [] h d m = m
 each_posted P mail (i ∷ items) h d m =
     let to = i.message.to in
@@ -130,7 +137,8 @@ each_posted P mail (i ∷ items) h d m =
     (λ ne. subst (Each (P d)) (sym (get_or-set_other mail to d (mail_of mail to ++ i ∷ []) [] ne)) m)
     (cases_eq d to))
 
-pub total-posted : (weight : Item → ℕ) (mail : List (List Item)) (items : List Item) → Each (λ i. i.message.to < length mail) items → total (total weight) (posted mail items) ≡ total (total weight) mail + total weight items
+pub total-posted : (weight : Item → ℕ) (mail : List (List Item)) (items : List Item) → Each (λ i. i.message.to < length mail) items
+    → total (total weight) (posted mail items) ≡ total (total weight) mail + total weight items
 total-posted weight mail [] h = omega arith
 total-posted weight mail (i ∷ items) h =
     let to = i.message.to in
@@ -140,7 +148,8 @@ total-posted weight mail (i ∷ items) h =
     let more = total-append weight box (i ∷ []) in
     omega (arith, total-posted weight (slice_set mail to (box ++ i ∷ [])) items rest, total-set (total weight) mail to box (box ++ i ∷ []) (get_box mail to h.0), more)
 
-least_mail-posted : (g : ℕ) (mail : List (List Item)) (items : List Item) → g ≤ never → g ≤ least_mail mail → Each (λ i. g ≤ i.message.stamp) items → g ≤ least_mail (posted mail items)
+least_mail-posted : (g : ℕ) (mail : List (List Item)) (items : List Item) → g ≤ never → g ≤ least_mail mail → Each (λ i. g ≤ i.message.stamp) items
+    → g ≤ least_mail (posted mail items)
 least_mail-posted g mail [] top l h = l
 least_mail-posted g mail (i ∷ items) top l h =
     let to = i.message.to in
@@ -156,7 +165,8 @@ pub record IsSettled {S : Type 0} (net : Network S) (until gvt c : ℕ) (column 
   pub owed : gvt ≤ least_owed q.owed
 
 module _ {S : Type 0} (net : Network S) (until : ℕ) where
-  settle_sound : (gvt c : ℕ) (column : List Record) (mail : List Item) (p : Process S) (k : Cancel) → IsSoundProcess net until gvt c column mail p → gvt ≤ never → gvt ≤ next p → gvt ≤ least_stamp p.outgoing → gvt ≤ least_owed p.owed → IsSettled net until gvt c column mail p (settled_as k p)
+  settle_sound : (gvt c : ℕ) (column : List Record) (mail : List Item) (p : Process S) (k : Cancel) → IsSoundProcess net until gvt c column mail p
+      → gvt ≤ never → gvt ≤ next p → gvt ≤ least_stamp p.outgoing → gvt ≤ least_owed p.owed → IsSettled net until gvt c column mail p (settled_as k p)
   settle_sound gvt c column mail p Aggressive h top n out owe = record { sound = h; balance = λ weight. refl; next = n; outgoing = out; owed = owe }
   settle_sound gvt c column mail p Lazy h top n out owe =
       let due = overdue (next p) p.owed in
@@ -193,7 +203,8 @@ module _ {S : Type 0} (net : Network S) (until : ℕ) where
         owed = owed_from_each gvt _ top late.1;
       }
 
-  post_process : (gvt c : ℕ) (column : List Record) (mail mail' : List Item) (p : Process S) → IsSoundProcess net until gvt c column mail p → Each (λ i. IsFor net c i.message) mail' → IsSoundProcess net until gvt c column mail' (with_outgoing p [])
+  post_process : (gvt c : ℕ) (column : List Record) (mail mail' : List Item) (p : Process S) → IsSoundProcess net until gvt c column mail p
+      → Each (λ i. IsFor net c i.message) mail' → IsSoundProcess net until gvt c column mail' (with_outgoing p [])
   post_process gvt c column mail mail' p h m = record {
     column_is = h.column_is;
     from = h.from;
@@ -211,7 +222,8 @@ module _ {S : Type 0} (net : Network S) (until : ℕ) where
     line_le_fault = h.line_le_fault;
   }
 
-  pub post_sound : (w : World S) (c : ℕ) (o : Option (Process S)) → IsSound net until w → slice_get w.processes c ≡ o → IsSound net until (act_post w c o).1
+  pub post_sound : (w : World S) (c : ℕ) (o : Option (Process S)) → IsSound net until w → slice_get w.processes c ≡ o
+      → IsSound net until (act_post w c o).1
   post_sound w c None h at = h
   post_sound w c (Some p) h at =
       let q = settle p in

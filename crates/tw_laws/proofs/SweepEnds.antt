@@ -11,13 +11,15 @@ use Rattle.tw_laws.proofs.Harvesting.{acts_soundly}
 use Rattle.tw_laws.proofs.Sweeping.{work_falls}
 
 module _ {S : Type 0} (net : Network S) (until : ℕ) (w : World S) (h : IsSound net until w) where
-  post_falls : (c n : ℕ) (o : Option (Process S)) → slice_get w.processes c ≡ o → 0 < n → (act_post w c o).0 ≡ Posted n → work (act net until w (Post c)).1 < work w
+  post_falls : (c n : ℕ) (o : Option (Process S)) → slice_get w.processes c ≡ o → 0 < n → (act_post w c o).0 ≡ Posted n
+      → work (act net until w (Post c)).1 < work w
   post_falls c n None at some e = absurd (cc e)
   post_falls c n (Some p) at some e =
       let same : length (settle p).outgoing ≡ n = cc e in
       omega (arith, work_falls.post net until w h c p at, same)
 
-  deliver_falls : (q i : ℕ) (r : Received) (o : Option (Process S)) (x : Option Item) → slice_get w.processes q ≡ o → slice_get (mail_of w.mail q) i ≡ x → (act_deliver w q i o x).0 ≡ Delivered r
+  deliver_falls : (q i : ℕ) (r : Received) (o : Option (Process S)) (x : Option Item) → slice_get w.processes q ≡ o
+      → slice_get (mail_of w.mail q) i ≡ x → (act_deliver w q i o x).0 ≡ Delivered r
       → work (act net until w (Deliver q i)).1 < work w
   deliver_falls q i r None x at is e = absurd (cc e)
   deliver_falls q i r (Some p) None at is e = absurd (cc e)

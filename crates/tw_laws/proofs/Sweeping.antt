@@ -49,11 +49,13 @@ received_work {S} p Anti m =
     (λ e. cond_both (has m (consumed_by p.history)) _ _ (λ (r : Received × Process S). work_of r.1 ≤ work_of p) (λ d. cut_work m.stamp p) (λ d. omega arith))
 
 -- messages owed that become anti-messages fit, and weigh the same
-settle_fits : {S : Type 0} (P : Message → Type 0) (k : Cancel) (p : Process S) → Each (λ i. P i.message) p.outgoing → Each P p.owed → Each (λ i. P i.message) (settled_as k p).outgoing
+settle_fits : {S : Type 0} (P : Message → Type 0) (k : Cancel) (p : Process S) → Each (λ i. P i.message) p.outgoing → Each P p.owed
+    → Each (λ i. P i.message) (settled_as k p).outgoing
 settle_fits P Aggressive p a b = a
 settle_fits P Lazy p a b = each-append (λ i. P i.message) p.outgoing (antis (overdue (next p) p.owed)) a (each-antis P (overdue (next p) p.owed) (each-overdue P (next p) p.owed b).0)
 
-settle_work : {S : Type 0} (k : Cancel) (p : Process S) → work_of (with_outgoing (settled_as k p) []) + 2 * length (settled_as k p).outgoing ≡ work_of p
+settle_work : {S : Type 0} (k : Cancel) (p : Process S)
+    → work_of (with_outgoing (settled_as k p) []) + 2 * length (settled_as k p).outgoing ≡ work_of p
 settle_work Aggressive p = omega arith
 settle_work Lazy p =
     let due = overdue (next p) p.owed in
@@ -77,7 +79,8 @@ module _ {S : Type 0} (net : Network S) (until : ℕ) (w : World S) (h : IsSound
         one_each_all (posted w.mail out),
       )
 
-  deliver_work : (c i : ℕ) (p : Process S) (x : Item) → slice_get w.processes c ≡ Some p → slice_get (mail_of w.mail c) i ≡ Some x → work (act net until w (Deliver c i)).1 < work w
+  deliver_work : (c i : ℕ) (p : Process S) (x : Item) → slice_get w.processes c ≡ Some p → slice_get (mail_of w.mail c) i ≡ Some x
+      → work (act net until w (Deliver c i)).1 < work w
   unfolding act
   deliver_work c i p x at is =
       let near : c < length w.mail = let l = slice_get_within w.processes c p at in omega (arith, h.mail, h.processes) in

@@ -27,7 +27,8 @@ three_fits = record {
 }
 
 -- the mark is before gvt's steps, and the generator's output is taken back
-rewound_three : (cancel : Cancel) → IsRewound (posted cancel) (marks (start cancel).processes) (rewind (posted cancel) (marks (start cancel).processes)).1
+rewound_three : (cancel : Cancel)
+    → IsRewound (posted cancel) (marks (start cancel).processes) (rewind (posted cancel) (marks (start cancel).processes)).1
 unfolding act local_step step_at output moved transition rewind
 rewound_three Aggressive = (rewinding_law (posted Aggressive) (marks (start Aggressive).processes) 1 refl).1
 rewound_three Lazy = (rewinding_law (posted Lazy) (marks (start Lazy).processes) 1 refl).1

@@ -26,7 +26,8 @@ heads : (x y : Record) (xs ys : List Record) → ◌≡◌ {A = List Record} (x 
 heads x y xs ys e = (cc, cc)
 
 -- the head of the other list, where their components differ
-behind_other : (x y : Record) (xs ys : List Record) → y.component ≢ x.component → Each (Precedes y) ys → of_component x.component (x ∷ xs) ≡ of_component x.component (y ∷ ys) → Precedes y x
+behind_other : (x y : Record) (xs ys : List Record) → y.component ≢ x.component → Each (Precedes y) ys
+    → of_component x.component (x ∷ xs) ≡ of_component x.component (y ∷ ys) → Precedes y x
 behind_other x y xs ys ne later e =
     let is : x ∷ of_component x.component xs ≡ of_component x.component ys = sym (own_here x xs) ∙ e ∙ own_other x.component y ys ne in
     (subst (Each (Precedes y)) (sym is) (each_own (Precedes y) x.component ys later)).0
@@ -74,11 +75,13 @@ module _ {S : Type 0} (net : Network S) (until : ℕ) where
   reached_trace b run (Running at) = (at.trace, at.past)
   reached_trace b run (Faulted f l at) = (at.trace, each_weaker (λ r. r.stamp < f) (λ r. r.stamp < b) (λ r k. omega arith) run.records at.past)
 
-  pub sequential_trace : IsNetwork net → until ≤ max_tick → IsTrace (sequential net until).records × Each (λ r. r.stamp < stamp until 0 0) (sequential net until).records
+  pub sequential_trace : IsNetwork net → until ≤ max_tick
+      → IsTrace (sequential net until).records × Each (λ r. r.stamp < stamp until 0 0) (sequential net until).records
   unfolding sequential
   sequential_trace ok bound = reached_trace (stamp until 0 0) (rounds net (stamp until 0 0)) (rounds_reach net (stamp until 0 0) (stamp until 0 0) (all_phase_one net net.inputs ok.inputs) (omega arith) (omega arith) (omega arith) (omega arith))
 
-  only_trace : IsNetwork net → until ≤ max_tick → (trace : List Record) → IsTrace trace → ((c : ℕ) → of_component c trace ≡ records_before net until c (stamp until 0 0)) → trace ≡ (sequential net until).records
+  only_trace : IsNetwork net → until ≤ max_tick → (trace : List Record) → IsTrace trace
+      → ((c : ℕ) → of_component c trace ≡ records_before net until c (stamp until 0 0)) → trace ≡ (sequential net until).records
   only_trace ok bound trace h parts =
       let s = sequential_trace ok bound in
       let n : up_to until (stamp until 0 0) ≡ stamp until 0 0 = omega arith in

@@ -1,4 +1,4 @@
--- Two goes of taking back, and what a rewind puts in transit.
+-- What a rewind puts in transit, and what it leaves owed.
 use Rattle.std.proofs.Common.{◌≡◌, ℕ, ◌+◌, List, [], ◌∷◌, ◌++◌, drop, refl, ap, ap₂, ◌∙◌, arith}
 use Rattle.tw_laws.specs.Rewinding.{taken_back, all_owed, AllCancel}
 use Rattle.tw_laws.proofs.TransitWeights.{RewoundTransit}
@@ -30,7 +30,8 @@ module _ {S : Type 0} (s : ℕ) (p : Process S) where
   cut_positive : (weight : Message → ℕ) → total (when_positive weight) (cut s p).outgoing ≡ total (when_positive weight) p.outgoing
   cut_positive weight = ap (total (when_positive weight)) cut_outgoing ∙ positive-undone weight p.cancel p.outgoing (unsent_by dropped)
 
-  cut_anti : (weight : Message → ℕ) → p.cancel ≡ Aggressive → total (when_anti weight) (cut s p).outgoing ≡ total (when_anti weight) p.outgoing + total weight (sent_by dropped)
+  cut_anti : (weight : Message → ℕ) → p.cancel ≡ Aggressive
+      → total (when_anti weight) (cut s p).outgoing ≡ total (when_anti weight) p.outgoing + total weight (sent_by dropped)
   cut_anti weight k =
       omega (
         arith,
@@ -51,7 +52,8 @@ module _ {S : Type 0} (s : ℕ) (p : Process S) where
       omega (arith, ap (total weight) (cut_owed ∙ ap (λ c. owed_undone c p.owed (unsent_by dropped)) k), total-append weight p.owed (unsent_by dropped), total-unsent weight dropped)
 
 module _ {S : Type 0} (weight : Message → ℕ) where
-  rewound_positive : (ss : List ℕ) (ps : List (Process S)) → total (when_positive weight) (all_outgoing (rewound ss ps)) ≡ total (when_positive weight) (all_outgoing ps)
+  rewound_positive : (ss : List ℕ) (ps : List (Process S))
+      → total (when_positive weight) (all_outgoing (rewound ss ps)) ≡ total (when_positive weight) (all_outgoing ps)
   rewound_positive [] ps = refl
   rewound_positive (s ∷ ss) [] = refl
   rewound_positive (s ∷ ss) (p ∷ ps) =

@@ -9,7 +9,8 @@ use Rattle.tw_theory.specs.Marks.{rewound}
 
 -- A rewind puts no positive message in transit. For each message that the steps taken back sent, one anti-message is in transit then (Aggressive), or one message is owed (Lazy)
 pub record RewoundTransit (S : Type 0) : Type 0 where
-  pub positive : (weight : Message → ℕ) (ss : List ℕ) (ps : List (Process S)) → total (when_positive weight) (all_outgoing (rewound ss ps)) ≡ total (when_positive weight) (all_outgoing ps)
+  pub positive : (weight : Message → ℕ) (ss : List ℕ) (ps : List (Process S))
+      → total (when_positive weight) (all_outgoing (rewound ss ps)) ≡ total (when_positive weight) (all_outgoing ps)
   pub aggressive : (weight : Message → ℕ) (ss : List ℕ) (ps : List (Process S)) → AllCancel Aggressive ps
       → (total (when_anti weight) (all_outgoing (rewound ss ps)) ≡ total (when_anti weight) (all_outgoing ps) + total weight (taken_back ss ps)) × (all_owed (rewound ss ps) ≡ all_owed ps)
   pub lazy : (weight : Message → ℕ) (ss : List ℕ) (ps : List (Process S)) → AllCancel Lazy ps

@@ -1,4 +1,8 @@
--- Local runs that balance before g are the sequential simulator's run before g.
+-- The law of committed history: local runs that are taken up to a stamp g, and that balance before g, are the sequential simulator's run before g.
+-- It speaks of lines, columns, histories, inputs and waiting anti-messages alone: of nothing in transit, nor of how anything came about.
+--     IsSettled net until g h      the premise: local runs taken up to g, balanced before g
+--     IsCommitted net until g h      the conclusion: the sequential records and moments before g, and no fault before g
+--     IsFaulting net until g h is_settled c limit      component c is the least that meets a limit at g, and nothing is in transit at g either
 use Rattle.std.specs.Prelude.{Err, ℕ, zero, suc, ◌+◌, ◌<◌, ◌≤◌, ◌≡◌, ◌⊎◌, List, [], ◌∷◌, ◌++◌, length, take, drop, Some}
 use Rattle.tw_msgs.specs.Counting.{total, one_at}
 use Rattle.tw_msgs.specs.declared.message.Message.{Message}
@@ -55,14 +59,21 @@ sent_count net h m =
 
 -- all local runs were taken up to g, and before g nothing is in transit
 pub record IsSettled {S : Type 0} (net : Network S) (until g : ℕ) (h : Held S) : Type 0 where
+  -- up to the end of the run at most
   pub horizon : g ≤ stamp until 0 0
   pub given : AllPhaseOne net.inputs
+  -- no line passes g, nor the fault
   pub lines : (c : ℕ) → c < length net.models → h.line c ≤ g
   pub unstopped : (c b s : ℕ) (limit : Limit) → c < length net.models → (sequential net until).fault ≡ Some (b, s, limit) → h.line c ≤ s
+  -- each column is what the simulator does before the line
   pub columns : (c : ℕ) → c < length net.models → h.column c ≡ records_before net until c (h.line c)
+  -- the inputs are for the component, of phase 1, in order
   pub inputs : (c : ℕ) → c < length net.models → AreInputs c (h.inputs c)
+  -- the history is the local run on them, taken up to g
   pub stands : (c : ℕ) → c < length net.models → StandsTo net until g h c
+  -- before g: times sent + waiting = times consumed in the column + among the inputs
   pub balance : (m : Message) → m.to < length net.models → m.stamp < g → sent_count net h m + count m (h.waiting m.to) ≡ count m (all_consumed (h.column m.to)) + count m (h.inputs m.to)
+  -- before g: what waits is no input
   pub apart : (m : Message) → m.to < length net.models → m.stamp < g → (count m (h.waiting m.to) ≡ 0) ⊎ (count m (h.inputs m.to) ≡ 0)
 
 -- the steps before g are the simulator's

@@ -24,12 +24,14 @@ issued_parts : {S : Type 0} (weight : Message → ℕ) (ps : List (Process S))
 issued_parts weight [] = refl
 issued_parts weight (p ∷ ps) = omega (arith, issued_parts weight ps)
 
-held_parts : {S : Type 0} (weight : Message → ℕ) (ps : List (Process S)) → total (held weight) ps ≡ total (λ p. total weight (inputs p)) ps + total (λ p. total (when_positive weight) p.outgoing) ps
+held_parts : {S : Type 0} (weight : Message → ℕ) (ps : List (Process S))
+    → total (held weight) ps ≡ total (λ p. total weight (inputs p)) ps + total (λ p. total (when_positive weight) p.outgoing) ps
 held_parts weight [] = refl
 held_parts weight (p ∷ ps) = omega (arith, held_parts weight ps)
 
 -- what is in transit, of one sign
-transit : {S : Type 0} (weight : Item → ℕ) (w : World S) → total weight (in_transit w) ≡ total (λ p. total weight p.outgoing) w.processes + total (total weight) w.mail
+transit : {S : Type 0} (weight : Item → ℕ) (w : World S)
+    → total weight (in_transit w) ≡ total (λ p. total weight p.outgoing) w.processes + total (total weight) w.mail
 transit weight w = omega (arith, total-append weight (all_outgoing w.processes) (all_mail w.mail), total-outgoing weight w.processes, total-mail weight w.mail)
 
 signed : (left right plus minus : ℕ) → left + minus ≡ right + plus → pos left ≡ (pos plus -ℤ pos minus) +ℤ pos right

@@ -59,7 +59,8 @@ module _ {S : Type 0} where
   steps_before-take s (suc n) [] = omega arith
   steps_before-take s (suc n) (x ∷ steps) = go (nat_lt x.entry.stamp s) (steps_before-take s n steps)
     where
-      go : (b : Bool) → steps_before s (take n steps) ≡ min (steps_before s steps) n → cond b (suc (steps_before s (take n steps))) 0 ≡ min (cond b (suc (steps_before s steps)) 0) (suc n)
+      go : (b : Bool) → steps_before s (take n steps) ≡ min (steps_before s steps) n
+          → cond b (suc (steps_before s (take n steps))) 0 ≡ min (cond b (suc (steps_before s steps)) 0) (suc n)
       go true ih = omega (arith, ih)
       go false ih = omega arith
 
@@ -67,7 +68,8 @@ module _ {S : Type 0} where
   steps_before-min s t [] = refl
   steps_before-min s t (x ∷ steps) = go (nat_lt x.entry.stamp s) (nat_lt x.entry.stamp t) refl refl (steps_before-min s t steps)
     where
-      go : (a b : Bool) → nat_lt x.entry.stamp s ≡ a → nat_lt x.entry.stamp t ≡ b → steps_before (min s t) steps ≡ min (steps_before s steps) (steps_before t steps)
+      go : (a b : Bool) → nat_lt x.entry.stamp s ≡ a → nat_lt x.entry.stamp t ≡ b
+          → steps_before (min s t) steps ≡ min (steps_before s steps) (steps_before t steps)
           → steps_before (min s t) (x ∷ steps) ≡ min (cond a (suc (steps_before s steps)) 0) (cond b (suc (steps_before t steps)) 0)
       go true true p q ih =
           let both : x.entry.stamp < min s t = omega (arith, ltb-true x.entry.stamp s p, ltb-true x.entry.stamp t q) in

@@ -62,7 +62,8 @@ module _ (P : Message → Type 0) where
 
 -- ---- one place of a list
 
-pub get_of_set : {X : Type 0} (xs : List X) (c d : ℕ) (y z : X) → slice_get (slice_set xs c y) d ≡ Some z → ((d ≡ c) × (z ≡ y)) ⊎ ((d ≢ c) × (slice_get xs d ≡ Some z))
+pub get_of_set : {X : Type 0} (xs : List X) (c d : ℕ) (y z : X) → slice_get (slice_set xs c y) d ≡ Some z
+    → ((d ≡ c) × (z ≡ y)) ⊎ ((d ≢ c) × (slice_get xs d ≡ Some z))
 get_of_set [] c d y z e = absurd (none-some z e)
 get_of_set (x ∷ xs) zero zero y z e = inl (refl, sym (same_Some y z e))
 get_of_set (x ∷ xs) zero (suc d) y z e = inr (omega arith, e)

@@ -19,11 +19,13 @@ use Rattle.tw_msgs.proofs.MessageLists.{total-without}
 -- ---- messages sent where some are owed
 
 -- what was owed and what is sent anew are what is sent and what is still owed
-pub total-anew : (weight : Message → ℕ) (owed ms : List Message) → total weight owed + total weight (sent_anew owed ms) ≡ total weight (still_owed owed ms) + total weight ms
+pub total-anew : (weight : Message → ℕ) (owed ms : List Message)
+    → total weight owed + total weight (sent_anew owed ms) ≡ total weight (still_owed owed ms) + total weight ms
 total-anew weight owed [] = refl
 total-anew weight owed (m ∷ ms) = go (has m owed) refl (total-anew weight (without m owed) ms) (total-anew weight owed ms)
   where
-    go : (b : Bool) → has m owed ≡ b → total weight (without m owed) + total weight (sent_anew (without m owed) ms) ≡ total weight (still_owed (without m owed) ms) + total weight ms
+    go : (b : Bool) → has m owed ≡ b
+        → total weight (without m owed) + total weight (sent_anew (without m owed) ms) ≡ total weight (still_owed (without m owed) ms) + total weight ms
         → total weight owed + total weight (sent_anew owed ms) ≡ total weight (still_owed owed ms) + total weight ms
         → total weight owed + total weight (cond b (sent_anew (without m owed) ms) (m ∷ sent_anew owed ms)) ≡ total weight (cond b (still_owed (without m owed) ms) (still_owed owed ms)) + (weight m + total weight ms)
     go true e h k = omega (arith, h, total-without weight m owed e)
@@ -44,7 +46,8 @@ pub still-append : (owed xs ys : List Message) → still_owed owed (xs ++ ys) �
 still-append owed [] ys = refl
 still-append owed (m ∷ xs) ys = go (has m owed) (still-append (without m owed) xs ys) (still-append owed xs ys)
   where
-    go : (b : Bool) → still_owed (without m owed) (xs ++ ys) ≡ still_owed (still_owed (without m owed) xs) ys → still_owed owed (xs ++ ys) ≡ still_owed (still_owed owed xs) ys
+    go : (b : Bool) → still_owed (without m owed) (xs ++ ys) ≡ still_owed (still_owed (without m owed) xs) ys
+        → still_owed owed (xs ++ ys) ≡ still_owed (still_owed owed xs) ys
         → cond b (still_owed (without m owed) (xs ++ ys)) (still_owed owed (xs ++ ys)) ≡ still_owed (cond b (still_owed (without m owed) xs) (still_owed owed xs)) ys
     go true h k = h
     go false h k = k
@@ -70,13 +73,15 @@ module _ (P : Message → Type 0) where
   each-overdue s [] h = (tt, tt)
   each-overdue s (m ∷ ms) h = go (nat_lt (m.stamp - 1) s) (each-overdue s ms h.1)
     where
-      go : (b : Bool) → Each P (overdue s ms) × Each P (not_overdue s ms) → Each P (cond b (m ∷ overdue s ms) (overdue s ms)) × Each P (cond b (not_overdue s ms) (m ∷ not_overdue s ms))
+      go : (b : Bool) → Each P (overdue s ms) × Each P (not_overdue s ms)
+          → Each P (cond b (m ∷ overdue s ms) (overdue s ms)) × Each P (cond b (not_overdue s ms) (m ∷ not_overdue s ms))
       go true k = ((h.0, k.0), k.1)
       go false k = (k.0, (h.0, k.1))
 
 -- ---- messages overdue
 
-pub total-overdue : (weight : Message → ℕ) (s : ℕ) (owed : List Message) → total weight (overdue s owed) + total weight (not_overdue s owed) ≡ total weight owed
+pub total-overdue : (weight : Message → ℕ) (s : ℕ) (owed : List Message)
+    → total weight (overdue s owed) + total weight (not_overdue s owed) ≡ total weight owed
 total-overdue weight s [] = refl
 total-overdue weight s (m ∷ ms) = go (nat_lt (m.stamp - 1) s) (total-overdue weight s ms)
   where
@@ -89,7 +94,8 @@ pub length-overdue : (s : ℕ) (owed : List Message) → length (overdue s owed)
 length-overdue s [] = refl
 length-overdue s (m ∷ ms) = go (nat_lt (m.stamp - 1) s) (length-overdue s ms)
   where
-    go : (b : Bool) → length (overdue s ms) + length (not_overdue s ms) ≡ length ms → length (cond b (m ∷ overdue s ms) (overdue s ms)) + length (cond b (not_overdue s ms) (m ∷ not_overdue s ms)) ≡ suc (length ms)
+    go : (b : Bool) → length (overdue s ms) + length (not_overdue s ms) ≡ length ms
+        → length (cond b (m ∷ overdue s ms) (overdue s ms)) + length (cond b (not_overdue s ms) (m ∷ not_overdue s ms)) ≡ suc (length ms)
     go true h = omega (arith, h)
     go false h = omega (arith, h)
 
@@ -105,7 +111,8 @@ owed_from_each g (m ∷ ms) top h = let rest = owed_from_each g ms top h.1 in om
 
 -- ---- for both ways of cancelling
 
-pub total-out : (weight : Message → ℕ) (k : Cancel) (owed ms : List Message) → total weight owed + total weight (sent_out k owed ms) ≡ total weight (owed_after k owed ms) + total weight ms
+pub total-out : (weight : Message → ℕ) (k : Cancel) (owed ms : List Message)
+    → total weight owed + total weight (sent_out k owed ms) ≡ total weight (owed_after k owed ms) + total weight ms
 total-out weight Aggressive owed ms = refl
 total-out weight Lazy owed ms = total-anew weight owed ms
 
@@ -130,15 +137,18 @@ pub anti-undone : (weight : Message → ℕ) (k : Cancel) (out : List Item) (owe
 anti-undone weight Aggressive out owed ms = omega (arith, total-append (when_anti weight) out (antis ms), anti-antis weight ms)
 anti-undone weight Lazy out owed ms = omega (arith, total-append weight owed ms)
 
-pub positive-undone : (weight : Message → ℕ) (k : Cancel) (out : List Item) (ms : List Message) → total (when_positive weight) (outgoing_undone k out ms) ≡ total (when_positive weight) out
+pub positive-undone : (weight : Message → ℕ) (k : Cancel) (out : List Item) (ms : List Message)
+    → total (when_positive weight) (outgoing_undone k out ms) ≡ total (when_positive weight) out
 positive-undone weight Aggressive out ms = omega (arith, total-append (when_positive weight) out (antis ms), positive-antis weight ms)
 positive-undone weight Lazy out ms = refl
 
-pub length-undone : (k : Cancel) (out : List Item) (owed ms : List Message) → length (outgoing_undone k out ms) + length (owed_undone k owed ms) ≡ length out + length owed + length ms
+pub length-undone : (k : Cancel) (out : List Item) (owed ms : List Message)
+    → length (outgoing_undone k out ms) + length (owed_undone k owed ms) ≡ length out + length owed + length ms
 length-undone Aggressive out owed ms = omega (arith, length-append out (antis ms), length-map ms anti)
 length-undone Lazy out owed ms = omega (arith, length-append owed ms)
 
-pub each-undone : (P : Message → Type 0) (k : Cancel) (out : List Item) (owed ms : List Message) → Each (λ i. P i.message) out → Each P owed → Each P ms → Each (λ i. P i.message) (outgoing_undone k out ms) × Each P (owed_undone k owed ms)
+pub each-undone : (P : Message → Type 0) (k : Cancel) (out : List Item) (owed ms : List Message) → Each (λ i. P i.message) out → Each P owed
+    → Each P ms → Each (λ i. P i.message) (outgoing_undone k out ms) × Each P (owed_undone k owed ms)
 each-undone P Aggressive out owed ms a b c = (each-append (λ i. P i.message) out (antis ms) a (each-antis P ms c), b)
 each-undone P Lazy out owed ms a b c = (a, each-append P owed ms b c)
 

@@ -34,7 +34,8 @@ pub front-behind : (s : ℕ) (ms : List Message) → front s ms ++ behind s ms �
 front-behind s [] = refl
 front-behind s (m ∷ ms) = joined (m.stamp == s) m (front s ms) (behind s ms) ms (front-behind s ms)
 
-behind_ascending : (s : ℕ) (ms : List Message) → s ≤ never → Ascending ms → s ≤ first_stamp ms → Ascending (behind s ms) × (s ≤ first_stamp (behind s ms))
+behind_ascending : (s : ℕ) (ms : List Message) → s ≤ never → Ascending ms → s ≤ first_stamp ms
+    → Ascending (behind s ms) × (s ≤ first_stamp (behind s ms))
 behind_ascending s [] top up le = (tt, top)
 behind_ascending s (m ∷ ms) top up le =
     cond_both (m.stamp == s) (behind s ms) (m ∷ ms) (λ l. Ascending l × (s ≤ first_stamp l))
@@ -66,16 +67,19 @@ advance_later s (Some d) limit l =
 abbrev Moves : {S : Type 0} → ℕ → Move S → Type 0
 Moves s move = (move.entry.stamp ≡ s) × (s < move.after.due)
 
-within : {S : Type 0} (r : Result (Option ℕ) Limit) (move : ℕ → Move S) (P : Move S → Type 0) (Q : ℕ → Type 0) → IfOk r (λ due. Q (due_of due)) → ((due : ℕ) → Q due → P (move due)) → IfOk (if_within move r) P
+within : {S : Type 0} (r : Result (Option ℕ) Limit) (move : ℕ → Move S) (P : Move S → Type 0) (Q : ℕ → Type 0) → IfOk r (λ due. Q (due_of due))
+    → ((due : ℕ) → Q due → P (move due)) → IfOk (if_within move r) P
 within (Ok due) move P Q q f = f (due_of due) q
 within (Err limit) move P Q q f = tt
 
-if_moved_follows : {S : Type 0} (made : Move S → Made S) (r : Result (Move S) Limit) (P : Move S → Type 0) (Q : Made S → Type 0) → IfOk r P → ((move : Move S) → P move → Q (made move)) → IfOk (if_moved made r) Q
+if_moved_follows : {S : Type 0} (made : Move S → Made S) (r : Result (Move S) Limit) (P : Move S → Type 0) (Q : Made S → Type 0) → IfOk r P
+    → ((move : Move S) → P move → Q (made move)) → IfOk (if_moved made r) Q
 if_moved_follows made (Ok move) P Q p f = f move p
 if_moved_follows made (Err limit) P Q p f = tt
 
 module _ {S : Type 0} (net : Network S) (c : ℕ) where
-  output_follows : (now : Moment S) (pending : List Message) (s : ℕ) → s < never → phase_of s ≡ 0 → Follows now pending s (output_made net c now pending s (output net c now s))
+  output_follows : (now : Moment S) (pending : List Message) (s : ℕ) → s < never → phase_of s ≡ 0
+      → Follows now pending s (output_made net c now pending s (output net c now s))
   unfolding output
   output_follows now pending s top even = record {
     before = refl;
@@ -120,6 +124,7 @@ module _ {S : Type 0} (net : Network S) (c : ℕ) where
         before_never = leb-false never s e;
       })))
 
-  pub local_step_follows : (now : Moment S) (pending : List Message) (made : Made S) → local_step net c now pending ≡ Ok made → Follows now pending (next_of now pending) made
+  pub local_step_follows : (now : Moment S) (pending : List Message) (made : Made S) → local_step net c now pending ≡ Ok made
+      → Follows now pending (next_of now pending) made
   unfolding local_step
   local_step_follows now pending made e = IfOk-at_ok (Follows now pending (next_of now pending)) e (step_at_follows now pending (next_of now pending))

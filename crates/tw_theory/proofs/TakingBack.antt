@@ -22,7 +22,8 @@ pub record IsAfter {S : Type 0} (p p' : Process S) (steps : List (Step S)) : Typ
   pub line : p'.line ≡ p.line
   pub cancel : p'.cancel ≡ p.cancel
 
-before_all-push : {S : Type 0} (steps : List (Step S)) (step : Step S) (now : Moment S) → before_all (steps ++ step ∷ []) now ≡ before_all steps step.before
+before_all-push : {S : Type 0} (steps : List (Step S)) (step : Step S) (now : Moment S)
+    → before_all (steps ++ step ∷ []) now ≡ before_all steps step.before
 before_all-push [] step now = refl
 before_all-push (s ∷ steps) step now = refl
 
@@ -57,7 +58,8 @@ is_after_none p = record {
   cancel = refl;
 }
 
-pub is_after_more : {S : Type 0} (p p' : Process S) (steps : List (Step S)) (made : Made S) (s : ℕ) → IsAfter p p' steps → Follows p'.now p'.pending s made → IsAfter p (with_step p' made) (steps ++ made.step ∷ [])
+pub is_after_more : {S : Type 0} (p p' : Process S) (steps : List (Step S)) (made : Made S) (s : ℕ) → IsAfter p p' steps
+    → Follows p'.now p'.pending s made → IsAfter p (with_step p' made) (steps ++ made.step ∷ [])
 is_after_more p p' steps made s a f = record {
   history = ap (λ l. l ++ made.step ∷ []) a.history ∙ append_assoc p.history steps (made.step ∷ []);
   now = before_all-push steps made.step made.after ∙ ap (before_all steps) f.before ∙ a.now;
@@ -84,7 +86,8 @@ abbrev pub restored_as : {S : Type 0} → Cancel → Process S → List (Step S)
 restored_as k p steps =
     with_lists p (outgoing_undone k (p.outgoing ++ positives (sent_out k p.owed (sent_by steps))) (unsent_by steps)) (owed_undone k (owed_after k p.owed (sent_by steps)) (unsent_by steps))
 
-pub back_to_before : {S : Type 0} (p p' : Process S) (steps : List (Step S)) → IsAfter p p' steps → back_to_first (length p.history) p' ≡ restored_as p.cancel p steps
+pub back_to_before : {S : Type 0} (p p' : Process S) (steps : List (Step S)) → IsAfter p p' steps
+    → back_to_first (length p.history) p' ≡ restored_as p.cancel p steps
 unfolding back_to_first
 back_to_before p p' steps a =
     let d = ap (drop (length p.history)) a.history ∙ drop_at p.history steps (length p.history) refl in
@@ -95,7 +98,8 @@ back_to_before p p' steps a =
     let owed = ap (λ l. owed_undone p'.cancel p'.owed (unsent_by l)) d ∙ ap₂ (λ (l : List Message) (k : Cancel). owed_undone k l (unsent_by steps)) a.owed a.cancel in
     λ i. record { now = now i; pending = pending i; history = t i; waiting = a.waiting i; outgoing = outgoing i; owed = owed i; line = a.line i; cancel = a.cancel i }
 
-step_undone : {S : Type 0} (net : Network S) (c : ℕ) (p : Process S) (made : Made S) → local_step net c p.now p.pending ≡ Ok made → undo_last (with_step p made) ≡ restored_as p.cancel p (made.step ∷ [])
+step_undone : {S : Type 0} (net : Network S) (c : ℕ) (p : Process S) (made : Made S) → local_step net c p.now p.pending ≡ Ok made
+    → undo_last (with_step p made) ≡ restored_as p.cancel p (made.step ∷ [])
 step_undone net c p made e =
     let f = local_step_follows net c p.now p.pending made e in
     let a = is_after_more p p [] made _ (is_after_none p) f in

@@ -10,12 +10,14 @@ pub total-replicate : {X : Type 0} (weight : X → ℕ) (n : ℕ) (x : X) → we
 total-replicate weight zero x e = refl
 total-replicate weight (suc n) x e = omega (arith, e, total-replicate weight n x e)
 
-pub total-set : {X : Type 0} (weight : X → ℕ) (xs : List X) (i : ℕ) (x y : X) → slice_get xs i ≡ Some x → total weight (slice_set xs i y) + weight x ≡ total weight xs + weight y
+pub total-set : {X : Type 0} (weight : X → ℕ) (xs : List X) (i : ℕ) (x y : X) → slice_get xs i ≡ Some x
+    → total weight (slice_set xs i y) + weight x ≡ total weight xs + weight y
 total-set weight [] i x y e = absurd (none-some x e)
 total-set weight (z ∷ xs) zero x y e = omega (arith, ap weight (same_Some z x e))
 total-set weight (z ∷ xs) (suc i) x y e = omega (arith, total-set weight xs i x y e)
 
-pub total-remove : {X : Type 0} (weight : X → ℕ) (xs : List X) (i : ℕ) (x : X) → slice_get xs i ≡ Some x → total weight (remove xs i) + weight x ≡ total weight xs
+pub total-remove : {X : Type 0} (weight : X → ℕ) (xs : List X) (i : ℕ) (x : X) → slice_get xs i ≡ Some x
+    → total weight (remove xs i) + weight x ≡ total weight xs
 total-remove weight [] i x e = absurd (none-some x e)
 total-remove weight (z ∷ xs) zero x e = omega (arith, ap weight (same_Some z x e))
 total-remove weight (z ∷ xs) (suc i) x e = omega (arith, total-remove weight xs i x e)
@@ -40,6 +42,7 @@ anti-antis weight (m ∷ ms) = omega (arith, anti-antis weight ms)
 
 -- ---- a message put in its place, or taken out
 
-placed_total : (weight : Message → ℕ) (b : Bool) (m n : Message) (ns rest : List Message) → total weight rest ≡ total weight ns + weight m → total weight (cond b (m ∷ n ∷ ns) (n ∷ rest)) ≡ weight n + total weight ns + weight m
+placed_total : (weight : Message → ℕ) (b : Bool) (m n : Message) (ns rest : List Message) → total weight rest ≡ total weight ns + weight m
+    → total weight (cond b (m ∷ n ∷ ns) (n ∷ rest)) ≡ weight n + total weight ns + weight m
 placed_total weight true m n ns rest e = omega arith
 placed_total weight false m n ns rest e = omega (arith, e)

@@ -33,9 +33,12 @@ pub record Ready {S : Type 0} (net : Network S) (g : ℕ) (h : Kept) : Type 0 wh
   pub places : (c : ℕ) → c < length net.models → (from : Moment S) × ((clock net (h.line c)).place c ≡ Some from)
   pub inputs : (c : ℕ) → c < length net.models → AreInputs c (h.inputs c)
   pub early : (c t : ℕ) → c < length net.models → t ≤ h.line c → t ≤ first_stamp (h.inputs c) → AllFrom t (h.history c)
-  pub histories : (c k : ℕ) → c < length net.models → h.line c ≤ first_stamp (h.inputs c) → h.line c + k ≡ g → (later : List Record) × (h.history c ≡ (own_run net h c k).records ++ later) × AllFrom g later
-  pub unlimited : (c k : ℕ) → c < length net.models → h.line c ≤ first_stamp (h.inputs c) → h.line c + k < g → NoLimit (alone_step net c (h.inputs c) (h.line c + k) (own_run net h c k))
-  pub balance : (x : Message) → x.to < length net.models → x.stamp < g → count x (sent_in_all net (made h)) + count x (h.waiting x.to) ≡ count x (all_consumed (h.column x.to)) + count x (h.inputs x.to)
+  pub histories : (c k : ℕ) → c < length net.models → h.line c ≤ first_stamp (h.inputs c) → h.line c + k ≡ g
+      → (later : List Record) × (h.history c ≡ (own_run net h c k).records ++ later) × AllFrom g later
+  pub unlimited : (c k : ℕ) → c < length net.models → h.line c ≤ first_stamp (h.inputs c) → h.line c + k < g
+      → NoLimit (alone_step net c (h.inputs c) (h.line c + k) (own_run net h c k))
+  pub balance : (x : Message) → x.to < length net.models → x.stamp < g
+      → count x (sent_in_all net (made h)) + count x (h.waiting x.to) ≡ count x (all_consumed (h.column x.to)) + count x (h.inputs x.to)
   pub apart : (x : Message) → x.to < length net.models → x.stamp < g → (count x (h.waiting x.to) ≡ 0) ⊎ (count x (h.inputs x.to) ≡ 0)
 
 -- the local runs are the network's run
@@ -46,7 +49,8 @@ pub record Follows {S : Type 0} (net : Network S) (g : ℕ) (h : Kept) : Type 0 
   pub place : (c k : ℕ) → c < length net.models → h.line c + k ≡ g → (own_run net h c k).place ≡ (clock net g).place c
 
 -- steps from a stamp on add nothing to what is sent of that stamp
-sent_same : {S : Type 0} (net : Network S) (x : Message) (s : ℕ) (old new : ℕ → List Record) → x.stamp ≤ s → (n : ℕ) → ((c : ℕ) → c < n → GoesOn s (old c) (new c)) → count x (sent_below net new n) ≡ count x (sent_below net old n)
+sent_same : {S : Type 0} (net : Network S) (x : Message) (s : ℕ) (old new : ℕ → List Record) → x.stamp ≤ s → (n : ℕ)
+    → ((c : ℕ) → c < n → GoesOn s (old c) (new c)) → count x (sent_below net new n) ≡ count x (sent_below net old n)
 unfolding sent_below
 sent_same net x s old new h zero g = refl
 sent_same net x s old new h (suc n) g =
@@ -59,7 +63,8 @@ sent_same net x s old new h (suc n) g =
     let b = count-append x (sent_below net old n) (all_sent net (old n)) in
     omega (arith, ih, split, none, a, b)
 
-all_sent_same : {S : Type 0} (net : Network S) (x : Message) (s : ℕ) (old new : ℕ → List Record) → x.stamp ≤ s → ((c : ℕ) → c < length net.models → GoesOn s (old c) (new c)) → count x (sent_in_all net new) ≡ count x (sent_in_all net old)
+all_sent_same : {S : Type 0} (net : Network S) (x : Message) (s : ℕ) (old new : ℕ → List Record) → x.stamp ≤ s
+    → ((c : ℕ) → c < length net.models → GoesOn s (old c) (new c)) → count x (sent_in_all net new) ≡ count x (sent_in_all net old)
 all_sent_same net x s old new h g =
     let e = sent_same net x s old new h (length net.models) g in
     let a = count-append x net.inputs (sent_below net new (length net.models)) in
@@ -82,7 +87,8 @@ abbrev AllFree : {S : Type 0} → Network S → Kept → ℕ → Type 0
 AllFree net h s = (c : ℕ) → c < length net.models → Free h s c
 
 -- the history goes on from each moment of the local run
-history_goes_on : {S : Type 0} (net : Network S) (g : ℕ) (h : Kept) → Ready net g h → (c k : ℕ) → c < length net.models → h.line c ≤ first_stamp (h.inputs c) → h.line c + k ≤ g → GoesOn (h.line c + k) (own_run net h c k).records (h.history c)
+history_goes_on : {S : Type 0} (net : Network S) (g : ℕ) (h : Kept) → Ready net g h → (c k : ℕ) → c < length net.models
+    → h.line c ≤ first_stamp (h.inputs c) → h.line c + k ≤ g → GoesOn (h.line c + k) (own_run net h c k).records (h.history c)
 history_goes_on net g h settled c k below free l =
     let j : ℕ = g - (h.line c + k) in
     let reached : h.line c + (k + j) ≡ g = omega arith in
@@ -91,7 +97,8 @@ history_goes_on net g h settled c k below free l =
     subst (λ l. GoesOn (h.line c + k) (own_run net h c k).records l) (sym all.1) on
 
 -- what was made goes on from the whole network's records
-made_goes_on : {S : Type 0} (net : Network S) (g : ℕ) (h : Kept) (settled : Ready net g h) (s : ℕ) → s ≤ g → AllAgree net h s → AllFree net h s → (c : ℕ) → c < length net.models → GoesOn s ((clock net s).records c) (made h c)
+made_goes_on : {S : Type 0} (net : Network S) (g : ℕ) (h : Kept) (settled : Ready net g h) (s : ℕ) → s ≤ g → AllAgree net h s → AllFree net h s
+    → (c : ℕ) → c < length net.models → GoesOn s ((clock net s).records c) (made h c)
 made_goes_on net g h settled s l agree free c below = ⊎_elim after before (cases_lt s (h.line c))
   where
     after : s < h.line c → GoesOn s ((clock net s).records c) (made h c)
@@ -117,10 +124,12 @@ made_goes_on net g h settled s l agree free c below = ⊎_elim after before (cas
         }
 
 -- the local bag is the network's
-same_bag : {S : Type 0} (net : Network S) (g : ℕ) (h : Kept) (settled : Ready net g h) (s : ℕ) → s < g → AllAgree net h s → AllFree net h s → (c : ℕ) → c < length net.models → h.line c ≤ s → bag_of c s (sent_in_all net (clock net s).records) ≡ bag_of c s (h.inputs c)
+same_bag : {S : Type 0} (net : Network S) (g : ℕ) (h : Kept) (settled : Ready net g h) (s : ℕ) → s < g → AllAgree net h s → AllFree net h s → (c : ℕ)
+    → c < length net.models → h.line c ≤ s → bag_of c s (sent_in_all net (clock net s).records) ≡ bag_of c s (h.inputs c)
 same_bag net g h settled s l agree free c below past = bag_same c s (sent_in_all net (clock net s).records) (h.inputs c) each
   where
-    counted : (x : Message) → x.to < length net.models → x.stamp < g → s ≤ x.stamp → x.stamp ≤ s → h.line x.to ≤ s → count x (sent_in_all net (clock net s).records) ≡ count x (h.inputs x.to)
+    counted : (x : Message) → x.to < length net.models → x.stamp < g → s ≤ x.stamp → x.stamp ≤ s → h.line x.to ≤ s
+        → count x (sent_in_all net (clock net s).records) ≡ count x (h.inputs x.to)
     counted x to at from upto line =
         let sent = all_sent_same net x s (clock net s).records (made h) upto (λ d m. made_goes_on net g h settled s (omega arith) agree free d m) in
         let old : AllBefore (h.line x.to) (h.column x.to) = subst (λ l. AllBefore (h.line x.to) l) (sym (settled.columns x.to to)) (clock_before net x.to (h.line x.to)) in
@@ -137,7 +146,8 @@ same_bag net g h settled s l agree free c below past = bag_same c s (sent_in_all
         counted x to at (omega (arith, q)) (omega (arith, q)) line ∙ ap (λ d. count x (h.inputs d)) p
 
 -- at its line a component stands as in the whole network
-agree_start : {S : Type 0} (net : Network S) (g : ℕ) (h : Kept) → Ready net g h → (s c : ℕ) → c < length net.models → h.line c + 0 ≡ s → Agrees net h s c 0
+agree_start : {S : Type 0} (net : Network S) (g : ℕ) (h : Kept) → Ready net g h → (s c : ℕ) → c < length net.models → h.line c + 0 ≡ s
+    → Agrees net h s c 0
 unfolding alone
 agree_start net g h settled s c below e =
     let at : h.line c ≡ s = omega (arith, e) in
@@ -147,7 +157,8 @@ agree_start net g h settled s c below e =
     }
 
 -- one stamp further
-agree_step : {S : Type 0} (net : Network S) (h : Kept) (s c k : ℕ) → h.line c + k ≡ s → Agrees net h s c k → bag_of c s (sent_in_all net (clock net s).records) ≡ bag_of c s (h.inputs c) → Agrees net h (suc s) c (suc k)
+agree_step : {S : Type 0} (net : Network S) (h : Kept) (s c k : ℕ) → h.line c + k ≡ s → Agrees net h s c k
+    → bag_of c s (sent_in_all net (clock net s).records) ≡ bag_of c s (h.inputs c) → Agrees net h (suc s) c (suc k)
 unfolding alone clock
 agree_step net h s c k e a bag =
     let step : alone_step net c (h.inputs c) (h.line c + k) (own_run net h c k) ≡ clock_step net c s =
@@ -160,7 +171,8 @@ agree_step net h s c k e a bag =
       place = ap (λ t. place_after (own_run net h c k).place t) step ∙ ap (λ p. place_after p (clock_step net c s)) a.place;
     }
 
-agree_more : {S : Type 0} (net : Network S) (g : ℕ) (h : Kept) (settled : Ready net g h) (s : ℕ) → s < g → AllAgree net h s → AllFree net h s → AllAgree net h (suc s)
+agree_more : {S : Type 0} (net : Network S) (g : ℕ) (h : Kept) (settled : Ready net g h) (s : ℕ) → s < g → AllAgree net h s → AllFree net h s
+    → AllAgree net h (suc s)
 agree_more net g h settled s l agree free c zero below e = agree_start net g h settled (suc s) c below e
 agree_more net g h settled s l agree free c (suc k) below e =
     let at : h.line c + k ≡ s = omega (arith, e) in
@@ -182,7 +194,8 @@ first_counted c s (m ∷ ms) a e n =
     record { message = m; to = a.0; stamp = e; odd = omega (arith, p, e); counted = omega (arith, one) }
 
 -- no input of a stamp that its component's line has passed
-free_more : {S : Type 0} (net : Network S) (g : ℕ) (h : Kept) (settled : Ready net g h) (s : ℕ) → s < g → AllAgree net h s → AllFree net h s → AllFree net h (suc s)
+free_more : {S : Type 0} (net : Network S) (g : ℕ) (h : Kept) (settled : Ready net g h) (s : ℕ) → s < g → AllAgree net h s → AllFree net h s
+    → AllFree net h (suc s)
 free_more {S} net g h settled s l agree free c below = ⊎_elim (λ a. by a (cases_eq (first_stamp (h.inputs c)) s) (cases_lt s (h.line c))) (λ a. inr a) (free c below)
   where
     stuck : first_stamp (h.inputs c) ≡ s → s < h.line c → ⊥
@@ -206,7 +219,8 @@ free_more {S} net g h settled s l agree free c below = ⊎_elim (λ a. by a (cas
         subst (λ d. (count x (h.waiting d) ≡ 0) ⊎ (count x (h.inputs d) ≡ 0)) p (settled.apart x (omega (arith, p, below)) (omega (arith, q, l))) in
         omega (arith, counted, sent, column, balance, apart)
 
-    by : s ≤ first_stamp (h.inputs c) → (first_stamp (h.inputs c) ≡ s) ⊎ (first_stamp (h.inputs c) ≡ s → ⊥) → (s < h.line c) ⊎ (h.line c ≤ s) → Free h (suc s) c
+    by : s ≤ first_stamp (h.inputs c) → (first_stamp (h.inputs c) ≡ s) ⊎ (first_stamp (h.inputs c) ≡ s → ⊥) → (s < h.line c) ⊎ (h.line c ≤ s)
+        → Free h (suc s) c
     by a (inl e) (inl m) = absurd (stuck e m)
     by a (inl e) (inr m) = inr (omega (arith, e, m))
     by a (inr k) m = inl (omega (arith, a, k))
@@ -226,7 +240,8 @@ both_at net g h settled (suc s) l =
     record { agree = agree_more net g h settled s l both.agree both.free; free = free_more net g h settled s l both.agree both.free }
 
 -- before g no component meets a limit
-no_fault : {S : Type 0} (net : Network S) (g : ℕ) (h : Kept) → Ready net g h → (c s : ℕ) → c < length net.models → s < g → NoLimit (clock_step net c s)
+no_fault : {S : Type 0} (net : Network S) (g : ℕ) (h : Kept) → Ready net g h → (c s : ℕ) → c < length net.models → s < g
+    → NoLimit (clock_step net c s)
 no_fault net g h settled c s below l = ⊎_elim (λ m. settled.unstopped c c s below below m) past (cases_lt s (h.line c))
   where
     past : h.line c ≤ s → NoLimit (clock_step net c s)
@@ -252,7 +267,10 @@ clocked_law net g h settled =
     }
 
 -- at g too, where nothing is in transit at g either
-pub bag_at : {S : Type 0} (net : Network S) (g : ℕ) (h : Kept) → Ready net g h → ((x : Message) → x.to < length net.models → x.stamp ≡ g → count x (sent_in_all net (made h)) + count x (h.waiting x.to) ≡ count x (all_consumed (h.column x.to)) + count x (h.inputs x.to)) → ((x : Message) → x.to < length net.models → x.stamp ≡ g → (count x (h.waiting x.to) ≡ 0) ⊎ (count x (h.inputs x.to) ≡ 0)) → (c : ℕ) → c < length net.models → bag_of c g (sent_in_all net (clock net g).records) ≡ bag_of c g (h.inputs c)
+pub bag_at : {S : Type 0} (net : Network S) (g : ℕ) (h : Kept) → Ready net g h
+    → ((x : Message) → x.to < length net.models → x.stamp ≡ g → count x (sent_in_all net (made h)) + count x (h.waiting x.to) ≡ count x (all_consumed (h.column x.to)) + count x (h.inputs x.to))
+    → ((x : Message) → x.to < length net.models → x.stamp ≡ g → (count x (h.waiting x.to) ≡ 0) ⊎ (count x (h.inputs x.to) ≡ 0)) → (c : ℕ)
+    → c < length net.models → bag_of c g (sent_in_all net (clock net g).records) ≡ bag_of c g (h.inputs c)
 bag_at net g h settled balance_at apart_at c below = bag_same c g (sent_in_all net (clock net g).records) (h.inputs c) each
   where
     counted : (x : Message) → x.to < length net.models → x.stamp ≡ g → count x (sent_in_all net (clock net g).records) ≡ count x (h.inputs x.to)

@@ -97,7 +97,8 @@ insert_comm a b (y ∷ js) =
     (λ e. ⊎_elim (λ f. sym (deep b a f e)) (λ f. both ih e f) (cases_Bool (by_port b y)))
     (cases_Bool (by_port a y))
   where
-    both : insert_item a (insert_item b js) ≡ insert_item b (insert_item a js) → by_port a y ≡ false → by_port b y ≡ false → insert_item a (insert_item b (y ∷ js)) ≡ insert_item b (insert_item a (y ∷ js))
+    both : insert_item a (insert_item b js) ≡ insert_item b (insert_item a js) → by_port a y ≡ false → by_port b y ≡ false
+        → insert_item a (insert_item b (y ∷ js)) ≡ insert_item b (insert_item a (y ∷ js))
     both ih e f =
         ap (insert_item a) (insert_in b y js f) ∙ insert_in a y (insert_item b js) e ∙ ap (λ l. y ∷ l) ih
         ∙ sym (ap (insert_item b) (insert_in a y js e) ∙ insert_in b y (insert_item a js) f)
@@ -169,7 +170,8 @@ sort_same (i ∷ is) js h =
     ap (insert_item i) ih ∙ sym t.sorted
 
 -- the items to a component at a stamp are counted as messages are
-tallied : (a p b v : Bool) (i : ℕ × ℤ) (m : Message) (l : List Message) (n : ℕ) → item_eq i (m.port, m.value) ≡ (p && v) → item_count i (items_of l) ≡ n → item_count i (items_of (if a && b then m ∷ l else l)) ≡ (if a && p && b && v then 1 else 0) + n
+tallied : (a p b v : Bool) (i : ℕ × ℤ) (m : Message) (l : List Message) (n : ℕ) → item_eq i (m.port, m.value) ≡ (p && v)
+    → item_count i (items_of l) ≡ n → item_count i (items_of (if a && b then m ∷ l else l)) ≡ (if a && p && b && v then 1 else 0) + n
 tallied true true true true i m l n e q = let t = ap tally e in omega (arith, t, q)
 tallied true true true false i m l n e q = let t = ap tally e in omega (arith, t, q)
 tallied true false true v i m l n e q = let t = ap tally e in omega (arith, t, q)

@@ -1,4 +1,4 @@
--- The law: local runs that balance are the rounds.
+-- The law of committed history: local runs that balance are the rounds.
 use Rattle.std.proofs.Common.{◌≡◌, ℕ, zero, suc, ◌+◌, ◌-◌, ◌<◌, ◌≤◌, ◌⊎◌, ◌==◌, nat_lt, length, List, [], ◌++◌, take, drop, refl, sym, ap, ◌∙◌, subst, inl, inr, ⊎_elim, arith, eq-eqb, ne_eqb, lt-ltb, le-ltb, Option, Some, None, slice_get}
 use Rattle.std.proofs.lemmas.Bool.{cases_eq, cases_lt, cond-true, cond-false}
 use Rattle.tw_laws.specs.History.{count, sum_below, AreInputs, Held, StandsTo, sent_count, IsSettled, IsCommitted}
@@ -22,7 +22,8 @@ use Rattle.tw_laws.proofs.History.RoundBags.{after_out, even_place}
 use Rattle.tw_laws.proofs.History.Rounds.{Stand, Reached, Running, Faulted, rounds_reach}
 
 -- the records before s of a run that has come to e
-records_are : {S : Type 0} (net : Network S) (c s e : ℕ) (run : Run S) → own c run.records ≡ (clock net e).records c → s ≤ e → before s (own c run.records) ≡ (clock net s).records c
+records_are : {S : Type 0} (net : Network S) (c s e : ℕ) (run : Run S) → own c run.records ≡ (clock net e).records c → s ≤ e
+    → before s (own c run.records) ≡ (clock net s).records c
 records_are net c s e run is l =
     let j : ℕ = e - s in
     let q : s + j ≡ e = omega (arith, l) in
@@ -37,7 +38,8 @@ due_kept s (Some now) h =
     let e = cond-false (nat_lt now.due s) (now.due + 1) now.due (le-ltb now.due s (h now refl)) in
     λ i. Some (record { state = now.state; last = now.last; due = e i })
 
-due_out : {S : Type 0} (net : Network S) (c b : ℕ) (o : Option (Moment S)) → ((now : Moment S) → o ≡ Some now → b ≤ now.due) → due_from (suc b) o ≡ after_out net b c o
+due_out : {S : Type 0} (net : Network S) (c b : ℕ) (o : Option (Moment S)) → ((now : Moment S) → o ≡ Some now → b ≤ now.due)
+    → due_from (suc b) o ≡ after_out net b c o
 unfolding output
 due_out net c b None h = refl
 due_out {S} net c b (Some now) h = ⊎_elim out still (cases_eq now.due b)
@@ -56,7 +58,8 @@ due_out {S} net c b (Some now) h = ⊎_elim out still (cases_eq now.due b)
         let left : due_from (suc b) (Some now) ≡ Some now = λ i. Some (record { state = now.state; last = now.last; due = e i }) in
         left ∙ ap Some (sym (cond-false (now.due == b) (output net c now b).after now (ne_eqb now.due b k)))
 
-due_ahead : {S : Type 0} (s b : ℕ) (o : Option (Moment S)) (from : Moment S) → s ≤ b + 1 → ((now : Moment S) → o ≡ Some now → b ≤ now.due) → due_from s o ≡ Some from → s ≤ from.due
+due_ahead : {S : Type 0} (s b : ℕ) (o : Option (Moment S)) (from : Moment S) → s ≤ b + 1 → ((now : Moment S) → o ≡ Some now → b ≤ now.due)
+    → due_from s o ≡ Some from → s ≤ from.due
 due_ahead s b None from l h e = absurd (cc e)
 due_ahead s b (Some now) from l h e = ⊎_elim less more (cases_lt now.due s)
   where
@@ -80,7 +83,8 @@ pub record MomentIs {S : Type 0} (net : Network S) (until c s : ℕ) : Type 0 wh
   pub is : moment_at net until c s ≡ (clock net s).place c
   pub due : (from : Moment S) → moment_at net until c s ≡ Some from → s ≤ from.due
 
-stand_moment : {S : Type 0} (net : Network S) (until c s b : ℕ) (run : Run S) → Stand net b run → (s ≡ b) ⊎ (s ≡ suc b) → up_to until s ≡ s → rounds net (up_to until s - 1) ≡ run → MomentIs net until c s
+stand_moment : {S : Type 0} (net : Network S) (until c s b : ℕ) (run : Run S) → Stand net b run → (s ≡ b) ⊎ (s ≡ suc b) → up_to until s ≡ s
+    → rounds net (up_to until s - 1) ≡ run → MomentIs net until c s
 unfolding clock
 stand_moment {S} net until c s b run at place u e = ⊎_elim even odd place
   where
@@ -104,12 +108,15 @@ stand_moment {S} net until c s b run at place u e = ⊎_elim even odd place
       due = λ from f. due_ahead s b (slice_get run.at.moments c) from (omega (arith, q)) ahead (sym moved ∙ f);
     }
 
-reached_moment : {S : Type 0} (net : Network S) (until c s b : ℕ) (run : Run S) → Reached net b run → b ≤ s → ((d r : ℕ) → d < length net.models → r < s → NoLimit (clock_step net d r)) → (s ≡ b) ⊎ (s ≡ suc b) → up_to until s ≡ s → rounds net (up_to until s - 1) ≡ run → MomentIs net until c s
+reached_moment : {S : Type 0} (net : Network S) (until c s b : ℕ) (run : Run S) → Reached net b run → b ≤ s
+    → ((d r : ℕ) → d < length net.models → r < s → NoLimit (clock_step net d r)) → (s ≡ b) ⊎ (s ≡ suc b) → up_to until s ≡ s
+    → rounds net (up_to until s - 1) ≡ run → MomentIs net until c s
 unfolding NoLimit
 reached_moment net until c s b run (Running at) l calm place u e = stand_moment net until c s b run at place u e
 reached_moment net until c s b run (Faulted f m ended) l calm place u e = absurd (subst NoLimit ended.stops (calm ended.component f ended.below (omega (arith, l, m))))
 
-moment_is : {S : Type 0} (net : Network S) (until c s : ℕ) → Rattle.tw_laws.specs.History.AllPhaseOne net.inputs → s ≤ stamp until 0 0 → until ≤ max_tick → ((d r : ℕ) → d < length net.models → r < s → NoLimit (clock_step net d r)) → MomentIs net until c s
+moment_is : {S : Type 0} (net : Network S) (until c s : ℕ) → Rattle.tw_laws.specs.History.AllPhaseOne net.inputs → s ≤ stamp until 0 0
+    → until ≤ max_tick → ((d r : ℕ) → d < length net.models → r < s → NoLimit (clock_step net d r)) → MomentIs net until c s
 moment_is net until c s given l m calm =
     ⊎_elim
     (λ p. at s (omega arith) (omega arith) p (inl refl))
@@ -129,10 +136,12 @@ pub record Extent {S : Type 0} (net : Network S) (until e : ℕ) : Type 0 where
   pub within : e ≤ stamp until 0 0
   pub calm : (d r : ℕ) → r < e → NoLimit (clock_step net d r)
   pub records : (c : ℕ) → own c (sequential net until).records ≡ (clock net e).records c
-  pub fault : (f : ℕ × ℕ × Limit) → (sequential net until).fault ≡ Some f → (f.1 ≡ e) × (f.0 < length net.models) × (clock_step net f.0 e ≡ Stops f.2) × ((d : ℕ) → d < f.0 → NoLimit (clock_step net d e))
+  pub fault : (f : ℕ × ℕ × Limit) → (sequential net until).fault ≡ Some f
+      → (f.1 ≡ e) × (f.0 < length net.models) × (clock_step net f.0 e ≡ Stops f.2) × ((d : ℕ) → d < f.0 → NoLimit (clock_step net d e))
   pub ends : (e ≡ stamp until 0 0) ⊎ ((b : ℕ) × (limit : Limit) × ((sequential net until).fault ≡ Some (b, e, limit)))
 
-reached_extent : {S : Type 0} (net : Network S) (until : ℕ) (run : Run S) → sequential net until ≡ run → Reached net (stamp until 0 0) run → (e : ℕ) × Extent net until e
+reached_extent : {S : Type 0} (net : Network S) (until : ℕ) (run : Run S) → sequential net until ≡ run → Reached net (stamp until 0 0) run
+    → (e : ℕ) × Extent net until e
 reached_extent net until run q (Running at) = (
   stamp until 0 0,
   record {
@@ -154,14 +163,16 @@ reached_extent {S} net until run q (Faulted f m ended) = (
   },
 )
   where
-    fault : (g : ℕ × ℕ × Limit) → (sequential net until).fault ≡ Some g → (g.1 ≡ f) × (g.0 < length net.models) × (clock_step net g.0 f ≡ Stops g.2) × ((d : ℕ) → d < g.0 → NoLimit (clock_step net d f))
+    fault : (g : ℕ × ℕ × Limit) → (sequential net until).fault ≡ Some g
+        → (g.1 ≡ f) × (g.0 < length net.models) × (clock_step net g.0 f ≡ Stops g.2) × ((d : ℕ) → d < g.0 → NoLimit (clock_step net d f))
     fault g k =
         let one : (ended.component, f, ended.limit) ≡ g = cc (sym (ap (λ r. r.fault) q ∙ ended.fault) ∙ k) in
         let b = ap (λ x. x.0) one in
         let below = ended.below in
         (sym (ap (λ x. x.1) one), omega (arith, b, below), ap (λ d. clock_step net d f) (sym b) ∙ ended.stops ∙ ap (λ x. Stops x.2) one, λ d l. ended.least d (omega (arith, b, l)))
 
-pub extent : {S : Type 0} (net : Network S) (until : ℕ) → Rattle.tw_laws.specs.History.AllPhaseOne net.inputs → until ≤ max_tick → (e : ℕ) × Extent net until e
+pub extent : {S : Type 0} (net : Network S) (until : ℕ) → Rattle.tw_laws.specs.History.AllPhaseOne net.inputs → until ≤ max_tick
+    → (e : ℕ) × Extent net until e
 unfolding sequential
 extent net until given m = reached_extent net until (rounds net (stamp until 0 0)) refl (rounds_reach net (stamp until 0 0) (stamp until 0 0) given (omega arith) (omega arith) (omega arith) (omega (arith, m)))
 
@@ -177,7 +188,8 @@ abbrev pub kept : {S : Type 0} → Held S → Kept
 kept h = record { line = h.line; column = h.column; history = λ c. records_of (h.history c); inputs = h.inputs; waiting = h.waiting }
 
 -- each line is at or before the extent
-line_within : {S : Type 0} (net : Network S) (until g e : ℕ) (h : Held S) → IsSettled net until g h → Extent net until e → (c : ℕ) → c < length net.models → h.line c ≤ e
+line_within : {S : Type 0} (net : Network S) (until g e : ℕ) (h : Held S) → IsSettled net until g h → Extent net until e → (c : ℕ)
+    → c < length net.models → h.line c ≤ e
 line_within net until g e h settled x c below =
     ⊎_elim (λ q. let l = settled.lines c below in let u = settled.horizon in omega (arith, q, l, u)) (λ f. settled.unstopped c f.0 e f.1 below f.2) x.ends
 
@@ -187,25 +199,30 @@ pub record Local {S : Type 0} (net : Network S) (until g : ℕ) (h : Held S) (c 
   pub come : Come net c (h.inputs c) ((clock net (h.line c)).place c) (h.line c) k (before_all (drop (steps_before g (h.history c)) (h.history c)) now) (records_of (take (steps_before g (h.history c)) (h.history c)))
 
 -- the simulator's place at its line
-pub line_moment : {S : Type 0} (net : Network S) (until g e : ℕ) (h : Held S) → IsSettled net until g h → until ≤ max_tick → Extent net until e → (c : ℕ) → c < length net.models → MomentIs net until c (h.line c)
+pub line_moment : {S : Type 0} (net : Network S) (until g e : ℕ) (h : Held S) → IsSettled net until g h → until ≤ max_tick → Extent net until e
+    → (c : ℕ) → c < length net.models → MomentIs net until c (h.line c)
 line_moment net until g e h settled m x c below =
     let within = line_within net until g e h settled x c below in
     let top = x.within in
     moment_is net until c (h.line c) settled.given (omega (arith, within, top)) m (λ d r l n. x.calm d r (omega (arith, n, within)))
 
 -- it stands ahead of any stamp that neither its line nor its inputs are before
-pub ahead_of : {S : Type 0} (net : Network S) (until g : ℕ) (h : Held S) (c t : ℕ) → MomentIs net until c (h.line c) → AreInputs c (h.inputs c) → (stand : StandsTo net until g h c) → t ≤ h.line c → t ≤ first_stamp (h.inputs c) → Ahead c (h.inputs c) t stand.from (h.inputs c)
+pub ahead_of : {S : Type 0} (net : Network S) (until g : ℕ) (h : Held S) (c t : ℕ) → MomentIs net until c (h.line c) → AreInputs c (h.inputs c)
+    → (stand : StandsTo net until g h c) → t ≤ h.line c → t ≤ first_stamp (h.inputs c) → Ahead c (h.inputs c) t stand.from (h.inputs c)
 ahead_of net until g h c t moment are stand l f =
     let due = moment.due stand.from stand.from_is in
     record { due = omega (arith, due, l); first = f; are = are; same = λ r k. refl }
 
-pub facts_at : {S : Type 0} (net : Network S) (until g e : ℕ) (h : Held S) → IsSettled net until g h → until ≤ max_tick → Extent net until e → (c t : ℕ) → c < length net.models → t ≤ h.line c → t ≤ first_stamp (h.inputs c) → RunFacts net t g (h.history c)
+pub facts_at : {S : Type 0} (net : Network S) (until g e : ℕ) (h : Held S) → IsSettled net until g h → until ≤ max_tick → Extent net until e
+    → (c t : ℕ) → c < length net.models → t ≤ h.line c → t ≤ first_stamp (h.inputs c) → RunFacts net t g (h.history c)
 facts_at net until g e h settled m x c t below l f =
     let stand = settled.stands c below in
     leads_facts net c (h.inputs c) g (h.history c) t stand.from (h.inputs c) stand.now stand.pending
     (ahead_of net until g h c t (line_moment net until g e h settled m x c below) (settled.inputs c below) stand l f) stand.runs
 
-pub local_of : {S : Type 0} (net : Network S) (until g e : ℕ) (h : Held S) → IsSettled net until g h → until ≤ max_tick → Extent net until e → (c k : ℕ) → c < length net.models → h.line c ≤ first_stamp (h.inputs c) → h.line c + k ≡ g → (stand : StandsTo net until g h c) → Local net until g h c k stand.now
+pub local_of : {S : Type 0} (net : Network S) (until g e : ℕ) (h : Held S) → IsSettled net until g h → until ≤ max_tick → Extent net until e
+    → (c k : ℕ) → c < length net.models → h.line c ≤ first_stamp (h.inputs c) → h.line c + k ≡ g → (stand : StandsTo net until g h c)
+    → Local net until g h c k stand.now
 unfolding alone
 local_of net until g e h settled m x c k below free at stand =
     let horizon = settled.horizon in
@@ -222,7 +239,9 @@ local_of net until g e h settled m x c k below free at stand =
       come = ends.come;
     }
 
-pub made_count : {S : Type 0} (net : Network S) (h : Held S) (x : Message) → ((c : ℕ) → c < length net.models → sent_by (h.history c) ≡ all_sent net (records_of (h.history c))) → (n : ℕ) → n ≤ length net.models → count x (sent_below net (made (kept h)) n) ≡ sum_below (λ c. count x (all_sent net (h.column c)) + count x (sent_by (h.history c))) n
+pub made_count : {S : Type 0} (net : Network S) (h : Held S) (x : Message)
+    → ((c : ℕ) → c < length net.models → sent_by (h.history c) ≡ all_sent net (records_of (h.history c))) → (n : ℕ) → n ≤ length net.models
+    → count x (sent_below net (made (kept h)) n) ≡ sum_below (λ c. count x (all_sent net (h.column c)) + count x (sent_by (h.history c))) n
 unfolding sent_below sum_below
 made_count net h x sent zero l = refl
 made_count net h x sent (suc n) l =
@@ -233,7 +252,8 @@ made_count net h x sent (suc n) l =
     let d = ap (count x) (sent n (omega (arith, l))) in
     omega (arith, ih, a, b, d)
 
-pub ready : {S : Type 0} (net : Network S) (until g e : ℕ) (h : Held S) → IsSettled net until g h → until ≤ max_tick → Extent net until e → Ready net g (kept h)
+pub ready : {S : Type 0} (net : Network S) (until g e : ℕ) (h : Held S) → IsSettled net until g h → until ≤ max_tick → Extent net until e
+    → Ready net g (kept h)
 ready {S} net until g e h settled m x = record {
   lines = settled.lines;
   unstopped = λ b c s p q l. x.calm c s (let w = line_within net until g e h settled x b p in omega (arith, l, w));
@@ -248,7 +268,8 @@ ready {S} net until g e h settled m x = record {
   apart = settled.apart;
 }
   where
-    loc : (c k : ℕ) → (p : c < length net.models) → h.line c ≤ first_stamp (h.inputs c) → h.line c + k ≡ g → Local net until g h c k (settled.stands c p).now
+    loc : (c k : ℕ) → (p : c < length net.models) → h.line c ≤ first_stamp (h.inputs c) → h.line c + k ≡ g
+        → Local net until g h c k (settled.stands c p).now
     loc c k p f at = local_of net until g e h settled m x c k p f at (settled.stands c p)
 
     places : (c : ℕ) → c < length net.models → (from : Moment S) × ((clock net (h.line c)).place c ≡ Some from)
@@ -257,7 +278,8 @@ ready {S} net until g e h settled m x = record {
         let stand = settled.stands c p in
         (stand.from, sym moment.is ∙ stand.from_is)
 
-    histories : (c k : ℕ) → c < length net.models → h.line c ≤ first_stamp (h.inputs c) → h.line c + k ≡ g → (later : List Record) × (records_of (h.history c) ≡ (own_run net (kept h) c k).records ++ later) × AllFrom g later
+    histories : (c k : ℕ) → c < length net.models → h.line c ≤ first_stamp (h.inputs c) → h.line c + k ≡ g
+        → (later : List Record) × (records_of (h.history c) ≡ (own_run net (kept h) c k).records ++ later) × AllFrom g later
     histories c k p f at =
         let l = loc c k p f at in (
           records_of (drop (steps_before g (h.history c)) (h.history c)),
@@ -265,7 +287,8 @@ ready {S} net until g e h settled m x = record {
           l.facts.later,
         )
 
-    unlimited : (c k : ℕ) → c < length net.models → h.line c ≤ first_stamp (h.inputs c) → h.line c + k < g → NoLimit (alone_step net c (h.inputs c) (h.line c + k) (own_run net (kept h) c k))
+    unlimited : (c k : ℕ) → c < length net.models → h.line c ≤ first_stamp (h.inputs c) → h.line c + k < g
+        → NoLimit (alone_step net c (h.inputs c) (h.line c + k) (own_run net (kept h) c k))
     unlimited c k p f l =
         let j : ℕ = g - h.line c in
         let at : h.line c + j ≡ g = omega (arith, l) in
@@ -274,7 +297,8 @@ ready {S} net until g e h settled m x = record {
     sent : (c : ℕ) → c < length net.models → sent_by (h.history c) ≡ all_sent net (records_of (h.history c))
     sent c p = (facts_at net until g e h settled m x c 0 p (omega arith) (omega arith)).sent
 
-    balance : (y : Message) → y.to < length net.models → y.stamp < g → count y (sent_in_all net (made (kept h))) + count y (h.waiting y.to) ≡ count y (all_consumed (h.column y.to)) + count y (h.inputs y.to)
+    balance : (y : Message) → y.to < length net.models → y.stamp < g
+        → count y (sent_in_all net (made (kept h))) + count y (h.waiting y.to) ≡ count y (all_consumed (h.column y.to)) + count y (h.inputs y.to)
     balance y p l =
         let a = count-append y net.inputs (sent_below net (made (kept h)) (length net.models)) in
         let b = made_count net h y sent (length net.models) (omega arith) in
@@ -283,7 +307,8 @@ ready {S} net until g e h settled m x = record {
 
 -- ---- the law
 
-pub committed_history : {S : Type 0} (net : Network S) (until g : ℕ) (h : Held S) → until ≤ max_tick → IsSettled net until g h → IsCommitted net until g h
+pub committed_history : {S : Type 0} (net : Network S) (until g : ℕ) (h : Held S) → until ≤ max_tick → IsSettled net until g h
+    → IsCommitted net until g h
 unfolding NoLimit
 committed_history {S} net until g h m settled =
     let x = extent net until settled.given m in
@@ -301,14 +326,16 @@ committed_history {S} net until g h m settled =
         reach : g ≤ e
         reach = ⊎_elim (λ q. let u = settled.horizon in omega (arith, q, u)) (λ f. unstopped f.0 e f.1 f.2) x.ends
 
-        records : (c : ℕ) → c < length net.models → h.column c ++ records_of (take (steps_before g (h.history c)) (h.history c)) ≡ records_before net until c g
+        records : (c : ℕ) → c < length net.models
+            → h.column c ++ records_of (take (steps_before g (h.history c)) (h.history c)) ≡ records_before net until c g
         records c p =
             let k : ℕ = g - h.line c in
             let at : h.line c + k ≡ g = (let l = settled.lines c p in omega (arith, l)) in
             let l = local_of net until g e h settled m x c k p (follows.ahead c p) at (settled.stands c p) in
             ap (λ r. h.column c ++ r) (sym l.come.records) ∙ follows.records c k p at ∙ sym (records_is net until e c g x reach)
 
-        moment : (c : ℕ) → c < length net.models → (stand : StandsTo net until g h c) → moment_at net until c g ≡ Some (before_all (drop (steps_before g (h.history c)) (h.history c)) stand.now)
+        moment : (c : ℕ) → c < length net.models → (stand : StandsTo net until g h c)
+            → moment_at net until c g ≡ Some (before_all (drop (steps_before g (h.history c)) (h.history c)) stand.now)
         moment c p stand =
             let k : ℕ = g - h.line c in
             let at : h.line c + k ≡ g = (let l = settled.lines c p in omega (arith, l)) in
@@ -318,7 +345,9 @@ committed_history {S} net until g h m settled =
 
 -- ---- the fault's stamp
 
-faulted_before : {S : Type 0} (net : Network S) (until : ℕ) (run : Run S) → sequential net until ≡ run → Reached net (stamp until 0 0) run → (b s : ℕ) (limit : Limit) → (sequential net until).fault ≡ Some (b, s, limit) → (b < length net.models) × (s < stamp until 0 0) × (phase_of s ≡ 1)
+faulted_before : {S : Type 0} (net : Network S) (until : ℕ) (run : Run S) → sequential net until ≡ run → Reached net (stamp until 0 0) run
+    → (b s : ℕ) (limit : Limit) → (sequential net until).fault ≡ Some (b, s, limit)
+    → (b < length net.models) × (s < stamp until 0 0) × (phase_of s ≡ 1)
 faulted_before net until run q (Running at) b s limit k = let none = sym (ap (λ r. r.fault) q ∙ at.going) ∙ k in absurd (cc none)
 faulted_before net until run q (Faulted f m ended) b s limit k =
     let mine : ℕ × ℕ × Limit = (ended.component, f, ended.limit) in
@@ -330,7 +359,9 @@ faulted_before net until run q (Faulted f m ended) b s limit k =
     let odd = ended.odd in
     (omega (arith, component, below), omega (arith, at, m), omega (arith, at, odd))
 
-pub fault_stamp : {S : Type 0} (net : Network S) (until : ℕ) → until ≤ max_tick → Rattle.tw_laws.specs.History.AllPhaseOne net.inputs → (b s : ℕ) (limit : Limit) → (sequential net until).fault ≡ Some (b, s, limit) → (b < length net.models) × (s < stamp until 0 0) × (phase_of s ≡ 1)
+pub fault_stamp : {S : Type 0} (net : Network S) (until : ℕ) → until ≤ max_tick → Rattle.tw_laws.specs.History.AllPhaseOne net.inputs
+    → (b s : ℕ) (limit : Limit) → (sequential net until).fault ≡ Some (b, s, limit)
+    → (b < length net.models) × (s < stamp until 0 0) × (phase_of s ≡ 1)
 unfolding sequential
 fault_stamp net until m given =
     faulted_before net until (rounds net (stamp until 0 0)) refl (rounds_reach net (stamp until 0 0) (stamp until 0 0) given (omega arith) (omega arith) (omega arith) (omega (arith, m)))

@@ -69,7 +69,8 @@ own_before c s (r ∷ rs) =
     (λ h. cond-false ((r.component == c) && nat_lt r.stamp s) _ _ (and_left (r.component == c) _ (ne_eqb r.component c h)) ∙ ih ∙ ap (before s) (sym (own_skip c r rs h)))
     (cases_eq r.component c)
   where
-    mine : r.component ≡ c → filter (λ r. (r.component == c) && nat_lt r.stamp s) rs ≡ before s (own c rs) → filter (λ r. (r.component == c) && nat_lt r.stamp s) (r ∷ rs) ≡ before s (own c (r ∷ rs))
+    mine : r.component ≡ c → filter (λ r. (r.component == c) && nat_lt r.stamp s) rs ≡ before s (own c rs)
+        → filter (λ r. (r.component == c) && nat_lt r.stamp s) (r ∷ rs) ≡ before s (own c (r ∷ rs))
     mine e ih =
         ⊎_elim
         (λ t. cond-true ((r.component == c) && nat_lt r.stamp s) _ _ (and_from (r.component == c) _ (eq-eqb r.component c e) t) ∙ ap (λ l. r ∷ l) ih ∙ sym (ap (before s) (own_take c r rs e) ∙ cond-true (nat_lt r.stamp s) _ _ t))

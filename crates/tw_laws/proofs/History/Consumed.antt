@@ -17,29 +17,37 @@ use Rattle.tw_laws.proofs.History.Counts.{count-append, consumed_before, consume
 use Rattle.tw_laws.proofs.History.Bags.{item_count, items_count, sorted_count, messages_count}
 use Rattle.tw_laws.proofs.History.GoingOn.{GoesOn, clock_goes_on, clock_before}
 
-moved_consumes : {S : Type 0} (net : Network S) (x : Message) (c s : ℕ) (b : Bool) (bag : Bag) (state : S) (due : ℕ) → x.to ≡ c → x.stamp ≡ s → count x (consumed_in (moved net c s (kind_of (turn b bag)) bag state due).entry) ≡ item_count (x.port, x.value) bag
+moved_consumes : {S : Type 0} (net : Network S) (x : Message) (c s : ℕ) (b : Bool) (bag : Bag) (state : S) (due : ℕ) → x.to ≡ c → x.stamp ≡ s
+    → count x (consumed_in (moved net c s (kind_of (turn b bag)) bag state due).entry) ≡ item_count (x.port, x.value) bag
 unfolding moved
 moved_consumes net x c s true [] state due p q = refl
 moved_consumes net x c s true (i ∷ is) state due p q = messages_count x c s (i ∷ is) p q
 moved_consumes net x c s false bag state due p q = messages_count x c s bag p q
 
-within_consumes : {S : Type 0} (net : Network S) (x : Message) (c s : ℕ) (b : Bool) (bag : Bag) (state : S) (a : Result (Option ℕ) Limit) → x.to ≡ c → x.stamp ≡ s → NoLimit (turn_of_result (if_within (moved net c s (kind_of (turn b bag)) bag state) a)) → count x (all_consumed (record_after (turn_of_result (if_within (moved net c s (kind_of (turn b bag)) bag state) a)))) ≡ item_count (x.port, x.value) bag
+within_consumes : {S : Type 0} (net : Network S) (x : Message) (c s : ℕ) (b : Bool) (bag : Bag) (state : S) (a : Result (Option ℕ) Limit) → x.to ≡ c
+    → x.stamp ≡ s → NoLimit (turn_of_result (if_within (moved net c s (kind_of (turn b bag)) bag state) a))
+    → count x (all_consumed (record_after (turn_of_result (if_within (moved net c s (kind_of (turn b bag)) bag state) a)))) ≡ item_count (x.port, x.value) bag
 unfolding record_after NoLimit
 within_consumes net x c s b bag state (Err limit) p q l = absurd l
 within_consumes net x c s b bag state (Ok due) p q l = ap (count x) (append-nil (consumed_in (moved net c s (kind_of (turn b bag)) bag state (due_of due)).entry)) ∙ moved_consumes net x c s b bag state (due_of due) p q
 
-transition_consumes : {S : Type 0} (net : Network S) (x : Message) (c s : ℕ) (bag : Bag) (now : Moment S) → x.to ≡ c → x.stamp ≡ s → NoLimit (turn_of_result (transition net c now s bag)) → count x (all_consumed (record_after (turn_of_result (transition net c now s bag)))) ≡ item_count (x.port, x.value) bag
+transition_consumes : {S : Type 0} (net : Network S) (x : Message) (c s : ℕ) (bag : Bag) (now : Moment S) → x.to ≡ c → x.stamp ≡ s
+    → NoLimit (turn_of_result (transition net c now s bag))
+    → count x (all_consumed (record_after (turn_of_result (transition net c now s bag)))) ≡ item_count (x.port, x.value) bag
 unfolding transition
 transition_consumes net x c s bag now p q l = within_consumes net x c s (now.due == s) bag (turned (model_of net c now.state) (turn (now.due == s) bag) now.state (tick_of s - tick_of now.last) bag) _ p q l
 
-turn_consumes : {S : Type 0} (net : Network S) (x : Message) (c s : ℕ) (b : Bool) (bag : Bag) (now : Moment S) → x.to ≡ c → x.stamp ≡ s → NoLimit (take_turn net c now s b bag) → count x (all_consumed (record_after (take_turn net c now s b bag))) ≡ item_count (x.port, x.value) bag
+turn_consumes : {S : Type 0} (net : Network S) (x : Message) (c s : ℕ) (b : Bool) (bag : Bag) (now : Moment S) → x.to ≡ c → x.stamp ≡ s
+    → NoLimit (take_turn net c now s b bag) → count x (all_consumed (record_after (take_turn net c now s b bag))) ≡ item_count (x.port, x.value) bag
 unfolding record_after
 turn_consumes net x c s true bag now p q l = transition_consumes net x c s bag now p q l
 turn_consumes net x c s false [] now p q l = refl
 turn_consumes net x c s false (i ∷ is) now p q l = transition_consumes net x c s (i ∷ is) now p q l
 
 -- at phase 1 a component that is there consumes its bag
-act_consumes : {S : Type 0} (net : Network S) (x : Message) (c s : ℕ) (bag : Bag) (o : Option (Moment S)) (now : Moment S) → o ≡ Some now → phase_of s ≡ 1 → x.to ≡ c → x.stamp ≡ s → NoLimit (act_if net c s bag o) → count x (all_consumed (record_after (act_if net c s bag o))) ≡ item_count (x.port, x.value) bag
+act_consumes : {S : Type 0} (net : Network S) (x : Message) (c s : ℕ) (bag : Bag) (o : Option (Moment S)) (now : Moment S) → o ≡ Some now
+    → phase_of s ≡ 1 → x.to ≡ c → x.stamp ≡ s → NoLimit (act_if net c s bag o)
+    → count x (all_consumed (record_after (act_if net c s bag o))) ≡ item_count (x.port, x.value) bag
 unfolding act_if act
 act_consumes net x c s bag None now e odd p q l = absurd (cc e)
 act_consumes net x c s bag (Some here) now e odd p q l =
@@ -55,7 +63,8 @@ place_stays net c s (suc j) e =
     let z : s + suc j ≡ suc (s + j) = omega arith in
     ap (λ n. (clock net n).place c) z ∙ ap (λ o. place_after o (clock_step net c (s + j))) ih
 
-place_there : {S : Type 0} (net : Network S) (c s j : ℕ) (from : Moment S) → (clock net (s + j)).place c ≡ Some from → (now : Moment S) × ((clock net s).place c ≡ Some now)
+place_there : {S : Type 0} (net : Network S) (c s j : ℕ) (from : Moment S) → (clock net (s + j)).place c ≡ Some from
+    → (now : Moment S) × ((clock net s).place c ≡ Some now)
 place_there {S} net c s j from e = by ((clock net s).place c) refl
   where
     by : (o : Option (Moment S)) → (clock net s).place c ≡ o → (now : Moment S) × ((clock net s).place c ≡ Some now)
@@ -66,7 +75,9 @@ place_there {S} net c s j from e = by ((clock net s).place c) refl
     by (Some now) q = (now, q)
 
 -- a column that has passed a stamp consumed all that was sent of it
-pub column_consumes : {S : Type 0} (net : Network S) (x : Message) (c s j : ℕ) (from : Moment S) → (clock net (s + suc j)).place c ≡ Some from → phase_of s ≡ 1 → x.to ≡ c → x.stamp ≡ s → NoLimit (clock_step net c s) → count x (all_consumed ((clock net (s + suc j)).records c)) ≡ count x (sent_in_all net (clock net s).records)
+pub column_consumes : {S : Type 0} (net : Network S) (x : Message) (c s j : ℕ) (from : Moment S) → (clock net (s + suc j)).place c ≡ Some from
+    → phase_of s ≡ 1 → x.to ≡ c → x.stamp ≡ s → NoLimit (clock_step net c s)
+    → count x (all_consumed ((clock net (s + suc j)).records c)) ≡ count x (sent_in_all net (clock net s).records)
 unfolding clock
 column_consumes net x c s j from place odd p q calm =
     let there = place_there net c s (suc j) from place in

@@ -65,7 +65,8 @@ sent_from net x s (r ∷ rs) h a =
     count-append x (sent_in net r) (all_sent net rs) ∙ omega (arith, e, ih)
 
 -- steps whose messages are of an earlier stamp send nothing of this one
-pub sent_early : {S : Type 0} (net : Network S) (x : Message) (s : ℕ) (rs : List Record) → s < x.stamp → AllBefore s rs → count x (all_sent net rs) ≡ 0
+pub sent_early : {S : Type 0} (net : Network S) (x : Message) (s : ℕ) (rs : List Record) → s < x.stamp → AllBefore s rs
+    → count x (all_sent net rs) ≡ 0
 sent_early net x s [] h a = refl
 sent_early net x s (r ∷ rs) h a =
     let ih = sent_early net x s rs h a.1 in

@@ -21,31 +21,37 @@ use Rattle.tw_laws.proofs.History.Committed.{Extent, extent, kept, ready, local_
 -- ---- one component at g
 
 -- a step at g of phase 1 is the transition
-at_odd : {S : Type 0} (net : Network S) (c g : ℕ) (now : Moment S) (pending : List Message) → phase_of g ≡ 1 → g < never → step_at net c now pending g ≡ if_moved (transition_made now pending g) (transition net c now g (items_of (front g pending)))
+at_odd : {S : Type 0} (net : Network S) (c g : ℕ) (now : Moment S) (pending : List Message) → phase_of g ≡ 1 → g < never
+    → step_at net c now pending g ≡ if_moved (transition_made now pending g) (transition net c now g (items_of (front g pending)))
 unfolding step_at
 at_odd net c g now pending p n = cond-false (nat_le never g) _ _ (lt-leb never g n) ∙ cond-false (phase_of g == 0) _ _ (ne_eqb (phase_of g) 0 (λ e. omega (arith, e, p)))
 
 -- so is the clock's
-act_odd : {S : Type 0} (net : Network S) (c g : ℕ) (now : Moment S) (pending : List Message) → phase_of g ≡ 1 → g < never → g ≡ next_of now pending → act net c g (items_of (front g pending)) now ≡ turn_of_result (transition net c now g (items_of (front g pending)))
+act_odd : {S : Type 0} (net : Network S) (c g : ℕ) (now : Moment S) (pending : List Message) → phase_of g ≡ 1 → g < never → g ≡ next_of now pending
+    → act net c g (items_of (front g pending)) now ≡ turn_of_result (transition net c now g (items_of (front g pending)))
 unfolding act
 act_odd net c g now pending p n next =
     let some : now.due == g ≡ false → items_of (front g pending) ≡ [] → ⊥ = λ d. front_some g pending (let k = eqb-false now.due g d in omega (arith, next, k)) n in
     cond-false (phase_of g == 0) _ _ (ne_eqb (phase_of g) 0 (λ e. omega (arith, e, p))) ∙ turn_is net c g (now.due == g) (items_of (front g pending)) now some
 
-err_stops : {S : Type 0} (now : Moment S) (pending : List Message) (g : ℕ) (r : Result (Move S) Limit) (limit : Limit) → if_moved (transition_made now pending g) r ≡ Err (OverLimit limit) → turn_of_result r ≡ Stops limit
+err_stops : {S : Type 0} (now : Moment S) (pending : List Message) (g : ℕ) (r : Result (Move S) Limit) (limit : Limit)
+    → if_moved (transition_made now pending g) r ≡ Err (OverLimit limit) → turn_of_result r ≡ Stops limit
 err_stops now pending g (Ok move) limit e = absurd (cc e)
 err_stops now pending g (Err l) limit e = let q : l ≡ limit = cc e in ap Stops q
 
-stops_err : {S : Type 0} (now : Moment S) (pending : List Message) (g : ℕ) (r : Result (Move S) Limit) (limit : Limit) → turn_of_result r ≡ Stops limit → if_moved (transition_made now pending g) r ≡ Err (OverLimit limit)
+stops_err : {S : Type 0} (now : Moment S) (pending : List Message) (g : ℕ) (r : Result (Move S) Limit) (limit : Limit)
+    → turn_of_result r ≡ Stops limit → if_moved (transition_made now pending g) r ≡ Err (OverLimit limit)
 stops_err now pending g (Ok move) limit e = absurd (cc e)
 stops_err now pending g (Err l) limit e = let q : l ≡ limit = cc e in ap (λ x. Err (OverLimit x)) q
 
-bag_front : {S : Type 0} (c : ℕ) (heard : List Message) (g : ℕ) (now : Moment S) (pending : List Message) → Ahead c heard g now pending → g < never → bag_of c g heard ≡ items_of (front g pending)
+bag_front : {S : Type 0} (c : ℕ) (heard : List Message) (g : ℕ) (now : Moment S) (pending : List Message) → Ahead c heard g now pending → g < never
+    → bag_of c g heard ≡ items_of (front g pending)
 bag_front c heard g now pending a n =
     a.same g (omega arith) ∙ ap (λ x. sorted_bag (items_of x)) (arrived_front c g pending a.are a.first n) ∙ front_sorted c g pending a.are
 
 -- where the next step is at g, no step was made at or after g
-none_left : {S : Type 0} (net : Network S) (c : ℕ) (heard : List Message) (g : ℕ) (steps : List (Step S)) (now : Moment S) (pending : List Message) (now' : Moment S) (pending' : List Message) → Ahead c heard g now pending → Leads net c now pending steps now' pending' → next_of now' pending' ≡ g → (now ≡ now') × (pending ≡ pending')
+none_left : {S : Type 0} (net : Network S) (c : ℕ) (heard : List Message) (g : ℕ) (steps : List (Step S)) (now : Moment S) (pending : List Message) (now' : Moment S) (pending' : List Message)
+    → Ahead c heard g now pending → Leads net c now pending steps now' pending' → next_of now' pending' ≡ g → (now ≡ now') × (pending ≡ pending')
 none_left net c heard g [] now pending now' pending' a leads e = leads
 none_left net c heard g (step ∷ steps) now pending now' pending' a leads e =
     let made = leads.0 in
@@ -56,7 +62,9 @@ none_left net c heard g (step ∷ steps) now pending now' pending' a leads e =
     absurd (omega (arith, later, d, f, e))
 
 -- a step that meets a limit stops the clock
-meets_stops : {S : Type 0} (net : Network S) (c : ℕ) (heard : List Message) (g : ℕ) (steps : List (Step S)) (now : Moment S) (pending : List Message) (now' : Moment S) (pending' : List Message) (limit : Limit) → Ahead c heard g now pending → Leads net c now pending steps now' pending' → phase_of g ≡ 1 → g < never → next_of now' pending' ≡ g → local_step net c now' pending' ≡ Err (OverLimit limit) → act net c g (bag_of c g heard) now ≡ Stops limit
+meets_stops : {S : Type 0} (net : Network S) (c : ℕ) (heard : List Message) (g : ℕ) (steps : List (Step S)) (now : Moment S) (pending : List Message) (now' : Moment S) (pending' : List Message) (limit : Limit)
+    → Ahead c heard g now pending → Leads net c now pending steps now' pending' → phase_of g ≡ 1 → g < never → next_of now' pending' ≡ g
+    → local_step net c now' pending' ≡ Err (OverLimit limit) → act net c g (bag_of c g heard) now ≡ Stops limit
 unfolding local_step
 meets_stops net c heard g steps now pending now' pending' limit a leads p n e meets =
     let same = none_left net c heard g steps now pending now' pending' a leads e in
@@ -71,7 +79,8 @@ record Stopped {S : Type 0} (net : Network S) (c g : ℕ) (now' : Moment S) (pen
   at : next_of now' pending' ≡ g
   meets : local_step net c now' pending' ≡ Err (OverLimit limit)
 
-next_here : {S : Type 0} (net : Network S) (c : ℕ) (heard : List Message) (g : ℕ) (now : Moment S) (pending : List Message) (limit : Limit) → Ahead c heard g now pending → g < never → act net c g (bag_of c g heard) now ≡ Stops limit → next_of now pending ≡ g
+next_here : {S : Type 0} (net : Network S) (c : ℕ) (heard : List Message) (g : ℕ) (now : Moment S) (pending : List Message) (limit : Limit)
+    → Ahead c heard g now pending → g < never → act net c g (bag_of c g heard) now ≡ Stops limit → next_of now pending ≡ g
 next_here {S} net c heard g now pending limit a n stops =
     let d = a.due in
     let f = a.first in
@@ -85,7 +94,9 @@ next_here {S} net c heard g now pending limit a n stops =
         let still = ap (λ b. act net c g b now) (bag_idle c heard g now pending a (omega (arith, l)) n) ∙ act_idle net c g now (λ e. omega (arith, l, e)) in
         no_stay (sym still ∙ stops)
 
-stops_meets : {S : Type 0} (net : Network S) (c : ℕ) (heard : List Message) (g : ℕ) (steps : List (Step S)) (now : Moment S) (pending : List Message) (now' : Moment S) (pending' : List Message) (limit : Limit) → Ahead c heard g now pending → Leads net c now pending steps now' pending' → phase_of g ≡ 1 → g < never → act net c g (bag_of c g heard) now ≡ Stops limit → Stopped net c g now' pending' limit
+stops_meets : {S : Type 0} (net : Network S) (c : ℕ) (heard : List Message) (g : ℕ) (steps : List (Step S)) (now : Moment S) (pending : List Message) (now' : Moment S) (pending' : List Message) (limit : Limit)
+    → Ahead c heard g now pending → Leads net c now pending steps now' pending' → phase_of g ≡ 1 → g < never
+    → act net c g (bag_of c g heard) now ≡ Stops limit → Stopped net c g now' pending' limit
 unfolding local_step
 stops_meets net c heard g [] now pending now' pending' limit a leads p n stops =
     let next = next_here net c heard g now pending limit a n stops in
@@ -114,7 +125,11 @@ record AtG {S : Type 0} (net : Network S) (g : ℕ) (heard : List Message) (c : 
   rest : RunRest net c heard g steps now' pending'
   step : clock_step net c g ≡ act net c g (bag_of c g heard) (before_all (drop (steps_before g steps) steps) now')
 
-at_g : {S : Type 0} (net : Network S) (until g e : ℕ) (h : Held S) → (m : until ≤ max_tick) → (settled : IsSettled net until g h) → (x : Extent net until e) → Follows net g (kept h) → ((y : Message) → y.to < length net.models → y.stamp ≡ g → sent_count net h y + count y (h.waiting y.to) ≡ count y (all_consumed (h.column y.to)) + count y (h.inputs y.to)) → ((y : Message) → y.to < length net.models → y.stamp ≡ g → (count y (h.waiting y.to) ≡ 0) ⊎ (count y (h.inputs y.to) ≡ 0)) → (c : ℕ) → (p : c < length net.models) → AtG net g (h.inputs c) c (h.history c) (settled.stands c p).now (settled.stands c p).pending
+at_g : {S : Type 0} (net : Network S) (until g e : ℕ) (h : Held S) → (m : until ≤ max_tick) → (settled : IsSettled net until g h)
+    → (x : Extent net until e) → Follows net g (kept h)
+    → ((y : Message) → y.to < length net.models → y.stamp ≡ g → sent_count net h y + count y (h.waiting y.to) ≡ count y (all_consumed (h.column y.to)) + count y (h.inputs y.to))
+    → ((y : Message) → y.to < length net.models → y.stamp ≡ g → (count y (h.waiting y.to) ≡ 0) ⊎ (count y (h.inputs y.to) ≡ 0)) → (c : ℕ)
+    → (p : c < length net.models) → AtG net g (h.inputs c) c (h.history c) (settled.stands c p).now (settled.stands c p).pending
 unfolding act_if
 at_g {S} net until g e h m settled x follows balance apart c p = record { rest = rest; step = step }
   where
@@ -140,7 +155,8 @@ at_g {S} net until g e h m settled x follows balance apart c p = record { rest =
     sent : (d : ℕ) → d < length net.models → sent_by (h.history d) ≡ all_sent net (records_of (h.history d))
     sent d q = (facts_at net until g e h settled m x d 0 q (omega arith) (omega arith)).sent
 
-    balance_at : (y : Message) → y.to < length net.models → y.stamp ≡ g → count y (sent_in_all net (made (kept h))) + count y (h.waiting y.to) ≡ count y (all_consumed (h.column y.to)) + count y (h.inputs y.to)
+    balance_at : (y : Message) → y.to < length net.models → y.stamp ≡ g
+        → count y (sent_in_all net (made (kept h))) + count y (h.waiting y.to) ≡ count y (all_consumed (h.column y.to)) + count y (h.inputs y.to)
     balance_at y q l =
         let a = count-append y net.inputs (sent_below net (made (kept h)) (length net.models)) in
         let b = made_count net h y sent (length net.models) (omega arith) in
@@ -153,7 +169,8 @@ at_g {S} net until g e h m settled x follows balance apart c p = record { rest =
     step : clock_step net c g ≡ act net c g (bag_of c g (h.inputs c)) (before_all (drop (steps_before g (h.history c)) (h.history c)) (settled.stands c p).now)
     step = ap (λ b. act_if net c g b ((clock net g).place c)) bag ∙ ap (act_if net c g (bag_of c g (h.inputs c))) place
 
-pub fault_law : {S : Type 0} (net : Network S) (until g : ℕ) (h : Held S) → until ≤ max_tick → (settled : IsSettled net until g h) → (c : ℕ) (limit : Limit) → IsFaulting net until g h settled c limit → (sequential net until).fault ≡ Some (c, g, limit)
+pub fault_law : {S : Type 0} (net : Network S) (until g : ℕ) (h : Held S) → until ≤ max_tick → (settled : IsSettled net until g h)
+    → (c : ℕ) (limit : Limit) → IsFaulting net until g h settled c limit → (sequential net until).fault ≡ Some (c, g, limit)
 unfolding NoLimit
 fault_law {S} net until g h m settled c limit is =
     let x = extent net until settled.given m in
@@ -203,7 +220,8 @@ fault_law {S} net until g h m settled c limit is =
                 let at = stops_meets net b (h.inputs b) g _ _ a.rest.pending stand.now stand.pending other a.rest.ahead a.rest.leads is.odd top (sym a.step ∙ its) in
                 is.least b p other l (record { at = at.at; meets = at.meets })
 
-            equal : (b : ℕ) (other : Limit) → e ≡ g → (sequential net until).fault ≡ Some (b, e, other) → clock_step net b g ≡ Stops other → b ≡ c → (sequential net until).fault ≡ Some (c, g, limit)
+            equal : (b : ℕ) (other : Limit) → e ≡ g → (sequential net until).fault ≡ Some (b, e, other) → clock_step net b g ≡ Stops other → b ≡ c
+                → (sequential net until).fault ≡ Some (c, g, limit)
             equal b other same fault its q =
                 let both : ◌≡◌ {A = RoundTurn S} (Stops other) (Stops limit) = sym its ∙ ap (λ d. clock_step net d g) q ∙ stops in
                 let limits : other ≡ limit = cc both in

@@ -35,7 +35,8 @@ MadeAt c s Stays = Unit {0}
 MadeAt c s (Moves move) = (move.entry.component ≡ c) × (move.entry.stamp ≡ s)
 MadeAt c s (Stops limit) = Unit {0}
 
-within_at : {S : Type 0} (net : Network S) (c s : ℕ) (kind : RecordKind) (bag : Bag) (state : S) (a : Result (Option ℕ) Limit) → MadeAt c s (turn_of_result (if_within (moved net c s kind bag state) a))
+within_at : {S : Type 0} (net : Network S) (c s : ℕ) (kind : RecordKind) (bag : Bag) (state : S) (a : Result (Option ℕ) Limit)
+    → MadeAt c s (turn_of_result (if_within (moved net c s kind bag state) a))
 unfolding moved
 within_at net c s kind bag state (Ok due) = (refl, refl)
 within_at net c s kind bag state (Err limit) = tt
@@ -111,7 +112,8 @@ clock_before net c (suc s) =
     (before_weaken s (suc s) ((clock net s).records c) (omega arith) (clock_before net c s))
     (before_made c s (clock_step net c s) (act_if_at net c s _ _))
 
-pub alone_goes_on : {S : Type 0} (net : Network S) (c : ℕ) (heard : List Message) (p : Option (Moment S)) (line k j : ℕ) → GoesOn (line + k) (alone net c heard p line k).records (alone net c heard p line (k + j)).records
+pub alone_goes_on : {S : Type 0} (net : Network S) (c : ℕ) (heard : List Message) (p : Option (Moment S)) (line k j : ℕ)
+    → GoesOn (line + k) (alone net c heard p line k).records (alone net c heard p line (k + j)).records
 unfolding alone
 alone_goes_on net c heard p line k zero =
     let e : k ≡ k + zero = omega arith in

@@ -1,4 +1,4 @@
--- A history that Local run's steps make is the local run by the clock.
+-- The steps that one component makes by itself are its run by the clock.
 use Rattle.std.proofs.Common.{◌≡◌, ℕ, zero, suc, ◌+◌, ◌-◌, ◌<◌, ◌≤◌, ◌⊎◌, ◌&&◌, ◌||◌, ◌==◌, nat_lt, nat_le, true, false, List, [], ◌∷◌, ◌++◌, take, drop, refl, sym, ap, ◌∙◌, subst, inl, inr, ⊎_elim, arith, Bool, eq-eqb, eqb-true, lt-ltb, le-ltb, ne_eqb, ltb-true, le-leb, int_lt, int_eq, if◌then◌else◌, Option, Some, None, Result, Ok, Err, append_assoc, append-nil, cond}
 use Rattle.std.proofs.lemmas.Bool.{eqb-false, and_from, and_right, and_parts, or_cases, cases_Bool, cases_lt, cases_eq, cond-true, cond-false, cond_both, lt-leb}
 use Rattle.std.proofs.lemmas.Bool.Decides.{Decides-int_eq}
@@ -107,7 +107,8 @@ arrived_front c s (m ∷ ms) a l n =
 abbrev Inserted : Message → List Message → Type 0
 Inserted m l = insert_item (m.port, m.value) (items_of l) ≡ (m.port, m.value) ∷ items_of l
 
-front_insert : (c s : ℕ) (m : Message) (ms : List Message) → IsBeforeFirst m ms → m.stamp ≡ s → insert_item (m.port, m.value) (items_of (front s ms)) ≡ (m.port, m.value) ∷ items_of (front s ms)
+front_insert : (c s : ℕ) (m : Message) (ms : List Message) → IsBeforeFirst m ms → m.stamp ≡ s
+    → insert_item (m.port, m.value) (items_of (front s ms)) ≡ (m.port, m.value) ∷ items_of (front s ms)
 front_insert c s m [] b e = refl
 front_insert c s m (n ∷ ns) b e = ⊎_elim here (λ h. subst (Inserted m) (sym (front_skip s n ns h)) refl) (cases_eq n.stamp s)
   where
@@ -168,7 +169,8 @@ pub record Ahead {S : Type 0} (c : ℕ) (heard : List Message) (s : ℕ) (now : 
   pub are : AreInputs c pending
   pub same : (r : ℕ) → s ≤ r → bag_of c r heard ≡ bag_of c r pending
 
-pub bag_idle : {S : Type 0} (c : ℕ) (heard : List Message) (s : ℕ) (now : Moment S) (pending : List Message) → Ahead c heard s now pending → s < first_stamp pending → s < never → bag_of c s heard ≡ []
+pub bag_idle : {S : Type 0} (c : ℕ) (heard : List Message) (s : ℕ) (now : Moment S) (pending : List Message) → Ahead c heard s now pending
+    → s < first_stamp pending → s < never → bag_of c s heard ≡ []
 bag_idle c heard s now pending a l n = a.same s (omega arith) ∙ ap (λ x. sorted_bag (items_of x)) (arrived_none c s pending a.are l n)
 
 -- the local run by the clock has come to this place
@@ -177,11 +179,15 @@ pub record Come {S : Type 0} (net : Network S) (c : ℕ) (heard : List Message) 
   pub records : (alone net c heard p line i).records ≡ made
   pub quiet : (j : ℕ) → j < i → NoLimit (alone_step net c heard (line + j) (alone net c heard p line j))
 
-quiet_more : {S : Type 0} (net : Network S) (c : ℕ) (heard : List Message) (p : Option (Moment S)) (line i : ℕ) → ((j : ℕ) → j < i → NoLimit (alone_step net c heard (line + j) (alone net c heard p line j))) → NoLimit (alone_step net c heard (line + i) (alone net c heard p line i)) → (j : ℕ) → j < suc i → NoLimit (alone_step net c heard (line + j) (alone net c heard p line j))
+quiet_more : {S : Type 0} (net : Network S) (c : ℕ) (heard : List Message) (p : Option (Moment S)) (line i : ℕ)
+    → ((j : ℕ) → j < i → NoLimit (alone_step net c heard (line + j) (alone net c heard p line j)))
+    → NoLimit (alone_step net c heard (line + i) (alone net c heard p line i)) → (j : ℕ) → j < suc i
+    → NoLimit (alone_step net c heard (line + j) (alone net c heard p line j))
 quiet_more net c heard p line i q here j l =
     ⊎_elim (λ e. subst (λ n. NoLimit (alone_step net c heard (line + n) (alone net c heard p line n))) (sym e) here) (λ h. q j (omega (arith, h, l))) (cases_eq j i)
 
-come_stays : {S : Type 0} (net : Network S) (c : ℕ) (heard : List Message) (p : Option (Moment S)) (line i : ℕ) (now : Moment S) (made : List Record) → Come net c heard p line i now made → act net c (line + i) (bag_of c (line + i) heard) now ≡ Stays → Come net c heard p line (suc i) now made
+come_stays : {S : Type 0} (net : Network S) (c : ℕ) (heard : List Message) (p : Option (Moment S)) (line i : ℕ) (now : Moment S) (made : List Record)
+    → Come net c heard p line i now made → act net c (line + i) (bag_of c (line + i) heard) now ≡ Stays → Come net c heard p line (suc i) now made
 unfolding alone act_if place_after moment_after record_after NoLimit
 come_stays net c heard p line i now made come e =
     let step : alone_step net c heard (line + i) (alone net c heard p line i) ≡ Stays = ap (act_if net c (line + i) (bag_of c (line + i) heard)) come.place ∙ e in
@@ -191,7 +197,9 @@ come_stays net c heard p line i now made come e =
       quiet = quiet_more net c heard p line i come.quiet (subst NoLimit (sym step) tt);
     }
 
-come_moves : {S : Type 0} (net : Network S) (c : ℕ) (heard : List Message) (p : Option (Moment S)) (line i : ℕ) (now : Moment S) (made : List Record) (move : Move S) → Come net c heard p line i now made → act net c (line + i) (bag_of c (line + i) heard) now ≡ Moves move → Come net c heard p line (suc i) move.after (made ++ move.entry ∷ [])
+come_moves : {S : Type 0} (net : Network S) (c : ℕ) (heard : List Message) (p : Option (Moment S)) (line i : ℕ) (now : Moment S) (made : List Record) (move : Move S)
+    → Come net c heard p line i now made → act net c (line + i) (bag_of c (line + i) heard) now ≡ Moves move
+    → Come net c heard p line (suc i) move.after (made ++ move.entry ∷ [])
 unfolding alone act_if place_after moment_after record_after NoLimit
 come_moves net c heard p line i now made move come e =
     let step : alone_step net c heard (line + i) (alone net c heard p line i) ≡ Moves move = ap (act_if net c (line + i) (bag_of c (line + i) heard)) come.place ∙ e in
@@ -201,11 +209,14 @@ come_moves net c heard p line i now made move come e =
       quiet = quiet_more net c heard p line i come.quiet (subst NoLimit (sym step) tt);
     }
 
-pub ahead_more : {S : Type 0} (c : ℕ) (heard : List Message) (s t : ℕ) (now : Moment S) (pending : List Message) → Ahead c heard s now pending → s ≤ t → t ≤ next_of now pending → Ahead c heard t now pending
+pub ahead_more : {S : Type 0} (c : ℕ) (heard : List Message) (s t : ℕ) (now : Moment S) (pending : List Message) → Ahead c heard s now pending → s ≤ t
+    → t ≤ next_of now pending → Ahead c heard t now pending
 ahead_more c heard s t now pending a l m = record { due = omega (arith, m); first = omega (arith, m); are = a.are; same = λ r h. a.same r (omega (arith, l, h)) }
 
 -- up to the next step
-come_idle : {S : Type 0} (net : Network S) (c : ℕ) (heard : List Message) (p : Option (Moment S)) (line i : ℕ) (now : Moment S) (pending : List Message) (made : List Record) → Come net c heard p line i now made → Ahead c heard (line + i) now pending → (j : ℕ) → line + (i + j) ≤ next_of now pending → line + (i + j) ≤ never → Come net c heard p line (i + j) now made
+come_idle : {S : Type 0} (net : Network S) (c : ℕ) (heard : List Message) (p : Option (Moment S)) (line i : ℕ) (now : Moment S) (pending : List Message) (made : List Record)
+    → Come net c heard p line i now made → Ahead c heard (line + i) now pending → (j : ℕ) → line + (i + j) ≤ next_of now pending
+    → line + (i + j) ≤ never → Come net c heard p line (i + j) now made
 come_idle net c heard p line i now pending made come ahead zero l n = let e : i ≡ i + zero = omega arith in subst (λ k. Come net c heard p line k now made) e come
 come_idle net c heard p line i now pending made come ahead (suc j) l n =
     let before = come_idle net c heard p line i now pending made come ahead j (omega (arith, l)) (omega (arith, n)) in
@@ -242,16 +253,19 @@ pub record IsTransition {S : Type 0} (net : Network S) (s : ℕ) (move : Move S)
   pub even : phase_of s ≡ 1 → (phase_of move.after.due ≡ 0) ⊎ (move.after.due ≡ never)
   pub sent : sent_in net move.entry ≡ []
 
-advance_even : (s : ℕ) (ta : Option ℕ) (limit : ℕ) (due : Option ℕ) → advanced s ta limit ≡ Ok due → (phase_of (due_of due) ≡ 0) ⊎ (due_of due ≡ never)
+advance_even : (s : ℕ) (ta : Option ℕ) (limit : ℕ) (due : Option ℕ) → advanced s ta limit ≡ Ok due
+    → (phase_of (due_of due) ≡ 0) ⊎ (due_of due ≡ never)
 advance_even s ta limit due e = advanced_is (λ d. (phase_of d ≡ 0) ⊎ (d ≡ never)) s ta limit due (inr refl) (inl (omega arith)) (λ d z. inl (omega arith)) e
 
-moved_sent : {S : Type 0} (net : Network S) (c s : ℕ) (b : Bool) (bag : Bag) (state : S) (due : ℕ) → sent_in net (moved net c s (kind_of (turn b bag)) bag state due).entry ≡ []
+moved_sent : {S : Type 0} (net : Network S) (c s : ℕ) (b : Bool) (bag : Bag) (state : S) (due : ℕ)
+    → sent_in net (moved net c s (kind_of (turn b bag)) bag state due).entry ≡ []
 unfolding moved
 moved_sent net c s true [] state due = refl
 moved_sent net c s true (x ∷ xs) state due = refl
 moved_sent net c s false bag state due = refl
 
-within_is : {S : Type 0} (net : Network S) (c s : ℕ) (b : Bool) (bag : Bag) (state : S) (ta : Option ℕ) (a : Result (Option ℕ) Limit) (move : Move S) → s < never → advanced s ta net.micro_limit ≡ a → if_within (moved net c s (kind_of (turn b bag)) bag state) a ≡ Ok move → IsTransition net s move
+within_is : {S : Type 0} (net : Network S) (c s : ℕ) (b : Bool) (bag : Bag) (state : S) (ta : Option ℕ) (a : Result (Option ℕ) Limit) (move : Move S)
+    → s < never → advanced s ta net.micro_limit ≡ a → if_within (moved net c s (kind_of (turn b bag)) bag state) a ≡ Ok move → IsTransition net s move
 unfolding moved
 within_is net c s b bag state ta (Err limit) move n e f = absurd (cc f)
 within_is net c s b bag state ta (Ok d) move n e f =
@@ -261,14 +275,16 @@ within_is net c s b bag state ta (Ok d) move n e f =
     made : (d : ℕ) → s < d → (phase_of s ≡ 1 → (phase_of d ≡ 0) ⊎ (d ≡ never)) → IsTransition net s (moved net c s (kind_of (turn b bag)) bag state d)
     made d l o = record { stamp = refl; due = l; even = o; sent = moved_sent net c s b bag state d }
 
-pub transition_is : {S : Type 0} (net : Network S) (c s : ℕ) (bag : Bag) (now : Moment S) (move : Move S) → s < never → transition net c now s bag ≡ Ok move → IsTransition net s move
+pub transition_is : {S : Type 0} (net : Network S) (c s : ℕ) (bag : Bag) (now : Moment S) (move : Move S) → s < never
+    → transition net c now s bag ≡ Ok move → IsTransition net s move
 unfolding transition
 transition_is net c s bag now move n e =
     let model = model_of net c now.state in
     let state = turned model (turn (now.due == s) bag) now.state (tick_of s - tick_of now.last) bag in
     within_is net c s (now.due == s) bag state (model.ta state) (advanced s (model.ta state) net.micro_limit) move n refl e
 
-pub turn_is : {S : Type 0} (net : Network S) (c s : ℕ) (b : Bool) (bag : Bag) (now : Moment S) → (b ≡ false → bag ≡ [] → ⊥) → take_turn net c now s b bag ≡ turn_of_result (transition net c now s bag)
+pub turn_is : {S : Type 0} (net : Network S) (c s : ℕ) (b : Bool) (bag : Bag) (now : Moment S) → (b ≡ false → bag ≡ [] → ⊥)
+    → take_turn net c now s b bag ≡ turn_of_result (transition net c now s bag)
 turn_is net c s true bag now h = refl
 turn_is net c s false [] now h = absurd (h refl refl)
 turn_is net c s false (x ∷ xs) now h = refl
@@ -285,7 +301,8 @@ pub record Stepped {S : Type 0} (net : Network S) (c : ℕ) (heard : List Messag
   pub ahead : Ahead c heard (suc s) made.after made.left
 
 -- which step it makes is told by its stamp
-step_before_never : {S : Type 0} (net : Network S) (c s : ℕ) (now : Moment S) (pending : List Message) (made : Made S) → step_at net c now pending s ≡ Ok made → s < never
+step_before_never : {S : Type 0} (net : Network S) (c s : ℕ) (now : Moment S) (pending : List Message) (made : Made S)
+    → step_at net c now pending s ≡ Ok made → s < never
 unfolding step_at
 step_before_never net c s now pending made e = ⊎_elim (λ l. l) (λ l. absurd (stuck (sym (cond-true (nat_le never s) _ _ (le-leb never s l)) ∙ e))) (cases_lt s never)
   where
@@ -296,7 +313,9 @@ pub front_some : (s : ℕ) (ms : List Message) → s ≡ first_stamp ms → s < 
 front_some s [] e n h = omega (arith, e, n)
 front_some s (m ∷ ms) e n h = cc (ap items_of (sym (front_take s m ms (sym e))) ∙ h)
 
-output_stepped : {S : Type 0} (net : Network S) (c : ℕ) (heard : List Message) (s : ℕ) (now : Moment S) (pending : List Message) (made : Made S) → Ahead c heard s now pending → s ≡ next_of now pending → s < never → phase_of s == 0 ≡ true → ◌≡◌ {A = Result (Made S) NoStep} (Ok (output_made net c now pending s (output net c now s))) (Ok made) → Stepped net c heard s now pending made
+output_stepped : {S : Type 0} (net : Network S) (c : ℕ) (heard : List Message) (s : ℕ) (now : Moment S) (pending : List Message) (made : Made S)
+    → Ahead c heard s now pending → s ≡ next_of now pending → s < never → phase_of s == 0 ≡ true
+    → ◌≡◌ {A = Result (Made S) NoStep} (Ok (output_made net c now pending s (output net c now s))) (Ok made) → Stepped net c heard s now pending made
 unfolding output act
 output_stepped net c heard s now pending made ahead next n p e =
     let is : output_made net c now pending s (output net c now s) ≡ made = cc e in
@@ -316,7 +335,10 @@ output_stepped net c heard s now pending made ahead next n p e =
       ahead = record { due = omega arith; first = over; are = ahead.are; same = λ r h. ahead.same r (omega (arith, h)) };
     })
 
-transition_stepped : {S : Type 0} (net : Network S) (c : ℕ) (heard : List Message) (s : ℕ) (now : Moment S) (pending : List Message) (made : Made S) → Ahead c heard s now pending → s ≡ next_of now pending → s < never → phase_of s == 0 ≡ false → (result : Result (Move S) Limit) → transition net c now s (items_of (front s pending)) ≡ result → if_moved (transition_made now pending s) result ≡ Ok made → Stepped net c heard s now pending made
+transition_stepped : {S : Type 0} (net : Network S) (c : ℕ) (heard : List Message) (s : ℕ) (now : Moment S) (pending : List Message) (made : Made S)
+    → Ahead c heard s now pending → s ≡ next_of now pending → s < never → phase_of s == 0 ≡ false → (result : Result (Move S) Limit)
+    → transition net c now s (items_of (front s pending)) ≡ result → if_moved (transition_made now pending s) result ≡ Ok made
+    → Stepped net c heard s now pending made
 unfolding act
 transition_stepped net c heard s now pending made ahead next n p (Err limit) t e = absurd (cc e)
 transition_stepped net c heard s now pending made ahead next n p (Ok move) t e =
@@ -342,7 +364,9 @@ transition_stepped net c heard s now pending made ahead next n p (Ok move) t e =
     })
 
 -- the step at the next stamp
-step_made : {S : Type 0} (net : Network S) (c : ℕ) (heard : List Message) (s : ℕ) (now : Moment S) (pending : List Message) (made : Made S) → Ahead c heard s now pending → s ≡ next_of now pending → s < never → step_at net c now pending s ≡ Ok made → Stepped net c heard s now pending made
+step_made : {S : Type 0} (net : Network S) (c : ℕ) (heard : List Message) (s : ℕ) (now : Moment S) (pending : List Message) (made : Made S)
+    → Ahead c heard s now pending → s ≡ next_of now pending → s < never → step_at net c now pending s ≡ Ok made
+    → Stepped net c heard s now pending made
 unfolding step_at
 step_made net c heard s now pending made ahead next n e = ⊎_elim outputs transits (cases_Bool (phase_of s == 0))
   where
@@ -357,7 +381,9 @@ step_made net c heard s now pending made ahead next n e = ⊎_elim outputs trans
 
 -- ---- a run of steps
 
-pub step_taken : {S : Type 0} (net : Network S) (c : ℕ) (heard : List Message) (s : ℕ) (now : Moment S) (pending : List Message) (made : Made S) → Ahead c heard s now pending → local_step net c now pending ≡ Ok made → Stepped net c heard (next_of now pending) now pending made × (next_of now pending < never)
+pub step_taken : {S : Type 0} (net : Network S) (c : ℕ) (heard : List Message) (s : ℕ) (now : Moment S) (pending : List Message) (made : Made S)
+    → Ahead c heard s now pending → local_step net c now pending ≡ Ok made
+    → Stepped net c heard (next_of now pending) now pending made × (next_of now pending < never)
 unfolding local_step
 step_taken net c heard s now pending made ahead e =
     let next : s ≤ next_of now pending = let d = ahead.due in let f = ahead.first in omega (arith, d, f) in
@@ -369,7 +395,8 @@ records_split zero steps = refl
 records_split (suc n) [] = refl
 records_split (suc n) (x ∷ xs) = ap (λ l. x.entry ∷ l) (records_split n xs)
 
-steps_before_more : {S : Type 0} (g : ℕ) (step : Step S) (steps : List (Step S)) → step.entry.stamp < g → steps_before g (step ∷ steps) ≡ suc (steps_before g steps)
+steps_before_more : {S : Type 0} (g : ℕ) (step : Step S) (steps : List (Step S)) → step.entry.stamp < g
+    → steps_before g (step ∷ steps) ≡ suc (steps_before g steps)
 steps_before_more g step steps l = cond-true (nat_lt step.entry.stamp g) _ _ (lt-ltb step.entry.stamp g l)
 
 steps_before_none : {S : Type 0} (g : ℕ) (step : Step S) (steps : List (Step S)) → g ≤ step.entry.stamp → steps_before g (step ∷ steps) ≡ 0
@@ -385,7 +412,8 @@ pub record RunFacts {S : Type 0} (net : Network S) (s g : ℕ) (steps : List (St
   pub from : AllFrom s (records_of steps)
   pub later : AllFrom g (records_of (drop (steps_before g steps) steps))
 
-pub leads_facts : {S : Type 0} (net : Network S) (c : ℕ) (heard : List Message) (g : ℕ) (steps : List (Step S)) (s : ℕ) (now : Moment S) (pending : List Message) (now' : Moment S) (pending' : List Message) → Ahead c heard s now pending → Leads net c now pending steps now' pending' → RunFacts net s g steps
+pub leads_facts : {S : Type 0} (net : Network S) (c : ℕ) (heard : List Message) (g : ℕ) (steps : List (Step S)) (s : ℕ) (now : Moment S) (pending : List Message) (now' : Moment S) (pending' : List Message)
+    → Ahead c heard s now pending → Leads net c now pending steps now' pending' → RunFacts net s g steps
 leads_facts net c heard g [] s now pending now' pending' ahead leads = record { sent = refl; from = tt; later = tt }
 leads_facts {S} net c heard g (step ∷ steps) s now pending now' pending' ahead leads =
     let made = leads.0 in
@@ -394,7 +422,8 @@ leads_facts {S} net c heard g (step ∷ steps) s now pending now' pending' ahead
     let facts = leads_facts net c heard g steps (suc (next_of now pending)) made.after made.left now' pending' one.ahead leads.3 in
     step_facts made step leads.2 (next_of now pending) one (let d = ahead.due in let f = ahead.first in omega (arith, d, f)) facts
   where
-    step_facts : (made : Made S) (step : Step S) → made.step ≡ step → (t : ℕ) → Stepped net c heard t now pending made → s ≤ t → RunFacts net (suc t) g steps → RunFacts net s g (step ∷ steps)
+    step_facts : (made : Made S) (step : Step S) → made.step ≡ step → (t : ℕ) → Stepped net c heard t now pending made → s ≤ t
+        → RunFacts net (suc t) g steps → RunFacts net s g (step ∷ steps)
     step_facts made step e t one l facts =
         let at : step.entry.stamp ≡ t = sym (ap (λ x. x.entry.stamp) e) ∙ one.stamp in
         let sent : step.sent ≡ sent_in net step.entry = sym (ap (λ x. x.sent) e) ∙ one.sent ∙ ap (λ x. sent_in net x.entry) e in
@@ -413,25 +442,33 @@ leads_facts {S} net c heard g (step ∷ steps) s now pending now' pending' ahead
 pub record RunEnds {S : Type 0} (net : Network S) (c : ℕ) (heard : List Message) (p : Option (Moment S)) (line k g : ℕ) (steps : List (Step S)) (made : List Record) (now' : Moment S) : Type 0 where
   pub come : Come net c heard p line k (before_all (drop (steps_before g steps) steps) now') (made ++ records_of (take (steps_before g steps) steps))
 
-pub acts_at : {S : Type 0} (net : Network S) (c : ℕ) (heard : List Message) (s : ℕ) (now : Moment S) (pending : List Message) (made : Made S) (t u : ℕ) → Ahead c heard s now pending → (one : Stepped net c heard u now pending made) → t ≡ u → s ≤ u → u < never → u ≤ first_stamp pending → act net c t (bag_of c t heard) now ≡ Moves one.move
+pub acts_at : {S : Type 0} (net : Network S) (c : ℕ) (heard : List Message) (s : ℕ) (now : Moment S) (pending : List Message) (made : Made S) (t u : ℕ)
+    → Ahead c heard s now pending → (one : Stepped net c heard u now pending made) → t ≡ u → s ≤ u → u < never → u ≤ first_stamp pending
+    → act net c t (bag_of c t heard) now ≡ Moves one.move
 acts_at net c heard s now pending made t u ahead one e l n f =
     let bag : bag_of c u heard ≡ items_of (front u pending) =
     ahead.same u l ∙ ap (λ x. sorted_bag (items_of x)) (arrived_front c u pending ahead.are f n) ∙ front_sorted c u pending ahead.are in
     ap (λ n. act net c n (bag_of c n heard) now) e ∙ ap (λ b. act net c u b now) bag ∙ one.acts
 
-went : {S : Type 0} (net : Network S) (c : ℕ) (heard : List Message) (p : Option (Moment S)) (line k g : ℕ) (step : Step S) (steps : List (Step S)) (made : List Record) (now' : Moment S) → step.entry.stamp < g → RunEnds net c heard p line k g steps (made ++ step.entry ∷ []) now' → RunEnds net c heard p line k g (step ∷ steps) made now'
+went : {S : Type 0} (net : Network S) (c : ℕ) (heard : List Message) (p : Option (Moment S)) (line k g : ℕ) (step : Step S) (steps : List (Step S)) (made : List Record) (now' : Moment S)
+    → step.entry.stamp < g → RunEnds net c heard p line k g steps (made ++ step.entry ∷ []) now'
+    → RunEnds net c heard p line k g (step ∷ steps) made now'
 went net c heard p line k g step steps made now' h ends =
     let n = steps_before_more g step steps h in
     let come = subst (λ l. Come net c heard p line k (before_all (drop (steps_before g steps) steps) now') l) (append_assoc made (step.entry ∷ []) (records_of (take (steps_before g steps) steps))) ends.come in
     record { come = subst (λ m. Come net c heard p line k (before_all (drop m (step ∷ steps)) now') (made ++ records_of (take m (step ∷ steps)))) (sym n) come }
 
-stayed : {S : Type 0} (net : Network S) (c : ℕ) (heard : List Message) (p : Option (Moment S)) (line k g : ℕ) (step : Step S) (steps : List (Step S)) (made : List Record) (now now' : Moment S) → step.before ≡ now → g ≤ step.entry.stamp → Come net c heard p line k now made → RunEnds net c heard p line k g (step ∷ steps) made now'
+stayed : {S : Type 0} (net : Network S) (c : ℕ) (heard : List Message) (p : Option (Moment S)) (line k g : ℕ) (step : Step S) (steps : List (Step S)) (made : List Record) (now now' : Moment S)
+    → step.before ≡ now → g ≤ step.entry.stamp → Come net c heard p line k now made → RunEnds net c heard p line k g (step ∷ steps) made now'
 stayed net c heard p line k g step steps made now now' b h come =
     let n = steps_before_none g step steps h in
     let moved = subst (λ x. Come net c heard p line k x (made ++ [])) (sym b) (subst (λ l. Come net c heard p line k now l) (sym (append-nil made)) come) in
     record { come = subst (λ m. Come net c heard p line k (before_all (drop m (step ∷ steps)) now') (made ++ records_of (take m (step ∷ steps)))) (sym n) moved }
 
-pub leads_ends : {S : Type 0} (net : Network S) (c : ℕ) (heard : List Message) (p : Option (Moment S)) (line k g : ℕ) → line + k ≡ g → g ≤ never → (steps : List (Step S)) (i : ℕ) (now : Moment S) (pending : List Message) (made : List Record) (now' : Moment S) (pending' : List Message) → line + i ≤ g → Come net c heard p line i now made → Ahead c heard (line + i) now pending → Leads net c now pending steps now' pending' → g ≤ next_of now' pending' → RunEnds net c heard p line k g steps made now'
+pub leads_ends : {S : Type 0} (net : Network S) (c : ℕ) (heard : List Message) (p : Option (Moment S)) (line k g : ℕ) → line + k ≡ g → g ≤ never
+    → (steps : List (Step S)) (i : ℕ) (now : Moment S) (pending : List Message) (made : List Record) (now' : Moment S) (pending' : List Message)
+    → line + i ≤ g → Come net c heard p line i now made → Ahead c heard (line + i) now pending → Leads net c now pending steps now' pending'
+    → g ≤ next_of now' pending' → RunEnds net c heard p line k g steps made now'
 leads_ends net c heard p line k g at top [] i now pending made now' pending' l come ahead leads next =
     let j : ℕ = k - i in
     let e : i + j ≡ k = omega (arith, l, at) in
@@ -474,7 +511,9 @@ pub record RunRest {S : Type 0} (net : Network S) (c : ℕ) (heard : List Messag
   pub ahead : Ahead c heard g (before_all (drop (steps_before g steps) steps) now') pending
   pub leads : Leads net c (before_all (drop (steps_before g steps) steps) now') pending (drop (steps_before g steps) steps) now' pending'
 
-pub leads_rest : {S : Type 0} (net : Network S) (c : ℕ) (heard : List Message) (g : ℕ) (steps : List (Step S)) (s : ℕ) (now : Moment S) (pending : List Message) (now' : Moment S) (pending' : List Message) → s ≤ g → Ahead c heard s now pending → Leads net c now pending steps now' pending' → g ≤ next_of now' pending' → RunRest net c heard g steps now' pending'
+pub leads_rest : {S : Type 0} (net : Network S) (c : ℕ) (heard : List Message) (g : ℕ) (steps : List (Step S)) (s : ℕ) (now : Moment S) (pending : List Message) (now' : Moment S) (pending' : List Message)
+    → s ≤ g → Ahead c heard s now pending → Leads net c now pending steps now' pending' → g ≤ next_of now' pending'
+    → RunRest net c heard g steps now' pending'
 leads_rest net c heard g [] s now pending now' pending' l ahead leads next =
     let same : next_of now pending ≡ next_of now' pending' = ap (λ x. next_of x pending) leads.0 ∙ ap (next_of now') leads.1 in
     let here = ahead_more c heard s g now pending ahead l (omega (arith, same, next)) in
@@ -505,7 +544,8 @@ leads_rest {S} net c heard g (step ∷ steps) s now pending now' pending' l ahea
     (cases_lt step.entry.stamp g)
 
 -- after a step, the next is later
-pub leads_later : {S : Type 0} (net : Network S) (c : ℕ) (heard : List Message) (steps : List (Step S)) (s : ℕ) (now : Moment S) (pending : List Message) (now' : Moment S) (pending' : List Message) → Ahead c heard s now pending → Leads net c now pending steps now' pending' → s ≤ next_of now' pending'
+pub leads_later : {S : Type 0} (net : Network S) (c : ℕ) (heard : List Message) (steps : List (Step S)) (s : ℕ) (now : Moment S) (pending : List Message) (now' : Moment S) (pending' : List Message)
+    → Ahead c heard s now pending → Leads net c now pending steps now' pending' → s ≤ next_of now' pending'
 leads_later net c heard [] s now pending now' pending' ahead leads =
     let same : next_of now pending ≡ next_of now' pending' = ap (λ x. next_of x pending) leads.0 ∙ ap (next_of now') leads.1 in
     let d = ahead.due in

@@ -21,7 +21,8 @@ higher s b rs h = each_weaker (IsAt s (suc b)) (IsAt s b) (λ r k. record { stam
 first_at : (s b : ℕ) (x : Record) (rs : List Record) → x.stamp ≡ s → x.component ≡ b → Each (IsAt s (suc b)) rs → Each (Precedes x) rs
 first_at s b x rs e f h = each_weaker (IsAt s (suc b)) (Precedes x) (λ r k. inr (e ∙ sym k.stamp, (let l = k.component in omega arith))) rs h
 
-pub outputs_trace : {S : Type 0} (net : Network S) (t b : ℕ) (nows : List (Moment S)) → IsTrace (outputs net t b nows) × Each (IsAt t b) (outputs net t b nows)
+pub outputs_trace : {S : Type 0} (net : Network S) (t b : ℕ) (nows : List (Moment S))
+    → IsTrace (outputs net t b nows) × Each (IsAt t b) (outputs net t b nows)
 unfolding output
 outputs_trace net t b [] = (tt, tt)
 outputs_trace net t b (now ∷ nows) =
@@ -42,7 +43,8 @@ turns_trace s b (Moves move ∷ ts) m =
     ((first_at s b move.entry (turn_records ts) when at rest.1, rest.0), (record { stamp = when; component = omega arith }, higher s b (turn_records ts) rest.1))
 
 -- records before a stamp, and then records from it on
-pub trace-append : (s : ℕ) (xs ys : List Record) → IsTrace xs → Each (λ r. r.stamp < s) xs → IsTrace ys → Each (λ r. s ≤ r.stamp) ys → IsTrace (xs ++ ys)
+pub trace-append : (s : ℕ) (xs ys : List Record) → IsTrace xs → Each (λ r. r.stamp < s) xs → IsTrace ys → Each (λ r. s ≤ r.stamp) ys
+    → IsTrace (xs ++ ys)
 trace-append s [] ys a b c d = c
 trace-append s (x ∷ xs) ys a b c d =
     (each-append (Precedes x) xs ys a.0 (each_weaker (λ r. s ≤ r.stamp) (Precedes x) (λ r l. inl (let k = b.0 in omega arith)) ys d), trace-append s xs ys a.1 b.1 c d)

@@ -34,7 +34,8 @@ outs_past net t b c (now ∷ nows) l =
     let ih = outs_past net t (suc b) c nows (omega (arith, l)) in
     cond_both (now.due == t) _ _ (λ r. own c r ≡ []) (λ _. own_skip c (output net b now t).entry (outputs net t (suc b) nows) (λ e. omega (arith, e, l)) ∙ ih) (λ _. ih)
 
-pub outs_own : {S : Type 0} (net : Network S) (t b : ℕ) (nows : List (Moment S)) (i : ℕ) → own (b + i) (outputs net t b nows) ≡ out_of net t (b + i) (slice_get nows i)
+pub outs_own : {S : Type 0} (net : Network S) (t b : ℕ) (nows : List (Moment S)) (i : ℕ)
+    → own (b + i) (outputs net t b nows) ≡ out_of net t (b + i) (slice_get nows i)
 unfolding output
 outs_own net t b [] i = refl
 outs_own net t b (now ∷ nows) zero = first (b + zero) (omega arith)
@@ -53,11 +54,13 @@ outs_own net t b (now ∷ nows) (suc i) =
     cond_both (now.due == t) _ _ (λ r. own (b + suc i) r ≡ out_of net t (b + suc i) (slice_get nows i)) (λ _. own_skip (b + suc i) (output net b now t).entry (outputs net t (suc b) nows) (λ q. omega (arith, q)) ∙ ih') (λ _. ih')
 
 -- the clock at phase 0
-act_even : {S : Type 0} (net : Network S) (c t : ℕ) (bag : Bag) (now : Moment S) → phase_of t ≡ 0 → act net c t bag now ≡ (if now.due == t then Moves (output net c now t) else Stays)
+act_even : {S : Type 0} (net : Network S) (c t : ℕ) (bag : Bag) (now : Moment S) → phase_of t ≡ 0
+    → act net c t bag now ≡ (if now.due == t then Moves (output net c now t) else Stays)
 unfolding act
 act_even net c t bag now p = cond-true (phase_of t == 0) _ _ (eq-eqb (phase_of t) 0 p)
 
-pub even_record : {S : Type 0} (net : Network S) (c t : ℕ) (bag : Bag) (o : Option (Moment S)) → phase_of t ≡ 0 → record_after (act_if net c t bag o) ≡ out_of net t c o
+pub even_record : {S : Type 0} (net : Network S) (c t : ℕ) (bag : Bag) (o : Option (Moment S)) → phase_of t ≡ 0
+    → record_after (act_if net c t bag o) ≡ out_of net t c o
 unfolding act_if record_after
 even_record net c t bag None p = refl
 even_record net c t bag (Some now) p =
@@ -67,7 +70,8 @@ even_record net c t bag (Some now) p =
     (λ q. ap record_after (cond-false (now.due == t) _ _ q) ∙ sym (cond-false (now.due == t) _ _ q))
     (cases_Bool (now.due == t))
 
-pub even_place : {S : Type 0} (net : Network S) (c t : ℕ) (bag : Bag) (o : Option (Moment S)) → phase_of t ≡ 0 → place_after o (act_if net c t bag o) ≡ after_out net t c o
+pub even_place : {S : Type 0} (net : Network S) (c t : ℕ) (bag : Bag) (o : Option (Moment S)) → phase_of t ≡ 0
+    → place_after o (act_if net c t bag o) ≡ after_out net t c o
 unfolding act_if place_after moment_after
 even_place net c t bag None p = refl
 even_place net c t bag (Some now) p =
@@ -85,7 +89,8 @@ even_quiet net c t bag (Some now) p = subst NoLimit (sym (act_even net c t bag n
 
 -- ---- what the outputs send
 
-outs_sent : {S : Type 0} (net : Network S) (x : Message) (t b : ℕ) (nows : List (Moment S)) → count x (all_sent net (outputs net t b nows)) ≡ sum_below (λ i. count x (all_sent net (out_of net t (b + i) (slice_get nows i)))) (length nows)
+outs_sent : {S : Type 0} (net : Network S) (x : Message) (t b : ℕ) (nows : List (Moment S))
+    → count x (all_sent net (outputs net t b nows)) ≡ sum_below (λ i. count x (all_sent net (out_of net t (b + i) (slice_get nows i)))) (length nows)
 unfolding sum_below
 outs_sent net x t b [] = refl
 outs_sent net x t b (now ∷ nows) =
@@ -100,7 +105,8 @@ outs_sent net x t b (now ∷ nows) =
     subst (λ c. count x (all_sent net (outputs net t b (now ∷ nows))) ≡ count x (all_sent net (out_of net t c (Some now))) + count x (all_sent net (outputs net t (suc b) nows))) e (one now) in
     omega (arith, ih, shift, front, here)
   where
-    one : (now : Moment _) → count x (all_sent net (outputs net t b (now ∷ nows))) ≡ count x (all_sent net (out_of net t b (Some now))) + count x (all_sent net (outputs net t (suc b) nows))
+    one : (now : Moment _)
+        → count x (all_sent net (outputs net t b (now ∷ nows))) ≡ count x (all_sent net (out_of net t b (Some now))) + count x (all_sent net (outputs net t (suc b) nows))
     one now =
         ⊎_elim
         (λ q.
@@ -111,7 +117,9 @@ outs_sent net x t b (now ∷ nows) =
         ap (λ r. count x (all_sent net r)) (cond-false (now.due == t) _ _ q) ∙ sym (ap (λ r. count x (all_sent net r) + count x (all_sent net (outputs net t (suc b) nows))) (cond-false (now.due == t) ((output net b now t).entry ∷ []) [] q) ∙ omega arith))
         (cases_Bool (now.due == t))
 
-clock_sent : {S : Type 0} (net : Network S) (x : Message) (t : ℕ) (nows : List (Moment S)) → phase_of t ≡ 0 → x.stamp ≡ t + 1 → ((c : ℕ) → slice_get nows c ≡ (clock net t).place c) → (n : ℕ) → count x (sent_below net (clock net (suc t)).records n) ≡ sum_below (λ c. count x (all_sent net (out_of net t c (slice_get nows c)))) n
+clock_sent : {S : Type 0} (net : Network S) (x : Message) (t : ℕ) (nows : List (Moment S)) → phase_of t ≡ 0 → x.stamp ≡ t + 1
+    → ((c : ℕ) → slice_get nows c ≡ (clock net t).place c) → (n : ℕ)
+    → count x (sent_below net (clock net (suc t)).records n) ≡ sum_below (λ c. count x (all_sent net (out_of net t c (slice_get nows c)))) n
 unfolding sent_below sum_below clock
 clock_sent net x t nows p e same zero = refl
 clock_sent net x t nows p e same (suc n) =
@@ -128,7 +136,10 @@ clock_sent net x t nows p e same (suc n) =
     omega (arith, ih, last, both)
 
 -- the round's bag is the clock's
-pub round_bag : {S : Type 0} (net : Network S) (t c : ℕ) (nows : List (Moment S)) (inputs : List Message) → phase_of t ≡ 0 → length nows ≡ length net.models → ((d : ℕ) → slice_get nows d ≡ (clock net t).place d) → ((x : Message) → t < x.stamp → count x inputs ≡ count x net.inputs) → bag_of c (t + 1) (sent_in_all net (clock net (suc t)).records) ≡ sorted_bag (items_of (addressed c (all_sent net (outputs net t 0 nows) ++ with_stamp (t + 1) inputs)))
+pub round_bag : {S : Type 0} (net : Network S) (t c : ℕ) (nows : List (Moment S)) (inputs : List Message) → phase_of t ≡ 0
+    → length nows ≡ length net.models → ((d : ℕ) → slice_get nows d ≡ (clock net t).place d)
+    → ((x : Message) → t < x.stamp → count x inputs ≡ count x net.inputs)
+    → bag_of c (t + 1) (sent_in_all net (clock net (suc t)).records) ≡ sorted_bag (items_of (addressed c (all_sent net (outputs net t 0 nows) ++ with_stamp (t + 1) inputs)))
 round_bag net t c nows inputs p size same given =
     bag_same c (t + 1) (sent_in_all net (clock net (suc t)).records) msgs each
     ∙ ap (λ l. sorted_bag (items_of l)) (addressed_at c (t + 1) msgs (at-append (t + 1) (all_sent net (outputs net t 0 nows)) (with_stamp (t + 1) inputs) (outputs_at net t 0 nows) (with_stamp_at (t + 1) inputs)))
@@ -136,7 +147,8 @@ round_bag net t c nows inputs p size same given =
     msgs : List Message
     msgs = all_sent net (outputs net t 0 nows) ++ with_stamp (t + 1) inputs
 
-    each : (x : Message) → x.to ≡ c → x.stamp ≡ t + 1 → count x (sent_in_all net (clock net (suc t)).records) ≡ count x (all_sent net (outputs net t 0 nows) ++ with_stamp (t + 1) inputs)
+    each : (x : Message) → x.to ≡ c → x.stamp ≡ t + 1
+        → count x (sent_in_all net (clock net (suc t)).records) ≡ count x (all_sent net (outputs net t 0 nows) ++ with_stamp (t + 1) inputs)
     each x q e =
         let a = count-append x net.inputs (sent_below net (clock net (suc t)).records (length net.models)) in
         let b = clock_sent net x t nows p e same (length net.models) in

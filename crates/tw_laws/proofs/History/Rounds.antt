@@ -69,7 +69,8 @@ after_even s [] p a = tt
 after_even s (m ∷ ms) p a = let l = a.0 in let q = a.1 in (omega (arith, p, l, q), q, after_even s ms p a.2)
 
 -- a step more in quiet
-quiet_next : {S : Type 0} (net : Network S) (s : ℕ) → ((c r : ℕ) → r < s → NoLimit (clock_step net c r)) → ((c : ℕ) → NoLimit (clock_step net c s)) → (c r : ℕ) → r < suc s → NoLimit (clock_step net c r)
+quiet_next : {S : Type 0} (net : Network S) (s : ℕ) → ((c r : ℕ) → r < s → NoLimit (clock_step net c r)) → ((c : ℕ) → NoLimit (clock_step net c s))
+    → (c r : ℕ) → r < suc s → NoLimit (clock_step net c r)
 quiet_next net s before here c r l =
     ⊎_elim (λ e. subst (λ n. NoLimit (clock_step net c n)) (sym e) (here c)) (λ h. before c r (omega (arith, h, l))) (cases_eq r s)
 
@@ -80,14 +81,17 @@ outs_at net t run = outputs net t 0 run.at.moments
 abbrev turns_at : {S : Type 0} → Network S → ℕ → Run S → List (RoundTurn S)
 turns_at net t run = turns net t (messages_at net t run.at.moments run.at.inputs) 0 run.at.moments
 
-round_by : {S : Type 0} (net : Network S) (t : ℕ) (run : Run S) (o : Option (ℕ × Limit)) → first_stop 0 (turns_at net t run) ≡ o → round net run t ≡ round_end run t (outs_at net t run) (turns_at net t run) o
+round_by : {S : Type 0} (net : Network S) (t : ℕ) (run : Run S) (o : Option (ℕ × Limit)) → first_stop 0 (turns_at net t run) ≡ o
+    → round net run t ≡ round_end run t (outs_at net t run) (turns_at net t run) o
 unfolding round
 round_by net t run o e = ap (round_end run t (outs_at net t run) (turns_at net t run)) e
 
-step_at_one : {S : Type 0} (net : Network S) (t : ℕ) (run : Run S) → Stand net t run → t + 1 < never → (c : ℕ) → clock_step net c (suc t) ≡ odd_turn net t (messages_at net t run.at.moments run.at.inputs) c (slice_get run.at.moments c)
+step_at_one : {S : Type 0} (net : Network S) (t : ℕ) (run : Run S) → Stand net t run → t + 1 < never → (c : ℕ)
+    → clock_step net c (suc t) ≡ odd_turn net t (messages_at net t run.at.moments run.at.inputs) c (slice_get run.at.moments c)
 step_at_one net t run at n c = odd_step net c t run.at.moments run.at.inputs at.even n at.size at.moments at.dues at.inputs
 
-outs_records : {S : Type 0} (net : Network S) (t : ℕ) (run : Run S) → Stand net t run → (c : ℕ) → own c (run.records ++ outs_at net t run) ≡ (clock net (suc t)).records c
+outs_records : {S : Type 0} (net : Network S) (t : ℕ) (run : Run S) → Stand net t run → (c : ℕ)
+    → own c (run.records ++ outs_at net t run) ≡ (clock net (suc t)).records c
 unfolding clock
 outs_records net t run at c =
     let z : 0 + c ≡ c = omega arith in
@@ -99,7 +103,8 @@ even_quiet_at : {S : Type 0} (net : Network S) (t : ℕ) (run : Run S) → Stand
 even_quiet_at net t run at = quiet_next net t at.quiet (λ c. even_quiet net c t _ ((clock net t).place c) at.even)
 
 -- a round without a fault
-round_on : {S : Type 0} (net : Network S) (t : ℕ) (run : Run S) → Stand net t run → t + 1 < never → first_stop 0 (turns_at net t run) ≡ None → Stand net (suc (suc t)) (round_end run t (outs_at net t run) (turns_at net t run) None)
+round_on : {S : Type 0} (net : Network S) (t : ℕ) (run : Run S) → Stand net t run → t + 1 < never → first_stop 0 (turns_at net t run) ≡ None
+    → Stand net (suc (suc t)) (round_end run t (outs_at net t run) (turns_at net t run) None)
 unfolding clock
 round_on {S} net t run at n stop =
     record {
@@ -138,13 +143,15 @@ round_on {S} net t run at n stop =
     step : (c : ℕ) → clock_step net c (suc t) ≡ odd_turn net t (messages_at net t run.at.moments run.at.inputs) c (slice_get run.at.moments c)
     step c = step_at_one net t run at n c
 
-    own_turn : (c : ℕ) → slice_get (turns_at net t run) c ≡ odd_if net t (messages_at net t run.at.moments run.at.inputs) c (slice_get run.at.moments c)
+    own_turn : (c : ℕ)
+        → slice_get (turns_at net t run) c ≡ odd_if net t (messages_at net t run.at.moments run.at.inputs) c (slice_get run.at.moments c)
     own_turn c = let z : 0 + c ≡ c = omega arith in turns_own net t msgs 0 run.at.moments c ∙ ap (λ d. odd_if net t msgs d (slice_get run.at.moments c)) z
 
     free : (c : ℕ) → NoLimit (odd_turn net t (messages_at net t run.at.moments run.at.inputs) c (slice_get run.at.moments c))
     free c = no_stop net t c msgs (slice_get run.at.moments c) (λ a q. stop_none 0 ts stop c a (own_turn c ∙ q))
 
-    turned : (c : ℕ) → slice_get (turned_moments run.at.moments (turns_at net t run)) c ≡ turned_one (slice_get run.at.moments c) (odd_if net t (messages_at net t run.at.moments run.at.inputs) c (slice_get run.at.moments c))
+    turned : (c : ℕ)
+        → slice_get (turned_moments run.at.moments (turns_at net t run)) c ≡ turned_one (slice_get run.at.moments c) (odd_if net t (messages_at net t run.at.moments run.at.inputs) c (slice_get run.at.moments c))
     turned c = turned_own run.at.moments ts c ∙ ap (turned_one (slice_get run.at.moments c)) (own_turn c)
 
     moments : (c : ℕ) → slice_get (turned_moments run.at.moments (turns_at net t run)) c ≡ (clock net (suc (suc t))).place c
@@ -175,11 +182,13 @@ round_on {S} net t run at n stop =
         ∙ ap (λ l. l ++ own c (turn_records ts)) (outs_records net t run at c)
         ∙ ap (λ l. (clock net (suc t)).records c ++ l) made
 
-turn_stop : {S : Type 0} (net : Network S) (t c : ℕ) (msgs : List Message) (o : Option (Moment S)) (a : RoundTurn S) → odd_if net t msgs c o ≡ Some a → odd_turn net t msgs c o ≡ a
+turn_stop : {S : Type 0} (net : Network S) (t c : ℕ) (msgs : List Message) (o : Option (Moment S)) (a : RoundTurn S) → odd_if net t msgs c o ≡ Some a
+    → odd_turn net t msgs c o ≡ a
 turn_stop net t c msgs None a e = absurd (cc e)
 turn_stop net t c msgs (Some now) a e = cc e
 
-turn_below : {S : Type 0} (net : Network S) (t c : ℕ) (msgs : List Message) (nows : List (Moment S)) (i : ℕ) (a : RoundTurn S) → odd_if net t msgs c (slice_get nows i) ≡ Some a → i < length nows
+turn_below : {S : Type 0} (net : Network S) (t c : ℕ) (msgs : List Message) (nows : List (Moment S)) (i : ℕ) (a : RoundTurn S)
+    → odd_if net t msgs c (slice_get nows i) ≡ Some a → i < length nows
 turn_below net t c msgs nows i a e =
     ⊎_elim (λ l. l) (λ l. absurd (none (sym (ap (odd_if net t msgs c) (slice_get_past nows i l)) ∙ e))) (cases_lt i (length nows))
   where
@@ -190,7 +199,8 @@ zero_more : (d : ℕ) → 0 + d ≡ d
 zero_more d = omega arith
 
 -- a round with a fault
-round_stop : {S : Type 0} (net : Network S) (t : ℕ) (run : Run S) → Stand net t run → t + 1 < never → (f : ℕ × Limit) → first_stop 0 (turns_at net t run) ≡ Some f → Ended net (suc t) (round_end run t (outs_at net t run) (turns_at net t run) (Some f))
+round_stop : {S : Type 0} (net : Network S) (t : ℕ) (run : Run S) → Stand net t run → t + 1 < never → (f : ℕ × Limit)
+    → first_stop 0 (turns_at net t run) ≡ Some f → Ended net (suc t) (round_end run t (outs_at net t run) (turns_at net t run) (Some f))
 round_stop net t run at n f stop =
     let s = stop_some 0 (turns_at net t run) f stop in
     let msgs = messages_at net t run.at.moments run.at.inputs in
@@ -260,7 +270,8 @@ unfolding all_stay
 stay_moments [] = refl
 stay_moments (now ∷ nows) = ap (λ l. now ∷ l) (stay_moments nows)
 
-idle_stand : {S : Type 0} (net : Network S) (t : ℕ) (run : Run S) → Stand net t run → t < round_time run.at → t + 1 < never → Stand net (suc (suc t)) run
+idle_stand : {S : Type 0} (net : Network S) (t : ℕ) (run : Run S) → Stand net t run → t < round_time run.at → t + 1 < never
+    → Stand net (suc (suc t)) run
 idle_stand {S} net t run at l n =
     let due : t < least_due run.at.moments = omega (arith, l) in
     let given : t < least_input run.at.inputs = omega (arith, l) in
@@ -288,7 +299,8 @@ time_top at = let l = least_top at.moments in omega (arith, l)
 least_of_two : (s a b : ℕ) → IsDue s a → IsDue s b → IsDue s (min a b)
 least_of_two s a b p q = ⊎_elim (λ l. let e : a ≡ min a b = omega (arith, l) in subst (IsDue s) e p) (λ l. let e : b ≡ min a b = omega (arith, l) in subst (IsDue s) e q) (cases_lt a b)
 
-due_least : {S : Type 0} (s : ℕ) (nows : List (Moment S)) → s ≤ never → ((i : ℕ) (now : Moment S) → slice_get nows i ≡ Some now → IsDue s now.due) → IsDue s (least_due nows)
+due_least : {S : Type 0} (s : ℕ) (nows : List (Moment S)) → s ≤ never → ((i : ℕ) (now : Moment S) → slice_get nows i ≡ Some now → IsDue s now.due)
+    → IsDue s (least_due nows)
 due_least s [] n h = (n, inr refl)
 due_least s (now ∷ nows) n h = least_of_two s now.due (least_due nows) (h 0 now refl) (due_least s nows n (λ i x q. h (suc i) x q))
 
@@ -303,7 +315,8 @@ time_due : {S : Type 0} (net : Network S) (s : ℕ) (run : Run S) → Stand net 
 time_due net s run at n = least_of_two s (least_due run.at.moments) (least_input run.at.inputs) (due_least s run.at.moments n at.dues) (input_least s run.at.inputs n at.given)
 
 -- up to the next round
-idle_to : {S : Type 0} (net : Network S) (s : ℕ) (run : Run S) → Stand net s run → (j : ℕ) → s + (j + j) ≤ round_time run.at → Stand net (s + (j + j)) run
+idle_to : {S : Type 0} (net : Network S) (s : ℕ) (run : Run S) → Stand net s run → (j : ℕ) → s + (j + j) ≤ round_time run.at
+    → Stand net (s + (j + j)) run
 idle_to net s run at zero l = let e : s ≡ s + (zero + zero) = omega arith in subst (λ n. Stand net n run) e at
 idle_to net s run at (suc j) l =
     let top = time_top run.at in
@@ -329,14 +342,16 @@ from_fault : {S : Type 0} (net : Network S) (bound n : ℕ) (run : Run S) (f : �
 from_fault net bound zero run f = refl
 from_fault net bound (suc n) run f = refl
 
-from_round : {S : Type 0} (net : Network S) (bound n : ℕ) (run : Run S) → round_time run.at < bound → rounds_from net bound (suc n) run None ≡ rounds_from net bound n (round net run (round_time run.at)) (round net run (round_time run.at)).fault
+from_round : {S : Type 0} (net : Network S) (bound n : ℕ) (run : Run S) → round_time run.at < bound
+    → rounds_from net bound (suc n) run None ≡ rounds_from net bound n (round net run (round_time run.at)) (round net run (round_time run.at)).fault
 from_round net bound n run l = cond-true (nat_lt (round_time run.at) bound) _ _ (lt-ltb (round_time run.at) bound l)
 
 from_rest : {S : Type 0} (net : Network S) (bound n : ℕ) (run : Run S) → bound ≤ round_time run.at → rounds_from net bound (suc n) run None ≡ run
 from_rest net bound n run l = cond-false (nat_lt (round_time run.at) bound) _ _ (le-ltb (round_time run.at) bound l)
 
 -- with fuel for the stamps that are left
-go : {S : Type 0} (net : Network S) (bound b : ℕ) → bound ≤ b → b ≤ bound + 1 → phase_of b ≡ 0 → b < never → (n s : ℕ) (run : Run S) → Stand net s run → s ≤ b → b ≤ s + (n + n) → Reached net b (rounds_from net bound n run None)
+go : {S : Type 0} (net : Network S) (bound b : ℕ) → bound ≤ b → b ≤ bound + 1 → phase_of b ≡ 0 → b < never → (n s : ℕ) (run : Run S) → Stand net s run
+    → s ≤ b → b ≤ s + (n + n) → Reached net b (rounds_from net bound n run None)
 go net bound b low high even top zero s run at l m = let e : s ≡ b = omega (arith, l, m) in Running (subst (λ n. Stand net n run) e at)
 go {S} net bound b low high even top (suc n) s run at l m =
     let due = time_due net s run at (omega (arith, l, top)) in
@@ -358,7 +373,10 @@ go {S} net bound b low high even top (suc n) s run at l m =
     subst (Reached net b) (sym (from_rest net bound n run after)) (Running (stand_at net s b run at l within even)))
     (cases_lt t bound)
   where
-    one_round : {S : Type 0} (net : Network S) (bound b n t : ℕ) (run : Run S) → Stand net t run → t + 1 < never → suc (suc t) ≤ b → (Stand net (suc (suc t)) (round_end run t (outs_at net t run) (turns_at net t run) None) → suc (suc t) ≤ b → b ≤ suc (suc t) + (n + n) → Reached net b (rounds_from net bound n (round_end run t (outs_at net t run) (turns_at net t run) None) None)) → b ≤ suc (suc t) + (n + n) → (o : Option (ℕ × Limit)) → first_stop 0 (turns_at net t run) ≡ o → Reached net b (rounds_from net bound n (round net run t) (round net run t).fault)
+    one_round : {S : Type 0} (net : Network S) (bound b n t : ℕ) (run : Run S) → Stand net t run → t + 1 < never → suc (suc t) ≤ b
+        → (Stand net (suc (suc t)) (round_end run t (outs_at net t run) (turns_at net t run) None) → suc (suc t) ≤ b → b ≤ suc (suc t) + (n + n) → Reached net b (rounds_from net bound n (round_end run t (outs_at net t run) (turns_at net t run) None) None))
+        → b ≤ suc (suc t) + (n + n) → (o : Option (ℕ × Limit)) → first_stop 0 (turns_at net t run) ≡ o
+        → Reached net b (rounds_from net bound n (round net run t) (round net run t).fault)
     one_round net bound b n t run at top next on fuel None e =
         subst (λ r. Reached net b (rounds_from net bound n r r.fault)) (sym (round_by net t run None e)) (on (round_on net t run at top e) next fuel)
     one_round net bound b n t run at top next on fuel (Some f) e =
@@ -386,7 +404,8 @@ unfolding AllPhaseOne
 after_start [] a = tt
 after_start (m ∷ ms) a = let p = a.0 in (omega (arith, p), p, after_start ms a.1)
 
-stand_start : {S : Type 0} (net : Network S) → AllPhaseOne net.inputs → Stand net 0 (record { at = record { moments = start_moments net; inputs = net.inputs }; records = []; fault = None })
+stand_start : {S : Type 0} (net : Network S) → AllPhaseOne net.inputs
+    → Stand net 0 (record { at = record { moments = start_moments net; inputs = net.inputs }; records = []; fault = None })
 unfolding clock
 stand_start net given = record {
   even = omega arith;
@@ -403,6 +422,7 @@ stand_start net given = record {
 }
 
 -- the rounds of a bound, at the first output stamp not before it
-pub rounds_reach : {S : Type 0} (net : Network S) (bound b : ℕ) → AllPhaseOne net.inputs → bound ≤ b → b ≤ bound + 1 → phase_of b ≡ 0 → b < never → Reached net b (rounds net bound)
+pub rounds_reach : {S : Type 0} (net : Network S) (bound b : ℕ) → AllPhaseOne net.inputs → bound ≤ b → b ≤ bound + 1 → phase_of b ≡ 0 → b < never
+    → Reached net b (rounds net bound)
 unfolding rounds
 rounds_reach net bound b given low high even top = go net bound b low high even top bound 0 _ (stand_start net given) (omega arith) (omega (arith, low, high, even))

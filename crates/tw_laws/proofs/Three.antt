@@ -1,14 +1,14 @@
 -- A generator, a relay and a tally in a row.
-use Rattle.std.proofs.Common.{◌<◌, ◌≡◌, refl, arith}
-use Rattle.tw_laws.specs.Applied.{start, posted, LawsOfThree}
-use Rattle.tw_laws.specs.Ending.{state, Going}
+use Rattle.std.proofs.Common.{◌<◌, ◌≡◌, refl, arith, ℕ, zero, suc, [], ◌∷◌}
+use Rattle.tw_laws.specs.Applied.{start, posted, LawsOfThree, stuck}
+use Rattle.tw_laws.specs.Ending.{state, Complete, Fault, Going}
 use Rattle.tw_laws.specs.History.{IsSettled}
 use Rattle.tw_laws.specs.Rewinding.{IsRewound}
 use Rattle.tw_laws.specs.Sweeping.{work}
-use Rattle.tw_theory.specs.Soundness.{IsSound}
+use Rattle.tw_theory.specs.Soundness.{IsSound, new_world}
 use Rattle.tw_theory.specs.Contents.{Cancel, Aggressive, Lazy}
-use Rattle.tw_theory.specs.ExampleNetworks.{three}
-use Rattle.tw_theory.specs.Executive.{Deliver, act}
+use Rattle.tw_theory.specs.ExampleNetworks.{three, lone}
+use Rattle.tw_theory.specs.Executive.{Step, Deliver, Raise, column_of, act}
 use Rattle.tw_theory.specs.LocalRun.{output, moved, transition, step_at, local_step}
 use Rattle.tw_theory.specs.Marks.{marks, rewind}
 use Rattle.tw_theory.specs.Network.{IsNetwork}
@@ -19,6 +19,11 @@ use Rattle.tw_laws.proofs.Rewinding.{inverse_law}
 use Rattle.tw_laws.proofs.Rewound.{rewinding_law}
 use Rattle.tw_laws.proofs.Settled.{held_by, settled}
 use Rattle.tw_laws.proofs.Traces.{trace_law}
+use Rattle.tw_laws.proofs.Ending.{state_law}
+use Rattle.tw_laws.proofs.Merging.{merging_law}
+use Rattle.tw_laws.specs.Traces.{of_component, before}
+use Rattle.tw_vtime.specs.Stamps.{stamp}
+use Rattle.tw_vtime.specs.declared.limits.Limit.TheVariants.{Tick}
 
 three_fits : IsNetwork three
 three_fits = record {
@@ -42,7 +47,28 @@ going : (cancel : Cancel) → state three 10 (start cancel) ≡ Going
 unfolding state
 going cancel = refl
 
+at_zero : (cancel : Cancel) → state three 0 (start cancel) ≡ Complete
+unfolding state
+at_zero cancel = refl
+
+lone_fits : IsNetwork (lone 1099511627773)
+lone_fits = record { inputs = tt; couplings = tt }
+
+stuck_sound : (cancel : Cancel) → IsSound (lone 1099511627773) 1099511627774 (stuck cancel)
+stuck_sound cancel = replay_sound (lone 1099511627773) 1099511627774 (new_world (lone 1099511627773) cancel) (Step 0 ∷ Raise ∷ []) lone_fits (omega arith) (start_law (lone 1099511627773) cancel 1099511627774 lone_fits)
+
+is_stuck : (cancel : Cancel) → state (lone 1099511627773) 1099511627774 (stuck cancel) ≡ Fault 0 (stamp 1099511627773 0 1) Tick
+unfolding act local_step step_at output moved transition state
+is_stuck Aggressive = refl
+is_stuck Lazy = refl
+
 module _ (cancel : Cancel) where
+  nothing_yet : (c : ℕ) → of_component c [] ≡ before 0 (column_of (start cancel).columns c)
+  nothing_yet zero = refl
+  nothing_yet (suc zero) = refl
+  nothing_yet (suc (suc zero)) = refl
+  nothing_yet (suc (suc (suc c))) = refl
+
   sound : IsSound three 10 (start cancel)
   sound = start_law three cancel 10 three_fits
 
@@ -60,5 +86,11 @@ module _ (cancel : Cancel) where
     rewound = rewound_three cancel;
     less_work = less_work cancel;
     going = going cancel;
+    complete = (at_zero cancel, state_law.complete three 0 (start cancel) three_fits (omega arith) (start_law three cancel 0 three_fits) (at_zero cancel));
+    fault = (
+      is_stuck cancel,
+      (state_law.fault (lone 1099511627773) 1099511627774 (stuck cancel) lone_fits (omega arith) (stuck_sound cancel) 0 (stamp 1099511627773 0 1) Tick (is_stuck cancel)).1,
+    );
+    merged = (merging_law three 10 0 (start cancel) three_fits (omega arith) sound (λ c p at. omega arith) [] tt (λ c. nothing_yet c)).1;
     traced = trace_law.ordered three 10 three_fits (omega arith);
   }

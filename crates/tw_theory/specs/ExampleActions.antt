@@ -7,9 +7,9 @@ use Rattle.tw_vtime.specs.Stamps.{stamp, never}
 use Rattle.tw_theory.specs.Bundles.{positive, anti}
 use Rattle.tw_theory.specs.Contents.{Process, Cancel, Aggressive, Lazy, Placed, Straggler, Annihilated, Waiting}
 use Rattle.tw_theory.specs.ExampleModels.{State}
-use Rattle.tw_theory.specs.ExampleNetworks.{three, slow_three}
+use Rattle.tw_theory.specs.ExampleNetworks.{no_components, three, slow_three}
 use Rattle.tw_theory.specs.ExampleTraces.{out, int, ext, item}
-use Rattle.tw_theory.specs.Executive.{World, Action, Step, Post, Deliver, Back, Raise, Harvest, Answer, Stepped, Posted, Delivered, Undone, Raised, Harvested, Refused, BeforeGvt, Committed, answers, replay}
+use Rattle.tw_theory.specs.Executive.{World, Action, Step, Post, Deliver, Back, Raise, Harvest, Answer, Stepped, Posted, Delivered, Undone, Raised, Harvested, Refused, NoSuch, BeforeGvt, Committed, answers, replay}
 use Rattle.tw_theory.specs.Marks.{marks, rewind}
 use Rattle.tw_theory.specs.Network.{Network, input}
 use Rattle.tw_theory.specs.Soundness.{new_world}
@@ -104,6 +104,11 @@ pub record ThreeDeliveryOrders : Type 0 where
   pub one : DeliveryOrder (Deliver 2 0 ∷ Deliver 2 0 ∷ Deliver 2 1 ∷ []) (Delivered Placed ∷ Delivered (Annihilated 0) ∷ Delivered Placed ∷ [])
   pub two : DeliveryOrder (Deliver 2 0 ∷ Deliver 2 2 ∷ Deliver 2 0 ∷ []) (Delivered Placed ∷ Delivered Placed ∷ Delivered (Annihilated 0) ∷ [])
   pub three_of_three : DeliveryOrder (Deliver 2 1 ∷ Deliver 2 0 ∷ Deliver 2 1 ∷ []) (Delivered Waiting ∷ Delivered (Annihilated 0) ∷ Delivered Placed ∷ [])
+
+-- ---- with nothing there, the least stamp is the end
+
+abbrev pub NothingThere : Type 0
+NothingThere = Answers no_components Aggressive (Raise ∷ Deliver 0 0 ∷ []) (Raised never ∷ Refused NoSuch ∷ [])
 
 -- ---- gvt sees what is outgoing
 

@@ -16,6 +16,7 @@ ghost use Rattle.tw_theory.specs.ExampleActions.{
   StragglerOfThree,
   AntiFirst,
   ThreeDeliveryOrders,
+  NothingThere,
   GvtSeesOutgoing,
   CommitAndCut,
   MarkAndRewind,
@@ -42,6 +43,7 @@ pub fn actions()
     ensures straggler_of_three { StragglerOfThree }
     ensures anti_first { AntiFirst }
     ensures three_delivery_orders { ThreeDeliveryOrders }
+    ensures nothing_there { NothingThere }
     ensures gvt_sees_outgoing { GvtSeesOutgoing }
     ensures commit_and_cut { CommitAndCut }
     ensures mark_and_rewind { MarkAndRewind }

@@ -18,6 +18,10 @@ pub returns-clause-three_delivery_orders : goal.returns-clause-three_delivery_or
 unfolding act local_step step_at output moved transition back_to_first
 returns-clause-three_delivery_orders c = record { one = (refl, refl, refl); two = (refl, refl, refl); three_of_three = (refl, refl, refl) }
 
+pub returns-clause-nothing_there : goal.returns-clause-nothing_there
+unfolding act local_step step_at output moved transition back_to_first
+returns-clause-nothing_there c = refl
+
 pub returns-clause-gvt_sees_outgoing : goal.returns-clause-gvt_sees_outgoing
 unfolding act local_step step_at output moved transition back_to_first
 returns-clause-gvt_sees_outgoing c = refl

@@ -1,0 +1,4 @@
+mod lines;
+mod records;
+mod texts;
+mod traces;

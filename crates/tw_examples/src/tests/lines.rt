@@ -1,0 +1,136 @@
+//! Command lines and the jobs that they ask for.
+
+use std::alloc::{AllocError, Global};
+use std::test::Fail;
+use tw_line::{Job, NoJob, job};
+use tw_vtime::Refusal;
+
+/// The words of a line, which have one space between each two.
+fn words_of(alloc: Global, line: &str) -> Result<Vec<String>, AllocError> {
+    let mut words = Vec::new(alloc);
+    for word in line.split(' ') {
+        words.push(String::from_str(alloc, word)?)?;
+    }
+    Ok(words)
+}
+
+/// What is answered to a line: the job, `help`, or the refusal.
+fn answer(alloc: Global, line: &str) -> Result<String, AllocError> {
+    let words = words_of(alloc, line)?;
+    match job(alloc, words.as_slice()) {
+        Ok(Job::Demo) => String::from_str(alloc, "demo"),
+        Ok(Job::Seq { net, until }) => format!(in alloc; "seq of {net} until {until}"),
+        Err(no_job) => match no_job.refusal() {
+            None => String::from_str(alloc, "help"),
+            Some(refusal) => format!(in alloc; "{refusal}"),
+        },
+    }
+}
+
+#[test]
+fn takes_the_lines_of_demo_and_seq(rt: HostRuntime) -> Result<(), Fail> {
+    for (line, want) in [
+        ("twarp demo", "demo"),
+        ("twarp seq n.json --until 5", "seq of n.json until 5"),
+        ("twarp seq n.json --until=5", "seq of n.json until 5"),
+        ("twarp seq --until 5 n.json", "seq of n.json until 5"),
+        ("twarp seq n.json --until 0", "seq of n.json until 0"),
+        ("twarp seq n.json --until +5", "seq of n.json until 5"),
+        ("twarp seq n.json --until 007", "seq of n.json until 7"),
+        ("twarp seq --until 5 -- -n.json", "seq of -n.json until 5"),
+        (
+            "twarp seq n.json --until 1099511627774",
+            "seq of n.json until 1099511627774",
+        ),
+    ] {
+        assert_eq!(rt; answer(rt.alloc(), line)?.as_str(), want, "{line}");
+    }
+    Ok(())
+}
+
+#[test]
+fn refuses_every_other_line(rt: HostRuntime) -> Result<(), Fail> {
+    for line in [
+        "twarp",
+        "twarp walk",
+        "twarp --version",
+        "twarp demo n.json",
+        "twarp demo --until 5",
+        "twarp seq",
+        "twarp seq n.json",
+        "twarp seq --until 5",
+        "twarp seq n.json m.json --until 5",
+        "twarp seq n.json --until 5 --until 6",
+        "twarp seq n.json --until",
+        "twarp seq n.json --until -1",
+        "twarp seq n.json --until=-1",
+        "twarp seq n.json --until 5.0",
+        "twarp seq n.json --until 0x5",
+        "twarp seq n.json --until five",
+        "twarp seq n.json --until=",
+        "twarp seq n.json --until 1099511627775",
+        "twarp seq n.json --until 18446744073709551616",
+        "twarp seq n.json --until 5 --workers 65",
+        "twarp run n.json --until 5",
+        "twarp run n.json --until 5 --workers 65",
+        "twarp run n.json --until 5 --workers 0",
+        "twarp play n.json --until 5 --script s",
+        "twarp play n.json --until 5 --seed 1",
+        "twarp play n.json --until 5 --steps 5",
+        "twarp play n.json --until 5 --script s --seed 1 --steps 1",
+        "twarp play n.json --until 5 --seed 1 --steps 1000001",
+    ] {
+        assert_eq!(rt; answer(rt.alloc(), line)?.as_str(), "23 BadLine", "{line}");
+    }
+    Ok(())
+}
+
+#[test]
+fn a_line_with_no_word_is_refused(rt: HostRuntime) {
+    let refusal = match job(rt.alloc(), &[]) {
+        Ok(_) => None,
+        Err(no_job) => no_job.refusal(),
+    };
+    assert_eq!(rt; refusal, Some(Refusal::BadLine));
+}
+
+/// The help of a line, or none where it is no call for help.
+fn help_of(alloc: Global, line: &str) -> Result<Option<String>, AllocError> {
+    let words = words_of(alloc, line)?;
+    match job(alloc, words.as_slice()) {
+        Err(NoJob::Help(help)) => Ok(Some(help.to_string(alloc)?)),
+        _ => Ok(None),
+    }
+}
+
+#[test]
+fn helps_with_each_argument_its_unit_and_its_range(rt: HostRuntime) -> Result<(), Fail> {
+    for (line, parts) in [
+        ("twarp --help", ["Usage: twarp <COMMAND>", "demo", "seq"]),
+        ("twarp -h", ["Usage: twarp <COMMAND>", "demo", "seq"]),
+        ("twarp help", ["Usage: twarp <COMMAND>", "demo", "seq"]),
+        (
+            "twarp help seq",
+            ["<NET>", "tw-1", "in ticks, 0 to 1099511627774"],
+        ),
+        (
+            "twarp seq --help",
+            ["<NET>", "tw-1", "in ticks, 0 to 1099511627774"],
+        ),
+        (
+            "twarp seq n.json -h",
+            ["<NET>", "tw-1", "in ticks, 0 to 1099511627774"],
+        ),
+        (
+            "twarp demo --help",
+            ["Usage: twarp demo", "tally", "tick 5"],
+        ),
+    ] {
+        let help = help_of(rt.alloc(), line)?;
+        let text = help.as_ref().map_or("none", |help| help.as_str());
+        for part in parts {
+            assert!(rt; text.contains(part), "{line}: {text}");
+        }
+    }
+    Ok(())
+}

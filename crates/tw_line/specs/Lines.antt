@@ -1,0 +1,89 @@
+-- The command line, as clap reads it, and the job that stands in it.
+--     twarp_app      the command in clap's own words
+--     IsJob sub j      the job of a subcommand and its options
+--     IsReason words e      why there is no job
+use Rattle.std.specs.Prelude.{◌≡◌, ◌≢◌, ◌≤◌, ◌⊎◌, [], ℕ, List, Option, Some, None, codes, true}
+use Rattle.std.specs.Str.Parse.{IsNumeral, digits_value, without_leading_plus}
+use Rattle.clap.specs.Words.{App, IsAmong, Kinds, Row, Rule, Text, fault_of, first_of, kind_of, new_app, new_rule, one_of, subcommand_of, with_rule, with_subcommand}
+use Rattle.clap.specs.declared.builder.value_parser.ValueParser.TheVariants.{Unsigned}
+use Rattle.clap.specs.declared.error.kind.ErrorKind.{ErrorKind}
+use Rattle.clap.specs.declared.error.kind.ErrorKind.TheVariants as kind
+use Rattle.tw_vtime.specs.declared.refusal.Refusal.{Refusal}
+use Rattle.tw_vtime.specs.declared.refusal.Refusal.TheVariants as refusal
+use Rattle.tw_line.specs.declared.jobs.Job.{Job}
+use Rattle.tw_line.specs.declared.jobs.Job.TheVariants.{Demo, Seq}
+use Rattle.tw_line.specs.declared.jobs.NoJob.{NoJob}
+use Rattle.tw_line.specs.declared.jobs.NoJob.TheVariants.{Help, BadLine, OutOfMemory}
+
+-- ---- the command
+
+-- the network file: required, with no name of its own on the line
+abbrev pub net_rule : Rule
+net_rule = record (new_rule (codes "net")) { required = true; value_names = 1 }
+
+-- an option that takes a number in a range
+abbrev pub number_rule : Text → ℕ → ℕ → Rule
+number_rule id least most = record (new_rule id) { long = Some id; parser = Some (Unsigned least most); value_names = 1 }
+
+abbrev pub until_rule : Rule
+until_rule = record (number_rule (codes "until") 0 1099511627774) { required = true }
+
+abbrev pub demo_app : App
+demo_app = new_app (codes "demo")
+
+abbrev pub seq_app : App
+seq_app = with_rule (with_rule (new_app (codes "seq")) net_rule) until_rule
+
+-- twarp alone, which wants a subcommand
+abbrev pub bare_app : App
+bare_app = record { top = record (new_app (codes "twarp")).top { subcommand_required = true }; subs = [] }
+
+abbrev pub twarp_app : App
+twarp_app = with_subcommand (with_subcommand bare_app demo_app.top) seq_app.top
+
+-- ---- the job
+
+-- the one text of an option is a numeral, after a plus or none, and its number n is in the range
+abbrev pub HasNumber : Text → ℕ → ℕ → List Row → ℕ → Type 0
+HasNumber id least most rows n =
+    (text : Text) × (one_of id rows ≡ Some text) × IsNumeral 10 (without_leading_plus text)
+    × (digits_value 10 (without_leading_plus text) ≡ n) × (least ≤ n) × (n ≤ most)
+
+-- the job of a subcommand's name and its options
+abbrev pub IsJobOf : Text → List Row → Job → Type 0
+IsJobOf name rows Demo = name ≡ codes "demo"
+IsJobOf name rows (Seq net until) =
+    (name ≡ codes "seq") × (first_of (codes "net") rows ≡ Some net.now)
+    × HasNumber (codes "until") 0 1099511627774 rows until
+
+-- of no subcommand there is none
+abbrev pub IsJob : Option (Text × List Row) → Job → Type 0
+IsJob None j = ⊥
+IsJob (Some p) j = IsJobOf p.0 p.1 j
+
+-- ---- no job
+
+-- the parse may answer an error of another kind than help
+abbrev pub HasFault : Kinds → Type 0
+HasFault kinds = (k : ErrorKind) × IsAmong k kinds × (k ≢ kind.DisplayHelp)
+
+-- help comes where the parse answers it; a line is refused where the parse refuses it, or finds no job
+abbrev pub IsReason : List Text → NoJob → Type 0
+IsReason words (Help error) = (kind_of error ≡ kind.DisplayHelp) × IsAmong kind.DisplayHelp (fault_of twarp_app words)
+IsReason words BadLine = HasFault (fault_of twarp_app words) ⊎ ((j : Job) → ¬ (IsJob (subcommand_of twarp_app words) j))
+IsReason words OutOfMemory = Unit {0}
+
+-- what becomes of an error of the parse, by its kind
+abbrev pub IsMadeOf : ErrorKind → NoJob → Type 0
+IsMadeOf k (Help error) = (k ≡ kind.DisplayHelp) × (kind_of error ≡ k)
+IsMadeOf k BadLine = (k ≢ kind.DisplayHelp) × (k ≢ kind.OutOfMemory)
+IsMadeOf k OutOfMemory = Unit {0}
+
+abbrev pub refused_for_memory : NoJob
+refused_for_memory = OutOfMemory
+
+-- help is no refusal
+abbrev pub refusal_of : NoJob → Option Refusal
+refusal_of (Help error) = None
+refusal_of BadLine = Some refusal.BadLine
+refusal_of OutOfMemory = Some refusal.OutOfMemory

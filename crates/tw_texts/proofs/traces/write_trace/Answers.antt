@@ -1,0 +1,15 @@
+use Rattle.std.proofs.Common.{◌∙◌, ◌++◌, ap, string_bytes}
+use Rattle.tw_texts.specs.Texts.{record_line}
+use Rattle.tw_texts.proofs.Portions.{moved_more, moved_is_beginning}
+use Rattle.tw_texts.proofs.traces.write_trace.Goals as goal
+
+pub returns-in_default-clause-err : goal.returns-in_default-clause-err
+returns-in_default-clause-err g c =
+    λ refused. moved_is_beginning (λ r. record_line (g.N.Names.name_of c.args.names.now r.component) r) _ _ c.args.records.now
+    c.loop-record.record-index _ c.loop-record.invariant
+
+pub loop-record-preserved : goal.loop-record-preserved
+loop-record-preserved g c =
+    moved_more (λ r. record_line (g.N.Names.name_of c.args.names.now r.component) r) _ _ _ c.args.records.now
+    c.loop-record.record-index c.record-item.result _ _ _ c.loop-record-test.true c.record-item.is
+    (c.in-Ok.ensures ∙ ap (λ name. string_bytes c.loop-record.lines ++ record_line name c.record-item.result) c.name.ensures) c.loop-record.invariant c.in_ok-write_portion.ensures.ok

@@ -1,0 +1,4 @@
+pub mod NoFaults
+pub mod Names
+pub mod RouteOrder
+pub mod RouteParts

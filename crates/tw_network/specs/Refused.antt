@@ -1,0 +1,17 @@
+-- For what a network is refused, in the table of refusals of the workspace.
+use Rattle.tw_vtime.specs.declared.refusal.Refusal.{Refusal}
+use Rattle.tw_vtime.specs.declared.refusal.Refusal.TheVariants as refusal
+use Rattle.tw_network.specs.declared.refused.NetworkRefused.{NetworkRefused}
+use Rattle.tw_network.specs.declared.refused.NetworkRefused.TheVariants.{OutOfMemory, UnknownComponent, BadPort, SelfCoupling, DuplicateRoute, TooMany, BadTick, BadLimit, BadName, DuplicateName}
+
+abbrev pub network_refusal : NetworkRefused → Refusal
+network_refusal OutOfMemory = refusal.OutOfMemory
+network_refusal UnknownComponent = refusal.UnknownComponent
+network_refusal BadPort = refusal.BadPort
+network_refusal SelfCoupling = refusal.SelfCoupling
+network_refusal DuplicateRoute = refusal.DuplicateRoute
+network_refusal TooMany = refusal.TooMany
+network_refusal BadTick = refusal.BadTick
+network_refusal BadLimit = refusal.BadLimit
+network_refusal BadName = refusal.BadName
+network_refusal DuplicateName = refusal.DuplicateName

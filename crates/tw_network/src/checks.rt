@@ -1,0 +1,227 @@
+//! The faults of what is handed in: counts and the greatest microstep, components, couplings and inputs.
+
+ghost use Rattle.std.specs.Prelude.{
+  ◌≡◌,
+  ◌≢◌,
+  ◌++◌,
+  ◌∷◌,
+  [],
+  IfOk,
+  IfErr,
+  OnOk,
+  None,
+  Some,
+  map,
+  string_bytes,
+};
+ghost use Rattle.std.specs.List.{list_all};
+ghost use Rattle.std.specs.Result.{result_err};
+ghost use Rattle.tw_network.specs.Contents.{is_name_byte, named, names_of, models_of};
+ghost use Rattle.tw_network.specs.Faults.{
+  count_fault,
+  limit_fault,
+  name_fault,
+  starts_in_time,
+  component_fault,
+  components_fault,
+  end_fault,
+  coupling_fault,
+  couplings_fault,
+  input_fault,
+  inputs_fault,
+};
+
+use crate::network::{Coupling, Input};
+use crate::refused::NetworkRefused;
+use indexmap::IndexSet;
+use std::alloc::{AllocError, Global};
+use tw_atomic::Atomic;
+use tw_vtime::{MAX_MICROSTEP, MAX_TICK};
+
+const MAX_COMPONENTS: usize = 1024;
+
+const MAX_COUPLINGS: usize = 8192;
+
+const MAX_INPUTS: usize = 65536;
+
+const MAX_NAME: usize = 32;
+
+const MAX_PORT: u8 = 15;
+
+// Refuses too many of anything.
+pub fn check_counts(
+    components: usize,
+    couplings: usize,
+    inputs: usize,
+) -> Result<(), NetworkRefused>
+    ensures { result_err result ≡ count_fault components couplings inputs }
+{
+    if components > MAX_COMPONENTS || couplings > MAX_COUPLINGS || inputs > MAX_INPUTS {
+        return Err(NetworkRefused::TooMany);
+    }
+    Ok(())
+}
+
+// The greatest microstep, where it is one.
+pub fn checked_limit(micro_limit: u64) -> Result<u32, NetworkRefused>
+    ensures same { IfOk result (λ limit. limit ≡ micro_limit) }
+    ensures fault { result_err result ≡ limit_fault micro_limit }
+{
+    if micro_limit == 0 || micro_limit > u64::from(MAX_MICROSTEP) {
+        return Err(NetworkRefused::BadLimit);
+    }
+    Ok(micro_limit as u32)
+}
+
+fn is_byte_of_name(b: u8) -> bool
+    ensures { result ≡ is_name_byte b }
+{
+    b.is_ascii_alphanumeric() || b == b'_' || b == b'-'
+}
+
+fn has_bytes_of_name(text: &str) -> bool
+    ensures { result ≡ list_all is_name_byte text.now }
+{
+    text.bytes().all(is_byte_of_name)
+}
+
+// Refuses a text that is not one to 32 of ASCII letters, digits, `_` and `-`.
+fn check_name(text: &str) -> Result<(), NetworkRefused>
+    ensures { result_err result ≡ name_fault text.now }
+{
+    if text.is_empty() || text.len() > MAX_NAME || !has_bytes_of_name(text) {
+        return Err(NetworkRefused::BadName);
+    }
+    Ok(())
+}
+
+// Whether the start state is passive, or its time advance no later than the last tick.
+fn has_start_in_time<M: Atomic>(alloc: Global, model: &M) -> Result<bool, AllocError>
+    ensures { IfOk result (λ in_time. in_time ≡ starts_in_time (M.meaning model.now)) }
+{
+    let start = model.start(alloc)?;
+    Ok(match model.ta(&start) {
+        Some(ta) => ta <= MAX_TICK,
+        None => true,
+    })
+}
+
+// Adds the name of a component that is not at fault.
+#[tactic(auto, using(crate::proofs::Names::has_name_of_keys))]
+fn take_name<M: Atomic>(
+    alloc: Global,
+    names: &mut IndexSet<String>,
+    name: String,
+    model: &M,
+) -> Result<(), NetworkRefused>
+    ensures names { OnOk result (names.new.keys ≡ names.old.keys ++ name ∷ []) }
+    ensures ok { OnOk result (component_fault M.meaning (map string_bytes names.old.keys) (string_bytes name, model.now) ≡ None) }
+    ensures err { IfErr result (λ e. e ≢ NetworkRefused.OutOfMemory → component_fault M.meaning (map string_bytes names.old.keys) (string_bytes name, model.now) ≡ Some e) }
+{
+    check_name(name.as_str())?;
+    let (_, is_new) = names.insert_full(name)?;
+    if !is_new {
+        return Err(NetworkRefused::DuplicateName);
+    }
+    if !has_start_in_time(alloc, model)? {
+        return Err(NetworkRefused::BadTick);
+    }
+    Ok(())
+}
+
+// The names and the models of the components, in order, where none of them is at fault.
+pub fn take_components<M: Atomic>(
+    alloc: Global,
+    components: Vec<(String, M)>,
+) -> Result<(IndexSet<String>, Vec<M>), NetworkRefused>
+    ensures names { IfOk result (λ taken. map string_bytes taken.0.keys ≡ names_of (named components.items)) }
+    ensures models { IfOk result (λ taken. taken.1.items ≡ models_of (named components.items)) }
+    ensures ok { OnOk result (components_fault M.meaning (named components.items) ≡ None) }
+    ensures err { IfErr result (λ e. e ≢ NetworkRefused.OutOfMemory → components_fault M.meaning (named components.items) ≡ Some e) }
+{
+    let mut names = IndexSet::new(alloc);
+    let mut models = Vec::with_capacity(alloc, components.len())?;
+    for (name, model) in components {
+        take_name(alloc, &mut names, name, &model)?;
+        models.push(model)?;
+    }
+    Ok((names, models))
+}
+
+// Refuses a coupling that is at fault alone.
+fn check_ends(count: usize, coupling: Coupling) -> Result<(), NetworkRefused>
+    ensures { result_err result ≡ end_fault count coupling }
+{
+    let (source, from, destination, to) = coupling;
+    if source >= count || destination >= count {
+        return Err(NetworkRefused::UnknownComponent);
+    }
+    if from > MAX_PORT || to > MAX_PORT {
+        return Err(NetworkRefused::BadPort);
+    }
+    if source == destination {
+        return Err(NetworkRefused::SelfCoupling);
+    }
+    Ok(())
+}
+
+// Adds a coupling that is not at fault.
+fn take_coupling(
+    seen: &mut IndexSet<Coupling>,
+    count: usize,
+    coupling: Coupling,
+) -> Result<(), NetworkRefused>
+    ensures seen { OnOk result (seen.new.keys ≡ seen.old.keys ++ coupling ∷ []) }
+    ensures ok { OnOk result (coupling_fault count seen.old.keys coupling ≡ None) }
+    ensures err { IfErr result (λ e. e ≢ NetworkRefused.OutOfMemory → coupling_fault count seen.old.keys coupling ≡ Some e) }
+{
+    check_ends(count, coupling)?;
+    let (_, is_new) = seen.insert_full(coupling)?;
+    if !is_new {
+        return Err(NetworkRefused::DuplicateRoute);
+    }
+    Ok(())
+}
+
+// Refuses couplings of which one is at fault, alone or beside those before it.
+pub fn check_couplings(
+    alloc: Global,
+    count: usize,
+    couplings: &[Coupling],
+) -> Result<(), NetworkRefused>
+    ensures ok { OnOk result (couplings_fault count couplings.now ≡ None) }
+    ensures err { IfErr result (λ e. e ≢ NetworkRefused.OutOfMemory → couplings_fault count couplings.now ≡ Some e) }
+{
+    let mut seen = IndexSet::new(alloc);
+    for coupling in couplings {
+        take_coupling(&mut seen, count, *coupling)?;
+    }
+    Ok(())
+}
+
+// Refuses an input that is at fault.
+fn check_input(count: usize, input: Input) -> Result<(), NetworkRefused>
+    ensures { result_err result ≡ input_fault count input }
+{
+    let (tick, to, port, _) = input;
+    if to >= count {
+        return Err(NetworkRefused::UnknownComponent);
+    }
+    if port > MAX_PORT {
+        return Err(NetworkRefused::BadPort);
+    }
+    if tick > MAX_TICK {
+        return Err(NetworkRefused::BadTick);
+    }
+    Ok(())
+}
+
+// Refuses inputs of which one is at fault.
+pub fn check_inputs(count: usize, inputs: &[Input]) -> Result<(), NetworkRefused>
+    ensures { result_err result ≡ inputs_fault count inputs.now }
+{
+    for input in inputs {
+        check_input(count, *input)?;
+    }
+    Ok(())
+}

@@ -1,0 +1,168 @@
+//! The network, its maker and its readers.
+
+ghost use Rattle.std.specs.Prelude.{◌≡◌, ◌≢◌, ◌↔◌, ◌<◌, [], Contains, IsTrue, IfOk, IfErr, IfSome, OnOk, IfNone, None, Some, length, slice_get};
+ghost use Rattle.tw_network.specs.Contents.{named, handed_in, network_of, IsWhole};
+ghost use Rattle.tw_network.specs.Faults.{first_fault};
+ghost use Rattle.tw_theory.specs.Network.{routes};
+
+use crate::checks::{check_counts, check_couplings, check_inputs, checked_limit, take_components};
+use crate::refused::NetworkRefused;
+use crate::routes::{PORTS, Routes};
+use indexmap::IndexSet;
+use std::alloc::Global;
+use std::marker::Model;
+use tw_atomic::Atomic;
+
+/// A coupling: source, its port, destination, its port.
+pub type Coupling = (usize, u8, usize, u8);
+
+/// What comes from outside: tick, component, port, value.
+pub type Input = (u64, usize, u8, i64);
+
+/// Where an output arrives: component and port.
+pub type Place = (usize, u8);
+
+/// A flat Parallel DEVS network (Chow and Zeigler 1994).
+///
+/// It has at most 1,024 components, each with a name of its own and a model, 8,192 couplings and 65,536
+/// inputs. Components are numbered from 0, in the order in which they were handed in; ports are 0 to 15.
+#[derive(Drop)]
+pub struct Network<M: Atomic> {
+    names: IndexSet<String>,
+    models: Vec<M>,
+    couplings: Vec<Coupling>,
+    inputs: Vec<Input>,
+    micro_limit: u32,
+    routes: Routes,
+}
+
+impl<M: Atomic> Model for Network<M> {
+    ghost use Rattle.std.specs.Prelude.{length};
+    ghost use Rattle.tw_network.specs.Contents.{Contents, IsWhole, contents_of};
+    ghost use Rattle.tw_network.specs.RouteIndex.{IsRouteIndex};
+
+    ghost Value = { Contents M };
+
+    ghost view = { λ n. contents_of n.names.keys n.models.items n.couplings.items n.inputs.items n.micro_limit };
+
+    ghost invariant = { λ n. IsWhole M.meaning (contents_of n.names.keys n.models.items n.couplings.items n.inputs.items n.micro_limit) × IsRouteIndex n.couplings.items (length n.models.items) n.routes.places.items n.routes.starts.items };
+}
+
+impl<M: Atomic> Network<M> {
+    /// The network of these components (name and model), couplings and inputs, with this greatest microstep.
+    ///
+    /// The first fault in this order is answered: more than 1,024 components, 8,192 couplings or 65,536
+    /// inputs (9); `micro_limit` not 1 to 8,388,607 (11); for each component in order, a name that is not 1
+    /// to 32 of ASCII letters, digits, `_` and `-` (17), a name that stood before (18), a start state whose
+    /// time advance is above the last tick (10); for each coupling in order, an unknown component at either
+    /// end (5), a port above 15 (6), a component coupled to itself (7), a coupling that stood before (8); for
+    /// each input in order, an unknown component (5), a port above 15 (6), a tick above the last one (10).
+    /// Want of memory (4) may come at any point instead. After any of them nothing is left.
+    pub fn new(
+        alloc: Global,
+        components: Vec<(String, M)>,
+        couplings: Vec<Coupling>,
+        inputs: Vec<Input>,
+        micro_limit: u64,
+    ) -> Result<Network<M>, NetworkRefused>
+        ensures as_handed_in { IfOk result (λ n. n ≡ handed_in (named components.items) couplings.items inputs.items micro_limit) }
+        ensures no_fault { OnOk result (first_fault M.meaning (named components.items) couplings.items inputs.items micro_limit ≡ None) }
+        ensures first_fault { IfErr result (λ e. e ≢ NetworkRefused.OutOfMemory → first_fault M.meaning (named components.items) couplings.items inputs.items micro_limit ≡ Some e) }
+    {
+        check_counts(components.len(), couplings.len(), inputs.len())?;
+        let micro_limit = checked_limit(micro_limit)?;
+        let (names, models) = take_components(alloc, components)?;
+        let count = models.len();
+        check_couplings(alloc, count, couplings.as_slice())?;
+        check_inputs(count, inputs.as_slice())?;
+        let routes = Routes::new(alloc, count, couplings.as_slice())?;
+        Ok(Network {
+            names,
+            models,
+            couplings,
+            inputs,
+            micro_limit,
+            routes,
+        })
+    }
+
+    /// How many components there are.
+    pub fn len(&self) -> usize
+        ensures { result ≡ length self.now.models }
+    {
+        self.models.len()
+    }
+
+    /// Whether there is no component.
+    pub fn is_empty(&self) -> bool
+        ensures { IsTrue result ↔ (self.now.models ≡ []) }
+    {
+        self.models.is_empty()
+    }
+
+    /// The name of a component.
+    pub fn name(&self, component: usize) -> &str
+        requires { component < length self.now.models }
+        ensures { slice_get self.now.names component ≡ Some result.now }
+    {
+        self.names[component].as_str()
+    }
+
+    /// The component that has a name, found without a scan.
+    pub fn find(&self, name: &str) -> Option<usize>
+        ensures found { IfSome result (λ component. slice_get self.now.names component ≡ Some name.now) }
+        ensures known { IfSome result (λ component. component < length self.now.models) }
+        ensures absent { IfNone result (¬ Contains self.now.names name.now) }
+    {
+        self.names.get_index_of(name)
+    }
+
+    /// The model of a component.
+    pub fn model(&self, component: usize) -> &M
+        requires { component < length self.now.models }
+        ensures { slice_get self.now.models component ≡ Some result.now }
+    {
+        &self.models[component]
+    }
+
+    /// The greatest microstep, 1 to 8,388,607.
+    pub fn micro_limit(&self) -> u32
+        ensures { result ≡ self.now.micro_limit }
+    {
+        self.micro_limit
+    }
+
+    /// The couplings, in the order in which they were handed in.
+    pub fn couplings(&self) -> &[Coupling]
+        ensures { result.now ≡ self.now.couplings }
+    {
+        self.couplings.as_slice()
+    }
+
+    /// The network inputs, in the order in which they were handed in.
+    pub fn inputs(&self) -> &[Input]
+        ensures { result.now ≡ self.now.inputs }
+    {
+        self.inputs.as_slice()
+    }
+
+    /// The places to which the output of a component on a port goes, by component and then port; none for
+    /// a port above 15.
+    pub fn routes(&self, component: usize, port: u8) -> &[Place]
+        requires { component < length self.now.models }
+        ensures { result.now ≡ routes (network_of M.meaning self.now) component port }
+    {
+        let routes = &self.routes;
+        if usize::from(port) >= PORTS {
+            return &[];
+        }
+        routes.part(PORTS * component + usize::from(port))
+    }
+
+    /// What is true of every network. It does nothing.
+    pub fn facts(&self)
+        ensures { IsWhole M.meaning self.now }
+    {
+        let _ = &self.models;
+    }
+}

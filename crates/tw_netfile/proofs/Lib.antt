@@ -1,0 +1,4 @@
+pub mod Counting
+pub mod Loops
+pub mod Making
+pub mod Networks

@@ -1,0 +1,69 @@
+//! What a network file says, before it is known to be a network.
+
+ghost use Rattle.std.specs.Prelude.{◌≡◌};
+ghost use Rattle.tw_netfile.specs.Components.{model_of};
+
+use tw_models::{BadModel, Model};
+
+/// A model with its parameters, which may still be out of range.
+#[derive(Clone, Copy, Debug, PartialEq, Eq)]
+pub enum ModelDraft {
+    Gen { period: u64, value: i64 },
+    Tally,
+    Relay { delay: u64 },
+    Queue { service: u64 },
+    Hop { seed: u64, ports: u64, spread: u64 },
+}
+
+impl ModelDraft {
+    // The model, where its parameters are in range.
+    pub fn model(self) -> Result<Model, BadModel>
+        ensures { result ≡ model_of self }
+    {
+        match self {
+            ModelDraft::Gen { period, value } => Model::generator(period, value),
+            ModelDraft::Tally => Model::tally(),
+            ModelDraft::Relay { delay } => Model::relay(delay),
+            ModelDraft::Queue { service } => Model::queue(service),
+            ModelDraft::Hop {
+                seed,
+                ports,
+                spread,
+            } => Model::hop(seed, ports, spread),
+        }
+    }
+}
+
+/// A component of a file, its name lent by the file's value.
+#[derive(Clone, Copy, Debug)]
+pub struct ComponentDraft<'a> {
+    pub name: &'a str,
+    pub model: ModelDraft,
+}
+
+/// A coupling of a file, with the names of its ends.
+#[derive(Clone, Copy, Debug)]
+pub struct CouplingDraft<'a> {
+    pub source: &'a str,
+    pub source_port: u64,
+    pub destination: &'a str,
+    pub destination_port: u64,
+}
+
+/// An input of a file, with the name of its component.
+#[derive(Clone, Copy, Debug)]
+pub struct InputDraft<'a> {
+    pub tick: u64,
+    pub to: &'a str,
+    pub port: u64,
+    pub value: i64,
+}
+
+/// A network file, each of whose members has its type.
+#[derive(Debug, Drop)]
+pub struct Draft<'a> {
+    pub micro_limit: u64,
+    pub components: Vec<ComponentDraft<'a>>,
+    pub couplings: Vec<CouplingDraft<'a>>,
+    pub inputs: Vec<InputDraft<'a>>,
+}

@@ -1,0 +1,23 @@
+//! Network files: the bytes of a JSON text (format `tw-1`) to a network of the five models.
+//!
+//! - [`network_of_file`]: the network that a file means, or the first fault in a fixed order.
+//! - [`FileRefused`]: that fault; it turns into the workspace's table of refusals by `From`.
+//!
+//! What a file means is a function of its bytes, in three steps: the JSON value that they write; what the
+//! value says, where it has exactly the members of a network file, each of its type; and then the models,
+//! whose parameters are in range, and a network of them, in which the number of a component stands for its
+//! name.
+#![tactic(auto)]
+
+mod components;
+mod draft;
+mod file;
+mod numbers;
+mod refused;
+mod shape;
+
+pub use file::network_of_file;
+pub use refused::FileRefused;
+
+#[cfg(test)]
+mod tests;

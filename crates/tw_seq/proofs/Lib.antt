@@ -1,0 +1,12 @@
+pub mod BagLemmas
+pub mod CarriedLemmas
+pub mod DealingLemmas
+pub mod OutputLemmas
+pub mod Places
+pub mod Reaching
+pub mod RoundLemmas
+pub mod StandingLemmas
+pub mod StartLemmas
+pub mod SweepLemmas
+pub mod TimeLemmas
+pub mod TurnLemmas

@@ -1,0 +1,4 @@
+pub mod Dealing
+pub mod Invariant
+pub mod Refusals
+pub mod Turning

@@ -1,0 +1,57 @@
+//! The simulator: rounds up to an end tick, or to the first fault.
+
+ghost use Rattle.std.specs.Prelude.{◌≡◌, ◌<◌, ◌↔◌, IfOk, IsErrOf};
+ghost use Rattle.tw_network.specs.Contents.{network_of};
+ghost use Rattle.tw_theory.specs.Simulator.{sequential};
+ghost use Rattle.tw_vtime.specs.Stamps.{max_tick};
+
+use crate::refused::SeqRefused;
+use crate::rounds::{make_round, start};
+use std::alloc::Global;
+use tw_atomic::Atomic;
+use tw_msgs::Record;
+use tw_network::Network;
+use tw_vtime::{Limit, Stamp};
+
+/// What a network does up to an end tick.
+#[derive(Debug, Drop)]
+pub struct Seq {
+    /// The records, in trace order: by stamp, then component number.
+    pub records: Vec<Record>,
+    /// The limit fault that ended the run: the least component that met a limit, the stamp of that
+    /// round's transitions, and which limit. The records are all those before that stamp.
+    pub fault: Option<(usize, Stamp, Limit)>,
+}
+
+/// Simulates a network by the sequential abstract simulator (Chow and Zeigler 1994): in each round, of
+/// the least time at which a component is due or an input comes, all outputs, their routing, and then
+/// all transitions. It makes the rounds of a time before the tick `until`, up to the first fault.
+///
+/// Refused by [`SeqRefused::BadTick`] (10) exactly where `until` is above 1,099,511,627,774, and by
+/// [`SeqRefused::OutOfMemory`] (4) where a growth of memory was refused. The network stays as it was.
+pub fn simulate<M: Atomic>(
+    alloc: Global,
+    network: &Network<M>,
+    until: u64,
+) -> Result<Seq, SeqRefused>
+    ensures records { IfOk result (λ seq. seq.records.items ≡ (sequential (network_of M.meaning network.now) until).records) }
+    ensures fault { IfOk result (λ seq. seq.fault ≡ (sequential (network_of M.meaning network.now) until).fault) }
+    ensures bad_tick { IsErrOf result SeqRefused.BadTick ↔ (max_tick < until) }
+{
+    let Ok(end) = Stamp::new(until, 0, 0) else {
+        return Err(SeqRefused::BadTick);
+    };
+    let mut run = start(alloc, network)?;
+    while let Some(time) = run.next_time(end) {
+        if let Some((component, limit)) = make_round(alloc, network, &mut run, time)? {
+            return Ok(Seq {
+                records: run.into_records(),
+                fault: Some((component, time.transition(), limit)),
+            });
+        }
+    }
+    Ok(Seq {
+        records: run.into_records(),
+        fault: None,
+    })
+}

@@ -1,0 +1,135 @@
+//! The transitions of a round.
+
+ghost use Rattle.std.specs.Prelude.{◌≡◌, ◌==◌, ◌<◌, ◌++◌, ◌+◌, IfOk, length, Some, None, slice_get, MatchOption};
+ghost use Rattle.std.specs.List.{AllByRecursion as Each};
+ghost use Rattle.tw_atomic.specs.Atomic.{FitsBag};
+ghost use Rattle.tw_msgs.specs.Bags.{sorted_bag};
+ghost use Rattle.tw_network.specs.Contents.{network_of};
+ghost use Rattle.tw_seq.specs.Invariant.{AllStand, IsStanding};
+ghost use Rattle.tw_seq.specs.Turning.{seen, CanGoOn, kind_and_turn, turns_with};
+ghost use Rattle.tw_theory.specs.Simulator.{take_turn, after_output, turn_records, turned_moments, first_stop};
+ghost use Rattle.tw_vtime.specs.Stamps.{max_tick, tick_of, phase_of};
+
+use crate::standing::Standing;
+use std::alloc::{AllocError, Global};
+use std::mem;
+use tw_atomic::{Atomic, Turn};
+use tw_msgs::{Bag, Record, RecordKind, Words};
+use tw_network::Network;
+use tw_vtime::{Limit, Stamp, advance};
+
+/// What a component did at the transition of a round.
+#[derive(Drop)]
+pub enum Taken {
+    /// Nothing: it is not imminent, and nothing came.
+    Stays,
+    /// A transition.
+    Moves(Record),
+    /// A transition after which its next own step would pass this limit.
+    Stops(Limit),
+}
+
+/// The turn of a component that is imminent or not, with what came; none where it stays as it is.
+fn turn_of(imminent: bool, bag: &Bag) -> Option<(Turn, RecordKind)>
+    ensures { result ≡ kind_and_turn imminent bag.now }
+{
+    match (imminent, bag.is_empty()) {
+        (true, true) => Some((Turn::Int, RecordKind::Int)),
+        (true, false) => Some((Turn::Con, RecordKind::Con)),
+        (false, false) => Some((Turn::Ext, RecordKind::Ext)),
+        (false, true) => None,
+    }
+}
+
+/// Makes the transition of a component at a time, if it is imminent or receives something. Without a
+/// limit it then stands where the definition says; with one, its state is of no more use.
+fn take_turn<M: Atomic>(
+    alloc: Global,
+    network: &Network<M>,
+    component: usize,
+    now: &mut Standing<M::State>,
+    time: Stamp,
+    bag: Bag,
+) -> Result<Taken, AllocError>
+    requires component { component < length network.now.models }
+    requires time { tick_of time < max_tick }
+    requires even { phase_of time ≡ 0 }
+    requires standing { (model : M) → slice_get network.now.models component ≡ Some model → IsStanding (M.valid model) (M.meaning model) time now.old }
+    requires fits { FitsBag bag }
+    ensures turn { IfOk result (λ taken. seen taken now.new
+        ≡ take_turn (network_of M.meaning network.now) component (after_output (network_of M.meaning network.now) component now.old time) (time + 1) (now.old.due == time) (sorted_bag bag)) }
+    ensures kept { IfOk result (λ taken. taken ≡ Taken.Stays → now.new ≡ now.old) }
+    ensures standing { IfOk result (λ taken. CanGoOn taken →
+        (model : M) → slice_get network.now.models component ≡ Some model → IsStanding (M.valid model) (M.meaning model) (time + 2) now.new) }
+{
+    let mut bag = bag;
+    bag.sort();
+    let Some((turn, kind)) = turn_of(now.due == time, &bag) else {
+        return Ok(Taken::Stays);
+    };
+    network.facts();
+    let model = network.model(component);
+    let at = time.transition();
+    let elapsed = at.tick().saturating_sub(now.last.tick());
+    let _residue = model.forward(alloc, &mut now.state, turn, elapsed, bag.as_slice())?;
+    let due = match advance(at, model.ta(&now.state), network.micro_limit()) {
+        Ok(due) => due.unwrap_or(Stamp::END),
+        Err(limit) => return Ok(Taken::Stops(limit)),
+    };
+    let mut words = Vec::new(alloc);
+    model.words(alloc, &now.state, &mut words)?;
+    now.last = time;
+    now.due = due;
+    Ok(Taken::Moves(Record {
+        component,
+        stamp: at,
+        kind,
+        bag,
+        words: Words::from(words),
+    }))
+}
+
+/// Makes the transition of each component that is imminent at a time or receives something, and appends
+/// their records. Where a component meets a limit, the least one is answered, and no record is left.
+pub(crate) fn make_turns<M: Atomic>(
+    alloc: Global,
+    network: &Network<M>,
+    moments: &mut [Standing<M::State>],
+    time: Stamp,
+    bags: &mut [Bag],
+    records: &mut Vec<Record>,
+) -> Result<Option<(usize, Limit)>, AllocError>
+    requires time { tick_of time < max_tick }
+    requires even { phase_of time ≡ 0 }
+    requires moments { AllStand M.valid M.meaning network.now.models time moments.old }
+    requires bags { length bags.old ≡ length network.now.models }
+    requires fits { Each FitsBag bags.old }
+    ensures stop { IfOk result (λ stop. stop ≡ first_stop 0 (turns_with (network_of M.meaning network.now) time 0 moments.old bags.old)) }
+    ensures records { IfOk result (λ stop. MatchOption stop
+        (records.new.items ≡ records.old.items ++ turn_records (turns_with (network_of M.meaning network.now) time 0 moments.old bags.old))
+        (λ _. records.new.items ≡ records.old.items)) }
+    ensures moments { IfOk result (λ stop. stop ≡ None →
+        moments.new ≡ turned_moments moments.old (turns_with (network_of M.meaning network.now) time 0 moments.old bags.old)) }
+    ensures standing { IfOk result (λ stop. stop ≡ None → AllStand M.valid M.meaning network.now.models (time + 2) moments.new) }
+{
+    let before = records.len();
+    for component in 0..moments.len() {
+        let bag = mem::replace(&mut bags[component], Bag::new(alloc));
+        match take_turn(
+            alloc,
+            network,
+            component,
+            &mut moments[component],
+            time,
+            bag,
+        )? {
+            Taken::Stays => {}
+            Taken::Moves(record) => records.push(record)?,
+            Taken::Stops(limit) => {
+                records.truncate(before);
+                return Ok(Some((component, limit)));
+            }
+        }
+    }
+    Ok(None)
+}

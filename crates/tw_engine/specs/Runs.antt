@@ -1,0 +1,98 @@
+-- What the engine writes for a job, and how it ends.
+--     run_text n until      the trace of a network's sequential run, and a line for its fault
+--     IsRun given until exit old new      how a run of the network that a file means ends, and what is then written
+--     IsDone job exit given old new      the same of a job
+use Rattle.std.specs.Prelude.{◌≡◌, ◌<◌, ◌⊎◌, ◌++◌, ℕ, List, [], codes, Option, Some, None, Ok, Err, IfSome, slice_get}
+use Rattle.std.specs.Io.KnownBytes.{Appends, Keeps}
+use Rattle.tw_vtime.specs.Stamps.{max_tick}
+use Rattle.tw_vtime.specs.declared.limits.Limit.{Limit}
+use Rattle.tw_vtime.specs.declared.refusal.Refusal.{Refusal}
+use Rattle.tw_vtime.specs.declared.refusal.Refusal.TheVariants as refusal
+use Rattle.tw_msgs.specs.declared.record.Record.{Record}
+use Rattle.tw_models.specs.declared.model.Model.{Model}
+use Rattle.tw_models.specs.Model.{model_meaning}
+use Rattle.tw_network.specs.Contents.{Contents, network_of}
+use Rattle.tw_theory.specs.Simulator.{sequential}
+use Rattle.tw_netfile.specs.Meaning.{meaning_of}
+use Rattle.tw_netfile.specs.Refused.{file_refusal}
+use Rattle.tw_netfile.specs.declared.refused.FileRefused.{FileRefused}
+use Rattle.tw_texts.specs.Texts.{trace_text, fault_line}
+use Rattle.tw_texts.specs.Traces.{AppendsBeginning}
+use Rattle.tw_line.specs.declared.jobs.Job.{Job}
+use Rattle.tw_line.specs.declared.jobs.Job.TheVariants.{Demo, Seq}
+use Rattle.tw_engine.specs.declared.exit.Exit.{Exit}
+use Rattle.tw_engine.specs.declared.exit.Exit.TheVariants.{Done, Bad, Fault, Want, NoWrite}
+
+-- ---- the text of a run
+
+abbrev pub text_or_nothing : Option (List ℕ) → List ℕ
+text_or_nothing None = []
+text_or_nothing (Some text) = text
+
+-- the name of a component
+abbrev pub name_in : List (List ℕ) → ℕ → List ℕ
+name_in names component = text_or_nothing (slice_get names component)
+
+abbrev pub fault_text : List (List ℕ) → Option (ℕ × ℕ × Limit) → List ℕ
+fault_text names None = []
+fault_text names (Some fault) = fault_line (name_in names fault.0) fault.1 fault.2
+
+abbrev pub run_fault : Contents Model → ℕ → Option (ℕ × ℕ × Limit)
+run_fault n until = (sequential (network_of model_meaning n) until).fault
+
+-- the lines of records, and of a fault
+abbrev pub text_of : Contents Model → List Record → Option (ℕ × ℕ × Limit) → List ℕ
+text_of n records fault = trace_text (name_in n.names) records ++ fault_text n.names fault
+
+abbrev pub run_text : Contents Model → ℕ → List ℕ
+run_text n until = text_of n (sequential (network_of model_meaning n) until).records (run_fault n until)
+
+-- ---- how a run ends, by the bytes of its file
+
+-- the bytes mean a network of which this is true
+abbrev pub Means : List ℕ → (Contents Model → Type 0) → Type 0
+Means bytes Holds = (n : Contents Model) × (meaning_of bytes ≡ Ok n) × Holds n
+
+-- the end tick is too late, or the file is refused for this
+abbrev pub IsCause : List ℕ → ℕ → Refusal → Type 0
+IsCause bytes until why =
+    ((why ≡ refusal.BadTick) × (max_tick < until))
+    ⊎ ((fault : FileRefused) × (meaning_of bytes ≡ Err fault) × (why ≡ file_refusal fault))
+
+abbrev pub IsRun : List ℕ → ℕ → Exit → Option (List ℕ) → Option (List ℕ) → Type 0
+IsRun bytes until Done old new = Means bytes (λ n. (run_fault n until ≡ None) × Appends old new (run_text n until))
+IsRun bytes until Fault old new = Means bytes (λ n. ((fault : ℕ × ℕ × Limit) × (run_fault n until ≡ Some fault)) × Appends old new (run_text n until))
+IsRun bytes until (Bad why) old new = Keeps old new × IsCause bytes until why
+IsRun bytes until (Want why) old new =
+    (why ≡ refusal.OutOfMemory) × (Keeps old new ⊎ Means bytes (λ n. AppendsBeginning old new (run_text n until)))
+IsRun bytes until NoWrite old new = Unit {0}
+
+-- ---- its parts
+
+-- why a file gave no network
+abbrev pub IsFileExit : List ℕ → Exit → Type 0
+IsFileExit bytes exit =
+    (exit ≡ Want refusal.OutOfMemory)
+    ⊎ ((fault : FileRefused) × (meaning_of bytes ≡ Err fault) × (exit ≡ Bad (file_refusal fault)))
+
+-- what is written of records and a fault
+abbrev pub IsShown : Contents Model → List Record → Option (ℕ × ℕ × Limit) → Exit → Option (List ℕ) → Option (List ℕ) → Type 0
+IsShown n records fault Done old new = (fault ≡ None) × Appends old new (text_of n records fault)
+IsShown n records fault Fault old new = ((found : ℕ × ℕ × Limit) × (fault ≡ Some found)) × Appends old new (text_of n records fault)
+IsShown n records fault (Bad why) old new = ⊥
+IsShown n records fault (Want why) old new = (why ≡ refusal.OutOfMemory) × (Keeps old new ⊎ AppendsBeginning old new (text_of n records fault))
+IsShown n records fault NoWrite old new = Unit {0}
+
+-- ---- the jobs
+
+-- a generator of period 2 and value 5, and a tally that it feeds, as a file
+abbrev pub demo_file : List ℕ
+demo_file = codes "{\"format\":\"tw-1\",\"micro_limit\":100,\"components\":[{\"name\":\"g\",\"model\":\"gen\",\"period\":2,\"value\":5},{\"name\":\"t\",\"model\":\"tally\"}],\"couplings\":[[\"g\",0,\"t\",0]],\"inputs\":[]}"
+
+-- no byte of the file is known to be read, and nothing is written
+abbrev pub IsUnread : Exit → Option (List ℕ) → Option (List ℕ) → Type 0
+IsUnread exit old new = ((exit ≡ Bad refusal.Unreadable) ⊎ (exit ≡ Want refusal.OutOfMemory)) × Keeps old new
+
+abbrev pub IsDone : Job → Exit → Option (List ℕ) → Option (List ℕ) → Option (List ℕ) → Type 0
+IsDone Demo exit given old new = IsRun demo_file 5 exit old new
+IsDone (Seq net until) exit given old new = IsUnread exit old new ⊎ IfSome given (λ bytes. IsRun bytes until exit old new)

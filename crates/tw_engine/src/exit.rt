@@ -1,0 +1,56 @@
+//! How a run of the program ends.
+
+ghost use Rattle.std.specs.Prelude.{◌≡◌, OnOk};
+ghost use Rattle.std.specs.Io.KnownBytes.{Appends};
+ghost use Rattle.tw_engine.specs.Exits.{status_of, line_of};
+
+use std::io;
+use std::io::Write;
+use tw_vtime::Refusal;
+
+/// How a run ended.
+#[derive(Clone, Copy, Debug, PartialEq, Eq)]
+pub enum Exit {
+    /// All was written, and no limit was met.
+    Done,
+    /// The command line or a file is refused, for this. Nothing was written.
+    Bad(Refusal),
+    /// A component met a limit: the trace before it was written, and then the line of the fault.
+    Fault,
+    /// A growth was refused: 4. A beginning of the text may be written.
+    Want(Refusal),
+    /// The writer failed. A beginning of the text may be written.
+    NoWrite,
+}
+
+impl Exit {
+    /// The status that the process ends with: 0, 2, 3, 4 or 5 in the order above.
+    pub fn status(self) -> u8
+        ensures { result ≡ status_of self }
+    {
+        match self {
+            Exit::Done => 0,
+            Exit::Bad(_) => 2,
+            Exit::Fault => 3,
+            Exit::Want(_) => 4,
+            Exit::NoWrite => 5,
+        }
+    }
+
+    /// Writes the line for standard error: `twarp: `, the number and the name of the refusal. After
+    /// [`Exit::Done`] and [`Exit::Fault`] there is none.
+    ///
+    /// Refused where the writer fails.
+    pub fn write_line<W: Write>(self, out: &mut W) -> io::Result<()>
+        ensures { OnOk result (Appends (W.contents out.old) (W.contents out.new) (line_of self)) }
+    {
+        match self {
+            Exit::Done | Exit::Fault => Ok(()),
+            Exit::Bad(refusal) | Exit::Want(refusal) => writeln!(out, "twarp: {refusal}"),
+            Exit::NoWrite => {
+                let refusal = Refusal::WriteFailed;
+                writeln!(out, "twarp: {refusal}")
+            }
+        }
+    }
+}

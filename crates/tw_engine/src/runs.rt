@@ -1,0 +1,141 @@
+//! From a job and the bytes of its file to the bytes written.
+
+ghost use Rattle.std.specs.Prelude.{◌≡◌, ◌≢◌, ◌⊎◌, ◌<◌, Ok, Err, IfOk, IfErr, IfSome, string_bytes};
+ghost use Rattle.std.specs.Io.KnownBytes.{Appends, Keeps};
+ghost use Rattle.tw_models.specs.Model.{model_meaning};
+ghost use Rattle.tw_network.specs.Contents.{network_of};
+ghost use Rattle.tw_netfile.specs.Meaning.{meaning_of};
+ghost use Rattle.tw_netfile.specs.Refused.{file_refusal};
+ghost use Rattle.tw_theory.specs.Simulator.{sequential};
+ghost use Rattle.tw_vtime.specs.Stamps.{max_tick};
+ghost use Rattle.tw_vtime.specs.declared.refusal.Refusal.TheVariants as refusal;
+ghost use Rattle.tw_engine.specs.Runs.{IsDone, IsFileExit, IsRun, IsShown, demo_file, fault_text};
+
+use crate::exit::Exit;
+use crate::names::NetworkNames;
+use std::alloc::{AllocError, Global};
+use std::io::{ErrorKind, Read, Write};
+use tw_line::Job;
+use tw_models::Model;
+use tw_netfile::{FileRefused, network_of_file};
+use tw_network::Network;
+use tw_seq::{Seq, SeqRefused, simulate};
+use tw_texts::{Names, NotWritten, push_fault, write_trace};
+use tw_vtime::Refusal;
+
+/// The network of the demonstration: a generator of period 2 and value 5, and a tally that it feeds.
+const DEMO: &str =
+    "{\"format\":\"tw-1\",\"micro_limit\":100,\"components\":[{\"name\":\"g\",\"model\":\"gen\",\"period\":2,\"value\":5},{\"name\":\"t\",\"model\":\"tally\"}],\"couplings\":[[\"g\",0,\"t\",0]],\"inputs\":[]}";
+
+/// The tick at which the demonstration ends.
+const DEMO_UNTIL: u64 = 5;
+
+/// Does a job: simulates a network by the sequential abstract simulator and writes its trace, and the
+/// line of its fault if there is one. `demo` reads nothing; `seq` reads the network's file to its end.
+///
+/// Nothing is written before the outcome of the simulation is known. It ends with
+/// - [`Exit::Done`] or [`Exit::Fault`]: the whole text of the sequential run is written;
+/// - [`Exit::Bad`]: the file cannot be read (19) or is refused (5 to 11, 17, 18, 20 or 21), or the end
+///   tick is above the greatest one (10), and nothing is written;
+/// - [`Exit::Want`]: a growth of memory was refused (4), and a beginning of the text is written;
+/// - [`Exit::NoWrite`]: the writer failed, and only it knows what it took.
+pub fn engine<N: Read, W: Write>(alloc: Global, job: &Job<'_>, net: &mut N, out: &mut W) -> Exit
+    ensures { IsDone job.now result (N.remaining net.old) (W.contents out.old) (W.contents out.new) }
+{
+    match job {
+        Job::Demo => run(alloc, DEMO.as_bytes(), DEMO_UNTIL, out),
+        Job::Seq { until, .. } => match read_all(alloc, net) {
+            Ok(bytes) => run(alloc, bytes.as_slice(), *until, out),
+            Err(exit) => exit,
+        },
+    }
+}
+
+// All that a reader has left.
+fn read_all<N: Read>(alloc: Global, net: &mut N) -> Result<Vec<u8>, Exit>
+    ensures ok { IfOk result (λ bytes. IfSome (N.remaining net.old) (λ all. bytes.items ≡ all)) }
+    ensures err { IfErr result (λ e. (e ≡ Exit.Bad refusal.Unreadable) ⊎ (e ≡ Exit.Want refusal.OutOfMemory)) }
+{
+    let mut bytes = Vec::new(alloc);
+    match net.read_to_end(&mut bytes) {
+        Ok(_) => Ok(bytes),
+        Err(error) => Err(if error.kind() == ErrorKind::OutOfMemory {
+            Exit::Want(Refusal::OutOfMemory)
+        } else {
+            Exit::Bad(Refusal::Unreadable)
+        }),
+    }
+}
+
+// Simulates the network that a file's bytes mean, and writes its text.
+fn run<W: Write>(alloc: Global, bytes: &[u8], until: u64, out: &mut W) -> Exit
+    ensures { IsRun bytes.now until result (W.contents out.old) (W.contents out.new) }
+{
+    let network = match network(alloc, bytes) {
+        Ok(network) => network,
+        Err(exit) => return exit,
+    };
+    let seq = match simulated(alloc, &network, until) {
+        Ok(seq) => seq,
+        Err(exit) => return exit,
+    };
+    write_run(alloc, &network, &seq, out)
+}
+
+// The network that a file's bytes mean.
+fn network(alloc: Global, bytes: &[u8]) -> Result<Network<Model>, Exit>
+    ensures ok { IfOk result (λ n. meaning_of bytes.now ≡ Ok n) }
+    ensures err { IfErr result (IsFileExit bytes.now) }
+{
+    match network_of_file(alloc, bytes) {
+        Ok(network) => Ok(network),
+        Err(FileRefused::OutOfMemory) => Err(Exit::Want(Refusal::OutOfMemory)),
+        Err(refused) => Err(Exit::Bad(Refusal::from(refused))),
+    }
+}
+
+// The sequential run of a network.
+fn simulated(alloc: Global, network: &Network<Model>, until: u64) -> Result<Seq, Exit>
+    ensures records { IfOk result (λ seq. seq.records.items ≡ (sequential (network_of model_meaning network.now) until).records) }
+    ensures fault { IfOk result (λ seq. seq.fault ≡ (sequential (network_of model_meaning network.now) until).fault) }
+    ensures err { IfErr result (λ e. (e ≡ Exit.Want refusal.OutOfMemory) ⊎ ((e ≡ Exit.Bad refusal.BadTick) × (max_tick < until))) }
+{
+    match simulate(alloc, network, until) {
+        Ok(seq) => Ok(seq),
+        Err(SeqRefused::OutOfMemory) => Err(Exit::Want(Refusal::OutOfMemory)),
+        Err(SeqRefused::BadTick) => Err(Exit::Bad(Refusal::BadTick)),
+    }
+}
+
+// The line of a run's fault, or nothing.
+fn last_line(alloc: Global, names: &NetworkNames<'_>, seq: &Seq) -> Result<String, AllocError>
+    ensures { IfOk result (λ line. string_bytes line ≡ fault_text names.now.network.now.names seq.now.fault) }
+{
+    let mut line = String::new(alloc);
+    if let Some((component, at, limit)) = seq.fault {
+        push_fault(&mut line, names.name(component), at, limit)?;
+    }
+    Ok(line)
+}
+
+// Writes the trace of a run and the line of its fault.
+fn write_run<W: Write>(alloc: Global, network: &Network<Model>, seq: &Seq, out: &mut W) -> Exit
+    ensures { IsShown network.now seq.now.records.items seq.now.fault result (W.contents out.old) (W.contents out.new) }
+{
+    let names = NetworkNames { network };
+    let Ok(last) = last_line(alloc, &names, seq) else {
+        return Exit::Want(Refusal::OutOfMemory);
+    };
+    match write_trace(alloc, &names, seq.records.as_slice(), out) {
+        Ok(()) => {}
+        Err(NotWritten::OutOfMemory) => return Exit::Want(Refusal::OutOfMemory),
+        Err(NotWritten::WriteFailed) => return Exit::NoWrite,
+    }
+    let Ok(()) = out.write_all(last.as_bytes()) else {
+        return Exit::NoWrite;
+    };
+    match seq.fault {
+        Some(_) => Exit::Fault,
+        None => Exit::Done,
+    }
+}

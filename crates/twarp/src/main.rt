@@ -1,0 +1,71 @@
+//! The program: its words, its file and its standard streams.
+//!
+//! What it does is [`tw_line::job`] and [`tw_engine::engine`]; here they only get the process's arguments,
+//! the file and the streams.
+#![tactic(auto)]
+
+mod source;
+
+use crate::source::Source;
+use std::fs::File;
+use std::io::ErrorKind;
+use std::process::ExitCode;
+use std::{env, io};
+use tw_engine::{Exit, engine};
+use tw_line::{Job, NoJob, job};
+use tw_vtime::Refusal;
+
+// The status of the process. An error is one of standard output, which could not take the text of the help.
+fn run(rt: &HostRuntime) -> io::Result<u8> {
+    let given = match env::args(rt) {
+        Ok(given) => given,
+        Err(error) => return Ok(finish(rt, exit_of(&error))),
+    };
+    let Ok(words) = given.collect::<Vec<String>>(rt.alloc()) else {
+        return Ok(finish(rt, Exit::Want(Refusal::OutOfMemory)));
+    };
+    match job(rt.alloc(), words.as_slice()) {
+        Ok(job) => Ok(finish(rt, do_job(rt, &job))),
+        Err(NoJob::Help(text)) => {
+            text.print(rt)?;
+            Ok(0)
+        }
+        Err(NoJob::BadLine) => Ok(finish(rt, Exit::Bad(Refusal::BadLine))),
+        Err(NoJob::OutOfMemory) => Ok(finish(rt, Exit::Want(Refusal::OutOfMemory))),
+    }
+}
+
+// How a run ends whose words cannot be had: they are not UTF-8, or there is no memory for them.
+fn exit_of(error: &io::Error) -> Exit {
+    if error.kind() == ErrorKind::OutOfMemory {
+        Exit::Want(Refusal::OutOfMemory)
+    } else {
+        Exit::Bad(Refusal::BadLine)
+    }
+}
+
+// Does a job on its file and standard output.
+fn do_job(rt: &HostRuntime, job: &Job<'_>) -> Exit {
+    let mut net = match job {
+        Job::Demo => Source::Missing(ErrorKind::NotFound),
+        Job::Seq { net, .. } => Source::from(File::open(rt, *net)),
+    };
+    let mut out = io::writer(rt);
+    engine(rt.alloc(), job, &mut net, &mut out)
+}
+
+// Writes the line for standard error, and answers the status. Where standard error is gone, the status
+// still tells.
+fn finish(rt: &HostRuntime, exit: Exit) -> u8 {
+    let errors = rt.stderr();
+    let mut errors = &errors;
+    let _ = exit.write_line(&mut errors);
+    exit.status()
+}
+
+fn main(rt: HostRuntime) -> ExitCode {
+    match run(&rt) {
+        Ok(status) => ExitCode::from(status),
+        Err(_) => ExitCode::from(5),
+    }
+}

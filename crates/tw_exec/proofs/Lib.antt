@@ -1,0 +1,16 @@
+pub mod Acts
+pub mod Boxes
+pub mod Comparing
+pub mod Driving
+pub mod GenTally
+pub mod Harvests
+pub mod Held
+pub mod Keeping
+pub mod Leasts
+pub mod LocalSteps
+pub mod Moving
+pub mod Rises
+pub mod Sources
+pub mod Starting
+pub mod Stepping
+pub mod Turning

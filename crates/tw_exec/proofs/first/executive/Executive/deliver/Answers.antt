@@ -1,0 +1,45 @@
+use Rattle.std.proofs.Common.{◌≡◌, ◌++◌, ◌∷◌, [], ap, sym, subst, ◌∙◌, arith}
+use Rattle.std.specs.Prelude.{slice_set}
+use Rattle.std.proofs.lemmas.Option.{slice_get_read, slice_get_within, same_Some}
+use Rattle.tw_exec.specs.First.{meant, answer, after}
+use Rattle.tw_exec.specs.Kept.{for_component, IsFirstFor}
+use Rattle.tw_msgs.specs.declared.message.Item.{Item}
+use Rattle.tw_theory.specs.Contents.{Placed, with_pending}
+use Rattle.tw_theory.specs.Executive.{Deliver, Delivered}
+use Rattle.tw_exec.proofs.Acts.{deliver_none, deliver_empty}
+use Rattle.tw_exec.proofs.Held.{IsTaken, deliver_taken}
+use Rattle.tw_exec.proofs.first.executive.Executive.deliver.Goals as goal
+
+pub returns-then-receiver-len-clause-refused : goal.returns-then-receiver-len-clause-refused
+returns-then-receiver-len-clause-refused c =
+    let inside = c.self.inside in
+    ap (λ e. answer e (Deliver c.args.receiver 0)) (sym c.self.view_is) ∙ ap (λ x. x.0) (deliver_none (meant inside.network) inside.until inside.gvt inside.components.items inside.mail.items c.args.receiver (omega (arith, c.len.ensures, inside.components.ok.0)))
+
+pub returns-in_default-clause-refused : goal.returns-in_default-clause-refused
+returns-in_default-clause-refused c =
+    let inside = c.self.inside in
+    ap (λ e. answer e (Deliver c.args.receiver 0)) (sym c.self.view_is) ∙ ap (λ x. x.0) (deliver_empty (meant inside.network) inside.until inside.gvt inside.components.items inside.mail.items c.args.receiver (omega (arith, c.len.ensures, inside.components.ok.0)) (ap (for_component c.args.receiver) (sym c.as_slice.ensures.value) ∙ c.in_default.ensures.none))
+
+taken : (c : goal.After-remove) → IsTaken c.self.inside.network c.self.inside.until c.self.inside.end c.self.inside.gvt c.self.inside.gvt c.self.inside.components.items (slice_set c.self.inside.components.items c.args.receiver c.receive.new.self) c.self.inside.mail.items c.remove.new.self.items (Deliver c.args.receiver 0) (Delivered Placed)
+taken c =
+    let inside = c.self.inside in
+    let cell = c.index_mut-cell.result.now in
+    let cell_at = slice_get_read inside.components.items _ c.args.receiver cell (inside.components.ok.0) (omega (arith, c.len.ensures, inside.components.ok.0)) c.index_mut-cell.ensures.value in
+    let first = subst (λ xs. IsFirstFor c.args.receiver xs c.in-Some.place) c.as_slice.ensures.value c.in-Some.ensures.found in
+    let near = slice_get_within inside.mail.items c.in-Some.place first.item first.at in
+    let item_at = slice_get_read inside.mail.items _ c.in-Some.place c.index.result.now (inside.mail.ok.0) (omega (arith, near, inside.mail.ok.0)) c.index.ensures in
+    let item_is : c.index.result.now ≡ first.item = same_Some c.index.result.now first.item (sym item_at ∙ first.at) in
+    let received = c.in_ok-receive.ensures.received ∙ ap (λ (i : Item). record cell { process = with_pending cell.process (cell.process.pending ++ i.message ∷ []) }) item_is in
+    let done = deliver_taken inside.network inside.until inside.end inside.gvt inside.components.items inside.mail.items c.self.invariant c.args.receiver c.in-Some.place cell c.receive.new.self first cell_at received in
+    subst (λ m. IsTaken inside.network inside.until inside.end inside.gvt inside.gvt inside.components.items (slice_set inside.components.items c.args.receiver c.receive.new.self) inside.mail.items m (Deliver c.args.receiver 0) (Delivered Placed)) (sym c.remove.ensures.items) done
+
+pub returns-clause-placed : goal.returns-clause-placed
+returns-clause-placed c = ap (λ e. answer e (Deliver c.args.receiver 0)) (sym c.self.view_is) ∙ ap (λ x. x.0) (taken c).acts
+
+pub returns-clause-done : goal.returns-clause-done
+returns-clause-done c =
+    let inside = c.self.inside in
+    ap (λ x. record { network = inside.network; until = inside.until; world = x.1 }) (sym (taken c).acts) ∙ ap (λ e. after e (Deliver c.args.receiver 0)) c.self.view_is
+
+pub invariant_of-self-2 : goal.invariant_of-self-2
+invariant_of-self-2 c = (taken c).held

@@ -1,0 +1,32 @@
+use Rattle.std.proofs.Common.{ap, sym, subst, ◌∙◌, arith}
+use Rattle.std.specs.Prelude.{slice_set}
+use Rattle.std.proofs.lemmas.Option.{slice_get_read}
+use Rattle.tw_exec.specs.First.{meant, answer, after}
+use Rattle.tw_theory.specs.Executive.{Post, Posted}
+use Rattle.tw_exec.proofs.Acts.{post_none}
+use Rattle.tw_exec.proofs.Held.{IsTaken, post_taken}
+use Rattle.tw_exec.proofs.first.executive.Executive.post.Goals as goal
+
+pub returns-then-component-len-clause-refused : goal.returns-then-component-len-clause-refused
+returns-then-component-len-clause-refused c =
+    let inside = c.self.inside in
+    ap (λ e. answer e (Post c.args.component)) (sym c.self.view_is) ∙ ap (λ x. x.0) (post_none (meant inside.network) inside.until inside.gvt inside.components.items inside.mail.items c.args.component (omega (arith, c.len.ensures, inside.components.ok.0)))
+
+taken : (c : goal.In_ok-count) → IsTaken c.self.inside.network c.self.inside.until c.self.inside.end c.self.inside.gvt c.self.inside.gvt c.self.inside.components.items (slice_set c.self.inside.components.items c.args.component c.post.new.self) c.self.inside.mail.items c.post.new.mail.items (Post c.args.component) (Posted c.in_ok-count.count)
+taken c =
+    let inside = c.self.inside in
+    let cell = c.index_mut-cell.result.now in
+    let cell_at = slice_get_read inside.components.items _ c.args.component cell (inside.components.ok.0) (omega (arith, c.len.ensures, inside.components.ok.0)) c.index_mut-cell.ensures.value in
+    let done = post_taken inside.network inside.until inside.end inside.gvt inside.components.items inside.mail.items c.self.invariant c.args.component cell c.post.new.self c.post.new.mail.items cell_at c.in_ok-count.ensures.posted c.in_ok-count.ensures.mail in
+    subst (λ k. IsTaken inside.network inside.until inside.end inside.gvt inside.gvt inside.components.items (slice_set inside.components.items c.args.component c.post.new.self) inside.mail.items c.post.new.mail.items (Post c.args.component) (Posted k)) (sym c.in_ok-count.ensures.count) done
+
+pub returns-clause-answer : goal.returns-clause-answer
+returns-clause-answer c = ap (λ e. answer e (Post c.args.component)) (sym c.self.view_is) ∙ ap (λ x. x.0) (taken c).acts
+
+pub returns-clause-done : goal.returns-clause-done
+returns-clause-done c =
+    let inside = c.self.inside in
+    ap (λ x. record { network = inside.network; until = inside.until; world = x.1 }) (sym (taken c).acts) ∙ ap (λ e. after e (Post c.args.component)) c.self.view_is
+
+pub invariant_of-self-2 : goal.invariant_of-self-2
+invariant_of-self-2 c = (taken c).held

@@ -1,0 +1,7 @@
+pub mod Cells
+pub mod Driving
+pub mod First
+pub mod GenTally
+pub mod Kept
+pub mod Refused
+pub mod Stops

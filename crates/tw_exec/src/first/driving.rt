@@ -1,0 +1,116 @@
+//! The run of an executive to its end.
+
+ghost use Rattle.std.specs.Prelude.{◌≡◌, ◌<◌, ◌≤◌, ℕ, [], None, OnOk, length};
+ghost use Rattle.tw_exec.specs.Driving.{IsSilent, IsQuiet, IsFirstDue, IsPast, to_go};
+ghost use Rattle.tw_exec.specs.First.{Running, start, meant};
+ghost use Rattle.tw_theory.specs.Executive.{column_of};
+ghost use Rattle.tw_theory.specs.Simulator.{sequential, records_before};
+ghost use Rattle.tw_vtime.specs.Stamps.{stamp};
+ghost use Rattle.tw_exec.specs.declared.first.refused.ActionRefused.TheVariants.{OutOfMemory};
+
+use crate::first::executive::Executive;
+use crate::first::refused::ActionRefused;
+use std::alloc::AllocError;
+
+/// Runs an executive from its start to the end of its run, for a network whose sequential simulator has no fault.
+///
+/// It repeats: the step of the component whose next step is the least before the end of the run (of several the
+/// first), its post, and all deliveries. Then it raises global virtual time and harvests every component. After
+/// that each column is what the sequential abstract simulator (Chow and Zeigler 1994) records of its component.
+/// The only refusal is want of memory (4); then the run stands somewhere between two actions.
+pub fn drive(executive: &mut Executive) -> Result<(), AllocError>
+    requires at_start { executive.old ≡ start executive.old.network executive.old.until }
+    requires no_fault { (sequential (meant executive.old.network) executive.old.until).fault ≡ None }
+    ensures columns { OnOk result ((c : ℕ) → c < length executive.old.network.models → column_of executive.new.world.columns c ≡ records_before (meant executive.old.network) executive.old.until c (stamp executive.old.until 0 0)) }
+    ensures no_fault { OnOk result ((sequential (meant executive.old.network) executive.old.until).fault ≡ None) }
+    ensures network { executive.new.network ≡ executive.old.network }
+    ensures until { executive.new.until ≡ executive.old.until }
+{
+    make_steps(executive)?;
+    commit(executive)
+}
+
+// Makes all steps before the end of the run.
+fn make_steps(executive: &mut Executive) -> Result<(), AllocError>
+    requires quiet { IsQuiet executive.old.world }
+    requires no_fault { (sequential (meant executive.old.network) executive.old.until).fault ≡ None }
+    ensures quiet { OnOk result (IsQuiet executive.new.world) }
+    ensures past { OnOk result (IsPast executive.new.world.processes (stamp executive.old.until 0 0)) }
+    ensures network { executive.new.network ≡ executive.old.network }
+    ensures until { executive.new.until ≡ executive.old.until }
+{
+    while let Some(component) = executive.first_due() {
+        go_on(executive, component)?;
+    }
+    Ok(())
+}
+
+// Makes the first step that is due, and brings what it sends to where it goes.
+fn go_on(executive: &mut Executive, component: usize) -> Result<(), AllocError>
+    requires quiet { IsQuiet executive.old.world }
+    requires no_fault { (sequential (meant executive.old.network) executive.old.until).fault ≡ None }
+    requires due { IsFirstDue executive.old.world.processes (stamp executive.old.until 0 0) component }
+    ensures quiet { OnOk result (IsQuiet executive.new.world) }
+    ensures nearer { OnOk result (to_go (stamp executive.old.until 0 0) executive.new.world < to_go (stamp executive.old.until 0 0) executive.old.world) }
+    ensures network { executive.new.network ≡ executive.old.network }
+    ensures until { executive.new.until ≡ executive.old.until }
+{
+    executive.facts();
+    match executive.step(component) {
+        Ok(_) => {}
+        Err(refused) => return Err(only_memory(refused)),
+    }
+    executive.facts();
+    match executive.post(component) {
+        Ok(_) => {}
+        Err(refused) => return Err(only_memory(refused)),
+    }
+    deliver_all(executive)
+}
+
+// Delivers all mail.
+fn deliver_all(executive: &mut Executive) -> Result<(), AllocError>
+    requires silent { IsSilent executive.old.world }
+    ensures quiet { OnOk result (IsQuiet executive.new.world) }
+    ensures same { (end : ℕ) → OnOk result (to_go end executive.new.world ≡ to_go end executive.old.world) }
+    ensures network { executive.new.network ≡ executive.old.network }
+    ensures until { executive.new.until ≡ executive.old.until }
+{
+    while let Some(receiver) = executive.receiver() {
+        executive.facts();
+        match executive.deliver(receiver) {
+            Ok(()) => {}
+            Err(refused) => return Err(only_memory(refused)),
+        }
+    }
+    Ok(())
+}
+
+// Raises global virtual time past the end of the run, and harvests every component.
+fn commit(executive: &mut Executive) -> Result<(), AllocError>
+    requires quiet { IsQuiet executive.old.world }
+    requires past { IsPast executive.old.world.processes (stamp executive.old.until 0 0) }
+    ensures columns { OnOk result ((c : ℕ) → c < length executive.old.network.models → column_of executive.new.world.columns c ≡ records_before (meant executive.old.network) executive.old.until c (stamp executive.old.until 0 0)) }
+    ensures network { executive.new.network ≡ executive.old.network }
+    ensures until { executive.new.until ≡ executive.old.until }
+{
+    executive.facts();
+    executive.raise();
+    for component in 0..executive.len() {
+        executive.facts();
+        match executive.harvest(component) {
+            Ok(_) => {}
+            Err(refused) => return Err(only_memory(refused)),
+        }
+    }
+    executive.facts();
+    Ok(())
+}
+
+// An action that can be refused for want of memory alone was so.
+fn only_memory(refused: ActionRefused) -> AllocError
+    requires { refused ≡ OutOfMemory }
+{
+    let _ = refused;
+    AllocError
+}

@@ -1,15 +1,13 @@
 //! From a job and the bytes of its file to the bytes written.
 
-ghost use Rattle.std.specs.Prelude.{◌≡◌, ◌≢◌, ◌⊎◌, ◌<◌, Ok, Err, IfOk, IfErr, IfSome, string_bytes};
-ghost use Rattle.std.specs.Io.KnownBytes.{Appends, Keeps};
+ghost use Rattle.std.specs.Prelude.{◌≡◌, ◌⊎◌, ◌<◌, Ok, Err, IfOk, IfErr, IfSome, string_bytes};
 ghost use Rattle.tw_models.specs.Model.{model_meaning};
 ghost use Rattle.tw_network.specs.Contents.{network_of};
 ghost use Rattle.tw_netfile.specs.Meaning.{meaning_of};
-ghost use Rattle.tw_netfile.specs.Refused.{file_refusal};
 ghost use Rattle.tw_theory.specs.Simulator.{sequential};
 ghost use Rattle.tw_vtime.specs.Stamps.{max_tick};
 ghost use Rattle.tw_vtime.specs.declared.refusal.Refusal.TheVariants as refusal;
-ghost use Rattle.tw_engine.specs.Runs.{IsDone, IsFileExit, IsRun, IsShown, demo_file, fault_text};
+ghost use Rattle.tw_engine.specs.Runs.{IsDone, IsFileExit, IsRun, IsShown, fault_text};
 
 use crate::exit::Exit;
 use crate::names::NetworkNames;

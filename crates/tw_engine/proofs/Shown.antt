@@ -1,18 +1,19 @@
 -- From the text that is written to what it says of the bytes of the file.
-use Rattle.std.proofs.Common.{◌≡◌, ◌≤◌, ◌++◌, ◌∙◌, ℕ, List, [], length, sym, ap, subst, append_assoc, inl, inr}
-use Rattle.std.specs.Prelude.{Option, Ok}
+use Rattle.std.proofs.Common.{◌≡◌, ◌≤◌, ◌++◌, ◌∙◌, ℕ, List, [], length, refl, sym, ap, subst, append_assoc, inl, inr}
+use Rattle.std.specs.Prelude.{Option, None, Some, Ok}
 use Rattle.std.proofs.lemmas.Option.{slice_get_past}
 use Rattle.tw_vtime.specs.declared.limits.Limit.{Limit}
 use Rattle.tw_msgs.specs.declared.record.Record.{Record}
 use Rattle.tw_models.specs.declared.model.Model.{Model}
 use Rattle.tw_models.specs.Model.{model_meaning}
 use Rattle.tw_network.specs.Contents.{Contents, network_of}
-use Rattle.tw_theory.specs.Simulator.{sequential}
+use Rattle.tw_theory.specs.LocalRun.{output, moved, transition}
+use Rattle.tw_theory.specs.Simulator.{sequential, rounds, round}
 use Rattle.tw_netfile.specs.Meaning.{meaning_of}
 use Rattle.tw_texts.specs.Traces.{AppendsBeginning}
 use Rattle.tw_engine.specs.declared.exit.Exit.{Exit}
 use Rattle.tw_engine.specs.declared.exit.Exit.TheVariants.{Done, Bad, Fault, Want, NoWrite}
-use Rattle.tw_engine.specs.Runs.{IsRun, IsShown, name_in, text_or_nothing, run_fault}
+use Rattle.tw_engine.specs.Runs.{IsDemo, IsRun, IsShown, demo_network, name_in, text_or_nothing, run_fault}
 
 pub no_name : (names : List (List ℕ)) (component : ℕ) → length names ≤ component → [] ≡ name_in names component
 no_name names component past = sym (ap text_or_nothing (slice_get_past names component past))
@@ -43,3 +44,28 @@ shown_run bytes until n records fault exit old new means all met shown =
     run_of_shown bytes until n exit old new means
     (subst (λ (rs : List Record). IsShown n rs (run_fault n until) exit old new) all
     (subst (λ (f : Option (ℕ × ℕ × Limit)). IsShown n records f exit old new) met shown))
+
+-- the demonstration meets no limit
+demo_no_fault : run_fault demo_network 5 ≡ None
+unfolding sequential rounds round output moved transition
+demo_no_fault = refl
+
+none_is_some : (fault : ℕ × ℕ × Limit) → ◌≡◌ {A = Option (ℕ × ℕ × Limit)} None (Some fault) → ⊥
+none_is_some fault e = cc e
+
+demo_of_shown : (exit : Exit) (old new : Option (List ℕ))
+    → IsShown demo_network (sequential (network_of model_meaning demo_network) 5).records (run_fault demo_network 5) exit old new → IsDemo exit old new
+demo_of_shown Done old new shown = shown.1
+demo_of_shown Fault old new shown = none_is_some shown.0.0 (sym demo_no_fault ∙ shown.0.1)
+demo_of_shown (Bad why) old new shown = shown
+demo_of_shown (Want why) old new shown = shown
+demo_of_shown NoWrite old new shown = shown
+
+-- what is shown of the records of the demonstration
+pub shown_demo : (n : Contents Model) (records : List Record) (exit : Exit) (old new : Option (List ℕ)) → n ≡ demo_network
+    → records ≡ (sequential (network_of model_meaning demo_network) 5).records → IsShown n records None exit old new → IsDemo exit old new
+shown_demo n records exit old new is all shown =
+    demo_of_shown exit old new
+    (subst (λ (f : Option (ℕ × ℕ × Limit)). IsShown demo_network (sequential (network_of model_meaning demo_network) 5).records f exit old new) (sym demo_no_fault)
+    (subst (λ (rs : List Record). IsShown demo_network rs None exit old new) all
+    (subst (λ (m : Contents Model). IsShown m records None exit old new) is shown)))

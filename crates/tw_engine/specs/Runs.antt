@@ -2,7 +2,7 @@
 --     run_text n until      the trace of a network's sequential run, and a line for its fault
 --     IsRun given until exit old new      how a run of the network that a file means ends, and what is then written
 --     IsDone job exit given old new      the same of a job
-use Rattle.std.specs.Prelude.{◌≡◌, ◌<◌, ◌⊎◌, ◌++◌, ℕ, List, [], codes, Option, Some, None, Ok, Err, IfSome, slice_get}
+use Rattle.std.specs.Prelude.{◌≡◌, ◌<◌, ◌⊎◌, ◌++◌, ℕ, List, [], ◌∷◌, codes, pos, Option, Some, None, Ok, Err, IfSome, slice_get}
 use Rattle.std.specs.Io.KnownBytes.{Appends, Keeps}
 use Rattle.tw_vtime.specs.Stamps.{max_tick}
 use Rattle.tw_vtime.specs.declared.limits.Limit.{Limit}
@@ -10,6 +10,7 @@ use Rattle.tw_vtime.specs.declared.refusal.Refusal.{Refusal}
 use Rattle.tw_vtime.specs.declared.refusal.Refusal.TheVariants as refusal
 use Rattle.tw_msgs.specs.declared.record.Record.{Record}
 use Rattle.tw_models.specs.declared.model.Model.{Model}
+use Rattle.tw_models.specs.declared.model.Model.TheVariants.{Gen, Tally}
 use Rattle.tw_models.specs.Model.{model_meaning}
 use Rattle.tw_network.specs.Contents.{Contents, network_of}
 use Rattle.tw_theory.specs.Simulator.{sequential}
@@ -85,14 +86,31 @@ IsShown n records fault NoWrite old new = Unit {0}
 
 -- ---- the jobs
 
--- a generator of period 2 and value 5, and a tally that it feeds, as a file
-abbrev pub demo_file : List ℕ
-demo_file = codes "{\"format\":\"tw-1\",\"micro_limit\":100,\"components\":[{\"name\":\"g\",\"model\":\"gen\",\"period\":2,\"value\":5},{\"name\":\"t\",\"model\":\"tally\"}],\"couplings\":[[\"g\",0,\"t\",0]],\"inputs\":[]}"
+-- a generator of period 2 and value 5, and a tally that it feeds
+abbrev pub demo_network : Contents Model
+demo_network = record {
+  names = codes "g" ∷ codes "t" ∷ [];
+  models = Gen (record { period = 2; value = pos 5 }) ∷ Tally ∷ [];
+  couplings = (0, 0, 1, 0) ∷ [];
+  inputs = [];
+  micro_limit = 100;
+}
+
+abbrev pub demo_text : List ℕ
+demo_text = codes "2.0 g out 0=5\n2.0 g int | 1\n2.0 t ext 0=5 | 1 5 5\n4.0 g out 0=5\n4.0 g int | 2\n4.0 t ext 0=5 | 2 10 5\n"
+
+-- the text of its run until 5 is written, or a beginning of it; it meets no limit, and nothing of it is refused
+abbrev pub IsDemo : Exit → Option (List ℕ) → Option (List ℕ) → Type 0
+IsDemo Done old new = Appends old new (run_text demo_network 5)
+IsDemo Fault old new = ⊥
+IsDemo (Bad why) old new = ⊥
+IsDemo (Want why) old new = (why ≡ refusal.OutOfMemory) × (Keeps old new ⊎ AppendsBeginning old new (run_text demo_network 5))
+IsDemo NoWrite old new = Unit {0}
 
 -- no byte of the file is known to be read, and nothing is written
 abbrev pub IsUnread : Exit → Option (List ℕ) → Option (List ℕ) → Type 0
 IsUnread exit old new = ((exit ≡ Bad refusal.Unreadable) ⊎ (exit ≡ Want refusal.OutOfMemory)) × Keeps old new
 
 abbrev pub IsDone : Job → Exit → Option (List ℕ) → Option (List ℕ) → Option (List ℕ) → Type 0
-IsDone Demo exit given old new = IsRun demo_file 5 exit old new
+IsDone Demo exit given old new = IsDemo exit old new
 IsDone (Seq net until) exit given old new = IsUnread exit old new ⊎ IfSome given (λ bytes. IsRun bytes until exit old new)

@@ -1,14 +1,18 @@
 //! The engine that the program runs, over any reader and writer.
 //!
-//! - [`engine`]: does a job: reads a network file, simulates its network and writes the trace. Its
-//!   contract gives the exact bytes written, and what each way to end means.
+//! - [`engine`]: does a job: reads a network file, simulates its network and writes the trace, or runs the
+//!   demonstration by the executive. Its contract gives the exact bytes written, and what each way to end
+//!   means.
+//! - [`demo_law`]: what `demo` prints, in its bytes.
 //! - [`Exit`]: how a run ended, with the status of the process and the line for standard error.
 #![tactic(auto)]
 
+mod demonstration;
 mod exit;
 mod names;
 mod runs;
 
+pub use demonstration::demo_law;
 pub use exit::Exit;
 pub use runs::engine;
 

@@ -7,8 +7,9 @@ ghost use Rattle.tw_netfile.specs.Meaning.{meaning_of};
 ghost use Rattle.tw_theory.specs.Simulator.{sequential};
 ghost use Rattle.tw_vtime.specs.Stamps.{max_tick};
 ghost use Rattle.tw_vtime.specs.declared.refusal.Refusal.TheVariants as refusal;
-ghost use Rattle.tw_engine.specs.Runs.{IsDone, IsFileExit, IsRun, IsShown, fault_text};
+ghost use Rattle.tw_engine.specs.Runs.{IsDemo, IsDone, IsFileExit, IsRun, IsShown, fault_text};
 
+use crate::demonstration::{demo_trace, gen_tally};
 use crate::exit::Exit;
 use crate::names::NetworkNames;
 use std::alloc::{AllocError, Global};
@@ -21,15 +22,9 @@ use tw_seq::{Seq, SeqRefused, simulate};
 use tw_texts::{Names, NotWritten, push_fault, write_trace};
 use tw_vtime::Refusal;
 
-/// The network of the demonstration: a generator of period 2 and value 5, and a tally that it feeds.
-const DEMO: &str =
-    "{\"format\":\"tw-1\",\"micro_limit\":100,\"components\":[{\"name\":\"g\",\"model\":\"gen\",\"period\":2,\"value\":5},{\"name\":\"t\",\"model\":\"tally\"}],\"couplings\":[[\"g\",0,\"t\",0]],\"inputs\":[]}";
-
-/// The tick at which the demonstration ends.
-const DEMO_UNTIL: u64 = 5;
-
 /// Does a job: simulates a network by the sequential abstract simulator and writes its trace, and the
-/// line of its fault if there is one. `demo` reads nothing; `seq` reads the network's file to its end.
+/// line of its fault if there is one. `demo` runs a network of its own by the executive, with the same
+/// text; it reads nothing. `seq` reads the network's file to its end. No job reads a script yet.
 ///
 /// Nothing is written before the outcome of the simulation is known. It ends with
 /// - [`Exit::Done`] or [`Exit::Fault`]: the whole text of the sequential run is written;
@@ -37,16 +32,40 @@ const DEMO_UNTIL: u64 = 5;
 ///   tick is above the greatest one (10), and nothing is written;
 /// - [`Exit::Want`]: a growth of memory was refused (4), and a beginning of the text is written;
 /// - [`Exit::NoWrite`]: the writer failed, and only it knows what it took.
-pub fn engine<N: Read, W: Write>(alloc: Global, job: &Job<'_>, net: &mut N, out: &mut W) -> Exit
-    ensures { IsDone job.now result (N.remaining net.old) (W.contents out.old) (W.contents out.new) }
+pub fn engine<N: Read, S: Read, W: Write>(
+    alloc: Global,
+    job: &Job<'_>,
+    net: &mut N,
+    _script: &mut S,
+    out: &mut W,
+) -> Exit
+    ensures done { IsDone job.now result (N.remaining net.old) (W.contents out.old) (W.contents out.new) }
+    ensures script { _script.new ≡ _script.old }
 {
     match job {
-        Job::Demo => run(alloc, DEMO.as_bytes(), DEMO_UNTIL, out),
+        Job::Demo => demo(alloc, out),
         Job::Seq { until, .. } => match read_all(alloc, net) {
             Ok(bytes) => run(alloc, bytes.as_slice(), *until, out),
             Err(exit) => exit,
         },
     }
+}
+
+// Runs the demonstration and writes its text.
+fn demo<W: Write>(alloc: Global, out: &mut W) -> Exit
+    ensures { IsDemo result (W.contents out.old) (W.contents out.new) }
+{
+    let Ok(network) = gen_tally(alloc) else {
+        return Exit::Want(Refusal::OutOfMemory);
+    };
+    let Ok(records) = demo_trace(alloc) else {
+        return Exit::Want(Refusal::OutOfMemory);
+    };
+    let seq = Seq {
+        records,
+        fault: None,
+    };
+    write_run(alloc, &network, &seq, out)
 }
 
 // All that a reader has left.

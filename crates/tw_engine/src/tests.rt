@@ -32,7 +32,13 @@ fn runs_are_written(rt: HostRuntime) {
             fault,
         } = example;
         let mut out: Vec<u8> = Vec::new(rt.alloc());
-        let exit = engine(rt.alloc(), &seq(*until), &mut file.as_bytes(), &mut out);
+        let exit = engine(
+            rt.alloc(),
+            &seq(*until),
+            &mut file.as_bytes(),
+            &mut "".as_bytes(),
+            &mut out,
+        );
         assert_eq!(rt;
             exit,
             if *fault { Exit::Fault } else { Exit::Done },
@@ -46,7 +52,13 @@ fn runs_are_written(rt: HostRuntime) {
 fn files_are_refused(rt: HostRuntime) {
     for (name, file, refusal) in REFUSED.iter() {
         let mut out: Vec<u8> = Vec::new(rt.alloc());
-        let exit = engine(rt.alloc(), &seq(5), &mut file.as_bytes(), &mut out);
+        let exit = engine(
+            rt.alloc(),
+            &seq(5),
+            &mut file.as_bytes(),
+            &mut "".as_bytes(),
+            &mut out,
+        );
         assert_eq!(rt; exit, Exit::Bad(*refusal), "{name}");
         assert!(rt; out.is_empty(), "{name}");
     }
@@ -55,7 +67,13 @@ fn files_are_refused(rt: HostRuntime) {
 #[test]
 fn the_demonstration_is_written(rt: HostRuntime) {
     let mut out: Vec<u8> = Vec::new(rt.alloc());
-    let exit = engine(rt.alloc(), &Job::Demo, &mut "".as_bytes(), &mut out);
+    let exit = engine(
+        rt.alloc(),
+        &Job::Demo,
+        &mut "".as_bytes(),
+        &mut "".as_bytes(),
+        &mut out,
+    );
     assert_eq!(rt; exit, Exit::Done);
     assert!(rt; out.as_slice() == DEMO_TEXT.as_bytes());
 }
@@ -67,6 +85,7 @@ fn an_end_tick_that_no_stamp_has_is_refused(rt: HostRuntime) {
         rt.alloc(),
         &seq(1_099_511_627_775),
         &mut RUNS[0].file.as_bytes(),
+        &mut "".as_bytes(),
         &mut out,
     );
     assert_eq!(rt; exit, Exit::Bad(Refusal::BadTick));

@@ -2,8 +2,8 @@
 use Rattle.std.proofs.Common.{◌≡◌, ◌≢◌, ℕ, zero, suc, ◌+◌, ◌-◌, ◌<◌, ◌≤◌, List, [], ◌∷◌, ◌++◌, length, replicate, Option, Some, None, Result, Ok, Err, refl, sym, ap, ◌∙◌, subst, arith, ⊎_elim}
 use Rattle.std.specs.Prelude.{slice_get, slice_set, remove, nat_lt, nat_le, slice_index_or, IfSome, IfNone, ◌==◌}
 use Rattle.std.specs.List.{AllByRecursion as Each}
-use Rattle.std.proofs.lemmas.Bool.{cond-true, cond-false, cond_both, cases_eq, lt-ltb, lt-leb}
-use Rattle.std.proofs.lemmas.List.{length-set}
+use Rattle.std.proofs.lemmas.Bool.{cond-true, cond-false, cond_both, cases_eq, cases_lt, lt-ltb, lt-leb}
+use Rattle.std.proofs.lemmas.List.{length-set, get_or_past}
 use Rattle.std.proofs.lemmas.Option.{slice_get_within, slice_get-get_or, same_Some, none-some}
 use Rattle.tw_exec.specs.Driving.{IsSilent, IsQuiet, IsFirstDue, IsPast, latest, to_go, mail_count}
 use Rattle.tw_exec.specs.First.{meant}
@@ -38,7 +38,8 @@ use Rattle.tw_laws.proofs.Ending.{ending_law}
 use Rattle.tw_laws.proofs.Harvesting.{acts_soundly}
 use Rattle.tw_laws.proofs.Runs.{in_order}
 use Rattle.tw_laws.proofs.Stepping.{all_odd, inputs_ascending, get_box}
-use Rattle.tw_exec.proofs.Keeping.{model_there, counted}
+use Rattle.tw_exec.proofs.Absent.{none_before}
+use Rattle.tw_exec.proofs.Keeping.{model_there}
 use Rattle.tw_exec.proofs.LocalSteps.{local_output}
 use Rattle.tw_exec.proofs.Moving.{delivery_placed}
 
@@ -384,6 +385,14 @@ module _ (n : Contents Model) (until : ℕ) (w : World State) (h : IsKept n unti
       )
 
   -- all lines at the end: the columns are the sequential records
-  pub complete_columns : ((c : ℕ) (p : Process State) → slice_get w.processes c ≡ Some p → stamp until 0 0 ≤ p.line) → (c : ℕ) → c < length n.models
+  pub complete_columns : ((c : ℕ) (p : Process State) → slice_get w.processes c ≡ Some p → stamp until 0 0 ≤ p.line) → (c : ℕ)
       → column_of w.columns c ≡ records_before (meant n) until c (stamp until 0 0)
-  complete_columns past c near = let p = process_there c (omega (arith, near, counted n until w h)) in (ending_law.complete (meant n) until w h.whole.network h.bound h.sound past).1 c p.0 p.1
+  complete_columns past c = ⊎_elim there absent (cases_lt c (length w.processes))
+    where
+      there : c < length w.processes → column_of w.columns c ≡ records_before (meant n) until c (stamp until 0 0)
+      there near = let p = process_there c near in (ending_law.complete (meant n) until w h.whole.network h.bound h.sound past).1 c p.0 p.1
+
+      absent : length w.processes ≤ c → column_of w.columns c ≡ records_before (meant n) until c (stamp until 0 0)
+      absent far =
+          let s = h.sound in
+          get_or_past w.columns c [] (omega (arith, far, s.columns, s.processes)) ∙ sym (none_before (meant n) until h.whole.network h.bound c (stamp until 0 0) (omega (arith, far, s.processes)))

@@ -1,3 +1,4 @@
+pub mod Absent
 pub mod Acts
 pub mod Boxes
 pub mod Comparing
@@ -7,6 +8,7 @@ pub mod Harvests
 pub mod Held
 pub mod Keeping
 pub mod Leasts
+pub mod Merging
 pub mod LocalSteps
 pub mod Moving
 pub mod Rises

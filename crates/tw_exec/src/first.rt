@@ -6,10 +6,13 @@
 
 mod component;
 mod driving;
+mod example;
 mod executive;
+mod merging;
 mod refused;
 mod sending;
 
-pub use driving::drive;
+pub use driving::{drive, traced};
+pub use example::gen_tally_law;
 pub use executive::Executive;
 pub use refused::{ActionRefused, StartRefused};

@@ -2,7 +2,7 @@
 ghost use Rattle.std.specs.Prelude.{IfOk};
 ghost use Rattle.tw_exec.specs.GenTally.{IsGenTally};
 
-use crate::first::{ActionRefused, Executive, StartRefused, drive};
+use crate::first::{ActionRefused, Executive, StartRefused, drive, gen_tally_law, traced};
 use std::alloc::Global;
 use std::test::Fail;
 use tw_models::Model;
@@ -90,5 +90,20 @@ fn a_late_end_is_refused(rt: HostRuntime) -> Result<(), Fail> {
     let network = gen_tally(alloc)?;
     let refused = Executive::new(alloc, network, MAX_TICK + 1).err();
     assert_eq!(rt; refused, Some(StartRefused::BadTick));
+    Ok(())
+}
+
+#[test]
+fn a_trace_has_the_records(rt: HostRuntime) -> Result<(), Fail> {
+    let alloc = rt.alloc();
+    gen_tally_law();
+    let trace = traced(alloc, gen_tally(alloc)?, 5)?;
+    assert_eq!(rt; trace.len(), 6);
+    assert!(rt; shows(&trace[0], 2, 0, RecordKind::Out, &[(0, 5)], &[]));
+    assert!(rt; shows(&trace[1], 2, 1, RecordKind::Int, &[], &[1]));
+    assert!(rt; shows(&trace[2], 2, 1, RecordKind::Ext, &[(0, 5)], &[1, 5, 5]));
+    assert!(rt; shows(&trace[3], 4, 0, RecordKind::Out, &[(0, 5)], &[]));
+    assert!(rt; shows(&trace[4], 4, 1, RecordKind::Int, &[], &[2]));
+    assert!(rt; shows(&trace[5], 4, 1, RecordKind::Ext, &[(0, 5)], &[2, 10, 5]));
     Ok(())
 }

@@ -44,14 +44,15 @@ fn exit_of(error: &io::Error) -> Exit {
     }
 }
 
-// Does a job on its file and standard output.
+// Does a job on its file and standard output. No job has a script yet.
 fn do_job(rt: &HostRuntime, job: &Job<'_>) -> Exit {
     let mut net = match job {
         Job::Demo => Source::Missing(ErrorKind::NotFound),
         Job::Seq { net, .. } => Source::from(File::open(rt, *net)),
     };
+    let mut script = io::empty();
     let mut out = io::writer(rt);
-    engine(rt.alloc(), job, &mut net, &mut out)
+    engine(rt.alloc(), job, &mut net, &mut script, &mut out)
 }
 
 // Writes the line for standard error, and answers the status. Where standard error is gone, the status

@@ -13,7 +13,7 @@ pub(crate) struct Example {
 }
 
 /// Runs that are made.
-pub(crate) const RUNS: [Example; 14] = [
+pub(crate) const RUNS: [Example; 15] = [
     Example {
         name: "gen-tally",
         until: 5,
@@ -25,6 +25,28 @@ pub(crate) const RUNS: [Example; 14] = [
 4.0 g out 0=5\n\
 4.0 g int | 2\n\
 4.0 t ext 0=5 | 2 10 5\n",
+        fault: false,
+    },
+    Example {
+        name: "a workshop",
+        until: 50,
+        file: r#"{"format": "tw-1", "micro_limit": 100, "components": [{"name": "saw", "model": "queue",
+"service": 3}, {"name": "press", "model": "queue", "service": 5}, {"name": "sent", "model": "tally"}],
+"couplings": [["saw", 0, "press", 0], ["press", 0, "sent", 0]], "inputs": [{"tick": 1, "to": "saw",
+"port": 0, "value": 7}, {"tick": 1, "to": "saw", "port": 0, "value": 8}]}"#,
+        text: "1.0 saw ext 0=7 0=8 | 0 7 8\n\
+4.0 saw out 0=7\n\
+4.0 saw int | 0 8\n\
+4.0 press ext 0=7 | 0 7\n\
+7.0 saw out 0=8\n\
+7.0 saw int | 0\n\
+7.0 press ext 0=8 | 0 7 8\n\
+9.0 press out 0=7\n\
+9.0 press int | 0 8\n\
+9.0 sent ext 0=7 | 1 7 7\n\
+14.0 press out 0=8\n\
+14.0 press int | 0\n\
+14.0 sent ext 0=8 | 2 15 8\n",
         fault: false,
     },
     Example {

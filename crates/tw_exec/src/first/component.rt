@@ -135,6 +135,13 @@ impl Component {
         self.column.as_slice()
     }
 
+    // The committed records by themselves.
+    pub(crate) fn into_column(self) -> Vec<Record>
+        ensures { result.items ≡ self.column }
+    {
+        self.column
+    }
+
     // Makes the next step, of this stamp.
     pub(crate) fn step(
         &mut self,

@@ -1,16 +1,40 @@
 //! The run of an executive to its end.
 
-ghost use Rattle.std.specs.Prelude.{◌≡◌, ◌<◌, ◌≤◌, ℕ, [], None, OnOk, length};
+ghost use Rattle.std.specs.Prelude.{◌≡◌, ◌<◌, ◌≤◌, ◌↔◌, ℕ, [], None, IfOk, IsErrOf, OnOk, length};
 ghost use Rattle.tw_exec.specs.Driving.{IsSilent, IsQuiet, IsFirstDue, IsPast, to_go};
-ghost use Rattle.tw_exec.specs.First.{Running, start, meant};
+ghost use Rattle.tw_exec.specs.First.{IsFirst, start, meant};
 ghost use Rattle.tw_theory.specs.Executive.{column_of};
 ghost use Rattle.tw_theory.specs.Simulator.{sequential, records_before};
-ghost use Rattle.tw_vtime.specs.Stamps.{stamp};
+ghost use Rattle.tw_vtime.specs.Stamps.{max_tick, stamp};
 ghost use Rattle.tw_exec.specs.declared.first.refused.ActionRefused.TheVariants.{OutOfMemory};
+ghost use Rattle.tw_exec.specs.declared.first.refused.StartRefused.TheVariants as refused;
 
 use crate::first::executive::Executive;
-use crate::first::refused::ActionRefused;
-use std::alloc::AllocError;
+use crate::first::refused::{ActionRefused, StartRefused};
+use std::alloc::{AllocError, Global};
+use tw_models::Model;
+use tw_msgs::Record;
+use tw_network::Network;
+
+/// Runs a network of generators and tallies up to a tick, where its sequential simulator has no fault, and answers
+/// its trace: what the sequential abstract simulator (Chow and Zeigler 1994) records, by stamp and then component.
+///
+/// Refused where the tick is above the greatest one (10), and for want of memory (4). Nothing is left then.
+pub fn traced(
+    alloc: Global,
+    network: Network<Model>,
+    until: u64,
+) -> Result<Vec<Record>, StartRefused>
+    requires first { IsFirst network }
+    requires no_fault { (sequential (meant network) until).fault ≡ None }
+    ensures records { IfOk result (λ trace. trace.items ≡ (sequential (meant network) until).records) }
+    ensures bad_tick { IsErrOf result refused.BadTick ↔ (max_tick < until) }
+{
+    network.facts();
+    let mut executive = Executive::new(alloc, network, until)?;
+    drive(&mut executive)?;
+    Ok(executive.into_trace()?)
+}
 
 /// Runs an executive from its start to the end of its run, for a network whose sequential simulator has no fault.
 ///
@@ -21,7 +45,7 @@ use std::alloc::AllocError;
 pub fn drive(executive: &mut Executive) -> Result<(), AllocError>
     requires at_start { executive.old ≡ start executive.old.network executive.old.until }
     requires no_fault { (sequential (meant executive.old.network) executive.old.until).fault ≡ None }
-    ensures columns { OnOk result ((c : ℕ) → c < length executive.old.network.models → column_of executive.new.world.columns c ≡ records_before (meant executive.old.network) executive.old.until c (stamp executive.old.until 0 0)) }
+    ensures columns { OnOk result ((c : ℕ) → column_of executive.new.world.columns c ≡ records_before (meant executive.old.network) executive.old.until c (stamp executive.old.until 0 0)) }
     ensures no_fault { OnOk result ((sequential (meant executive.old.network) executive.old.until).fault ≡ None) }
     ensures network { executive.new.network ≡ executive.old.network }
     ensures until { executive.new.until ≡ executive.old.until }
@@ -90,7 +114,7 @@ fn deliver_all(executive: &mut Executive) -> Result<(), AllocError>
 fn commit(executive: &mut Executive) -> Result<(), AllocError>
     requires quiet { IsQuiet executive.old.world }
     requires past { IsPast executive.old.world.processes (stamp executive.old.until 0 0) }
-    ensures columns { OnOk result ((c : ℕ) → c < length executive.old.network.models → column_of executive.new.world.columns c ≡ records_before (meant executive.old.network) executive.old.until c (stamp executive.old.until 0 0)) }
+    ensures columns { OnOk result ((c : ℕ) → column_of executive.new.world.columns c ≡ records_before (meant executive.old.network) executive.old.until c (stamp executive.old.until 0 0)) }
     ensures network { executive.new.network ≡ executive.old.network }
     ensures until { executive.new.until ≡ executive.old.until }
 {

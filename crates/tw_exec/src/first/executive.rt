@@ -1,18 +1,20 @@
 //! The executive and its actions.
 
-ghost use Rattle.std.specs.Prelude.{◌≡◌, ◌<◌, ◌≤◌, ◌∷◌, [], Some, IfOk, IfErr, IsErrOf, ◌↔◌, IfSome, OnOk, OnErr, IfNone, length, map, slice_get};
+ghost use Rattle.std.specs.Prelude.{◌≡◌, ℕ, ◌<◌, ◌≤◌, ◌∷◌, [], Some, IfOk, IfErr, IsErrOf, ◌↔◌, IfSome, OnOk, OnErr, IfNone, length, map, slice_get};
 ghost use Rattle.std.specs.List.{AllByRecursion as Each};
 ghost use Rattle.tw_exec.specs.Cells.{cells_of};
 ghost use Rattle.tw_exec.specs.Driving.{IsFirstDue, IsPast};
 ghost use Rattle.tw_exec.specs.First.{IsFirst, start};
 ghost use Rattle.tw_exec.specs.Kept.{IsFirstFor, for_component};
 ghost use Rattle.tw_exec.specs.Refused.{refused_as};
+ghost use Rattle.tw_laws.specs.Traces.{IsTrace, of_component};
 ghost use Rattle.tw_models.specs.Model.{IsModel, model_meaning};
 ghost use Rattle.tw_exec.specs.declared.first.refused.StartRefused.TheVariants as refused;
 ghost use Rattle.tw_theory.specs.Executive.{least_next, mail_of};
 ghost use Rattle.tw_vtime.specs.Stamps.{max_tick, stamp};
 
 use crate::first::component::Component;
+use crate::first::merging::merged;
 use crate::first::refused::{ActionRefused, StartRefused};
 use crate::first::sending::{least_stamp, lesser};
 use std::alloc::{AllocError, Global};
@@ -220,6 +222,16 @@ impl Executive {
         let cell = &mut self.components[component];
         let count = cell.harvest(self.gvt)?;
         Ok(count)
+    }
+
+    /// The trace: all committed records, by stamp and then component. Nothing else of the executive is left.
+    ///
+    /// The only refusal is want of memory (4); then nothing is left.
+    pub fn into_trace(self) -> Result<Vec<Record>, AllocError>
+        ensures trace { IfOk result (λ trace. IsTrace trace.items) }
+        ensures records { IfOk result (λ trace. (c : ℕ) → of_component c trace.items ≡ column_of self.world.columns c) }
+    {
+        merged(self.alloc, self.components)
     }
 
     // The component whose next step is the least before the end of the run; of several the first.

@@ -50,12 +50,12 @@ loop-component-preserved c =
     }
 
 pub returns-clause-columns : goal.returns-clause-columns
-returns-clause-columns c = λ d near.
+returns-clause-columns c = λ d.
     let e = c.loop-component.executive in
     let k = c.loop-component.invariant in
     let raised = ap (λ (x : Running). length x.world.processes) c.raise.ensures.done ∙ ap (λ ps. length ps) (raised_same c.args.executive.now.network c.args.executive.now.until c.args.executive.now.world c.facts.ensures).0 in
     let n = c.args.executive.now.network in
     let until = c.args.executive.now.until in
     let lines = λ (x : ℕ) (p : Process State) (at : slice_get e.world.processes x ≡ Some p). k.lines x p (let l = slice_get_within e.world.processes x p at in omega (arith, l, c.loop-component-test.false, c.len-component-end.ensures, raised, k.count)) at in
-    let columns = complete_columns e.network e.until e.world c.facts-2.ensures (λ x p at. omega (arith, lines x p at, k.until)) d (subst (λ (y : Contents Model). d < length y.models) (sym k.network) near) in
+    let columns = complete_columns e.network e.until e.world c.facts-2.ensures (λ x p at. omega (arith, lines x p at, k.until)) d in
     subst₂ (λ (y : Contents Model) (u : ℕ). column_of e.world.columns d ≡ records_before (meant y) u d (stamp u 0 0)) k.network k.until columns

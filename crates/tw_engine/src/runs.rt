@@ -51,7 +51,8 @@ pub fn engine<N: Read, S: Read, W: Write>(
     }
 }
 
-// Runs the demonstration and writes its text.
+// Runs the demonstration and writes its text. The network is made twice: the executive takes one, and the
+// names are read from the other.
 fn demo<W: Write>(alloc: Global, out: &mut W) -> Exit
     ensures { IsDemo result (W.contents out.old) (W.contents out.new) }
 {

@@ -1,6 +1,6 @@
 -- What the actions of a drive do, and why none of them is refused but for want of memory.
-use Rattle.std.proofs.Common.{◌≡◌, ◌≢◌, ℕ, zero, suc, ◌+◌, ◌-◌, ◌<◌, ◌≤◌, List, [], ◌∷◌, ◌++◌, length, replicate, Option, Some, None, Result, Ok, Err, refl, sym, ap, ◌∙◌, subst, arith, ⊎_elim}
-use Rattle.std.specs.Prelude.{slice_get, slice_set, remove, nat_lt, nat_le, slice_index_or, IfSome, IfNone, ◌==◌}
+use Rattle.std.proofs.Common.{◌≡◌, ◌≢◌, ℕ, zero, suc, ◌+◌, ◌-◌, ◌<◌, ◌≤◌, List, [], ◌∷◌, ◌++◌, length, replicate, Option, Some, None, Result, Ok, Err, true≢false, refl, sym, ap, ◌∙◌, subst, arith, ⊎_elim}
+use Rattle.std.specs.Prelude.{slice_get, slice_set, remove, nat_lt, nat_le, slice_index_or, IfSome, IfNone, IfErr, OnOk, is_ok, true, ◌==◌}
 use Rattle.std.specs.List.{AllByRecursion as Each}
 use Rattle.std.proofs.lemmas.Bool.{cond-true, cond-false, cond_both, cases_eq, cases_lt, lt-ltb, lt-leb}
 use Rattle.std.proofs.lemmas.List.{length-set, get_or_past}
@@ -110,11 +110,18 @@ quiet_start n = record { silent = new_silent (meant n) 0 (meant n).models; mail 
 
 -- ---- refusals
 
-pub memory_alone : (e : ActionRefused) (P : Refusal → Type 0) → IfSome (refused_as e) P → ((why : Refusal) → P why → ⊥) → e ≡ action.OutOfMemory
+memory_alone : (e : ActionRefused) (P : Refusal → Type 0) → IfSome (refused_as e) P → ((why : Refusal) → P why → ⊥) → e ≡ action.OutOfMemory
 memory_alone action.OutOfMemory P h other = refl
 memory_alone action.NothingDue P h other = absurd (other _ h)
 memory_alone (action.OverLimit limit) P h other = absurd (other _ h)
 memory_alone action.NoSuch P h other = absurd (other _ h)
+
+pub memory_only : {T : Type 0} (r : Result T ActionRefused) (P : Refusal → Type 0) → IfErr r (λ e. IfSome (refused_as e) P) → ((why : Refusal) → P why → ⊥) → (e : ActionRefused) → r ≡ Err e → e ≡ action.OutOfMemory
+memory_only r P h other e is = memory_alone e P (subst (λ x. IfErr x (λ y. IfSome (refused_as y) P)) is h) other
+
+pub not_refused : {T E : Type 0} (r : Result T E) (P : Type 0) → true ≡ is_ok r → OnOk r P → P
+not_refused (Ok x) P k h = h
+not_refused (Err e) P k h = absurd (true≢false k)
 
 pub stepped_not : (s : ℕ) (k : RecordKind) (why : Refusal) → Stepped s k ≡ Refused why → ⊥
 stepped_not s k why e = cc

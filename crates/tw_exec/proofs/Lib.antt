@@ -1,6 +1,7 @@
 pub mod Absent
 pub mod Acts
 pub mod Boxes
+pub mod Chains
 pub mod Comparing
 pub mod Driving
 pub mod GenTally

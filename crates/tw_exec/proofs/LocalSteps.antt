@@ -68,7 +68,11 @@ cell state last due pending history outgoing line column = record {
   column = column;
 }
 
-abbrev pub entry : ℕ → ℕ → RecordKind → Bag → List ℤ → Snapshot CodeMoment → Snapshot (Vec Message) → Snapshot (Vec Message) → Entry
+-- the same from the record of its moment
+abbrev pub held_cell : CodeMoment → List Message → List Entry → List Item → ℕ → List Record → Cell
+held_cell at pending history outgoing line column = cell at.state at.last at.due pending history outgoing line column
+
+abbrev pub entry : ℕ → ℕ → RecordKind → Bag → List ℤ → Snapshot CodeMoment → Snapshot (Vec Message) → Snapshot (Vec Item) → Entry
 entry c s kind bag words before consumed sent = record {
   done = record { component = c; stamp = s; kind = kind; bag = bag; words = words };
   before = before;
@@ -76,26 +80,32 @@ entry c s kind bag words before consumed sent = record {
   sent = sent;
 }
 
+messages_of : (ms : List Message) → map (λ i. i.message) (positives ms) ≡ ms
+messages_of [] = refl
+messages_of (m ∷ ms) = ap (λ l. m ∷ l) (messages_of ms)
+
 abbrev moment : State → ℕ → ℕ → Moment State
 moment state last due = record { state = state; last = last; due = due }
 
 module _ (net : Network State) (c : ℕ) (m : Meaning State) (is : (s : State) → model_of net c s ≡ m) (state : State) (last due s : ℕ) (pending : List Message) (history history' : List Entry) (outgoing outgoing' : List Item) (line : ℕ) (column : List Record)
-    (bag : Bag) (words : List ℤ) (before : Snapshot CodeMoment) (consumed sent : Snapshot (Vec Message))
+    (bag : Bag) (words : List ℤ) (before : Snapshot CodeMoment) (consumed : Snapshot (Vec Message)) (sent : Snapshot (Vec Item))
     (before_is : before.value ≡ record { state = state; last = last; due = due }) where
   pub output_stepped : (due' : ℕ) → s ≡ next_of (moment state last due) pending → s < never → phase_of s ≡ 0 → bag ≡ sorted_bag (m.out state) → words ≡ []
-      → consumed.value.items ≡ [] → sent.value.items ≡ routed net c (s + 1) bag → history' ≡ history ++ entry c s Out bag words before consumed sent ∷ []
-      → outgoing' ≡ outgoing ++ positives sent.value.items → due' ≡ s + 1
+      → consumed.value.items ≡ [] → sent.value.items ≡ positives (routed net c (s + 1) bag) → history' ≡ history ++ entry c s Out bag words before consumed sent ∷ []
+      → outgoing' ≡ outgoing ++ sent.value.items → due' ≡ s + 1
       → IsStepped net c (cell state last due pending history outgoing line column) (cell state last due' pending history' outgoing' line column) s Out
   unfolding output
   output_stepped due' next top even bag_is words_is none sent_is pushed added due_is =
       let out : bag ≡ sorted_bag ((model_of net c state).out state) = bag_is ∙ sym (ap (λ (x : Meaning State). sorted_bag (x.out state)) (is state)) in
-      let sends : sent.value.items ≡ routed net c (s + 1) (sorted_bag ((model_of net c state).out state)) = sent_is ∙ ap (routed net c (s + 1)) out in
+      let goes = ap (routed net c (s + 1)) out in
+      let sends : map (λ (i : Item). i.message) sent.value.items ≡ routed net c (s + 1) (sorted_bag ((model_of net c state).out state)) = ap (map (λ (i : Item). i.message)) sent_is ∙ messages_of (routed net c (s + 1) bag) ∙ goes in
+      let added_is = added ∙ ap (λ (l : List Item). outgoing ++ l) sent_is in
       let pushed_is = ap (map step_of) pushed ∙ map_push step_of history (entry c s Out bag words before consumed sent) in
       record {
         made = output_made net c (moment state last due) pending s (output net c (moment state last due) s);
         is = local_output net c (moment state last due) pending s next top even;
         process =
-            (λ i. cell_of (moment state last (due_is i)) pending (pushed_is i) (added i))
+            (λ i. cell_of (moment state last (due_is i)) pending (pushed_is i) (added_is i))
             ∙ (λ i.
             cell_of (moment state last (s + 1)) pending
             (map step_of history
@@ -106,7 +116,7 @@ module _ (net : Network State) (c : ℕ) (m : Meaning State) (is : (s : State) �
               sent = sends i;
             }
             ∷ [])
-            (outgoing ++ positives (sends i)));
+            (outgoing ++ positives (goes i)));
         stamp_is = refl;
         kind_is = refl;
       }
@@ -149,7 +159,7 @@ module _ (net : Network State) (c : ℕ) (m : Meaning State) (is : (s : State) �
               entry = record { component = c; stamp = s; kind = kinds i; bag = bag_is i; words = wrote i };
               before = record { state = (before_is i).state; last = (before_is i).last; due = (before_is i).due };
               consumed = consumed_is i;
-              sent = none i;
+              sent = map (λ (x : Item). x.message) (none i);
             }
             ∷ []) outgoing)
             ∙ ap (λ out. cell_of made.after (behind s pending) (map step_of history ++ (transition_made now pending s made).step ∷ []) out) (sym (append-nil outgoing));

@@ -20,7 +20,7 @@ step_of e = record {
   entry = e.done;
   before = record { state = e.before.value.state; last = e.before.value.last; due = e.before.value.due };
   consumed = e.consumed.value.items;
-  sent = e.sent.value.items;
+  sent = map (λ i. i.message) e.sent.value.items;
 }
 
 -- at the start of a model, where no inputs come

@@ -1,17 +1,30 @@
-//! A generator that feeds a tally, by each action once and by a drive.
-ghost use Rattle.std.specs.Prelude.{IfOk};
+//! A generator that feeds a tally: by each action once, by a drive and by its trace.
+//!
+//! Each test passes also where one request for memory is refused: what was refused is then done again.
+ghost use Rattle.std.specs.Prelude.{◌≡◌, IfOk, None};
+ghost use Rattle.tw_exec.specs.First.{meant, start};
 ghost use Rattle.tw_exec.specs.GenTally.{IsGenTally};
+ghost use Rattle.tw_theory.specs.Simulator.{sequential};
 
 use crate::first::{ActionRefused, Executive, StartRefused, drive, gen_tally_law, traced};
 use std::alloc::Global;
-use std::test::Fail;
 use tw_models::Model;
 use tw_msgs::{Record, RecordKind};
 use tw_network::Network;
-use tw_vtime::{MAX_TICK, Stamp};
+use tw_vtime::{MAX_TICK, Refusal, Stamp};
+
+/// The answer of an action, which is taken again where it was refused for want of memory.
+macro_rules! again {
+    ($action:expr) => {
+        match $action {
+            Err(ActionRefused::OutOfMemory) => $action,
+            answer => answer,
+        }
+    };
+}
 
 /// A generator of period 2 and value 5 that feeds a tally.
-fn gen_tally(alloc: Global) -> Result<Network<Model>, Fail>
+fn gen_tally(alloc: Global) -> Result<Network<Model>, Refusal>
     ensures { IfOk result IsGenTally }
 {
     let mut components = Vec::new(alloc);
@@ -20,6 +33,33 @@ fn gen_tally(alloc: Global) -> Result<Network<Model>, Fail>
     let mut couplings = Vec::new(alloc);
     couplings.push((0, 0, 1, 0))?;
     Ok(Network::new(alloc, components, couplings, Vec::new(alloc), 100)?)
+}
+
+/// The same, made again where memory was refused.
+fn example(alloc: Global) -> Result<Network<Model>, Refusal>
+    ensures { IfOk result IsGenTally }
+{
+    match gen_tally(alloc) {
+        Ok(network) => Ok(network),
+        Err(_) => gen_tally(alloc),
+    }
+}
+
+/// Its executive up to tick 5, at the start.
+fn started(alloc: Global) -> Result<Executive, Refusal>
+    ensures at_start { IfOk result (λ e. e ≡ start e.network e.until) }
+    ensures no_fault { IfOk result (λ e. (sequential (meant e.network) e.until).fault ≡ None) }
+{
+    gen_tally_law();
+    let network = example(alloc)?;
+    Ok(Executive::new(alloc, network, 5)?)
+}
+
+/// The same at its end.
+fn driven(alloc: Global) -> Result<Executive, Refusal> {
+    let mut executive = started(alloc)?;
+    drive(&mut executive)?;
+    Ok(executive)
 }
 
 /// Whether a record is this.
@@ -38,11 +78,12 @@ fn shows(
 }
 
 #[test]
-fn a_drive_gives_the_records(rt: HostRuntime) -> Result<(), Fail> {
+fn a_drive_gives_the_records(rt: HostRuntime) {
     let alloc = rt.alloc();
-    let network = gen_tally(alloc)?;
-    let mut executive = Executive::new(alloc, network, 5)?;
-    drive(&mut executive)?;
+    let executive = match driven(alloc) {
+        Ok(executive) => executive,
+        Err(_) => driven(alloc).expect(&rt, "an executive"),
+    };
     assert_eq!(rt; executive.len(), 2);
     let made = executive.committed(0);
     assert_eq!(rt; made.len(), 4);
@@ -54,50 +95,21 @@ fn a_drive_gives_the_records(rt: HostRuntime) -> Result<(), Fail> {
     assert_eq!(rt; counted.len(), 2);
     assert!(rt; shows(&counted[0], 2, 1, RecordKind::Ext, &[(0, 5)], &[1, 5, 5]));
     assert!(rt; shows(&counted[1], 4, 1, RecordKind::Ext, &[(0, 5)], &[2, 10, 5]));
-    Ok(())
 }
 
 #[test]
-fn each_action(rt: HostRuntime) -> Result<(), Fail> {
-    let alloc = rt.alloc();
-    let network = gen_tally(alloc)?;
-    let mut executive = Executive::new(alloc, network, 5)?;
-    assert_eq!(rt; executive.until(), 5);
-    assert_eq!(rt; executive.network().len(), 2);
-    let output = Stamp::new(2, 0, 0)?;
-    let transition = Stamp::new(2, 0, 1)?;
-    assert_eq!(rt; executive.step(2), Err(ActionRefused::NoSuch));
-    assert_eq!(rt; executive.step(1), Err(ActionRefused::NothingDue));
-    assert_eq!(rt; executive.step(0), Ok((output, RecordKind::Out)));
-    assert_eq!(rt; executive.step(0), Ok((transition, RecordKind::Int)));
-    assert_eq!(rt; executive.raise(), transition);
-    assert_eq!(rt; executive.deliver(1), Err(ActionRefused::NoSuch));
-    assert_eq!(rt; executive.post(0), Ok(1));
-    assert_eq!(rt; executive.deliver(1), Ok(()));
-    assert_eq!(rt; executive.raise(), transition);
-    assert_eq!(rt; executive.gvt(), transition);
-    assert_eq!(rt; executive.harvest(0), Ok(1));
-    assert_eq!(rt; executive.harvest(1), Ok(0));
-    assert_eq!(rt; executive.len(), 2);
-    assert_eq!(rt; executive.line(0), transition);
-    assert_eq!(rt; executive.committed(0).len(), 1);
-    Ok(())
-}
-
-#[test]
-fn a_late_end_is_refused(rt: HostRuntime) -> Result<(), Fail> {
-    let alloc = rt.alloc();
-    let network = gen_tally(alloc)?;
-    let refused = Executive::new(alloc, network, MAX_TICK + 1).err();
-    assert_eq!(rt; refused, Some(StartRefused::BadTick));
-    Ok(())
-}
-
-#[test]
-fn a_trace_has_the_records(rt: HostRuntime) -> Result<(), Fail> {
+fn a_trace_has_the_records(rt: HostRuntime) {
     let alloc = rt.alloc();
     gen_tally_law();
-    let trace = traced(alloc, gen_tally(alloc)?, 5)?;
+    let network = example(alloc).expect(&rt, "a network");
+    let trace = match traced(alloc, network, 5) {
+        Ok(trace) => trace,
+        Err(refused) => {
+            assert_eq!(rt; refused, StartRefused::OutOfMemory);
+            let network = example(alloc).expect(&rt, "a network");
+            traced(alloc, network, 5).expect(&rt, "a trace")
+        }
+    };
     assert_eq!(rt; trace.len(), 6);
     assert!(rt; shows(&trace[0], 2, 0, RecordKind::Out, &[(0, 5)], &[]));
     assert!(rt; shows(&trace[1], 2, 1, RecordKind::Int, &[], &[1]));
@@ -105,5 +117,48 @@ fn a_trace_has_the_records(rt: HostRuntime) -> Result<(), Fail> {
     assert!(rt; shows(&trace[3], 4, 0, RecordKind::Out, &[(0, 5)], &[]));
     assert!(rt; shows(&trace[4], 4, 1, RecordKind::Int, &[], &[2]));
     assert!(rt; shows(&trace[5], 4, 1, RecordKind::Ext, &[(0, 5)], &[2, 10, 5]));
-    Ok(())
+}
+
+#[test]
+fn each_action(rt: HostRuntime) {
+    let alloc = rt.alloc();
+    let mut executive = match started(alloc) {
+        Ok(executive) => executive,
+        Err(_) => started(alloc).expect(&rt, "an executive"),
+    };
+    let output = Stamp::new(2, 0, 0).expect(&rt, "a stamp");
+    let transition = Stamp::new(2, 0, 1).expect(&rt, "a stamp");
+    assert_eq!(rt; executive.step(2), Err(ActionRefused::NoSuch));
+    assert_eq!(rt; executive.step(1), Err(ActionRefused::NothingDue));
+    assert_eq!(rt; again!(executive.step(0)), Ok((output, RecordKind::Out)));
+    assert_eq!(rt;
+        again!(executive.step(0)),
+        Ok((transition, RecordKind::Int))
+    );
+    assert_eq!(rt; executive.raise(), transition);
+    assert_eq!(rt; executive.deliver(1), Err(ActionRefused::NoSuch));
+    assert_eq!(rt; again!(executive.post(0)), Ok(1));
+    assert_eq!(rt; again!(executive.deliver(1)), Ok(()));
+    assert_eq!(rt; executive.raise(), transition);
+    assert_eq!(rt; executive.gvt(), transition);
+    assert_eq!(rt;
+        again!(executive.step(1)),
+        Ok((transition, RecordKind::Ext))
+    );
+    assert_eq!(rt; again!(executive.harvest(0)), Ok(1));
+    assert_eq!(rt; again!(executive.harvest(1)), Ok(0));
+    assert_eq!(rt; executive.len(), 2);
+    assert_eq!(rt; executive.line(0), transition);
+    let committed = executive.committed(0);
+    assert_eq!(rt; committed.len(), 1);
+    assert!(rt; shows(&committed[0], 2, 0, RecordKind::Out, &[(0, 5)], &[]));
+}
+
+#[test]
+fn a_late_end_is_refused(rt: HostRuntime) {
+    let alloc = rt.alloc();
+    gen_tally_law();
+    let network = example(alloc).expect(&rt, "a network");
+    let refused = Executive::new(alloc, network, MAX_TICK + 1).err();
+    assert_eq!(rt; refused, Some(StartRefused::BadTick));
 }

@@ -1,5 +1,5 @@
 -- What messages carry fits, and so do the bags that they make.
-use Rattle.std.proofs.Common.{◌≡◌, ℕ, ℤ, zero, suc, ◌+◌, ◌<◌, ◌==◌, List, [], ◌∷◌, ◌++◌, Some, replicate, slice_get, map, refl, subst, arith}
+use Rattle.std.proofs.Common.{◌≡◌, ℕ, ℤ, zero, suc, ◌+◌, ◌<◌, ◌==◌, List, [], ◌∷◌, ◌++◌, Some, replicate, slice_get, refl, subst, arith}
 use Rattle.std.specs.Prelude.{filter, ◌&&◌, Bool}
 use Rattle.std.specs.List.{AllByRecursion as Each}
 use Rattle.std.proofs.lemmas.Bool.{cond_both}
@@ -32,10 +32,6 @@ none_fits (suc n) = (tt, none_fits n)
 pub each-filter : {X : Type 0} (P : X → Type 0) (test : X → Bool) (xs : List X) → Each P xs → Each P (filter test xs)
 each-filter P test [] h = tt
 each-filter P test (x ∷ xs) h = let rest = each-filter P test xs h.1 in cond_both (test x) (x ∷ filter test xs) (filter test xs) (Each P) (λ e. (h.0, rest)) (λ e. rest)
-
-pub each-mapped : {X Y : Type 0} (P : X → Type 0) (Q : Y → Type 0) (f : X → Y) → ((x : X) → P x → Q (f x)) → (xs : List X) → Each P xs → Each Q (map f xs)
-each-mapped P Q f k [] h = tt
-each-mapped P Q f k (x ∷ xs) h = (k x h.0, each-mapped P Q f k xs h.1)
 
 -- ---- what outputs send
 

@@ -1,5 +1,5 @@
 -- Messages dealt out to bags.
-use Rattle.std.proofs.Common.{◌≡◌, ℕ, zero, suc, ◌+◌, ◌<◌, ◌≤◌, ◌==◌, List, [], ◌∷◌, ◌++◌, length, drop, refl, sym, ap, ◌∙◌, subst, ⊎_elim, arith, append_assoc, append-nil, eq-eqb, ne_eqb, slice_set, slice_index_or, ℤ, true, false}
+use Rattle.std.proofs.Common.{◌≡◌, ℕ, zero, suc, ◌+◌, ◌<◌, ◌≤◌, ◌==◌, List, [], ◌∷◌, ◌++◌, length, drop, refl, sym, ap, ◌∙◌, subst, ⊎_elim, arith, append_assoc, append-nil, eq-eqb, ne_eqb, slice_set, slice_index_or, ℤ, true}
 use Rattle.std.specs.Prelude.{◌≢◌}
 use Rattle.std.proofs.lemmas.Bool.{cases_eq, cond-true, cond-false, eqb-true}
 use Rattle.std.specs.List.{AllByRecursion as Each}
@@ -70,22 +70,12 @@ dealt_next bags m ms all e = sym (dealt-append 0 bags (m ∷ []) ms) ∙ e
 pub with_stamp-own : (s : ℕ) (m : Message) (ms : List Message) → m.stamp ≡ s → with_stamp s (m ∷ ms) ≡ m ∷ with_stamp s ms
 with_stamp-own s m ms e = cond-true (m.stamp == s) (m ∷ with_stamp s ms) (with_stamp s ms) (eq-eqb m.stamp s e)
 
-pub with_stamp-other : (s : ℕ) (m : Message) (ms : List Message) → m.stamp ≢ s → with_stamp s (m ∷ ms) ≡ with_stamp s ms
-with_stamp-other s m ms e = cond-false (m.stamp == s) (m ∷ with_stamp s ms) (with_stamp s ms) (ne_eqb m.stamp s e)
-
 pub input_taken : (s i : ℕ) (inputs : List Message) (bags all : List Bag) (m : Message) → i < length inputs → m ≡ slice_index_or inputs i m → true ≡ (m.stamp == s) → dealt 0 bags (with_stamp s (drop i inputs)) ≡ all → dealt 0 (dealt 0 bags (m ∷ [])) (with_stamp s (drop (i + 1) inputs)) ≡ all
 input_taken s i inputs bags all m l at e h =
     let rest = drop (i + 1) inputs in
     let split : with_stamp s (drop i inputs) ≡ m ∷ with_stamp s rest =
     ap (with_stamp s) (drop_next inputs i m l ∙ ap (λ x. x ∷ rest) (sym at)) ∙ with_stamp-own s m rest (eqb-true m.stamp s (sym e)) in
     dealt_next bags m (with_stamp s rest) all (ap (dealt 0 bags) (sym split) ∙ h)
-
-pub input_left : (s i : ℕ) (inputs : List Message) (bags all : List Bag) (m : Message) → i < length inputs → m ≡ slice_index_or inputs i m → false ≡ (m.stamp == s) → dealt 0 bags (with_stamp s (drop i inputs)) ≡ all → dealt 0 bags (with_stamp s (drop (i + 1) inputs)) ≡ all
-input_left s i inputs bags all m l at e h =
-    let rest = drop (i + 1) inputs in
-    let split : with_stamp s (drop i inputs) ≡ with_stamp s rest =
-    ap (with_stamp s) (drop_next inputs i m l ∙ ap (λ x. x ∷ rest) (sym at)) ∙ cond-false (m.stamp == s) (m ∷ with_stamp s rest) (with_stamp s rest) (sym e) in
-    ap (dealt 0 bags) (sym split) ∙ h
 
 pub inputs_all : (s i : ℕ) (inputs : List Message) (bags all : List Bag) → length inputs ≤ i → dealt 0 bags (with_stamp s (drop i inputs)) ≡ all → bags ≡ all
 inputs_all s i inputs bags all l h = sym (dealt-none 0 bags) ∙ ap (λ ms. dealt 0 bags (with_stamp s ms)) (sym (drop_all inputs i l)) ∙ h

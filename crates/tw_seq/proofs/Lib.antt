@@ -1,6 +1,9 @@
+pub mod AgendaLemmas
 pub mod BagLemmas
 pub mod CarriedLemmas
 pub mod DealingLemmas
+pub mod InputLemmas
+pub mod InputOrder
 pub mod OutputLemmas
 pub mod Places
 pub mod Reaching
@@ -8,5 +11,7 @@ pub mod RoundLemmas
 pub mod StandingLemmas
 pub mod StartLemmas
 pub mod SweepLemmas
+pub mod Sweeping
 pub mod TimeLemmas
 pub mod TurnLemmas
+pub mod WakingLemmas

@@ -1,11 +1,13 @@
 -- The outputs of a round, component by component.
-use Rattle.std.proofs.Common.{◌≡◌, ℕ, zero, suc, ◌+◌, ◌<◌, ◌≤◌, ◌==◌, List, [], ◌∷◌, ◌++◌, length, drop, map, sym, ap, ◌∙◌, arith, append_assoc, append-nil, add-one, slice_index_or, slice_get, Some, true, false, ℤ}
+use Rattle.std.proofs.Common.{◌≡◌, ℕ, zero, suc, ◌+◌, ◌<◌, ◌≤◌, ◌==◌, List, [], ◌∷◌, ◌++◌, length, drop, map, refl, sym, ap, ne_eqb, ◌∙◌, arith, append_assoc, append-nil, add-one, slice_index_or, slice_get, Some, true, false, ℤ}
 use Rattle.std.proofs.lemmas.Bool.{cond-true, cond-false}
 use Rattle.tw_atomic.specs.Atomic.{Meaning}
 use Rattle.tw_msgs.specs.Bags.{Bag, sorted_bag}
 use Rattle.tw_msgs.specs.declared.record.Record.{Record}
 use Rattle.tw_msgs.specs.declared.record_kind.RecordKind.TheVariants.{Out}
 use Rattle.tw_network.specs.Contents.{Contents, network_of}
+use Rattle.std.proofs.lemmas.Option.{get_or_from_slice_get}
+use Rattle.tw_seq.specs.Agenda.{IsDueAt}
 use Rattle.tw_seq.specs.Dealing.{dealt}
 use Rattle.tw_theory.specs.LocalRun.{Moment, output}
 use Rattle.tw_theory.specs.Network.{Network, model_of, absent, routed}
@@ -13,6 +15,7 @@ use Rattle.tw_theory.specs.Simulator.{outputs, all_sent, sent_in}
 use Rattle.tw_vtime.specs.Stamps.{stamp, tick_of, micro_of, phase_of}
 use Rattle.tw_seq.proofs.DealingLemmas.{dealt-none, dealt-append}
 use Rattle.tw_seq.proofs.Places.{drop_next, drop_all}
+use Rattle.tw_seq.proofs.Sweeping.{along, at_place}
 
 -- the transition of a time comes right after its output
 pub transition_of : (t : ℕ) → phase_of t ≡ 0 → stamp (tick_of t) (micro_of t) 1 ≡ t + 1
@@ -45,6 +48,16 @@ pub outs_kept : {S : Type 0} (net : Network S) (t i : ℕ) (moments : List (Mome
 outs_kept net t i moments now l e due =
     outs_next net t i moments now l e
     ∙ rw add-one (cond-false (now.due == t) ((output net i now t).entry ∷ outputs net t (suc i) (drop (suc i) moments)) (outputs net t (suc i) (drop (suc i) moments)) due)
+
+-- components that are not imminent give none
+pub outs_passed : {S : Type 0} (net : Network S) (t i j : ℕ) (moments : List (Moment S)) → i ≤ j → j ≤ length moments → ((c : ℕ) → i ≤ c → c < j → IsDueAt moments c t → ⊥) → outputs net t i (drop i moments) ≡ outputs net t j (drop j moments)
+outs_passed net t i j moments l m none =
+    along (λ k. outputs net t i (drop i moments) ≡ outputs net t k (drop k moments)) i j l
+    (λ c from before h.
+    let n : c < length moments = omega (arith, before, m) in
+    let now = at_place moments c n in
+    h ∙ outs_kept net t c moments now.0 n (sym (get_or_from_slice_get moments c now.0 now.0 now.1)) (ne_eqb now.0.due t (λ e. none c from before (now.0, now.1, e))))
+    refl
 
 -- a record more
 pub record_more : (records all rest : List Record) (entry : Record) → records ++ (entry ∷ rest) ≡ all → (records ++ entry ∷ []) ++ rest ≡ all

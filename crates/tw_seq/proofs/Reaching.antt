@@ -1,11 +1,12 @@
--- The rounds still to be made complete the run.
+-- The rounds still to be made complete the run whose inputs are given in order.
 use Rattle.std.proofs.Common.{◌≡◌, ℕ, zero, suc, ◌+◌, ◌<◌, ◌≤◌, Some, None, nat_lt, refl, sym, ap, ◌∙◌, ⊎_elim, arith, lt-ltb, le-ltb}
 use Rattle.std.proofs.lemmas.Bool.{cond-true, cond-false}
 use Rattle.tw_atomic.specs.Atomic.{Meaning}
 use Rattle.tw_network.specs.Contents.{Contents, network_of}
+use Rattle.tw_seq.specs.InOrder.{start_in_order, rounds_in_order}
 use Rattle.tw_seq.specs.Invariant.{IsUnderway}
 use Rattle.tw_theory.specs.Network.{Network}
-use Rattle.tw_theory.specs.Simulator.{Run, round, round_time, rounds_from, rounds, start_run, sequential}
+use Rattle.tw_theory.specs.Simulator.{Run, round, round_time, rounds_from}
 use Rattle.tw_vtime.specs.Stamps.{max_tick, never, stamp, tick_of, phase_of}
 use Rattle.tw_vtime.specs.declared.limits.Limit.{Limit}
 use Rattle.tw_seq.proofs.RoundLemmas.{next_round, underway_at}
@@ -15,7 +16,7 @@ pub record Reaching {M S : Type 0} (valid : M → S → Type 0) (meaning : M →
   pub from : ℕ
   pub left : ℕ
   pub underway : IsUnderway valid meaning contents from run
-  pub same : rounds_from (network_of meaning contents) bound left run None ≡ rounds (network_of meaning contents) bound
+  pub same : rounds_from (network_of meaning contents) bound left run None ≡ rounds_in_order (network_of meaning contents) bound
   pub enough : bound ≤ from + left
   pub top : from ≤ never
 
@@ -30,8 +31,8 @@ from_rest net bound (suc n) run l = cond-false (nat_lt (round_time run.at) bound
 from_round : {S : Type 0} (net : Network S) (bound n : ℕ) (run : Run S) → round_time run.at < bound → rounds_from net bound (suc n) run None ≡ rounds_from net bound n (round net run (round_time run.at)) (round net run (round_time run.at)).fault
 from_round net bound n run l = cond-true (nat_lt (round_time run.at) bound) _ _ (lt-ltb (round_time run.at) bound l)
 
-pub reaching_start : {M S : Type 0} (valid : M → S → Type 0) (meaning : M → Meaning S) (contents : Contents M) (bound : ℕ) (run : Run S) → run ≡ start_run (network_of meaning contents) → IsUnderway valid meaning contents 0 run → Reaching valid meaning contents bound run
-unfolding rounds
+pub reaching_start : {M S : Type 0} (valid : M → S → Type 0) (meaning : M → Meaning S) (contents : Contents M) (bound : ℕ) (run : Run S) → run ≡ start_in_order (network_of meaning contents) → IsUnderway valid meaning contents 0 run → Reaching valid meaning contents bound run
+unfolding rounds_in_order
 reaching_start valid meaning contents bound run e h = record {
   from = 0;
   left = bound;
@@ -42,8 +43,7 @@ reaching_start valid meaning contents bound run e h = record {
 }
 
 -- no round is left
-pub reaching_end : {M S : Type 0} (valid : M → S → Type 0) (meaning : M → Meaning S) (contents : Contents M) (until : ℕ) (run : Run S) → Reaching valid meaning contents (stamp until 0 0) run → stamp until 0 0 ≤ round_time run.at → run ≡ sequential (network_of meaning contents) until
-unfolding sequential
+pub reaching_end : {M S : Type 0} (valid : M → S → Type 0) (meaning : M → Meaning S) (contents : Contents M) (until : ℕ) (run : Run S) → Reaching valid meaning contents (stamp until 0 0) run → stamp until 0 0 ≤ round_time run.at → run ≡ rounds_in_order (network_of meaning contents) (stamp until 0 0)
 reaching_end valid meaning contents until run h l = sym (from_rest (network_of meaning contents) (stamp until 0 0) h.left run l) ∙ h.same
 
 -- the time of the next round
@@ -60,8 +60,7 @@ next_time valid meaning contents until run t m h e l =
 
 module _ {M S : Type 0} (valid : M → S → Type 0) (meaning : M → Meaning S) (contents : Contents M) (until : ℕ) (run : Run S) (t : ℕ) (m : until ≤ max_tick) (h : Reaching valid meaning contents (stamp until 0 0) run) (e : t ≡ round_time run.at) (l : t < stamp until 0 0) where
   -- one round more, and then those that are left
-  one_more : (n : ℕ) → h.left ≡ n → (k : ℕ) × (n ≡ suc k) × (rounds_from (network_of meaning contents) (stamp until 0 0) k (round (network_of meaning contents) run t) (round (network_of meaning contents) run t).fault ≡ sequential (network_of meaning contents) until)
-  unfolding sequential
+  one_more : (n : ℕ) → h.left ≡ n → (k : ℕ) × (n ≡ suc k) × (rounds_from (network_of meaning contents) (stamp until 0 0) k (round (network_of meaning contents) run t) (round (network_of meaning contents) run t).fault ≡ rounds_in_order (network_of meaning contents) (stamp until 0 0))
   one_more zero z =
       let low = (next_round valid meaning contents h.from run h.top h.underway).0 in
       let enough = h.enough in
@@ -72,14 +71,13 @@ module _ {M S : Type 0} (valid : M → S → Type 0) (meaning : M → Meaning S)
       from_round net (stamp until 0 0) k run (omega (arith, e, l)) ∙ ap (λ s. rounds_from net (stamp until 0 0) k (round net run s) (round net run s).fault) (sym e) in
       (k, refl, sym here ∙ ap (λ n. rounds_from net (stamp until 0 0) n run None) (sym z) ∙ h.same)
 
-  pub reaching_fault : (f : ℕ × ℕ × Limit) → (round (network_of meaning contents) run t).fault ≡ Some f → round (network_of meaning contents) run t ≡ sequential (network_of meaning contents) until
+  pub reaching_fault : (f : ℕ × ℕ × Limit) → (round (network_of meaning contents) run t).fault ≡ Some f → round (network_of meaning contents) run t ≡ rounds_in_order (network_of meaning contents) (stamp until 0 0)
   reaching_fault f q =
       let net = network_of meaning contents in
       let more = one_more h.left refl in
       sym (ap (rounds_from net (stamp until 0 0) more.0 (round net run t)) q ∙ from_fault net (stamp until 0 0) more.0 (round net run t) f) ∙ more.2
 
   pub reaching_on : (next : Run S) → next ≡ round (network_of meaning contents) run t → next.fault ≡ None → IsUnderway valid meaning contents (t + 2) next → Reaching valid meaning contents (stamp until 0 0) next
-  unfolding sequential
   reaching_on next q none under =
       let net = network_of meaning contents in
       let more = one_more h.left refl in

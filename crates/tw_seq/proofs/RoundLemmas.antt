@@ -1,16 +1,22 @@
 -- A round of the code is the definition's, and what stays true from round to round.
 use Rattle.std.proofs.Common.{◌≡◌, ℕ, zero, suc, ◌+◌, ◌-◌, ◌<◌, ◌≤◌, ◌==◌, ◌⊎◌, inl, inr, min, List, [], ◌∷◌, ◌++◌, length, Option, Some, None, nat_lt, replicate, slice_get, refl, sym, ap, ◌∙◌, subst, ⊎_elim, arith, append_assoc}
 use Rattle.std.specs.List.{All, AllByRecursion as Each}
-use Rattle.std.specs.Prelude.{MatchOption}
+use Rattle.std.specs.Prelude.{◌≢◌, MatchOption}
+use Rattle.std.specs.BTreeSet.{BTreeSet}
+use Rattle.std.proofs.lemmas.List.{length-replicate}
+use Rattle.std.proofs.lemmas.List.Elements.{All-nil}
+use Rattle.std.proofs.lemmas.Option.{same_Some, none-some}
 use Rattle.std.proofs.lemmas.Bool.{cond_both, cases_lt, ltb-true}
 use Rattle.tw_atomic.specs.Atomic.{Meaning, FitsBag}
 use Rattle.tw_msgs.specs.Bags.{Bag, sorted_bag}
 use Rattle.tw_msgs.specs.declared.message.Message.{Message}
 use Rattle.tw_msgs.specs.declared.record.Record.{Record}
 use Rattle.tw_network.specs.Contents.{Contents, network_of, IsCoupling}
+use Rattle.tw_seq.specs.Agenda.{IsOn, IsDueAt, IsAgenda}
 use Rattle.tw_seq.specs.Dealing.{dealt, Carried}
-use Rattle.tw_seq.specs.Invariant.{IsTied, IsNextMicrostep, IsStanding, IsToCome, IsUnderway}
+use Rattle.tw_seq.specs.Invariant.{IsTied, IsNextMicrostep, IsStanding, AllStand, IsToCome, IsUnderway}
 use Rattle.tw_seq.specs.Turning.{turns_with}
+use Rattle.tw_seq.specs.Waking.{WakesAll}
 use Rattle.tw_theory.specs.Bundles.{items_of, addressed}
 use Rattle.tw_theory.specs.LocalRun.{Moment, output}
 use Rattle.tw_theory.specs.Network.{Network}
@@ -23,6 +29,7 @@ use Rattle.tw_seq.proofs.DealingLemmas.{dealt-append}
 use Rattle.tw_seq.proofs.OutputLemmas.{output_is}
 use Rattle.tw_seq.proofs.Places.{each_of_all}
 use Rattle.tw_seq.proofs.StandingLemmas.{tied_even}
+use Rattle.tw_seq.proofs.TimeLemmas.{due_least}
 use Rattle.tw_theory.proofs.Elements.{each_weaker}
 
 -- the turns with the bags that messages make
@@ -34,13 +41,6 @@ turns_dealt net t c (now ∷ moments) ms =
 -- all turns of a round of time t
 abbrev pub all_turns : {S : Type 0} → Network S → ℕ → Run S → List (RoundTurn S)
 all_turns net t run = turns net t (all_sent net (outputs net t 0 run.at.moments) ++ with_stamp (t + 1) run.at.inputs) 0 run.at.moments
-
-pub turns_are : {S : Type 0} (net : Network S) (t n : ℕ) (run : Run S) (bags first : List Bag) → n ≡ length run.at.moments → first ≡ dealt 0 (replicate n []) (all_sent net (outputs net t 0 run.at.moments)) → bags ≡ dealt 0 first (with_stamp (t + 1) run.at.inputs) → turns_with net t 0 run.at.moments bags ≡ all_turns net t run
-turns_are net t n run bags first e f h =
-    let outs = all_sent net (outputs net t 0 run.at.moments) in
-    let given = with_stamp (t + 1) run.at.inputs in
-    ap (turns_with net t 0 run.at.moments) (h ∙ ap (λ bs. dealt 0 bs given) f ∙ sym (dealt-append 0 (replicate n []) outs given) ∙ ap (λ k. dealt 0 (replicate k []) (outs ++ given)) e)
-    ∙ turns_dealt net t 0 run.at.moments (outs ++ given)
 
 pub round_by : {S : Type 0} (net : Network S) (t : ℕ) (run : Run S) (stop : Option (ℕ × Limit)) → stop ≡ first_stop 0 (all_turns net t run) → round_end run t (outputs net t 0 run.at.moments) (all_turns net t run) stop ≡ round net run t
 unfolding round
@@ -100,11 +100,6 @@ tied_at s t last due (Some a) l (inr h) = inr h
 pub standing_at : {S : Type 0} (valid : S → Type 0) (model : Meaning S) (s t : ℕ) (now : Moment S) → s ≤ t → t ≤ now.due → IsStanding valid model s now → IsStanding valid model t now
 standing_at valid model s t now l m h = record { valid = h.valid; even = h.even; tied = tied_at s t now.last now.due (model.ta now.state) l h.tied; from = m }
 
-due_least : {S : Type 0} (moments : List (Moment S)) (i : ℕ) (now : Moment S) → slice_get moments i ≡ Some now → least_due moments ≤ now.due
-due_least [] i now e = absurd (cc e)
-due_least (x ∷ moments) zero now e = let q : x ≡ now = cc e in let d = ap (λ m. m.due) q in omega (arith, d)
-due_least (x ∷ moments) (suc i) now e = let ih = due_least moments i now e in omega (arith, ih)
-
 inputs_at : (n s t : ℕ) (ms : List Message) → s ≤ t → t ≤ least_input ms → phase_of t ≡ 0 → Each (IsToCome n s) ms → Each (IsToCome n t) ms
 inputs_at n s t [] l m even h = tt
 inputs_at n s t (x ∷ ms) l m even h =
@@ -121,6 +116,7 @@ underway_at valid meaning contents s t run l m even h =
         each = λ c model now found e. let d = due_least run.at.moments c now e in standing_at (valid model) (meaning model) s t now l (omega (arith, d, due)) (h.moments.each c model now found e);
       };
       inputs = inputs_at (length contents.models) s t run.at.inputs l (omega (arith, m)) even h.inputs;
+      order = h.order;
     }
 
 -- the time of the next round: an output's stamp, or never, and not before s
@@ -157,21 +153,69 @@ next_round valid meaning contents s run l h =
     (at.from, tied_even s now.last now.due ((meaning found.0).ta now.state) at.even at.tied)))
     (input_time (length contents.models) s run.at.inputs l h.inputs)
 
+-- ---- the agenda
+
+-- no step on it is due before the round
+pub not_before : {M S : Type 0} (valid : M → S → Type 0) (meaning : M → Meaning S) (models : List M) (t : ℕ) (moments : List (Moment S)) (s c : ℕ) → AllStand valid meaning models t moments → IsDueAt moments c s → t ≤ s
+not_before valid meaning models t moments s c h at =
+    let model = model_there models moments c at.0 h.size at.1 in
+    let from = (h.each c model.0 at.0 model.1 at.1).from in
+    let due = at.2 in
+    omega (arith, from, due)
+
+-- without the steps of the round it has the later ones
+pub agenda_taken : {M S : Type 0} (valid : M → S → Type 0) (meaning : M → Meaning S) (models : List M) (t : ℕ) (moments : List (Moment S)) (steps left : BTreeSet (ℕ × ℕ)) → AllStand valid meaning models t moments → IsAgenda 0 steps moments →
+    ((s c : ℕ) → IsOn left s c → IsOn steps s c × (s ≢ t)) → ((s c : ℕ) → IsOn steps s c → s ≢ t → IsOn left s c) → IsAgenda (t + 1) left moments
+agenda_taken valid meaning models t moments steps left stand h was kept = record {
+  each = λ s c on.
+      let before = was s c on in
+      let at = h.each s c before.0 in
+      let low = not_before valid meaning models t moments s c stand at.0 in
+      let other = before.1 in
+      (at.0, omega (arith, low, other), at.2);
+  all = λ s c at low high. kept s c (h.all s c at (omega arith) high) (λ e. omega (arith, e, low));
+}
+
+-- after the round all steps are later
+pub agenda_whole : {M S : Type 0} (valid : M → S → Type 0) (meaning : M → Meaning S) (models : List M) (t : ℕ) (moments : List (Moment S)) (steps : BTreeSet (ℕ × ℕ)) → AllStand valid meaning models (t + 2) moments → IsAgenda (t + 1) steps moments → IsAgenda 0 steps moments
+agenda_whole valid meaning models t moments steps stand h = record {
+  each = λ s c on. let at = h.each s c on in (at.0, omega arith, at.2);
+  all = λ s c at low high. h.all s c at (let from = not_before valid meaning models (t + 2) moments s c stand at in omega (arith, from)) high;
+}
+
+empty_bag : (n c : ℕ) (bag : Bag) → slice_get (replicate n []) c ≡ Some bag → bag ≡ []
+empty_bag zero c bag e = absurd (none-some bag e)
+empty_bag (suc n) zero bag e = sym (same_Some [] bag e)
+empty_bag (suc n) (suc c) bag e = empty_bag n c bag e
+
+pub empty_size : (n : ℕ) (bags : List Bag) → bags ≡ replicate n [] → length bags ≡ n
+empty_size n bags e = ap length e ∙ length-replicate n []
+
+-- nothing comes to anybody
+pub none_reached : (n : ℕ) (bags : List Bag) (awake : List ℕ) → bags ≡ replicate n [] → awake ≡ [] → WakesAll bags awake
+none_reached n bags awake e f = record {
+  each = subst (All (λ c. c < length bags)) (sym f) (All-nil (λ c. c < length bags));
+  all = λ c r. absurd (r.2 (empty_bag n c r.0 (ap (λ bs. slice_get bs c) (sym e) ∙ r.1)));
+}
+
 -- ---- the round's calls, one after another
 
-pub turns_here : {S : Type 0} (net : Network S) (t at n : ℕ) (run : Run S) (for_outputs for_turns : List (Moment S)) (inputs : List Message) (room start first bags : List Bag) →
-    for_outputs ≡ run.at.moments → for_turns ≡ run.at.moments → inputs ≡ run.at.inputs → at ≡ t + 1 → n ≡ length run.at.moments → room ≡ replicate n [] → start ≡ room → first ≡ dealt 0 start (all_sent net (outputs net t 0 for_outputs)) → bags ≡ dealt 0 first (with_stamp at inputs) → turns_with net t 0 for_turns bags ≡ all_turns net t run
-turns_here net t at n run for_outputs for_turns inputs room start first bags m m' i s e f h k b =
+pub turns_here : {S : Type 0} (net : Network S) (t at : ℕ) (run : Run S) (for_outputs for_turns : List (Moment S)) (inputs : List Message) (room first bags : List Bag) →
+    for_outputs ≡ run.at.moments → for_turns ≡ run.at.moments → inputs ≡ run.at.inputs → at ≡ t + 1 → room ≡ replicate (length run.at.moments) [] → first ≡ dealt 0 room (all_sent net (outputs net t 0 for_outputs)) → bags ≡ dealt 0 first (with_stamp at inputs) → turns_with net t 0 for_turns bags ≡ all_turns net t run
+turns_here net t at run for_outputs for_turns inputs room first bags m m' i s f k b =
+    let outs = all_sent net (outputs net t 0 run.at.moments) in
+    let given = with_stamp (t + 1) run.at.inputs in
+    let n = length run.at.moments in
+    let first_is : first ≡ dealt 0 (replicate n []) outs = k ∙ (λ j. dealt 0 (f j) (all_sent net (outputs net t 0 (m j)))) in
     ap (λ ms. turns_with net t 0 ms bags) m'
-    ∙ turns_are net t n run bags first e
-    (k ∙ (λ j. dealt 0 ((h ∙ f) j) (all_sent net (outputs net t 0 (m j)))))
-    (b ∙ (λ j. dealt 0 first (with_stamp (s j) (i j))))
+    ∙ ap (turns_with net t 0 run.at.moments) (b ∙ (λ j. dealt 0 (first_is j) (with_stamp (s j) (i j))) ∙ sym (dealt-append 0 (replicate n []) outs given))
+    ∙ turns_dealt net t 0 run.at.moments (outs ++ given)
 
 -- all bags of the round fit
-pub bags_fit : {M S : Type 0} (valid : M → S → Type 0) (meaning : M → Meaning S) (contents : Contents M) (t at n : ℕ) (run : Run S) (for_outputs : List (Moment S)) (inputs : List Message) (room start first bags : List Bag) →
+pub bags_fit : {M S : Type 0} (valid : M → S → Type 0) (meaning : M → Meaning S) (contents : Contents M) (t at : ℕ) (run : Run S) (for_outputs : List (Moment S)) (inputs : List Message) (room first bags : List Bag) →
     ((model : M) (s : S) → valid model s → FitsBag ((meaning model).out s)) → All (IsCoupling (length contents.models)) contents.couplings → IsUnderway valid meaning contents t run →
-    for_outputs ≡ run.at.moments → inputs ≡ run.at.inputs → room ≡ replicate n [] → start ≡ room → first ≡ dealt 0 start (all_sent (network_of meaning contents) (outputs (network_of meaning contents) t 0 for_outputs)) → bags ≡ dealt 0 first (with_stamp at inputs) → Each FitsBag bags
-bags_fit {M} {S} valid meaning contents t at n run for_outputs inputs room start first bags fits ports under m i f h k b =
+    for_outputs ≡ run.at.moments → inputs ≡ run.at.inputs → room ≡ replicate (length run.at.moments) [] → first ≡ dealt 0 room (all_sent (network_of meaning contents) (outputs (network_of meaning contents) t 0 for_outputs)) → bags ≡ dealt 0 first (with_stamp at inputs) → Each FitsBag bags
+bags_fit {M} {S} valid meaning contents t at run for_outputs inputs room first bags fits ports under m i f k b =
     let net : Network S = network_of meaning contents in
     let sent : Each Carried (all_sent net (outputs net t 0 run.at.moments)) =
     sent_carried net (each_weaker (IsCoupling (length contents.models)) (λ k. k.3 < 16) (λ k p. let q = p.destination_port in omega (arith, q)) contents.couplings (each_of_all (IsCoupling (length contents.models)) contents.couplings ports)) t 0 run.at.moments
@@ -184,6 +228,6 @@ bags_fit {M} {S} valid meaning contents t at n run for_outputs inputs room start
     subst (λ d. FitsBag (output net d now t).entry.bag) (sym z) (subst (λ r. FitsBag r.bag) bag out)) in
     let given : Each Carried (with_stamp at inputs) =
     each-filter Carried (λ x. x.stamp == at) inputs (subst (Each Carried) (sym i) (each_weaker (IsToCome (length contents.models) t) Carried (λ x p. p.carried) run.at.inputs under.inputs)) in
-    let started : Each FitsBag start = subst (Each FitsBag) (sym (h ∙ f)) (none_fits n) in
-    let second : Each FitsBag first = subst (Each FitsBag) (sym k) (dealt_fits 0 start (all_sent net (outputs net t 0 for_outputs)) started (subst (λ ms. Each Carried (all_sent net (outputs net t 0 ms))) (sym m) sent)) in
+    let started : Each FitsBag room = subst (Each FitsBag) (sym f) (none_fits (length run.at.moments)) in
+    let second : Each FitsBag first = subst (Each FitsBag) (sym k) (dealt_fits 0 room (all_sent net (outputs net t 0 for_outputs)) started (subst (λ ms. Each Carried (all_sent net (outputs net t 0 ms))) (sym m) sent)) in
     subst (Each FitsBag) (sym b) (dealt_fits 0 first (with_stamp at inputs) second given)

@@ -1,18 +1,28 @@
 -- The transitions of a round, component by component.
-use Rattle.std.proofs.Common.{◌≡◌, ℕ, ◌+◌, ◌<◌, ◌==◌, List, [], ◌∷◌, ◌++◌, length, drop, take, Option, Some, slice_get, slice_set, slice_index_or, refl, sym, ap, ap₂, ◌∙◌, subst, ⊎_elim, arith, add-one, append_assoc}
+use Rattle.std.proofs.Common.{◌≡◌, ℕ, suc, ◌+◌, ◌<◌, ◌≤◌, ◌==◌, inl, inr, false, append-nil, ne_eqb, List, [], ◌∷◌, ◌++◌, length, drop, take, Option, Some, slice_get, slice_set, slice_index, slice_index_or, replicate, refl, sym, ap, ap₂, ◌∙◌, subst, ⊎_elim, arith, add-one, append_assoc}
 use Rattle.std.proofs.Math.Seq.{take-suc-set}
-use Rattle.std.proofs.lemmas.List.{drop-set-lt}
+use Rattle.std.proofs.lemmas.List.{drop-set-lt, set-get_or}
+use Rattle.std.specs.Prelude.{◌≢◌}
+use Rattle.std.proofs.lemmas.Option.{get_or_from_slice_get}
+use Rattle.tw_atomic.specs.Atomic.{Meaning}
 use Rattle.tw_msgs.specs.Bags.{Bag, sorted_bag}
 use Rattle.tw_msgs.specs.declared.record.Record.{Record}
-use Rattle.tw_seq.specs.Turning.{seen, CanGoOn, turns_with}
+use Rattle.tw_network.specs.Contents.{Contents, network_of}
+use Rattle.tw_seq.specs.Invariant.{IsStanding, AllStand}
+use Rattle.tw_seq.specs.Turning.{seen, CanGoOn, kind_and_turn, turns_with}
+use Rattle.tw_seq.specs.Waking.{HasTurn, IsInTurn}
 use Rattle.tw_seq.specs.declared.turns.Taken.{Taken}
 use Rattle.tw_seq.specs.declared.turns.Taken.TheVariants as taken
 use Rattle.tw_theory.specs.LocalRun.{Moment}
 use Rattle.tw_theory.specs.Network.{Network}
-use Rattle.tw_theory.specs.Simulator.{RoundTurn, take_turn, after_output, turn_records, turned_moments, first_stop}
+use Rattle.tw_theory.specs.Simulator.{RoundTurn, Stays, take_turn, after_output, turn_records, turned_moments, first_stop}
 use Rattle.tw_vtime.specs.declared.limits.Limit.{Limit}
 use Rattle.tw_theory.proofs.Elements.{get_of_set}
+use Rattle.tw_vtime.specs.Stamps.{max_tick, tick_of, phase_of}
 use Rattle.tw_seq.proofs.Places.{drop_next}
+use Rattle.tw_seq.proofs.StandingLemmas.{stays_standing}
+use Rattle.tw_seq.proofs.Sweeping.{along, at_place, onward, onward_within, onward_next, none_between, none_after}
+use Rattle.tw_seq.proofs.TurnLemmas.{stays_turn}
 
 same_head : {X : Type 0} (x y : X) (xs ys : List X) → x ∷ xs ≡ y ∷ ys → x ≡ y
 same_head x y xs ys e = cc e
@@ -102,3 +112,95 @@ standing_next P i moments new here before k now l e =
     (λ h. subst (λ n. P n now) (sym h.0) (subst (P i) (sym h.1) here))
     (λ h. let n = h.0 in before k now (omega (arith, l, n)) h.1)
     (get_of_set moments i k new now e)
+
+-- ---- where a sweep stands before component i
+
+no_bag : (bag : Bag) → (bag ≢ [] → ⊥) → bag ≡ []
+no_bag [] h = refl
+no_bag (x ∷ xs) h = absurd (h (λ e. cc e))
+
+pub record Swept {M S : Type 0} (valid : M → S → Type 0) (meaning : M → Meaning S) (contents : Contents M) (t : ℕ) (old : List (Moment S)) (bags0 : List Bag) (start : List Record) (i : ℕ) (moments : List (Moment S)) (bags : List Bag) (records : List Record) : Type 0 where
+  pub later : drop i moments ≡ drop i old
+  pub to_come : drop i bags ≡ drop i bags0
+  pub empty : (d : ℕ) (bag : Bag) → d < i → slice_get bags d ≡ Some bag → bag ≡ []
+  pub stop : first_stop i (turns_with (network_of meaning contents) t i (drop i old) (drop i bags0)) ≡ first_stop 0 (turns_with (network_of meaning contents) t 0 old bags0)
+  pub recorded : records ++ turn_records (turns_with (network_of meaning contents) t i (drop i old) (drop i bags0)) ≡ start ++ turn_records (turns_with (network_of meaning contents) t 0 old bags0)
+  pub moved : take i moments ++ turned_moments (drop i old) (turns_with (network_of meaning contents) t i (drop i old) (drop i bags0)) ≡ turned_moments old (turns_with (network_of meaning contents) t 0 old bags0)
+  pub standing : (d : ℕ) (model : M) (now : Moment S) → d < i → slice_get contents.models d ≡ Some model → slice_get moments d ≡ Some now → IsStanding (valid model) (meaning model) (t + 2) now
+
+module _ {M S : Type 0} (valid : M → S → Type 0) (meaning : M → Meaning S) (contents : Contents M) (t : ℕ) (old : List (Moment S)) (bags0 : List Bag) (start : List Record)
+    (i : ℕ) (moments : List (Moment S)) (bags : List Bag) (records : List Record) (swept : Swept valid meaning contents t old bags0 start i moments bags records)
+    (l0 : i < length old) (m0 : i < length bags0) (l : i < length moments) (m : i < length bags) where
+  -- component i takes its turn
+  pub swept_turn : (d : Moment S) (b : Bag) (what : Taken) (new : Moment S) →
+      seen what new ≡ take_turn (network_of meaning contents) i (after_output (network_of meaning contents) i (slice_index_or moments i d) t) (t + 1) ((slice_index_or moments i d).due == t) (sorted_bag (slice_index_or bags i b)) →
+      CanGoOn what → (what ≡ taken.Stays → new ≡ slice_index_or moments i d) →
+      ((model : M) → slice_get contents.models i ≡ Some model → IsStanding (valid model) (meaning model) (t + 2) new) →
+      Swept valid meaning contents t old bags0 start (i + 1) (slice_set moments i new) (slice_set bags i []) (records ++ entries what)
+  swept_turn d b what new turn on kept stands =
+      let net = network_of meaning contents in
+      let P : ℕ → Moment S → Type 0 = λ k now. (model : M) → slice_get contents.models k ≡ Some model → IsStanding (valid model) (meaning model) (t + 2) now in
+      let all = standing_next P i moments new stands (λ k now q e model found. swept.standing k model now q found e) in
+      record {
+        later = later_set moments old i new d swept.later l l0;
+        to_come = later_set bags bags0 i [] b swept.to_come m m0;
+        empty = λ k bag q e. ⊎_elim (λ h. h.1) (λ h. let n = h.0 in swept.empty k bag (omega (arith, q, n)) h.1) (get_of_set bags i k [] bag e);
+        stop = stop_kept net t i old moments bags0 bags d b what new swept.later swept.to_come l l0 m m0 turn on _ swept.stop;
+        recorded = records_kept net t i old moments bags0 bags d b what new swept.later swept.to_come l l0 m m0 turn records _ swept.recorded;
+        moved = moments_kept net t i old moments bags0 bags d b what new swept.later swept.to_come l l0 m m0 turn on kept _ swept.moved;
+        standing = λ k model now q found e. all k now q e model found;
+      }
+
+  -- component i has none
+  pub swept_passed : AllStand valid meaning contents.models t old → phase_of t ≡ 0 → tick_of t < max_tick → (HasTurn t old bags0 i → ⊥) → Swept valid meaning contents t old bags0 start (i + 1) moments bags records
+  swept_passed stand even small none =
+      let net = network_of meaning contents in
+      let now = at_place old i l0 in
+      let bag = at_place bags0 i m0 in
+      let idle : now.0.due ≢ t = λ e. none (inl (now.0, now.1, e)) in
+      let nothing : bag.0 ≡ [] = no_bag bag.0 (λ n. none (inr (bag.0, bag.1, n))) in
+      let here : slice_index_or moments i now.0 ≡ now.0 = same_here moments old i now.0 swept.later l l0 ∙ get_or_from_slice_get old i now.0 now.0 now.1 in
+      let empty : slice_index_or bags i [] ≡ [] = same_here bags bags0 i [] swept.to_come m m0 ∙ get_or_from_slice_get bags0 i bag.0 [] bag.1 ∙ nothing in
+      let waits : ((slice_index_or moments i now.0).due == t) ≡ false = ap (λ x. x.due == t) here ∙ ne_eqb now.0.due t idle in
+      let turn : Stays ≡ take_turn net i (after_output net i (slice_index_or moments i now.0) t) (t + 1) ((slice_index_or moments i now.0).due == t) (sorted_bag (slice_index_or bags i [])) =
+      sym (stays_turn net i (t + 1) (after_output net i (slice_index_or moments i now.0) t) ((slice_index_or moments i now.0).due == t) (sorted_bag (slice_index_or bags i [])) (λ k. kind_and_turn (waits k) (sorted_bag (empty k)))) in
+      let stands : (model : M) → slice_get contents.models i ≡ Some model → IsStanding (valid model) (meaning model) (t + 2) (slice_index_or moments i now.0) =
+      λ model found. subst (IsStanding (valid model) (meaning model) (t + 2)) (sym here) (stays_standing (valid model) (meaning model) t now.0 (stand.each i model now.0 found now.1) idle even small) in
+      let after = swept_turn now.0 [] taken.Stays (slice_index_or moments i now.0) turn tt (λ e. refl) stands in
+      let same_moments : slice_set moments i (slice_index_or moments i now.0) ≡ moments = set-get_or moments i now.0 in
+      let same_bags : slice_set bags i [] ≡ bags = ap (slice_set bags i) (sym empty) ∙ set-get_or bags i [] in
+      let same_records : records ++ entries taken.Stays ≡ records = append-nil records in
+      subst (λ rs. Swept valid meaning contents t old bags0 start (i + 1) moments bags rs) same_records
+      (subst (λ bs. Swept valid meaning contents t old bags0 start (i + 1) moments bs (records ++ [])) same_bags
+      (subst (λ ms. Swept valid meaning contents t old bags0 start (i + 1) ms (slice_set bags i []) (records ++ [])) same_moments after))
+
+-- ---- from one component in turn to the next
+
+module _ {M S : Type 0} (valid : M → S → Type 0) (meaning : M → Meaning S) (contents : Contents M) (t : ℕ) (old : List (Moment S)) (bags0 : List Bag) (start : List Record) (moments : List (Moment S)) (bags : List Bag) (records : List Record)
+    (items : List ℕ) (listed : IsInTurn t old bags0 items) (size : length moments ≡ length old) (size' : length bags ≡ length bags0) (size0 : length bags0 ≡ length old)
+    (stand : AllStand valid meaning contents.models t old) (even : phase_of t ≡ 0) (small : tick_of t < max_tick) where
+  swept_to : (i j : ℕ) → i ≤ j → j ≤ length old → ((c : ℕ) → i ≤ c → c < j → HasTurn t old bags0 c → ⊥) → Swept valid meaning contents t old bags0 start i moments bags records → Swept valid meaning contents t old bags0 start j moments bags records
+  swept_to i j le top none =
+      along (λ k. Swept valid meaning contents t old bags0 start k moments bags records) i j le
+      (λ c from before h.
+      let l0 : c < length old = omega (arith, before, top) in
+      swept_passed valid meaning contents t old bags0 start c moments bags records h l0 (omega (arith, l0, size0)) (omega (arith, l0, size)) (omega (arith, l0, size', size0)) stand even small (none c from before))
+
+  pub turn_within : (k : ℕ) → k < length items → slice_index items k < length old
+  turn_within k l = let h : slice_index items k < length bags0 = listed.each k 0 l in omega (arith, h, size0)
+
+  pub at_turn : (k : ℕ) → k < length items → Swept valid meaning contents t old bags0 start (onward items k) moments bags records → Swept valid meaning contents t old bags0 start (slice_index items k) moments bags records
+  at_turn k l = let h = turn_within k l in swept_to (onward items k) (slice_index items k) (onward_next items listed.rising k l) (omega (arith, h))
+      (λ c from before turn. none_between items listed.rising k c l from before (listed.all c turn))
+
+  pub at_end : (k : ℕ) → length items ≤ k → k ≤ length items → Swept valid meaning contents t old bags0 start (onward items k) moments bags records → Swept valid meaning contents t old bags0 start (length old) moments bags records
+  at_end k l m = swept_to (onward items k) (length old) (onward_within items (length old) k (λ j d n. let h = listed.each j d n in omega (arith, h, size0)) m) (omega arith)
+      (λ c from before turn. none_after items listed.rising k c l m from (listed.all c turn))
+
+pub listed_as : {S : Type 0} (t : ℕ) (old : List (Moment S)) (bags bags' : List Bag) (items items' : List ℕ) → bags' ≡ bags → items' ≡ items → IsInTurn t old bags items → IsInTurn t old bags' items'
+listed_as t old bags bags' items items' e f h = subst (λ bs. IsInTurn t old bs items') (sym e) (subst (IsInTurn t old bags) (sym f) h)
+
+-- bags of which each is empty
+pub all_empty : (bags : List Bag) → ((d : ℕ) (bag : Bag) → slice_get bags d ≡ Some bag → bag ≡ []) → bags ≡ replicate (length bags) []
+all_empty [] h = refl
+all_empty (bag ∷ bags) h = λ i. h 0 bag refl i ∷ all_empty bags (λ d b e. h (suc d) b e) i

@@ -1,13 +1,14 @@
 -- What stays true from round to round.
 --     IsStanding valid model s now      a component whose next own step is not before s, with a state that fits and due tied to its time advance
 --     AllStand valid meaning models s moments      each component of the network
---     IsUnderway valid meaning contents s run      the network, and the inputs to come
+--     IsUnderway valid meaning contents s run      the network, and the inputs to come, in order
 use Rattle.std.specs.Prelude.{◌≡◌, ℕ, ◌+◌, ◌<◌, ◌≤◌, ◌⊎◌, List, length, slice_get, Option, None, Some}
 use Rattle.std.specs.List.{AllByRecursion as Each}
 use Rattle.tw_atomic.specs.Atomic.{Meaning}
 use Rattle.tw_msgs.specs.declared.message.Message.{Message}
 use Rattle.tw_network.specs.Contents.{Contents}
 use Rattle.tw_seq.specs.Dealing.{Carried}
+use Rattle.tw_theory.specs.Bundles.{Ascending}
 use Rattle.tw_theory.specs.LocalRun.{Moment}
 use Rattle.tw_theory.specs.Simulator.{Run}
 use Rattle.tw_vtime.specs.Stamps.{stamp, never, tick_of, phase_of}
@@ -44,3 +45,4 @@ pub record IsUnderway {M S : Type 0} (valid : M → S → Type 0) (meaning : M �
   pub even : phase_of s ≡ 0
   pub moments : AllStand valid meaning contents.models s run.at.moments
   pub inputs : Each (IsToCome (length contents.models) s) run.at.inputs
+  pub order : Ascending run.at.inputs

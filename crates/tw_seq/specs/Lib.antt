@@ -1,4 +1,7 @@
+pub mod Agenda
 pub mod Dealing
+pub mod InOrder
 pub mod Invariant
 pub mod Refusals
 pub mod Turning
+pub mod Waking

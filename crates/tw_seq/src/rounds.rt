@@ -5,8 +5,12 @@ ghost use Rattle.std.specs.Prelude.{
   ◌<◌,
   ◌≤◌,
   ◌+◌,
+  [],
   None,
   Some,
+  drop,
+  length,
+  replicate,
   IfOk,
   IfNone,
   IfSome,
@@ -14,13 +18,18 @@ ghost use Rattle.std.specs.Prelude.{
 };
 ghost use Rattle.std.specs.List.{AllByRecursion as Each};
 ghost use Rattle.tw_network.specs.Contents.{network_of, StartsInTime};
+ghost use Rattle.tw_msgs.specs.Messages.{sorted_messages};
+ghost use Rattle.tw_seq.specs.Agenda.{IsAgenda};
 ghost use Rattle.tw_seq.specs.Dealing.{Carried};
+ghost use Rattle.tw_seq.specs.InOrder.{start_in_order};
 ghost use Rattle.tw_seq.specs.Invariant.{IsStanding, IsUnderway};
+ghost use Rattle.tw_theory.specs.Bundles.{Ascending};
 ghost use Rattle.tw_theory.specs.LocalRun.{start_moment};
-ghost use Rattle.tw_theory.specs.Simulator.{least_due, least_input, round_time, past_stamp, round, start_run};
+ghost use Rattle.tw_theory.specs.Simulator.{least_input, round_time, round};
 ghost use Rattle.tw_vtime.specs.Stamps.{max_tick, never, tick_of, phase_of};
 
-use crate::bags::{deliver_inputs, empty_bags};
+use crate::agenda::Agenda;
+use crate::bags::Arrivals;
 use crate::outputs::make_outputs;
 use crate::standing::Standing;
 use crate::turns::make_turns;
@@ -31,33 +40,46 @@ use tw_msgs::{Message, Record};
 use tw_network::Network;
 use tw_vtime::{Limit, Stamp};
 
-/// A run between two rounds: where each component stands, the inputs to come, and the records so far.
+/// A run between two rounds: where each component stands, the inputs in order, of which those from place
+/// `given` on are to come, and the records so far.
 #[derive(Drop)]
 pub struct Running<S: Drop> {
     moments: Vec<Standing<S>>,
     inputs: Vec<Message>,
+    given: usize,
     records: Vec<Record>,
 }
 
+/// What a round works with, kept from round to round: the agenda, what comes to the components, and
+/// which of them are imminent.
+#[derive(Drop)]
+pub struct Bench {
+    pub(crate) agenda: Agenda,
+    arrivals: Arrivals,
+    imminent: Vec<usize>,
+}
+
 impl<S: Drop> Model for Running<S> {
-    ghost use Rattle.std.specs.Prelude.{None};
+    ghost use Rattle.std.specs.Prelude.{None, drop};
     ghost use Rattle.tw_theory.specs.Simulator.{Run};
 
     ghost Value = { Run S };
 
-    ghost view = { λ r. record { at = record { moments = r.moments.items; inputs = r.inputs.items }; records = r.records.items; fault = None } };
+    ghost view = { λ r. record { at = record { moments = r.moments.items; inputs = drop r.given r.inputs.items }; records = r.records.items; fault = None } };
 }
 
 impl<S: Drop> Running<S> {
     /// The time of the next round, if it is before `end`.
-    pub(crate) fn next_time(&self, end: Stamp) -> Option<Stamp>
-        requires { Each (λ m. (m.stamp < never) × (phase_of m.stamp ≡ 1)) self.now.at.inputs }
+    pub(crate) fn next_time(&self, agenda: &Agenda, end: Stamp) -> Option<Stamp>
+        requires agenda { IsAgenda 0 agenda.now.steps self.now.at.moments }
+        requires inputs { Each (λ m. (m.stamp < never) × (phase_of m.stamp ≡ 1)) self.now.at.inputs }
+        requires order { Ascending self.now.at.inputs }
         ensures none { IfNone result (end ≤ round_time self.now.at) }
         ensures time { IfSome result (λ time. time ≡ round_time self.now.at) }
         ensures before { IfSome result (λ time. time < end) }
     {
-        let due = first_due(&self.moments);
-        let input = first_input(&self.inputs);
+        let due = agenda.first_time();
+        let input = next_input(&self.inputs, self.given);
         let time = if input < due { input } else { due };
         if time < end { Some(time) } else { None }
     }
@@ -69,45 +91,23 @@ impl<S: Drop> Running<S> {
         let Running {
             moments: _,
             inputs: _,
+            given: _,
             records,
         } = self;
         records
     }
 }
 
-/// The least stamp at which a component is due.
-fn first_due<S: Drop>(moments: &[Standing<S>]) -> Stamp
-    ensures { result ≡ least_due moments.now }
+/// The least time of an input from place `given` on, as the stamp of its output.
+fn next_input(inputs: &[Message], given: usize) -> Stamp
+    requires inputs { Each (λ m. (m.stamp < never) × (phase_of m.stamp ≡ 1)) (drop given inputs.now) }
+    requires order { Ascending (drop given inputs.now) }
+    ensures { result ≡ least_input (drop given inputs.now) }
 {
-    let mut least = Stamp::END;
-    for now in moments {
-        if now.due < least {
-            least = now.due;
-        }
+    match inputs.get(given) {
+        Some(message) => message.stamp.output(),
+        None => Stamp::END,
     }
-    least
-}
-
-/// The least time of an input, as the stamp of its output.
-fn first_input(inputs: &[Message]) -> Stamp
-    requires { Each (λ m. (m.stamp < never) × (phase_of m.stamp ≡ 1)) inputs.now }
-    ensures { result ≡ least_input inputs.now }
-{
-    let mut least = Stamp::END;
-    for message in inputs {
-        let time = message.stamp.output();
-        if time < least {
-            least = time;
-        }
-    }
-    least
-}
-
-/// Drops the inputs that are not after a stamp.
-fn drop_given(inputs: &mut Vec<Message>, at: Stamp)
-    ensures { inputs.new.items ≡ past_stamp at inputs.old.items }
-{
-    inputs.retain(|message| message.stamp > at);
 }
 
 /// Where a component stands at the start.
@@ -128,9 +128,9 @@ fn start_standing<M: Atomic>(alloc: Global, model: &M) -> Result<Standing<M::Sta
     })
 }
 
-/// The network inputs as messages.
+/// The network inputs as messages, in order.
 fn start_inputs<M: Atomic>(alloc: Global, network: &Network<M>) -> Result<Vec<Message>, AllocError>
-    ensures inputs { IfOk result (λ inputs. inputs.items ≡ (network_of M.meaning network.now).inputs) }
+    ensures inputs { IfOk result (λ inputs. inputs.items ≡ sorted_messages (network_of M.meaning network.now).inputs) }
     ensures carried { IfOk result (λ inputs. Each Carried inputs.items) }
 {
     network.facts();
@@ -143,6 +143,7 @@ fn start_inputs<M: Atomic>(alloc: Global, network: &Network<M>) -> Result<Vec<Me
             to: *to,
         })?;
     }
+    inputs.sort_unstable();
     Ok(inputs)
 }
 
@@ -151,7 +152,7 @@ pub(crate) fn start<M: Atomic>(
     alloc: Global,
     network: &Network<M>,
 ) -> Result<Running<M::State>, AllocError>
-    ensures run { IfOk result (λ run. run ≡ start_run (network_of M.meaning network.now)) }
+    ensures run { IfOk result (λ run. run ≡ start_in_order (network_of M.meaning network.now)) }
     ensures underway { IfOk result (IsUnderway M.valid M.meaning network.now 0) }
 {
     network.facts();
@@ -162,7 +163,31 @@ pub(crate) fn start<M: Atomic>(
     Ok(Running {
         moments,
         inputs: start_inputs(alloc, network)?,
+        given: 0,
         records: Vec::new(alloc),
+    })
+}
+
+/// The agenda of components that stand so.
+fn start_agenda<S: Drop>(alloc: Global, moments: &[Standing<S>]) -> Result<Agenda, AllocError>
+    ensures { IfOk result (λ agenda. IsAgenda 0 agenda.steps moments.now) }
+{
+    let mut agenda = Agenda::new(alloc);
+    for (component, now) in moments.iter().enumerate() {
+        agenda.put(component, now.due)?;
+    }
+    Ok(agenda)
+}
+
+/// The bench before the first round of a run.
+pub(crate) fn start_bench<S: Drop>(alloc: Global, run: &Running<S>) -> Result<Bench, AllocError>
+    ensures agenda { IfOk result (λ bench. IsAgenda 0 bench.agenda.steps run.now.at.moments) }
+    ensures bags { IfOk result (λ bench. bench.arrivals.bags.items ≡ replicate (length run.now.at.moments) []) }
+{
+    Ok(Bench {
+        agenda: start_agenda(alloc, &run.moments)?,
+        arrivals: Arrivals::new(alloc, run.moments.len())?,
+        imminent: Vec::new(alloc),
     })
 }
 
@@ -172,31 +197,46 @@ pub(crate) fn make_round<M: Atomic>(
     alloc: Global,
     network: &Network<M>,
     run: &mut Running<M::State>,
+    bench: &mut Bench,
     time: Stamp,
 ) -> Result<Option<(usize, Limit)>, AllocError>
     requires time { tick_of time < max_tick }
     requires underway { IsUnderway M.valid M.meaning network.now time run.old }
+    requires agenda { IsAgenda 0 bench.old.agenda.steps run.old.at.moments }
+    requires bags { bench.old.arrivals.bags.items ≡ replicate (length run.old.at.moments) [] }
     ensures going { IfOk result (λ stop. stop ≡ None → run.new ≡ round (network_of M.meaning network.now) run.old time) }
     ensures records { IfOk result (λ _. run.new.records ≡ (round (network_of M.meaning network.now) run.old time).records) }
     ensures fault { IfOk result (λ stop. MatchOption stop
         ((round (network_of M.meaning network.now) run.old time).fault ≡ None)
         (λ at. (round (network_of M.meaning network.now) run.old time).fault ≡ Some (at.0, time + 1, at.1))) }
     ensures underway { IfOk result (λ stop. stop ≡ None → IsUnderway M.valid M.meaning network.now (time + 2) run.new) }
+    ensures agenda { IfOk result (λ stop. stop ≡ None → IsAgenda 0 bench.new.agenda.steps run.new.at.moments) }
+    ensures bags { IfOk result (λ stop. stop ≡ None → bench.new.arrivals.bags.items ≡ replicate (length run.new.at.moments) []) }
 {
     network.facts();
-    let mut room = empty_bags(alloc, run.moments.len())?;
-    let bags = room.as_mut_slice();
-    make_outputs(alloc, network, &run.moments, time, &mut run.records, bags)?;
+    bench.arrivals.awake.clear();
+    bench.agenda.take(time, &mut bench.imminent)?;
+    make_outputs(
+        alloc,
+        network,
+        &run.moments,
+        &bench.imminent,
+        time,
+        &mut run.records,
+        &mut bench.arrivals,
+    )?;
     let at = time.transition();
-    deliver_inputs(bags, &run.inputs, at)?;
+    let given = bench.arrivals.deliver_inputs(&run.inputs, run.given, at)?;
+    bench.arrivals.wake(&bench.imminent)?;
     let stop = make_turns(
         alloc,
         network,
         &mut run.moments,
         time,
-        bags,
+        &mut bench.arrivals,
+        &mut bench.agenda,
         &mut run.records,
     )?;
-    drop_given(&mut run.inputs, at);
+    run.given = given;
     Ok(stop)
 }

@@ -6,7 +6,7 @@ ghost use Rattle.tw_theory.specs.Simulator.{sequential};
 ghost use Rattle.tw_vtime.specs.Stamps.{max_tick};
 
 use crate::refused::SeqRefused;
-use crate::rounds::{make_round, start};
+use crate::rounds::{make_round, start, start_bench};
 use std::alloc::Global;
 use tw_atomic::Atomic;
 use tw_msgs::Record;
@@ -42,8 +42,9 @@ pub fn simulate<M: Atomic>(
         return Err(SeqRefused::BadTick);
     };
     let mut run = start(alloc, network)?;
-    while let Some(time) = run.next_time(end) {
-        if let Some((component, limit)) = make_round(alloc, network, &mut run, time)? {
+    let mut bench = start_bench(alloc, &run)?;
+    while let Some(time) = run.next_time(&bench.agenda, end) {
+        if let Some((component, limit)) = make_round(alloc, network, &mut run, &mut bench, time)? {
             return Ok(Seq {
                 records: run.into_records(),
                 fault: Some((component, time.transition(), limit)),

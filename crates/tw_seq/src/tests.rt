@@ -2,6 +2,7 @@
 
 use crate::{Seq, SeqRefused, simulate};
 use std::alloc::{AllocError, Global};
+use std::process::Abort;
 use std::test::Fail;
 use tw_models::{BadModel, Model};
 use tw_msgs::{Record, RecordKind};
@@ -335,6 +336,61 @@ fn tally_wraps(rt: HostRuntime) -> Result<(), Fail> {
         )
     );
     Ok(())
+}
+
+/// The generator and the tally of the first example, with an input for the tally; none where memory is
+/// refused.
+fn worked_network(alloc: Global) -> Option<Network<Model>> {
+    let generator = Model::generator(2, 5).ok()?;
+    let tally = Model::tally().ok()?;
+    let mut components = Vec::new(alloc);
+    components
+        .push((String::from_str(alloc, "a").ok()?, generator))
+        .ok()?;
+    components
+        .push((String::from_str(alloc, "b").ok()?, tally))
+        .ok()?;
+    let couplings = Vec::from_slice(alloc, &[(0, 0, 1, 0)]).ok()?;
+    let inputs = Vec::from_slice(alloc, &[(1, 1, 3, 7)]).ok()?;
+    Network::new(alloc, components, couplings, inputs, 100).ok()
+}
+
+/// Whether a run to tick 3 of that network is answered: its records, or refusal 4. Answers whether it is
+/// the records.
+fn is_worked_example(rt: &impl Abort, answer: Result<Seq, SeqRefused>) -> bool {
+    match answer {
+        Ok(run) => {
+            assert!(rt;
+                all_show(
+                    &run,
+                    &[
+                        Line(1, 0, 1, RecordKind::Ext, &[(3, 7)], &[1, 7, 7]),
+                        Line(2, 0, 0, RecordKind::Out, &[(0, 5)], &[]),
+                        Line(2, 0, 0, RecordKind::Int, &[], &[1]),
+                        Line(2, 0, 1, RecordKind::Ext, &[(0, 5)], &[2, 12, 5]),
+                    ]
+                )
+            );
+            assert!(rt; run.fault.is_none());
+            true
+        }
+        Err(refused) => {
+            assert_eq!(rt; Refusal::from(refused).number(), 4);
+            false
+        }
+    }
+}
+
+#[test]
+fn refused_memory_leaves_the_network(rt: HostRuntime) {
+    let alloc = rt.alloc();
+    let network = match worked_network(alloc) {
+        Some(network) => network,
+        None => worked_network(alloc).expect(&rt, "memory"),
+    };
+    let first = is_worked_example(&rt, simulate(alloc, &network, 3));
+    let second = is_worked_example(&rt, simulate(alloc, &network, 3));
+    assert!(rt; first || second);
 }
 
 /// The numbers from `first` to `last`, as values at a tick for port 0 of component 0.

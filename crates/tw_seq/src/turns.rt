@@ -1,15 +1,19 @@
 //! The transitions of a round.
 
-ghost use Rattle.std.specs.Prelude.{◌≡◌, ◌==◌, ◌<◌, ◌++◌, ◌+◌, IfOk, length, Some, None, slice_get, MatchOption};
+ghost use Rattle.std.specs.Prelude.{◌≡◌, ◌==◌, ◌<◌, ◌++◌, ◌+◌, IfOk, length, [], Some, None, slice_get, replicate, MatchOption};
 ghost use Rattle.std.specs.List.{AllByRecursion as Each};
 ghost use Rattle.tw_atomic.specs.Atomic.{FitsBag};
 ghost use Rattle.tw_msgs.specs.Bags.{sorted_bag};
 ghost use Rattle.tw_network.specs.Contents.{network_of};
+ghost use Rattle.tw_seq.specs.Agenda.{IsAgenda};
 ghost use Rattle.tw_seq.specs.Invariant.{AllStand, IsStanding};
 ghost use Rattle.tw_seq.specs.Turning.{seen, CanGoOn, kind_and_turn, turns_with};
+ghost use Rattle.tw_seq.specs.Waking.{IsInTurn};
 ghost use Rattle.tw_theory.specs.Simulator.{take_turn, after_output, turn_records, turned_moments, first_stop};
 ghost use Rattle.tw_vtime.specs.Stamps.{max_tick, tick_of, phase_of};
 
+use crate::agenda::Agenda;
+use crate::bags::Arrivals;
 use crate::standing::Standing;
 use std::alloc::{AllocError, Global};
 use std::mem;
@@ -89,42 +93,48 @@ fn take_turn<M: Atomic>(
     }))
 }
 
-/// Makes the transition of each component that is imminent at a time or receives something, and appends
-/// their records. Where a component meets a limit, the least one is answered, and no record is left.
+/// Makes the transition of each component that is awake, appends their records, and puts their next own
+/// steps on the agenda. Where a component meets a limit, the least one is answered, and no record is left.
 pub(crate) fn make_turns<M: Atomic>(
     alloc: Global,
     network: &Network<M>,
     moments: &mut [Standing<M::State>],
     time: Stamp,
-    bags: &mut [Bag],
+    arrivals: &mut Arrivals,
+    agenda: &mut Agenda,
     records: &mut Vec<Record>,
 ) -> Result<Option<(usize, Limit)>, AllocError>
     requires time { tick_of time < max_tick }
     requires even { phase_of time ≡ 0 }
     requires moments { AllStand M.valid M.meaning network.now.models time moments.old }
-    requires bags { length bags.old ≡ length network.now.models }
-    requires fits { Each FitsBag bags.old }
-    ensures stop { IfOk result (λ stop. stop ≡ first_stop 0 (turns_with (network_of M.meaning network.now) time 0 moments.old bags.old)) }
+    requires bags { length arrivals.old.bags.items ≡ length network.now.models }
+    requires fits { Each FitsBag arrivals.old.bags.items }
+    requires awake { IsInTurn time moments.old arrivals.old.bags.items arrivals.old.awake.items }
+    requires agenda { IsAgenda (time + 1) agenda.old.steps moments.old }
+    ensures stop { IfOk result (λ stop. stop ≡ first_stop 0 (turns_with (network_of M.meaning network.now) time 0 moments.old arrivals.old.bags.items)) }
     ensures records { IfOk result (λ stop. MatchOption stop
-        (records.new.items ≡ records.old.items ++ turn_records (turns_with (network_of M.meaning network.now) time 0 moments.old bags.old))
+        (records.new.items ≡ records.old.items ++ turn_records (turns_with (network_of M.meaning network.now) time 0 moments.old arrivals.old.bags.items))
         (λ _. records.new.items ≡ records.old.items)) }
     ensures moments { IfOk result (λ stop. stop ≡ None →
-        moments.new ≡ turned_moments moments.old (turns_with (network_of M.meaning network.now) time 0 moments.old bags.old)) }
+        moments.new ≡ turned_moments moments.old (turns_with (network_of M.meaning network.now) time 0 moments.old arrivals.old.bags.items)) }
     ensures standing { IfOk result (λ stop. stop ≡ None → AllStand M.valid M.meaning network.now.models (time + 2) moments.new) }
+    ensures bags { IfOk result (λ stop. stop ≡ None → arrivals.new.bags.items ≡ replicate (length network.now.models) []) }
+    ensures agenda { IfOk result (λ stop. stop ≡ None → IsAgenda (time + 1) agenda.new.steps moments.new) }
 {
     let before = records.len();
-    for component in 0..moments.len() {
+    let awake = &arrivals.awake;
+    let bags = arrivals.bags.as_mut_slice();
+    for component in awake {
+        let component = *component;
         let bag = mem::replace(&mut bags[component], Bag::new(alloc));
-        match take_turn(
-            alloc,
-            network,
-            component,
-            &mut moments[component],
-            time,
-            bag,
-        )? {
+        let now = &mut moments[component];
+        let due = now.due;
+        match take_turn(alloc, network, component, now, time, bag)? {
             Taken::Stays => {}
-            Taken::Moves(record) => records.push(record)?,
+            Taken::Moves(record) => {
+                records.push(record)?;
+                agenda.put_off(component, due, now.due)?;
+            }
             Taken::Stops(limit) => {
                 records.truncate(before);
                 return Ok(Some((component, limit)));

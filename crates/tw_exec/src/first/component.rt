@@ -1,20 +1,20 @@
 //! One component of the executive: its process and its column.
 
-ghost use Rattle.std.specs.Prelude.{◌≡◌, ◌<◌, ◌≤◌, ◌==◌, ◌-◌, ◌++◌, ◌+◌, ◌∷◌, ◌↔◌, [], true, Ok, IfOk, IfErr, OnOk, OnErr, IfSome, length, drop, take, map, min, slice_get, Some, vec_len, vec_capacity};
+ghost use Rattle.std.specs.Prelude.{◌≡◌, nat_lt, take_while, ◌<◌, ◌≤◌, ◌==◌, ◌-◌, ◌++◌, ◌+◌, ◌↔◌, [], true, Ok, IfOk, IfErr, OnOk, OnErr, IfSome, length, drop, take, map, min, slice_get, Some, vec_len, vec_capacity};
 ghost use Rattle.tw_atomic.specs.Atomic.{CanTurn, turned};
 ghost use Rattle.tw_exec.specs.Cells.{step_of};
 ghost use Rattle.tw_exec.specs.First.{meant};
 ghost use Rattle.tw_models.specs.Model.{IsModel, model_meaning};
 ghost use Rattle.tw_network.specs.Contents.{StartsInTime};
-ghost use Rattle.tw_theory.specs.Bundles.{first_stamp, front, items_of, least_stamp, least_owed};
-ghost use Rattle.tw_theory.specs.Contents.{next, steps_before, with_pending, with_outgoing};
+ghost use Rattle.tw_theory.specs.Bundles.{front, items_of, least_stamp, least_owed};
+ghost use Rattle.tw_theory.specs.Contents.{next, steps_before};
 ghost use Rattle.tw_theory.specs.LocalRun.{turn, kind_of, first_due, due_of};
 ghost use Rattle.tw_vtime.specs.Stamps.{never, max_tick, max_microstep, phase_of, tick_of};
 ghost use Rattle.tw_vtime.specs.Advance.{advanced};
 ghost use Rattle.tw_exec.specs.Stops.{IsLimit, IsStop};
 
 use crate::first::refused::ActionRefused;
-use crate::first::sending::{bag_of, drop_front, front, least_stamp, positives, routed, sorted};
+use crate::first::sending::{bag_of, front, least_stamp, routed, sorted};
 use std::alloc::{AllocError, Global};
 use std::marker::Model;
 use std::snapshot::Snapshot;
@@ -38,18 +38,18 @@ pub(crate) struct Entry {
     done: Record,
     before: Snapshot<Moment>,
     consumed: Snapshot<Vec<Message>>,
-    sent: Snapshot<Vec<Message>>,
+    sent: Snapshot<Vec<Item>>,
 }
 
 // A process with its column.
 #[derive(Drop)]
 pub(crate) struct Component {
     at: Moment,
-    pending: Vec<Message>,
+    pub(crate) pending: Vec<Message>,
     history: Vec<Entry>,
-    outgoing: Vec<Item>,
-    line: Stamp,
-    column: Vec<Record>,
+    pub(crate) outgoing: Vec<Item>,
+    pub(crate) line: Stamp,
+    pub(crate) column: Vec<Record>,
 }
 
 impl Model for Component {
@@ -104,42 +104,18 @@ impl Component {
     pub(crate) fn next(&self) -> Stamp
         ensures { result ≡ next self.now.process }
     {
-        let first = first_stamp(self.pending.as_slice());
-        if first < self.at.due {
-            first
-        } else {
-            self.at.due
-        }
+        let first = self
+            .pending
+            .first()
+            .map_or(Stamp::END, |message| message.stamp);
+        first.min(self.at.due)
     }
 
     // The least of the next stamp and of what is outgoing.
     pub(crate) fn least(&self) -> Stamp
         ensures { result ≡ min (min (next self.now.process) (least_stamp self.now.process.outgoing)) (least_owed self.now.process.owed) }
     {
-        let next = self.next();
-        let outgoing = least_stamp(self.outgoing.as_slice());
-        if outgoing < next { outgoing } else { next }
-    }
-
-    // The commit line.
-    pub(crate) fn line(&self) -> Stamp
-        ensures { result ≡ self.now.process.line }
-    {
-        self.line
-    }
-
-    // The committed records.
-    pub(crate) fn column(&self) -> &[Record]
-        ensures { result.now ≡ self.now.column }
-    {
-        self.column.as_slice()
-    }
-
-    // The committed records by themselves.
-    pub(crate) fn into_column(self) -> Vec<Record>
-        ensures { result.items ≡ self.column }
-    {
-        self.column
+        self.next().min(least_stamp(self.outgoing.as_slice()))
     }
 
     // Makes the next step, of this stamp.
@@ -186,17 +162,10 @@ impl Component {
         let mut outbox = Outbox::new();
         network.model(component).output(&self.at.state, &mut outbox);
         let bag = sorted(alloc, outbox.as_slice())?;
-        let sent = routed(
-            alloc,
-            network,
-            component,
-            stamp.transition(),
-            bag.as_slice(),
-        )?;
-        let mut items = positives(alloc, sent.as_slice())?;
+        let mut items = routed(alloc, network, component, stamp.transition(), &bag)?;
+        let sent = Snapshot::of(&items);
         self.history.reserve(1)?;
         self.outgoing.append(&mut items)?;
-        let none = Vec::new(alloc);
         self.history.push_reserved(Entry {
             done: Record {
                 component,
@@ -206,8 +175,8 @@ impl Component {
                 words: Words::from(Vec::new(alloc)),
             },
             before: Snapshot::of(&self.at),
-            consumed: Snapshot::of(&none),
-            sent: Snapshot::of(&sent),
+            consumed: Snapshot::of(&Vec::new(alloc)),
+            sent,
         });
         self.at.due = stamp.transition();
         Ok(())
@@ -234,16 +203,14 @@ impl Component {
         let taken = front(alloc, self.pending.as_slice(), stamp)?;
         let bag = bag_of(alloc, taken.as_slice())?;
         let model = network.model(component);
-        let turn = turn_of(self.at.due == stamp, bag.is_empty());
+        let (turn, kind) = turn_of(self.at.due == stamp, bag.is_empty());
         let limit = network.micro_limit();
         network.facts();
         let after = moved(alloc, model, &self.at, stamp, turn, bag.as_slice(), limit)?;
         let mut words = Vec::new(alloc);
         model.words(alloc, &after.state, &mut words)?;
         self.history.reserve(1)?;
-        drop_front(&mut self.pending, taken.len());
-        let none = Vec::new(alloc);
-        let kind = kind_of(turn);
+        self.pending.drain(..taken.len());
         self.history.push_reserved(Entry {
             done: Record {
                 component,
@@ -254,32 +221,10 @@ impl Component {
             },
             before: Snapshot::of(&self.at),
             consumed: Snapshot::of(&taken),
-            sent: Snapshot::of(&none),
+            sent: Snapshot::of(&Vec::new(alloc)),
         });
         self.at = after;
         Ok(kind)
-    }
-
-    // Puts a message that comes behind the pending ones.
-    pub(crate) fn receive(&mut self, message: Message) -> Result<(), AllocError>
-        ensures received { OnOk result (self.new ≡ record self.old { process = with_pending self.old.process (self.old.process.pending ++ message ∷ []) }) }
-        ensures stays { OnErr result (self.new ≡ self.old) }
-    {
-        self.pending.push(message)?;
-        Ok(())
-    }
-
-    // Moves what is outgoing behind the mail, and answers how much.
-    pub(crate) fn post(&mut self, mail: &mut Vec<Item>) -> Result<usize, AllocError>
-        ensures posted { OnOk result (self.new ≡ record self.old { process = with_outgoing self.old.process [] }) }
-        ensures mail { OnOk result (mail.new.items ≡ mail.old.items ++ self.old.process.outgoing) }
-        ensures count { IfOk result (λ n. n ≡ length self.old.process.outgoing) }
-        ensures stays { OnErr result (self.new ≡ self.old) }
-        ensures mail_stays { OnErr result (mail.new.items ≡ mail.old.items) }
-    {
-        let count = self.outgoing.len();
-        mail.append(&mut self.outgoing)?;
-        Ok(count)
     }
 
     // Moves the records before a stamp to the column, makes it the line, and answers how many they are.
@@ -296,48 +241,26 @@ impl Component {
     }
 }
 
-// The stamp of the first message, or the end.
-fn first_stamp(messages: &[Message]) -> Stamp
-    ensures { result ≡ first_stamp messages.now }
-{
-    match messages.first() {
-        Some(message) => message.stamp,
-        None => Stamp::END,
-    }
-}
-
 // The first own step of a component with this time advance in its start state.
 fn first_due(ta: Option<u64>) -> Stamp
     requires { IfSome ta (λ d. d ≤ max_tick) }
     ensures { result ≡ first_due ta }
 {
-    match ta {
-        None => Stamp::END,
-        Some(tick) => Stamp::new(tick, 0, 0).unwrap_or(Stamp::END),
-    }
+    ta.map_or(
+        Stamp::END,
+        |tick| Stamp::new(tick, 0, 0).unwrap_or(Stamp::END),
+    )
 }
 
-// The turn of a component that is imminent or not, with an empty bag or not.
-fn turn_of(imminent: bool, empty: bool) -> Turn
-    ensures { (bag : _) → (empty ≡ true ↔ (bag ≡ [])) → result ≡ turn imminent bag }
+// The turn of a component that is imminent or not, with an empty bag or not, and the kind of its record.
+fn turn_of(imminent: bool, empty: bool) -> (Turn, RecordKind)
+    ensures turn { (bag : _) → (empty ≡ true ↔ (bag ≡ [])) → result.0 ≡ turn imminent bag }
+    ensures kind { result.1 ≡ kind_of result.0 }
 {
-    if !imminent {
-        Turn::Ext
-    } else if empty {
-        Turn::Int
-    } else {
-        Turn::Con
-    }
-}
-
-// The kind of the record of a turn.
-fn kind_of(turn: Turn) -> RecordKind
-    ensures { result ≡ kind_of turn }
-{
-    match turn {
-        Turn::Int => RecordKind::Int,
-        Turn::Ext => RecordKind::Ext,
-        Turn::Con => RecordKind::Con,
+    match (imminent, empty) {
+        (false, _) => (Turn::Ext, RecordKind::Ext),
+        (true, true) => (Turn::Int, RecordKind::Int),
+        (true, false) => (Turn::Con, RecordKind::Con),
     }
 }
 
@@ -374,17 +297,12 @@ fn moved(
 
 // How many steps at the front stand before a stamp.
 fn steps_before(history: &[Entry], stamp: Stamp) -> usize
-    ensures steps { result ≡ steps_before stamp (map step_of history.now) }
-    ensures within { result ≤ length history.now }
+    ensures { result ≡ length (take_while (λ e. nat_lt e.done.stamp stamp) history.now) }
 {
-    let mut count = 0;
-    for entry in history {
-        if entry.done.stamp >= stamp {
-            break;
-        }
-        count += 1;
-    }
-    count
+    history
+        .iter()
+        .take_while(|entry| entry.done.stamp < stamp)
+        .count()
 }
 
 // Moves the records of the first n steps behind the column, where there is room for them.
@@ -395,12 +313,6 @@ fn move_records(history: &mut Vec<Entry>, column: &mut Vec<Record>, n: usize)
     ensures column { column.new.items ≡ column.old.items ++ map (λ e. e.done) (take n history.old.items) }
 {
     for _step in 0..n {
-        let Entry {
-            done,
-            before: _,
-            consumed: _,
-            sent: _,
-        } = history.remove(0);
-        column.push_reserved(done);
+        column.push_reserved(history.remove(0).done);
     }
 }

@@ -1,6 +1,6 @@
 //! The run of an executive to its end.
 
-ghost use Rattle.std.specs.Prelude.{◌≡◌, ◌<◌, ◌≤◌, ◌↔◌, ℕ, [], None, IfOk, IsErrOf, OnOk, length};
+ghost use Rattle.std.specs.Prelude.{◌≡◌, ◌<◌, ◌↔◌, ℕ, None, IfOk, IsErrOf, OnOk};
 ghost use Rattle.tw_exec.specs.Driving.{IsSilent, IsQuiet, IsFirstDue, IsPast, to_go};
 ghost use Rattle.tw_exec.specs.First.{IsFirst, start, meant};
 ghost use Rattle.tw_theory.specs.Executive.{column_of};
@@ -80,15 +80,9 @@ fn go_on(executive: &mut Executive, component: usize) -> Result<(), AllocError>
     ensures until { executive.new.until ≡ executive.old.until }
 {
     executive.facts();
-    match executive.step(component) {
-        Ok(_) => {}
-        Err(refused) => return Err(only_memory(refused)),
-    }
+    executive.step(component).map_err(only_memory)?;
     executive.facts();
-    match executive.post(component) {
-        Ok(_) => {}
-        Err(refused) => return Err(only_memory(refused)),
-    }
+    executive.post(component).map_err(only_memory)?;
     deliver_all(executive)
 }
 
@@ -102,10 +96,7 @@ fn deliver_all(executive: &mut Executive) -> Result<(), AllocError>
 {
     while let Some(receiver) = executive.receiver() {
         executive.facts();
-        match executive.deliver(receiver) {
-            Ok(()) => {}
-            Err(refused) => return Err(only_memory(refused)),
-        }
+        executive.deliver(receiver).map_err(only_memory)?;
     }
     Ok(())
 }
@@ -122,10 +113,7 @@ fn commit(executive: &mut Executive) -> Result<(), AllocError>
     executive.raise();
     for component in 0..executive.len() {
         executive.facts();
-        match executive.harvest(component) {
-            Ok(_) => {}
-            Err(refused) => return Err(only_memory(refused)),
-        }
+        executive.harvest(component).map_err(only_memory)?;
     }
     executive.facts();
     Ok(())

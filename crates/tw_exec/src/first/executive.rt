@@ -1,11 +1,10 @@
 //! The executive and its actions.
 
-ghost use Rattle.std.specs.Prelude.{◌≡◌, ℕ, ◌<◌, ◌≤◌, ◌∷◌, [], Some, IfOk, IfErr, IsErrOf, ◌↔◌, IfSome, OnOk, OnErr, IfNone, length, map, slice_get};
+ghost use Rattle.std.specs.Prelude.{◌≡◌, ◌==◌, ℕ, position, ◌<◌, ◌≤◌, ◌∷◌, [], Some, IfOk, IfErr, IsErrOf, ◌↔◌, IfSome, OnOk, OnErr, IfNone, length, map, slice_get};
 ghost use Rattle.std.specs.List.{AllByRecursion as Each};
 ghost use Rattle.tw_exec.specs.Cells.{cells_of};
 ghost use Rattle.tw_exec.specs.Driving.{IsFirstDue, IsPast};
 ghost use Rattle.tw_exec.specs.First.{IsFirst, start};
-ghost use Rattle.tw_exec.specs.Kept.{IsFirstFor, for_component};
 ghost use Rattle.tw_exec.specs.Refused.{refused_as};
 ghost use Rattle.tw_laws.specs.Traces.{IsTrace, of_component};
 ghost use Rattle.tw_models.specs.Model.{IsModel, model_meaning};
@@ -16,9 +15,10 @@ ghost use Rattle.tw_vtime.specs.Stamps.{max_tick, stamp};
 use crate::first::component::Component;
 use crate::first::merging::merged;
 use crate::first::refused::{ActionRefused, StartRefused};
-use crate::first::sending::{least_stamp, lesser};
+use crate::first::sending::least_stamp;
 use std::alloc::{AllocError, Global};
-use std::marker::Model;
+use std::marker;
+use tw_models::Model;
 use tw_msgs::{Item, Record, RecordKind};
 use tw_network::Network;
 use tw_vtime::{MAX_TICK, Stamp};
@@ -30,7 +30,7 @@ use tw_vtime::{MAX_TICK, Stamp};
 #[derive(Drop)]
 pub struct Executive {
     alloc: Global,
-    network: Network<tw_models::Model>,
+    network: Network<Model>,
     until: u64,
     end: Stamp,
     gvt: Stamp,
@@ -38,7 +38,7 @@ pub struct Executive {
     mail: Vec<Item>,
 }
 
-impl Model for Executive {
+impl marker::Model for Executive {
     ghost use Rattle.tw_exec.specs.First.{Running};
     ghost use Rattle.tw_exec.specs.Kept.{shown, IsHeld};
 
@@ -58,11 +58,7 @@ impl Executive {
     /// The executive of a network at its start, for a run that ends before a tick.
     ///
     /// Refused where the tick is above the greatest one (10), and for want of memory (4).
-    pub fn new(
-        alloc: Global,
-        network: Network<tw_models::Model>,
-        until: u64,
-    ) -> Result<Executive, StartRefused>
+    pub fn new(alloc: Global, network: Network<Model>, until: u64) -> Result<Self, StartRefused>
         requires { IsFirst network }
         ensures start { IfOk result (λ e. e ≡ start network until) }
         ensures in_range { OnOk result (until ≤ max_tick) }
@@ -82,20 +78,6 @@ impl Executive {
             components,
             mail: Vec::new(alloc),
         })
-    }
-
-    /// The network.
-    pub fn network(&self) -> &Network<tw_models::Model>
-        ensures { result.now ≡ self.now.network }
-    {
-        &self.network
-    }
-
-    /// The tick at which the run ends: only steps before its first stamp are made.
-    pub fn until(&self) -> u64
-        ensures { result ≡ self.now.until }
-    {
-        self.until
     }
 
     /// How many components there are.
@@ -118,7 +100,7 @@ impl Executive {
         requires { component < length self.now.world.processes }
         ensures { (p : _) → slice_get self.now.world.processes component ≡ Some p → result ≡ p.line }
     {
-        self.components[component].line()
+        self.components[component].line
     }
 
     /// The committed records of a component.
@@ -126,7 +108,7 @@ impl Executive {
         requires { component < length self.now.world.processes }
         ensures { result.now ≡ column_of self.now.world.columns component }
     {
-        self.components[component].column()
+        self.components[component].column.as_slice()
     }
 
     /// Makes the next step of a component, and answers its stamp and kind.
@@ -165,8 +147,9 @@ impl Executive {
         if component >= self.components.len() {
             return Err(ActionRefused::NoSuch);
         }
-        let cell = &mut self.components[component];
-        let count = cell.post(&mut self.mail)?;
+        let outgoing = &mut self.components[component].outgoing;
+        let count = outgoing.len();
+        self.mail.append(outgoing)?;
         Ok(count)
     }
 
@@ -187,8 +170,7 @@ impl Executive {
             return Err(ActionRefused::NoSuch);
         };
         let message = self.mail[place].message;
-        let cell = &mut self.components[receiver];
-        cell.receive(message)?;
+        self.components[receiver].pending.push(message)?;
         self.mail.remove(place);
         Ok(())
     }
@@ -200,8 +182,7 @@ impl Executive {
         ensures answer { answer self.old Raise ≡ Raised result }
     {
         let own = least_next(self.components.as_slice());
-        let mail = least_stamp(self.mail.as_slice());
-        let gvt = lesser(own, mail);
+        let gvt = own.min(least_stamp(self.mail.as_slice()));
         self.gvt = gvt;
         gvt
     }
@@ -219,9 +200,7 @@ impl Executive {
         if component >= self.components.len() {
             return Err(ActionRefused::NoSuch);
         }
-        let cell = &mut self.components[component];
-        let count = cell.harvest(self.gvt)?;
-        Ok(count)
+        Ok(self.components[component].harvest(self.gvt)?)
     }
 
     /// The trace: all committed records, by stamp and then component. Nothing else of the executive is left.
@@ -248,10 +227,8 @@ impl Executive {
         ensures known { IfSome result (λ q. q < length self.now.world.processes) }
         ensures none { IfNone result (Each (λ box. box ≡ []) self.now.world.mail) }
     {
-        match self.mail.first() {
-            Some(item) => Some(item.message.to),
-            None => None,
-        }
+        let item = self.mail.first()?;
+        Some(item.message.to)
     }
 
     // What is true of every executive.
@@ -263,10 +240,7 @@ impl Executive {
 }
 
 // The components of a network at its start.
-fn components_of(
-    alloc: Global,
-    network: &Network<tw_models::Model>,
-) -> Result<Vec<Component>, AllocError>
+fn components_of(alloc: Global, network: &Network<Model>) -> Result<Vec<Component>, AllocError>
     ensures cells { IfOk result (λ made. made.items ≡ cells_of network.now.models) }
     ensures valid { OnOk result (Each (λ m. IsModel m (model_meaning m).start) network.now.models) }
 {
@@ -280,15 +254,9 @@ fn components_of(
 
 // Where the first item for a receiver is.
 fn first_for(mail: &[Item], receiver: usize) -> Option<usize>
-    ensures found { IfSome result (λ k. IsFirstFor receiver mail.now k) }
-    ensures none { IfNone result (for_component receiver mail.now ≡ []) }
+    ensures { result ≡ position (λ i. i.message.to == receiver) mail.now }
 {
-    for (place, item) in mail.iter().enumerate() {
-        if item.message.to == receiver {
-            return Some(place);
-        }
-    }
-    None
+    mail.iter().position(|item| item.message.to == receiver)
 }
 
 // The component whose next step is the least before a stamp; of several the first.
@@ -312,12 +280,5 @@ fn first_due(components: &[Component], end: Stamp) -> Option<usize>
 fn least_next(components: &[Component]) -> Stamp
     ensures { result ≡ least_next (map (λ c. c.process) components.now) }
 {
-    let mut least = Stamp::END;
-    for component in components {
-        let own = component.least();
-        if own < least {
-            least = own;
-        }
-    }
-    least
+    components.iter().fold(Stamp::END, |least, component| least.min(component.least()))
 }

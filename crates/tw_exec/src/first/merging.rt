@@ -17,7 +17,7 @@ pub(crate) fn merged(alloc: Global, components: Vec<Component>) -> Result<Vec<Re
 {
     let mut trace: Vec<Record> = components
         .into_iter()
-        .flat_map(Component::into_column)
+        .flat_map(|component| component.column)
         .collect(alloc)?;
     trace.sort_by_key(|record| record.stamp)?;
     Ok(trace)

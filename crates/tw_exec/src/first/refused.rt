@@ -63,7 +63,7 @@ impl From<ActionRefused> for Refusal {
     }
 }
 
-/// Why no executive was made. Nothing is left.
+/// Why no executive was made, or no trace. Nothing is left.
 #[derive(Clone, Copy, Debug, Error, PartialEq, Eq)]
 pub enum StartRefused {
     /// A growth of memory was refused: refusal 4.
@@ -78,14 +78,6 @@ impl From<AllocError> for StartRefused {
     ghost from_gives = { λ _ refused. refused ≡ start.OutOfMemory };
 
     fn from(_error: AllocError) -> StartRefused {
-        StartRefused::OutOfMemory
-    }
-}
-
-impl<T: Drop> From<AllocFailed<T>> for StartRefused {
-    ghost from_gives = { λ _ refused. refused ≡ start.OutOfMemory };
-
-    fn from(_failed: AllocFailed<T>) -> StartRefused {
         StartRefused::OutOfMemory
     }
 }

@@ -1,15 +1,15 @@
 //! Bags and messages: what a step takes, and what it sends.
 
-ghost use Rattle.std.specs.Prelude.{◌≡◌, ◌<◌, ◌≤◌, ◌++◌, IfOk, OnOk, drop, length, min};
+ghost use Rattle.std.specs.Prelude.{◌≡◌, ◌==◌, ◌<◌, IfOk, length, take_while};
 ghost use Rattle.tw_exec.specs.First.{meant};
 ghost use Rattle.tw_msgs.specs.Bags.{sorted_bag};
-ghost use Rattle.tw_theory.specs.Bundles.{front, items_of, least_stamp, positives};
-ghost use Rattle.tw_theory.specs.Network.{routed, copies};
+ghost use Rattle.tw_theory.specs.Bundles.{items_of, least_stamp, positives};
+ghost use Rattle.tw_theory.specs.Network.{routed};
 
 use std::alloc::{AllocError, Global};
 use tw_models::Model;
 use tw_msgs::{Bag, Item, Message, Sign};
-use tw_network::{Network, Place};
+use tw_network::Network;
 use tw_vtime::Stamp;
 
 // The items by port, then value.
@@ -24,42 +24,32 @@ pub(crate) fn sorted(alloc: Global, items: &[(u8, i64)]) -> Result<Bag, AllocErr
     Ok(bag)
 }
 
-// The messages of this stamp that an output bag of a component makes.
+// The items of this stamp that an output bag of a component makes.
 pub(crate) fn routed(
     alloc: Global,
     network: &Network<Model>,
     component: usize,
     stamp: Stamp,
-    items: &[(u8, i64)],
-) -> Result<Vec<Message>, AllocError>
+    bag: &Bag,
+) -> Result<Vec<Item>, AllocError>
     requires { component < length network.now.models }
-    ensures { IfOk result (λ sent. sent.items ≡ routed (meant network.now) component stamp items.now) }
+    ensures { IfOk result (λ items. items.items ≡ positives (routed (meant network.now) component stamp bag.now)) }
 {
-    let mut sent = Vec::new(alloc);
-    for item in items {
-        copy_to(&mut sent, stamp, item.1, network.routes(component, item.0))?;
+    let mut items = Vec::new(alloc);
+    for (port, value) in bag.as_slice() {
+        for (to, entrance) in network.routes(component, *port) {
+            items.push(Item {
+                sign: Sign::Positive,
+                message: Message {
+                    stamp,
+                    port: *entrance,
+                    value: *value,
+                    to: *to,
+                },
+            })?;
+        }
     }
-    Ok(sent)
-}
-
-// Adds the message of this stamp and value for each place.
-fn copy_to(
-    sent: &mut Vec<Message>,
-    stamp: Stamp,
-    value: i64,
-    places: &[Place],
-) -> Result<(), AllocError>
-    ensures { OnOk result (sent.new.items ≡ sent.old.items ++ copies stamp value places.now) }
-{
-    for place in places {
-        sent.push(Message {
-            stamp,
-            port: place.1,
-            value,
-            to: place.0,
-        })?;
-    }
-    Ok(())
+    Ok(items)
 }
 
 // The messages at the front that have this stamp.
@@ -68,16 +58,13 @@ pub(crate) fn front(
     pending: &[Message],
     stamp: Stamp,
 ) -> Result<Vec<Message>, AllocError>
-    ensures { IfOk result (λ taken. taken.items ≡ front stamp pending.now) }
+    ensures { IfOk result (λ taken. taken.items ≡ take_while (λ m. m.stamp == stamp) pending.now) }
 {
-    let mut taken = Vec::new(alloc);
-    for message in pending {
-        if message.stamp != stamp {
-            break;
-        }
-        taken.push(*message)?;
-    }
-    Ok(taken)
+    pending
+        .iter()
+        .take_while(|message| message.stamp == stamp)
+        .copied()
+        .collect(alloc)
 }
 
 // The ports and values of messages.
@@ -91,45 +78,11 @@ pub(crate) fn bag_of(alloc: Global, messages: &[Message]) -> Result<Bag, AllocEr
     Ok(bag)
 }
 
-// The messages as positive items.
-pub(crate) fn positives(alloc: Global, messages: &[Message]) -> Result<Vec<Item>, AllocError>
-    ensures { IfOk result (λ items. items.items ≡ positives messages.now) }
-{
-    messages
-        .iter()
-        .map(|message| Item {
-            sign: Sign::Positive,
-            message: *message,
-        })
-        .collect(alloc)
-}
-
-// Takes the first n messages out.
-pub(crate) fn drop_front(messages: &mut Vec<Message>, n: usize)
-    requires { n ≤ length messages.old.items }
-    ensures { messages.new.items ≡ drop n messages.old.items }
-{
-    for _step in 0..n {
-        messages.remove(0);
-    }
-}
-
 // The least stamp of the items, or the end.
 pub(crate) fn least_stamp(items: &[Item]) -> Stamp
     ensures { result ≡ least_stamp items.now }
 {
-    let mut least = Stamp::END;
-    for item in items {
-        if item.message.stamp < least {
-            least = item.message.stamp;
-        }
-    }
-    least
-}
-
-// The lesser of two stamps.
-pub(crate) fn lesser(one: Stamp, other: Stamp) -> Stamp
-    ensures { result ≡ min one other }
-{
-    if other < one { other } else { one }
+    items
+        .iter()
+        .fold(Stamp::END, |least, item| least.min(item.message.stamp))
 }

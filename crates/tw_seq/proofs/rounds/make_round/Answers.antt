@@ -1,37 +1,131 @@
 -- The parts of the round are the definition's parts.
-use Rattle.std.proofs.Common.{◌≡◌, ◌+◌, ◌++◌, ◌∙◌, ap, sym, subst, arith, length, append_assoc}
-use Rattle.std.specs.List.{AllByRecursion as Each}
+use Rattle.std.proofs.Common.{◌≡◌, ◌+◌, ◌<◌, ◌≤◌, ◌++◌, ◌∙◌, ℕ, ap, sym, subst, arith, drop, length, append_assoc, ⊎_elim}
+use Rattle.std.specs.List.{All, Contains, AllByRecursion as Each}
 use Rattle.std.specs.Prelude.{MatchOption}
+use Rattle.std.proofs.lemmas.List.Elements.{All-contains}
+use Rattle.std.proofs.lemmas.Option.{slice_get_within}
+use Rattle.tw_atomic.specs.Atomic.{FitsBag}
 use Rattle.tw_network.specs.Contents.{network_of}
+use Rattle.tw_seq.specs.Agenda.{IsDueAt, IsAgenda}
 use Rattle.tw_seq.specs.Invariant.{AllStand, IsToCome}
 use Rattle.tw_seq.specs.Turning.{turns_with}
+use Rattle.tw_theory.specs.Bundles.{Ascending}
 use Rattle.tw_theory.specs.Simulator.{outputs, first_stop, turn_records, turned_moments, past_stamp}
+use Rattle.tw_theory.proofs.Elements.{each_weaker}
+use Rattle.tw_seq.proofs.DealingLemmas.{length-dealt}
+use Rattle.tw_seq.proofs.InputLemmas.{past_ascending}
 use Rattle.tw_seq.proofs.OutputLemmas.{transition_of}
 use Rattle.tw_seq.proofs.Places.{all_written}
-use Rattle.tw_seq.proofs.RoundLemmas.{all_turns, turns_here, bags_fit, round_goes, round_recorded, round_faults, past_to_come}
+use Rattle.tw_seq.proofs.RoundLemmas.{all_turns, turns_here, bags_fit, round_goes, round_recorded, round_faults, past_to_come, not_before, agenda_taken, agenda_whole, empty_size, none_reached}
 use Rattle.tw_seq.proofs.rounds.make_round.Goals as goal
-use Rattle.tw_seq.proofs.rounds.make_round.Goals.{After-make_turns}
+use Rattle.tw_seq.proofs.rounds.make_round.Goals.{In_ok-take, After-deref-3, After-deref-4, After-make_turns}
 
--- the turns of the code are the definition's
-turns_here_are : (g : _) (c : After-make_turns g) → turns_with (network_of g.M.Atomic.meaning c.args.network.now) c.args.time 0 c.deref_mut.result.now c.deliver_inputs.new.bags ≡ all_turns (network_of g.M.Atomic.meaning c.args.network.now) c.args.time c.args.run.now
-turns_here_are g c =
-    let net = network_of g.M.Atomic.meaning c.args.network.now in
-    let run = c.args.run.now in
-    turns_here net c.args.time c.transition-at.result c.len.result run c.deref.result.now c.deref_mut.result.now c.deref-2.result.now c.in_ok-room.room.items c.as_mut_slice-bags.result.now c.make_outputs.new.bags c.deliver_inputs.new.bags
-    (c.deref.ensures.value ∙ ap (λ r. r.at.moments) c.run.view_is)
-    (c.deref_mut.ensures.value ∙ ap (λ r. r.at.moments) c.run.view_is)
-    (c.deref-2.ensures.value ∙ ap (λ r. r.at.inputs) c.run.view_is)
-    (c.transition-at.ensures ∙ transition_of c.args.time c.requires.underway.even)
-    (c.len.ensures ∙ c.run.inside.moments.ok.0 ∙ ap (λ r. length r.at.moments) c.run.view_is)
-    c.in_ok-room.ensures c.as_mut_slice-bags.ensures.value c.in_ok-make_outputs.ensures.bags c.in_ok-deliver_inputs.ensures
+pub take-requires : goal.take-requires
+take-requires g c s d on = not_before g.M.Atomic.valid g.M.Atomic.meaning c.args.network.now.models c.args.time c.args.run.now.at.moments s d c.requires.underway.moments (c.requires.agenda.each s d on).0
+
+-- the components taken from the agenda are those that are imminent
+taken_due : (g : _) (c : In_ok-take g) → All (λ d. IsDueAt c.args.run.now.at.moments d c.args.time) c.take.new.imminent.items
+taken_due g c k d l = (c.requires.agenda.each c.args.time _ (c.in_ok-take.ensures.each k d l)).0
+
+taken_all : (g : _) (c : In_ok-take g) (d : ℕ) → IsDueAt c.args.run.now.at.moments d c.args.time → Contains c.take.new.imminent.items d
+taken_all g c d at = c.in_ok-take.ensures.all d (c.requires.agenda.all c.args.time d at (omega arith) (let small = c.requires.time in omega (arith, small)))
+
+pub make_outputs-requires-clause-each : goal.make_outputs-requires-clause-each
+make_outputs-requires-clause-each g c =
+    let moments = c.deref.ensures.value ∙ ap (λ r. r.at.moments) c.run.view_is in
+    subst (λ ms. All (λ d. IsDueAt ms d c.args.time) c.deref-2.result.now) (sym moments)
+    (subst (All (λ d. IsDueAt c.args.run.now.at.moments d c.args.time)) (sym c.deref-2.ensures.value) (taken_due g (goal.at.make_outputs-requires-clause-each g c).In_ok-take))
+
+pub make_outputs-requires-clause-all : goal.make_outputs-requires-clause-all
+make_outputs-requires-clause-all g c d at =
+    let moments = c.deref.ensures.value ∙ ap (λ r. r.at.moments) c.run.view_is in
+    subst (λ xs. Contains xs d) (sym c.deref-2.ensures.value)
+    (taken_all g (goal.at.make_outputs-requires-clause-all g c).In_ok-take d (subst (λ ms. IsDueAt ms d c.args.time) moments at))
+
+pub make_outputs-requires-clause-awake : goal.make_outputs-requires-clause-awake
+make_outputs-requires-clause-awake g c = none_reached (length c.args.run.now.at.moments) c.args.bench.now.arrivals.bags.items c.clear.new.self.items c.requires.bags c.clear.ensures.items
+
+-- the inputs to come
+inputs_are : (g : _) (c : After-deref-3 g) → drop c.run.inside.given c.deref-3.result.now ≡ c.args.run.now.at.inputs
+inputs_are g c = ap (drop c.run.inside.given) c.deref-3.ensures.value ∙ ap (λ r. r.at.inputs) c.run.view_is
+
+-- as many bags as components
+first_size : (g : _) (c : After-deref-3 g) → length c.make_outputs.new.arrivals.bags.items ≡ length c.args.network.now.models
+first_size g c =
+    ap length c.in_ok-make_outputs.ensures.bags ∙ length-dealt 0 c.args.bench.now.arrivals.bags.items _
+    ∙ empty_size (length c.args.run.now.at.moments) c.args.bench.now.arrivals.bags.items c.requires.bags ∙ c.requires.underway.moments.size
+
+pub deliver_inputs-requires-clause-to : goal.deliver_inputs-requires-clause-to
+deliver_inputs-requires-clause-to g c =
+    let n = length c.args.network.now.models in
+    let before = (goal.at.deliver_inputs-requires-clause-to g c).After-deref-3 in
+    let size = first_size g before in
+    subst (Each (λ m. m.to < length c.make_outputs.new.arrivals.bags.items)) (sym (inputs_are g before))
+    (each_weaker (IsToCome n c.args.time) (λ m. m.to < length c.make_outputs.new.arrivals.bags.items) (λ m h. let to = h.to in omega (arith, to, size)) c.args.run.now.at.inputs c.requires.underway.inputs)
+
+pub deliver_inputs-requires-clause-from : goal.deliver_inputs-requires-clause-from
+deliver_inputs-requires-clause-from g c =
+    let n = length c.args.network.now.models in
+    let s = c.transition-at.ensures ∙ transition_of c.args.time c.requires.underway.even in
+    subst (Each (λ m. c.transition-at.result ≤ m.stamp)) (sym (inputs_are g (goal.at.deliver_inputs-requires-clause-from g c).After-deref-3))
+    (each_weaker (IsToCome n c.args.time) (λ m. c.transition-at.result ≤ m.stamp) (λ m h. let after = h.after in omega (arith, after, s)) c.args.run.now.at.inputs c.requires.underway.inputs)
+
+second_size : (g : _) (c : After-deref-4 g) → length c.deliver_inputs.new.self.bags.items ≡ length c.args.network.now.models
+second_size g c = ap length c.in_ok-given.ensures.bags ∙ length-dealt 0 c.make_outputs.new.arrivals.bags.items _ ∙ first_size g (goal.at.wake-requires-clause-imminent g c).After-deref-3
+
+pub wake-requires-clause-imminent : goal.wake-requires-clause-imminent
+wake-requires-clause-imminent g c =
+    let within : All (λ d. d < length c.deliver_inputs.new.self.bags.items) c.take.new.imminent.items = λ k d l.
+    let at = taken_due g (goal.at.wake-requires-clause-imminent g c).In_ok-take k d l in
+    let m = slice_get_within c.args.run.now.at.moments _ at.0 at.1 in
+    let size = second_size g c in
+    let whole = c.requires.underway.moments.size in
+    omega (arith, m, size, whole) in
+    subst (All (λ d. d < length c.deliver_inputs.new.self.bags.items)) (sym c.deref-4.ensures.value) within
+
+pub make_turns-requires-clause-bags : goal.make_turns-requires-clause-bags
+make_turns-requires-clause-bags g c = ap length c.in_ok-wake.ensures.bags ∙ second_size g (goal.at.make_turns-requires-clause-bags g c).After-deref-4
 
 pub make_turns-requires-clause-fits : goal.make_turns-requires-clause-fits
 make_turns-requires-clause-fits g c =
-    bags_fit g.M.Atomic.valid g.M.Atomic.meaning c.args.network.now c.args.time c.transition-at.result c.len.result c.args.run.now c.deref.result.now c.deref-2.result.now c.in_ok-room.room.items c.as_mut_slice-bags.result.now c.make_outputs.new.bags c.deliver_inputs.new.bags
+    subst (Each FitsBag) (sym c.in_ok-wake.ensures.bags)
+    (bags_fit g.M.Atomic.valid g.M.Atomic.meaning c.args.network.now c.args.time c.transition-at.result c.args.run.now c.deref.result.now (drop c.run.inside.given c.deref-3.result.now) c.args.bench.now.arrivals.bags.items c.make_outputs.new.arrivals.bags.items c.deliver_inputs.new.self.bags.items
     (λ model s v. (g.met.M.Atomic.output_fits model s v).1) c.facts.ensures.couplings c.requires.underway
     (c.deref.ensures.value ∙ ap (λ r. r.at.moments) c.run.view_is)
-    (c.deref-2.ensures.value ∙ ap (λ r. r.at.inputs) c.run.view_is)
-    c.in_ok-room.ensures c.as_mut_slice-bags.ensures.value c.in_ok-make_outputs.ensures.bags c.in_ok-deliver_inputs.ensures
+    (inputs_are g (goal.at.make_turns-requires-clause-fits g c).After-deref-3)
+    c.requires.bags c.in_ok-make_outputs.ensures.bags c.in_ok-given.ensures.bags)
+
+pub make_turns-requires-clause-awake : goal.make_turns-requires-clause-awake
+make_turns-requires-clause-awake g c =
+    let moments = c.deref_mut.ensures.value ∙ ap (λ r. r.at.moments) c.run.view_is in
+    let awake = c.wake.new.self.awake.items in
+    let imminent : All (Contains awake) c.take.new.imminent.items = subst (All (Contains awake)) c.deref-4.ensures.value c.in_ok-wake.ensures.imminent in
+    record {
+      rising = c.in_ok-wake.ensures.rising;
+      each = c.in_ok-wake.ensures.awake.each;
+      all = λ d h. ⊎_elim
+          (λ at. All-contains (Contains awake) c.take.new.imminent.items d imminent (taken_all g (goal.at.make_turns-requires-clause-awake g c).In_ok-take d (subst (λ ms. IsDueAt ms d c.args.time) moments at)))
+          (λ r. c.in_ok-wake.ensures.awake.all d r)
+          h;
+    }
+
+pub make_turns-requires-clause-agenda : goal.make_turns-requires-clause-agenda
+make_turns-requires-clause-agenda g c =
+    let moments = c.deref_mut.ensures.value ∙ ap (λ r. r.at.moments) c.run.view_is in
+    subst (IsAgenda (c.args.time + 1) c.take.new.self.steps) (sym moments)
+    (agenda_taken g.M.Atomic.valid g.M.Atomic.meaning c.args.network.now.models c.args.time c.args.run.now.at.moments c.args.bench.now.agenda.steps c.take.new.self.steps c.requires.underway.moments c.requires.agenda c.in_ok-take.ensures.left c.in_ok-take.ensures.kept)
+
+-- the turns of the code are the definition's
+turns_here_are : (g : _) (c : After-make_turns g) → turns_with (network_of g.M.Atomic.meaning c.args.network.now) c.args.time 0 c.deref_mut.result.now c.wake.new.self.bags.items ≡ all_turns (network_of g.M.Atomic.meaning c.args.network.now) c.args.time c.args.run.now
+turns_here_are g c =
+    let net = network_of g.M.Atomic.meaning c.args.network.now in
+    ap (turns_with net c.args.time 0 c.deref_mut.result.now) c.in_ok-wake.ensures.bags
+    ∙ turns_here net c.args.time c.transition-at.result c.args.run.now c.deref.result.now c.deref_mut.result.now (drop c.run.inside.given c.deref-3.result.now) c.args.bench.now.arrivals.bags.items c.make_outputs.new.arrivals.bags.items c.deliver_inputs.new.self.bags.items
+    (c.deref.ensures.value ∙ ap (λ r. r.at.moments) c.run.view_is)
+    (c.deref_mut.ensures.value ∙ ap (λ r. r.at.moments) c.run.view_is)
+    (ap (drop c.run.inside.given) c.deref-3.ensures.value ∙ ap (λ r. r.at.inputs) c.run.view_is)
+    (c.transition-at.ensures ∙ transition_of c.args.time c.requires.underway.even)
+    c.requires.bags c.in_ok-make_outputs.ensures.bags c.in_ok-given.ensures.bags
 
 -- the outputs follow the records so far
 outputs_follow : (g : _) (c : After-make_turns g) → c.make_outputs.new.records.items ≡ c.args.run.now.records ++ outputs (network_of g.M.Atomic.meaning c.args.network.now) c.args.time 0 c.args.run.now.at.moments
@@ -39,6 +133,13 @@ outputs_follow g c =
     let net = network_of g.M.Atomic.meaning c.args.network.now in
     let moments = c.deref.ensures.value ∙ ap (λ r. r.at.moments) c.run.view_is in
     c.in_ok-make_outputs.ensures.records ∙ (λ i. (c.run.view_is i).records ++ outputs net c.args.time 0 (moments i))
+
+-- the inputs past the stamp are left
+inputs_left : (g : _) (c : After-make_turns g) → drop c.in_ok-given.given c.run.inside.inputs.items ≡ past_stamp (c.args.time + 1) c.args.run.now.at.inputs
+inputs_left g c =
+    let s = c.transition-at.ensures ∙ transition_of c.args.time c.requires.underway.even in
+    let inputs = ap (drop c.run.inside.given) c.deref-3.ensures.value ∙ ap (λ r. r.at.inputs) c.run.view_is in
+    ap (drop c.in_ok-given.given) (sym c.deref-3.ensures.value) ∙ c.in_ok-given.ensures.given ∙ (λ i. past_stamp (s i) (inputs i))
 
 pub returns-clause-records : goal.returns-clause-records
 returns-clause-records g c =
@@ -57,14 +158,13 @@ returns-clause-going g c none =
     let all = turns_here_are g before in
     let found = c.in_ok-stop.ensures.stop ∙ ap (first_stop 0) all in
     let moments = c.deref_mut.ensures.value ∙ ap (λ r. r.at.moments) c.run.view_is in
-    let s = c.transition-at.ensures ∙ transition_of c.args.time c.requires.underway.even in
     let follow = outputs_follow g before in
     let recorded = subst (λ o. MatchOption o (c.make_turns.new.records.items ≡ c.make_outputs.new.records.items ++ turn_records (all_turns net c.args.time run)) (λ _. c.make_turns.new.records.items ≡ c.make_outputs.new.records.items)) none
     (subst (λ ts. MatchOption c.in_ok-stop.stop (c.make_turns.new.records.items ≡ c.make_outputs.new.records.items ++ turn_records ts) (λ _. c.make_turns.new.records.items ≡ c.make_outputs.new.records.items)) all c.in_ok-stop.ensures.records) in
     let written = all_written c.run.inside.moments c.make_turns.new.moments (c.make_turns.auto.moments ∙ ap length c.deref_mut.ensures.value) in
     round_goes net c.args.time run c.in_ok-stop.stop found _ _ _ none
     (written ∙ c.in_ok-stop.ensures.moments none ∙ (λ i. turned_moments (moments i) (all i)))
-    (c.drop_given.ensures ∙ (λ i. past_stamp (s i) (c.run.view_is i).at.inputs))
+    (inputs_left g before)
     (recorded ∙ ap (λ l. l ++ turn_records (all_turns net c.args.time run)) follow ∙ append_assoc run.records (outputs net c.args.time 0 run.at.moments) (turn_records (all_turns net c.args.time run)))
 
 pub returns-clause-fault : goal.returns-clause-fault
@@ -75,13 +175,19 @@ returns-clause-fault g c =
 
 pub returns-clause-underway : goal.returns-clause-underway
 returns-clause-underway g c none =
-    let s = c.transition-at.ensures ∙ transition_of c.args.time c.requires.underway.even in
     let n = length c.args.network.now.models in
     let even = c.requires.underway.even in
     let written = all_written c.run.inside.moments c.make_turns.new.moments (c.make_turns.auto.moments ∙ ap length c.deref_mut.ensures.value) in
+    let left = inputs_left g (goal.at.returns-clause-underway g c).After-make_turns in
     record {
       even = omega (arith, even);
       moments = subst (AllStand g.M.Atomic.valid g.M.Atomic.meaning c.args.network.now.models (c.args.time + 2)) (sym written) (c.in_ok-stop.ensures.standing none);
-      inputs = subst (Each (IsToCome n (c.args.time + 2))) (sym (c.drop_given.ensures ∙ (λ i. past_stamp (s i) (c.run.view_is i).at.inputs)))
-          (past_to_come n c.args.time c.args.run.now.at.inputs c.requires.underway.even c.requires.underway.inputs);
+      inputs = subst (Each (IsToCome n (c.args.time + 2))) (sym left) (past_to_come n c.args.time c.args.run.now.at.inputs c.requires.underway.even c.requires.underway.inputs);
+      order = subst Ascending (sym left) (past_ascending (c.args.time + 1) c.args.run.now.at.inputs c.requires.underway.order);
     }
+
+pub returns-clause-agenda : goal.returns-clause-agenda
+returns-clause-agenda g c none =
+    let written = all_written c.run.inside.moments c.make_turns.new.moments (c.make_turns.auto.moments ∙ ap length c.deref_mut.ensures.value) in
+    subst (IsAgenda 0 c.make_turns.new.agenda.steps) (sym written)
+    (agenda_whole g.M.Atomic.valid g.M.Atomic.meaning c.args.network.now.models c.args.time c.make_turns.new.moments c.make_turns.new.agenda.steps (c.in_ok-stop.ensures.standing none) (c.in_ok-stop.ensures.agenda none))

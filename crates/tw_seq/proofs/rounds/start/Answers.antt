@@ -7,6 +7,10 @@ use Rattle.tw_network.specs.Contents.{StartsInTime, network_of}
 use Rattle.tw_seq.specs.Invariant.{IsStanding}
 use Rattle.tw_theory.specs.LocalRun.{Moment, start_moment}
 use Rattle.tw_theory.specs.Network.{Fits}
+use Rattle.tw_theory.specs.Bundles.{Ascending}
+use Rattle.tw_theory.proofs.Elements.{each-sorted, each_weaker}
+use Rattle.tw_theory.proofs.MessageOrder.{sorted_ascending}
+use Rattle.tw_vtime.specs.Stamps.{never}
 use Rattle.tw_seq.proofs.StartLemmas.{mapped_more, mapped_all, map_twice, get_pushed, to_come}
 use Rattle.tw_seq.proofs.rounds.start.Goals as goal
 
@@ -65,6 +69,7 @@ returns g c =
       underway = record {
         even = omega arith;
         moments = record { size = omega (arith, size, test, count, end); each = λ d model now found e. inv.standing d model now found e };
-        inputs = to_come net (length models) c.in_ok-start_inputs.field-0.items (length-map models g.M.Atomic.meaning) (subst (Each (Fits net)) (sym inputs) c.facts.ensures.network.inputs) c.in_ok-start_inputs.ensures.carried;
+        inputs = to_come net (length models) c.in_ok-start_inputs.field-0.items (length-map models g.M.Atomic.meaning) (subst (Each (Fits net)) (sym inputs) (each-sorted (Fits net) net.inputs c.facts.ensures.network.inputs)) c.in_ok-start_inputs.ensures.carried;
+        order = subst Ascending (sym inputs) (sorted_ascending net.inputs (each_weaker (Fits net) (λ m. m.stamp < never) (λ m h. h.stamp) net.inputs c.facts.ensures.network.inputs));
       };
     }

@@ -6,9 +6,12 @@ use Rattle.tw_msgs.specs.declared.message.Message.{Message}
 use Rattle.tw_network.specs.Contents.{message_of, IsInput}
 use Rattle.tw_seq.specs.Dealing.{Carried}
 use Rattle.tw_vtime.specs.Stamps.{stamp}
-use Rattle.tw_theory.proofs.Elements.{each-append}
+use Rattle.tw_msgs.specs.Messages.{sorted_messages}
+use Rattle.tw_msgs.proofs.Messages.{sorted_messages-only, Sorted-from_IsSorted}
+use Rattle.tw_theory.proofs.Elements.{each-append, each-sorted}
 use Rattle.tw_seq.proofs.StartLemmas.{mapped_more, mapped_all, the_ok}
 use Rattle.tw_seq.proofs.rounds.start_inputs.Goals as goal
+use Rattle.tw_seq.proofs.rounds.start_inputs.Goals.{After-loop-tick}
 
 pub loop-tick-preserved : goal.loop-tick-preserved
 loop-tick-preserved g c =
@@ -29,8 +32,16 @@ loop-tick-preserved g c =
       carried = subst (Each Carried) (sym pushed) (each-append Carried made (m ∷ []) c.loop-tick.invariant.carried (carried, tt));
     }
 
-pub returns : goal.returns
-returns g c = record {
-  inputs = mapped_all message_of c.inputs-tick-items.result.now c.loop-tick.tick-index c.loop-tick.inputs.items c.loop-tick.invariant.inputs c.loop-tick-test.false ∙ ap (map message_of) c.inputs-tick-items.ensures;
-  carried = c.loop-tick.invariant.carried;
-}
+-- the inputs as they were given
+given : (g : _) (c : After-loop-tick g) → c.loop-tick.inputs.items ≡ map message_of c.args.network.now.inputs
+given g c = mapped_all message_of c.inputs-tick-items.result.now c.loop-tick.tick-index c.loop-tick.inputs.items c.loop-tick.invariant.inputs c.loop-tick-test.false ∙ ap (map message_of) c.inputs-tick-items.ensures
+
+pub returns-clause-inputs : goal.returns-clause-inputs
+returns-clause-inputs g c =
+    sorted_messages-only c.loop-tick.inputs.items c.sort_unstable.new.self.items c.sort_unstable.ensures.permutation (Sorted-from_IsSorted c.sort_unstable.new.self.items c.sort_unstable.ensures.sorted)
+    ∙ ap sorted_messages (given g (goal.at.returns-clause-inputs g c).After-loop-tick)
+
+pub returns-clause-carried : goal.returns-clause-carried
+returns-clause-carried g c =
+    subst (Each Carried) (sym (sorted_messages-only c.loop-tick.inputs.items c.sort_unstable.new.self.items c.sort_unstable.ensures.permutation (Sorted-from_IsSorted c.sort_unstable.new.self.items c.sort_unstable.ensures.sorted)))
+    (each-sorted Carried c.loop-tick.inputs.items c.loop-tick.invariant.carried)

@@ -1,37 +1,109 @@
 -- One component after another.
-use Rattle.std.proofs.Common.{◌≡◌, ◌+◌, ◌<◌, ◌≤◌, ◌==◌, ◌∙◌, ◌++◌, ap, sym, subst, arith, length, take, drop, slice_get, slice_index_or, Some, ℕ, append-nil, length-append}
-use Rattle.std.proofs.lemmas.List.{take-append-le}
+use Rattle.std.proofs.Common.{◌≡◌, ◌+◌, ◌<◌, ◌≤◌, ◌==◌, ◌∙◌, ◌++◌, [], ap, sym, subst, arith, length, take, drop, slice_set, slice_index, slice_index_or, Some, append-nil, length-append, replicate, rules}
+use Rattle.std.specs.List.{AllByRecursion as Each}
+use Rattle.std.proofs.lemmas.List.{take-append-le, take_all, set-get_or}
 use Rattle.std.proofs.lemmas.Option.{slice_get-get_or, slice_get_within}
+use Rattle.tw_atomic.specs.Atomic.{FitsBag}
 use Rattle.tw_msgs.specs.Bags.{sorted_bag}
 use Rattle.tw_network.specs.Contents.{network_of}
-use Rattle.tw_seq.specs.Invariant.{IsStanding}
+use Rattle.tw_seq.specs.Agenda.{IsAgenda, PutsOff}
 use Rattle.tw_seq.specs.Turning.{CanGoOn, turns_with}
-use Rattle.tw_theory.specs.LocalRun.{Moment}
-use Rattle.tw_theory.specs.Simulator.{take_turn, after_output, turn_records}
-use Rattle.tw_seq.proofs.SweepLemmas.{entries, same_here, later_set, stop_kept, records_kept, moments_kept, standing_next}
+use Rattle.tw_theory.specs.Simulator.{take_turn, after_output, turn_records, turned_moments, first_stop}
+use Rattle.tw_seq.proofs.AgendaLemmas.{agenda_put_off}
+use Rattle.tw_seq.proofs.Places.{drop_all, each_at, all_written}
+use Rattle.tw_seq.proofs.Sweeping.{onward, onward_more, at_place}
+use Rattle.tw_seq.proofs.SweepLemmas.{entries, same_here, stop_found, Swept, swept_turn, at_turn, at_end, turn_within, listed_as, all_empty}
 use Rattle.tw_seq.proofs.turns.make_turns.Goals as goal
-use Rattle.tw_seq.proofs.turns.make_turns.Goals.{in-Stays, in-Moves+in_ok-push-in-Moves}
+use Rattle.tw_seq.proofs.turns.make_turns.Goals.{in-Stays, in-Moves+in_ok-push-in-Moves+in_ok-put_off-in-Moves, After-loop-component, After-replace-bag}
+
+-- the component in turn, and where the sweep stands before it
+module _ (g : _) (c : After-replace-bag g) where
+  here_within : slice_index c.deref-component-items.result.now c.loop-component.component-index < length c.args.moments.now
+  here_within =
+      turn_within g.M.Atomic.valid g.M.Atomic.meaning c.args.network.now c.args.time c.args.moments.now c.as_mut_slice-bags.result.now c.args.records.now.items c.loop-component.moments c.loop-component.bags c.loop-component.records.items c.deref-component-items.result.now
+      (listed_as c.args.time c.args.moments.now _ _ _ _ c.as_mut_slice-bags.ensures.value c.deref-component-items.ensures.value c.requires.awake)
+      c.loop-component.auto.moments c.loop-component.auto.bags (ap length c.as_mut_slice-bags.ensures.value ∙ c.requires.bags ∙ sym c.requires.moments.size)
+      c.requires.moments c.requires.even c.requires.time c.loop-component.component-index c.loop-component-test.true
+
+  here_swept : Swept g.M.Atomic.valid g.M.Atomic.meaning c.args.network.now c.args.time c.args.moments.now c.as_mut_slice-bags.result.now c.args.records.now.items (slice_index c.deref-component-items.result.now c.loop-component.component-index) c.loop-component.moments c.loop-component.bags c.loop-component.records.items
+  here_swept =
+      at_turn g.M.Atomic.valid g.M.Atomic.meaning c.args.network.now c.args.time c.args.moments.now c.as_mut_slice-bags.result.now c.args.records.now.items c.loop-component.moments c.loop-component.bags c.loop-component.records.items c.deref-component-items.result.now
+      (listed_as c.args.time c.args.moments.now _ _ _ _ c.as_mut_slice-bags.ensures.value c.deref-component-items.ensures.value c.requires.awake)
+      c.loop-component.auto.moments c.loop-component.auto.bags (ap length c.as_mut_slice-bags.ensures.value ∙ c.requires.bags ∙ sym c.requires.moments.size)
+      c.requires.moments c.requires.even c.requires.time c.loop-component.component-index c.loop-component-test.true c.loop-component.invariant.swept
+
+pub offset_bounds-moments-component : goal.offset_bounds-moments-component
+offset_bounds-moments-component g c =
+    let l = here_within g c in
+    let size = c.loop-component.auto.moments in
+    search rules
+
+pub take_turn-requires-clause-fits : goal.take_turn-requires-clause-fits
+take_turn-requires-clause-fits g c =
+    let before = (goal.at.take_turn-requires-clause-fits g c).After-replace-bag in
+    let i = slice_index c.deref-component-items.result.now c.loop-component.component-index in
+    let bags0 = c.as_mut_slice-bags.result.now in
+    let bags = c.loop-component.bags in
+    let b = c.index-bags-component.result in
+    let l0 = here_within g before in
+    let whole : length bags0 ≡ length c.args.moments.now = ap length c.as_mut_slice-bags.ensures.value ∙ c.requires.bags ∙ sym c.requires.moments.size in
+    let size = c.loop-component.auto.bags in
+    let m0 : i < length bags0 = omega (arith, l0, whole) in
+    let same = same_here bags bags0 i b (here_swept g before).to_come (omega (arith, m0, size)) m0 in
+    subst FitsBag (sym (c.replace-bag.ensures.value ∙ same)) (each_at FitsBag bags0 i b m0 (subst (Each FitsBag) (sym c.as_mut_slice-bags.ensures.value) c.requires.fits))
 
 pub take_turn-requires-clause-standing : goal.take_turn-requires-clause-standing
 take_turn-requires-clause-standing g c model found =
-    let i = c.loop-component.component in
+    let before = (goal.at.take_turn-requires-clause-standing g c).After-replace-bag in
+    let i = slice_index c.deref-component-items.result.now c.loop-component.component-index in
     let old = c.args.moments.now in
     let d = c.index-moments-component.result in
     let size = c.loop-component.auto.moments in
-    let m = c.loop-component-test.true in
-    let l : i < length c.loop-component.moments = omega (arith, size, m) in
-    let here = same_here c.loop-component.moments old i d c.loop-component.invariant.later l m in
-    c.requires.moments.each i model (slice_index_or c.loop-component.moments i d) found (slice_get-get_or old i d m ∙ ap Some (sym here))
+    let l0 = here_within g before in
+    let l : i < length c.loop-component.moments = omega (arith, size, l0) in
+    let here = same_here c.loop-component.moments old i d (here_swept g before).later l l0 in
+    c.requires.moments.each i model (slice_index_or c.loop-component.moments i d) found (slice_get-get_or old i d l0 ∙ ap Some (sym here))
+
+pub returns-in-Stops-clause-stop : goal.returns-in-Stops-clause-stop
+returns-in-Stops-clause-stop g c =
+    let before = (goal.at.returns-in-Stops-clause-stop g c).After-replace-bag in
+    let net = network_of g.M.Atomic.meaning c.args.network.now in
+    let t = c.args.time in
+    let i = slice_index c.deref-component-items.result.now c.loop-component.component-index in
+    let old = c.args.moments.now in
+    let moments = c.loop-component.moments in
+    let bags0 = c.as_mut_slice-bags.result.now in
+    let bags = c.loop-component.bags in
+    let d = c.index-moments-component.result in
+    let b = c.index-bags-component.result in
+    let what = c.in_ok-take_turn.field-0 in
+    let size = c.loop-component.auto.moments in
+    let size' = c.loop-component.auto.bags in
+    let whole : length bags0 ≡ length old = ap length c.as_mut_slice-bags.ensures.value ∙ c.requires.bags ∙ sym c.requires.moments.size in
+    let l0 = here_within g before in
+    let m0 : i < length bags0 = omega (arith, l0, whole) in
+    let sw = here_swept g before in
+    let turn = c.in_ok-take_turn.ensures.turn ∙ ap (λ x. take_turn net i (after_output net i (slice_index_or moments i d) t) (t + 1) ((slice_index_or moments i d).due == t) (sorted_bag x)) c.replace-bag.ensures.value in
+    stop_found net t i old moments bags0 bags d b what c.take_turn.new.now sw.later sw.to_come (omega (arith, size, l0)) l0 (omega (arith, size', m0)) m0 turn c.in-Stops.limit c.in-Stops.is _ sw.stop
+    ∙ ap (λ bs. first_stop 0 (turns_with net t 0 old bs)) c.as_mut_slice-bags.ensures.value
 
 pub loop-component-preserved : goal.loop-component-preserved
 loop-component-preserved g c =
-    let net = network_of g.M.Atomic.meaning c.args.network.now in
+    let before = (goal.at.loop-component-preserved g c).After-replace-bag in
+    let valid = g.M.Atomic.valid in
+    let meaning = g.M.Atomic.meaning in
+    let contents = c.args.network.now in
+    let net = network_of meaning contents in
     let t = c.args.time in
-    let i = c.loop-component.component in
+    let items = c.deref-component-items.result.now in
+    let k = c.loop-component.component-index in
+    let i = slice_index items k in
     let old = c.args.moments.now in
     let moments = c.loop-component.moments in
-    let bags0 = c.args.bags.now in
+    let bags0 = c.as_mut_slice-bags.result.now in
     let bags = c.loop-component.bags in
+    let records = c.loop-component.records.items in
+    let start = c.args.records.now.items in
     let d = c.index-moments-component.result in
     let b = c.index-bags-component.result in
     let what = c.in_ok-take_turn.field-0 in
@@ -39,53 +111,114 @@ loop-component-preserved g c =
     let inv = c.loop-component.invariant in
     let size = c.loop-component.auto.moments in
     let size' = c.loop-component.auto.bags in
-    let size0 = c.requires.bags in
-    let size1 = c.requires.moments.size in
-    let l0 = c.loop-component-test.true in
+    let whole : length bags0 ≡ length old = ap length c.as_mut_slice-bags.ensures.value ∙ c.requires.bags ∙ sym c.requires.moments.size in
+    let l0 = here_within g before in
+    let m0 : i < length bags0 = omega (arith, l0, whole) in
     let l : i < length moments = omega (arith, size, l0) in
-    let m0 : i < length bags0 = omega (arith, size0, size1, l0) in
     let m : i < length bags = omega (arith, size', m0) in
+    let sw = here_swept g before in
     let turn = c.in_ok-take_turn.ensures.turn ∙ ap (λ x. take_turn net i (after_output net i (slice_index_or moments i d) t) (t + 1) ((slice_index_or moments i d).due == t) (sorted_bag x)) c.replace-bag.ensures.value in
-    let stop = stop_kept net t i old moments bags0 bags d b what new inv.later inv.bags l l0 m m0 turn in
-    let records = records_kept net t i old moments bags0 bags d b what new inv.later inv.bags l l0 m m0 turn in
-    let moved = moments_kept net t i old moments bags0 bags d b what new inv.later inv.bags l l0 m m0 turn in
-    let later' = later_set moments old i new d inv.later l l0 in
-    let bags' = later_set bags bags0 i c.replace-bag.new.dest b inv.bags m m0 in
-    let P : ℕ → Moment g.row.M-State.Denot → Type 0 = λ k now. (model : g.row.M.Denot) → slice_get c.args.network.now.models k ≡ Some model → IsStanding (g.M.Atomic.valid model) (g.M.Atomic.meaning model) (t + 2) now in
-    let rest = turn_records (turns_with net t (i + 1) (drop (i + 1) old) (drop (i + 1) bags0)) in
+    let emptied : slice_set bags i c.replace-bag.new.dest ≡ slice_set bags i [] = ap (slice_set bags i) (c.replace-bag.ensures.after ∙ c.new.ensures) in
+    let step : CanGoOn what → Swept valid meaning contents t old bags0 start (onward items (k + 1)) (slice_set moments i new) (slice_set bags i c.replace-bag.new.dest) (records ++ entries what) =
+    λ on. subst (λ n. Swept valid meaning contents t old bags0 start n (slice_set moments i new) (slice_set bags i c.replace-bag.new.dest) (records ++ entries what)) (sym (onward_more items k))
+    (subst (λ bs. Swept valid meaning contents t old bags0 start (i + 1) (slice_set moments i new) bs (records ++ entries what)) (sym emptied)
+    (swept_turn valid meaning contents t old bags0 start i moments bags records sw l0 m0 l m d b what new turn on c.in_ok-take_turn.ensures.kept (c.in_ok-take_turn.ensures.standing on))) in
     elim c.match-branch-2.branch [
       | in-Stays w ↦
           let is = w.in-Stays.is in
           let on : CanGoOn what = subst CanGoOn (sym is) tt in
           let same = ap (λ v. v.items) w.records-is in
+          let recorded : c.match-branch-2.records.items ≡ records ++ entries what = same ∙ sym (append-nil records) ∙ ap (λ e. records ++ entries e) (sym is) in
           record {
-            later = later';
-            bags = bags';
-            stop = stop on _ inv.stop;
-            records = ap (λ rs. rs ++ rest) (same ∙ sym (append-nil c.loop-component.records.items) ∙ ap (λ k. c.loop-component.records.items ++ entries k) (sym is)) ∙ records c.loop-component.records.items _ inv.records;
+            swept = subst (λ ms. Swept valid meaning contents t old bags0 start (onward items (k + 1)) ms (slice_set bags i c.replace-bag.new.dest) c.match-branch-2.records.items) (sym w.moments-is)
+                (subst (Swept valid meaning contents t old bags0 start (onward items (k + 1)) (slice_set moments i new) (slice_set bags i c.replace-bag.new.dest)) (sym recorded) (step on));
             before = ap (take c.len-before.result) same ∙ inv.before;
             room = subst (λ rs. c.len-before.result ≤ length rs) (sym same) inv.room;
-            moments = moved on c.in_ok-take_turn.ensures.kept _ inv.moments;
-            standing = (let all = standing_next P i moments new (c.in_ok-take_turn.ensures.standing on) (λ k now q e model found. inv.standing k model now q found e) in λ k model now q found e. all k now q e model found);
+            agenda = subst (λ a. IsAgenda (t + 1) a.steps c.match-branch-2.moments) (sym w.agenda-is)
+                (subst (IsAgenda (t + 1) c.loop-component.agenda.steps) (sym (w.moments-is ∙ ap (slice_set moments i) (c.in_ok-take_turn.ensures.kept is) ∙ set-get_or moments i d)) inv.agenda);
           }
-      | in-Moves+in_ok-push-in-Moves w ↦
+      | in-Moves+in_ok-push-in-Moves+in_ok-put_off-in-Moves w ↦
           let is = w.in-Moves.is in
           let on : CanGoOn what = subst CanGoOn (sym is) tt in
           let same = ap (λ v. v.items) w.records-is ∙ w.in_ok-push-in-Moves.ensures.items in
+          let recorded : c.match-branch-2.records.items ≡ records ++ entries what = same ∙ ap (λ e. records ++ entries e) (sym is) in
+          let now = slice_index_or moments i d in
+          let size'' = c.requires.moments.size in
+          let model = at_place contents.models i (omega (arith, l0, size'')) in
+          let later : t + 1 ≤ new.due = (let from = (c.in_ok-take_turn.ensures.standing on model.0 model.1).from in omega (arith, from)) in
+          let was : c.now.inside.due ≡ now.due = ap (λ x. x.due) c.now.view_is in
+          let is_now : c.now-in-loop-component.inside.due ≡ new.due = ap (λ x. x.due) c.now-in-loop-component.view_is in
+          let put : PutsOff c.loop-component.agenda.steps w.put_off.new.self.steps i c.now.inside.due c.now-in-loop-component.inside.due = w.in_ok-put_off-in-Moves.ensures in
+          let put' : PutsOff c.loop-component.agenda.steps w.put_off.new.self.steps i now.due new.due = subst (λ n. PutsOff c.loop-component.agenda.steps w.put_off.new.self.steps i n new.due) was (subst (PutsOff c.loop-component.agenda.steps w.put_off.new.self.steps i c.now.inside.due) is_now put) in
           record {
-            later = later';
-            bags = bags';
-            stop = stop on _ inv.stop;
-            records = ap (λ rs. rs ++ rest) (same ∙ ap (λ k. c.loop-component.records.items ++ entries k) (sym is)) ∙ records c.loop-component.records.items _ inv.records;
-            before = ap (take c.len-before.result) same ∙ take-append-le c.len-before.result c.loop-component.records.items _ inv.room ∙ inv.before;
+            swept = subst (λ ms. Swept valid meaning contents t old bags0 start (onward items (k + 1)) ms (slice_set bags i c.replace-bag.new.dest) c.match-branch-2.records.items) (sym w.moments-is)
+                (subst (Swept valid meaning contents t old bags0 start (onward items (k + 1)) (slice_set moments i new) (slice_set bags i c.replace-bag.new.dest)) (sym recorded) (step on));
+            before = ap (take c.len-before.result) same ∙ take-append-le c.len-before.result records _ inv.room ∙ inv.before;
             room = subst (λ rs. c.len-before.result ≤ length rs) (sym same) (let room = inv.room in simp length-append (omega (arith, room)));
-            moments = moved on c.in_ok-take_turn.ensures.kept _ inv.moments;
-            standing = (let all = standing_next P i moments new (c.in_ok-take_turn.ensures.standing on) (λ k now q e model found. inv.standing k model now q found e) in λ k model now q found e. all k now q e model found);
+            agenda = subst (λ a. IsAgenda (t + 1) a.steps c.match-branch-2.moments) (sym w.agenda-is)
+                (subst (IsAgenda (t + 1) w.put_off.new.self.steps) (sym w.moments-is) (agenda_put_off (t + 1) c.loop-component.agenda.steps w.put_off.new.self.steps moments i now new inv.agenda (slice_get-get_or moments i d l) later put'));
           }
     ]
 
+-- all have taken their turns
+final : (g : _) (c : After-loop-component g) → Swept g.M.Atomic.valid g.M.Atomic.meaning c.args.network.now c.args.time c.args.moments.now c.as_mut_slice-bags.result.now c.args.records.now.items (length c.args.moments.now) c.loop-component.moments c.loop-component.bags c.loop-component.records.items
+final g c =
+    at_end g.M.Atomic.valid g.M.Atomic.meaning c.args.network.now c.args.time c.args.moments.now c.as_mut_slice-bags.result.now c.args.records.now.items c.loop-component.moments c.loop-component.bags c.loop-component.records.items c.deref-component-items.result.now
+    (listed_as c.args.time c.args.moments.now _ _ _ _ c.as_mut_slice-bags.ensures.value c.deref-component-items.ensures.value c.requires.awake)
+    c.loop-component.auto.moments c.loop-component.auto.bags (ap length c.as_mut_slice-bags.ensures.value ∙ c.requires.bags ∙ sym c.requires.moments.size)
+    c.requires.moments c.requires.even c.requires.time c.loop-component.component-index c.loop-component-test.false c.loop-component.auto.component-index-end c.loop-component.invariant.swept
+
+pub returns-clause-stop : goal.returns-clause-stop
+returns-clause-stop g c =
+    let net = network_of g.M.Atomic.meaning c.args.network.now in
+    let old = c.args.moments.now in
+    let n = length old in
+    let bags0 = c.as_mut_slice-bags.result.now in
+    sym (ap (λ ms. first_stop n (turns_with net c.args.time n ms (drop n bags0))) (drop_all old n (omega arith)))
+    ∙ (final g (goal.at.returns-clause-stop g c).After-loop-component).stop
+    ∙ ap (λ bs. first_stop 0 (turns_with net c.args.time 0 old bs)) c.as_mut_slice-bags.ensures.value
+
+pub returns-clause-records : goal.returns-clause-records
+returns-clause-records g c =
+    let net = network_of g.M.Atomic.meaning c.args.network.now in
+    let old = c.args.moments.now in
+    let n = length old in
+    let bags0 = c.as_mut_slice-bags.result.now in
+    let records = c.loop-component.records.items in
+    sym (append-nil records)
+    ∙ sym (ap (λ ms. records ++ turn_records (turns_with net c.args.time n ms (drop n bags0))) (drop_all old n (omega arith)))
+    ∙ (final g (goal.at.returns-clause-records g c).After-loop-component).recorded
+    ∙ ap (λ bs. c.args.records.now.items ++ turn_records (turns_with net c.args.time 0 old bs)) c.as_mut_slice-bags.ensures.value
+
+pub returns-clause-moments : goal.returns-clause-moments
+returns-clause-moments g c _ =
+    let net = network_of g.M.Atomic.meaning c.args.network.now in
+    let old = c.args.moments.now in
+    let n = length old in
+    let bags0 = c.as_mut_slice-bags.result.now in
+    let moments = c.loop-component.moments in
+    let size = c.loop-component.auto.moments in
+    sym (append-nil moments)
+    ∙ ap (λ ms. ms ++ []) (sym (take_all n moments (omega (arith, size))))
+    ∙ sym (ap (λ ms. take n moments ++ turned_moments ms (turns_with net c.args.time n ms (drop n bags0))) (drop_all old n (omega arith)))
+    ∙ (final g (goal.at.returns-clause-moments g c).After-loop-component).moved
+    ∙ ap (λ bs. turned_moments old (turns_with net c.args.time 0 old bs)) c.as_mut_slice-bags.ensures.value
+
 pub returns-clause-standing : goal.returns-clause-standing
-returns-clause-standing g c _ = record {
-  size = c.loop-component.auto.moments ∙ c.requires.moments.size;
-  each = λ d model now found e. c.loop-component.invariant.standing d model now (let l = slice_get_within c.loop-component.moments d now e in let p = c.loop-component-test.false in omega (arith, l, p)) found e;
-}
+returns-clause-standing g c _ =
+    let all = final g (goal.at.returns-clause-standing g c).After-loop-component in
+    let size = c.loop-component.auto.moments in
+    record {
+      size = c.loop-component.auto.moments ∙ c.requires.moments.size;
+      each = λ d model now found e. all.standing d model now (let l = slice_get_within c.loop-component.moments d now e in omega (arith, l, size)) found e;
+    }
+
+pub returns-clause-bags : goal.returns-clause-bags
+returns-clause-bags g c _ =
+    let all = final g (goal.at.returns-clause-bags g c).After-loop-component in
+    let bags = c.loop-component.bags in
+    let size = c.loop-component.auto.bags in
+    let whole : length c.as_mut_slice-bags.result.now ≡ length c.args.moments.now = ap length c.as_mut_slice-bags.ensures.value ∙ c.requires.bags ∙ sym c.requires.moments.size in
+    all_written c.args.arrivals.now.bags bags (size ∙ ap length c.as_mut_slice-bags.ensures.value)
+    ∙ all_empty bags (λ d bag e. all.empty d bag (let l = slice_get_within bags d bag e in omega (arith, l, size, whole)) e)
+    ∙ ap (λ n. replicate n []) (size ∙ ap length c.as_mut_slice-bags.ensures.value ∙ c.requires.bags)

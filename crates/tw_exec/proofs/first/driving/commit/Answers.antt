@@ -9,7 +9,7 @@ use Rattle.tw_models.specs.declared.model.Model.{Model}
 use Rattle.tw_models.specs.declared.model.State.{State}
 use Rattle.tw_network.specs.Contents.{Contents}
 use Rattle.tw_vtime.specs.Stamps.{stamp}
-use Rattle.tw_exec.proofs.Driving.{memory_alone, harvest_not, raised_past, raised_same, harvested_lines, complete_columns}
+use Rattle.tw_exec.proofs.Driving.{memory_only, not_refused, harvest_not, raised_past, raised_same, harvested_lines, complete_columns}
 use Rattle.tw_exec.proofs.first.driving.commit.Goals as goal
 
 pub loop-component-init : goal.loop-component-init
@@ -23,13 +23,13 @@ loop-component-init c =
       until = ap (λ (x : Running). x.until) c.raise.ensures.done;
     }
 
-pub only_memory-requires : goal.only_memory-requires
-only_memory-requires c =
+pub map_err-requires : goal.map_err-requires
+map_err-requires c =
     let e = c.loop-component.executive in
     let k = c.loop-component.invariant in
     let raised = ap (λ (x : Running). length x.world.processes) c.raise.ensures.done ∙ ap (λ ps. length ps) (raised_same c.args.executive.now.network c.args.executive.now.until c.args.executive.now.world c.facts.ensures).0 in
     let near : c.loop-component.component < length e.world.processes = omega (arith, c.loop-component-test.true, c.len-component-end.ensures, raised, k.count) in
-    memory_alone c.in-Err.refused (λ why. answer e (Harvest c.loop-component.component) ≡ Refused why) c.in-Err.ensures.refused
+    memory_only c.harvest.result (λ why. answer e (Harvest c.loop-component.component) ≡ Refused why) c.harvest.ensures.refused
     (λ why r. harvest_not e.network e.until e.world c.facts-in-loop-component.ensures c.loop-component.component near why r)
 
 pub loop-component-preserved : goal.loop-component-preserved
@@ -39,7 +39,7 @@ loop-component-preserved c =
     let raised = ap (λ (x : Running). length x.world.processes) c.raise.ensures.done ∙ ap (λ ps. length ps) (raised_same c.args.executive.now.network c.args.executive.now.until c.args.executive.now.world c.facts.ensures).0 in
     let near : c.loop-component.component < length e.world.processes = omega (arith, c.loop-component-test.true, c.len-component-end.ensures, raised, k.count) in
     let end = stamp c.args.executive.now.until 0 0 in
-    let done = c.in-Ok.ensures.done in
+    let done = (not_refused c.harvest.result _ c.in_ok-map_err.ensures.variant c.harvest.ensures.done) in
     let go = harvested_lines e.network e.until e.world c.facts-in-loop-component.ensures end c.loop-component.component near k.gvt k.lines in
     record {
       lines = subst (λ (x : Running). (d : ℕ) (p : Process State) → d < c.loop-component.component + 1 → slice_get x.world.processes d ≡ Some p → end ≤ p.line) (sym done) go.0;

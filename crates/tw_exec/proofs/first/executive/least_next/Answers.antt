@@ -1,6 +1,11 @@
-use Rattle.std.proofs.Common.{map, arith}
-use Rattle.tw_exec.proofs.Leasts.{least_next_top}
+use Rattle.std.proofs.Common.{rules, ◌≡◌, min, ◌∙◌}
+use Rattle.std.specs.Prelude.{fold}
+use Rattle.tw_vtime.specs.Stamps.{never}
+use Rattle.tw_exec.specs.Cells.{Cell}
+use Rattle.tw_exec.proofs.Chains.{least_of_cell, least_next_chain}
 use Rattle.tw_exec.proofs.first.executive.least_next.Goals as goal
 
-pub loop-component-init : goal.loop-component-init
-loop-component-init c = let top = least_next_top (map (λ x. x.process) c.args.components.now) in record { least = omega arith; top = omega arith }
+pub returns : goal.returns
+returns c =
+    let is : c.fold.result ≡ fold (λ a (x : Cell). min a (least_of_cell x)) never c.args.components.now = search rules in
+    is ∙ least_next_chain c.args.components.now

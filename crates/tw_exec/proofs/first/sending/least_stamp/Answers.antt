@@ -1,6 +1,11 @@
-use Rattle.std.proofs.Common.{arith}
-use Rattle.tw_exec.proofs.Leasts.{least_stamp_top}
+use Rattle.std.proofs.Common.{rules, ◌≡◌, min, ◌∙◌}
+use Rattle.std.specs.Prelude.{fold}
+use Rattle.tw_vtime.specs.Stamps.{never}
+use Rattle.tw_msgs.specs.declared.message.Item.{Item}
+use Rattle.tw_exec.proofs.Chains.{least_stamp_chain}
 use Rattle.tw_exec.proofs.first.sending.least_stamp.Goals as goal
 
-pub loop-item-init : goal.loop-item-init
-loop-item-init c = record { least = omega (arith, least_stamp_top c.args.items.now); top = omega arith }
+pub returns : goal.returns
+returns c =
+    let is : c.fold.result ≡ fold (λ a (i : Item). min a i.message.stamp) never c.args.items.now = search rules in
+    is ∙ least_stamp_chain c.args.items.now

@@ -1,7 +1,11 @@
 use Rattle.std.proofs.Common.{◌≡◌, ◌++◌, drop}
-use Rattle.tw_theory.specs.Network.{routed}
+use Rattle.tw_theory.specs.Bundles.{positives}
+use Rattle.tw_theory.specs.Network.{routed, copies}
 use Rattle.tw_exec.specs.First.{meant}
 use Rattle.tw_exec.proofs.first.sending.routed.Given as goal
 
-abbrev pub invariant-loop-item : goal.invariant-loop-item
-invariant-loop-item l = l.sent.items ++ routed (meant l.network) l.component l.stamp (drop l.item-index l.items) ≡ routed (meant l.network) l.component l.stamp l.items
+abbrev pub invariant-loop-port : goal.invariant-loop-port
+invariant-loop-port l = l.items.items ++ positives (routed (meant l.network) l.component l.stamp (drop l.port-index l.bag)) ≡ positives (routed (meant l.network) l.component l.stamp l.bag)
+
+abbrev pub invariant-loop-to : goal.invariant-loop-to
+invariant-loop-to l = l.items.items ++ positives (copies l.stamp l.value (drop l.to-index l.to-items)) ≡ l.initial.items.items ++ positives (copies l.stamp l.value l.to-items)

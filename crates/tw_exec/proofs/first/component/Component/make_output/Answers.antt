@@ -17,13 +17,14 @@ returns-clause-stepped c =
     let model = c.model.result.now in
     let after : c.transition.result ≡ c.args.stamp + 1 = omega (arith, c.transition.ensures, c.requires.is_output) in
     let bag_is : c.in_ok-bag.bag ≡ sorted_bag ((model_meaning model).out inside.at.state) = c.in_ok-bag.ensures ∙ ap sorted_bag (c.as_slice.ensures.value ∙ c.output.ensures) in
-    let sent_is : c.in_ok-sent.sent.items ≡ routed net c.args.component (c.args.stamp + 1) c.in_ok-bag.bag = c.in_ok-sent.ensures ∙ (λ i. routed net c.args.component (after i) (c.as_slice-2.ensures i)) in
+    let sent_is : c.in_ok-items.items.items ≡ positives (routed net c.args.component (c.args.stamp + 1) c.in_ok-bag.bag) = c.in_ok-items.ensures ∙ ap (λ t. positives (routed net c.args.component t c.in_ok-bag.bag)) after in
+    let kept_is : c.of-sent.result.value.items ≡ c.in_ok-items.items.items = ap (λ v. v.items) c.of-sent.ensures in
     let after_is : c.transition-self-inside.result ≡ c.args.stamp + 1 = omega (arith, c.transition-self-inside.ensures, c.requires.is_output) in
     let stepped = output_stepped net c.args.component (model_meaning model) (λ s. model_at c.args.network.now c.args.component model s c.model.ensures) inside.at.state inside.at.last inside.at.due c.args.stamp inside.pending.items inside.history.items c.push_reserved.new.self.items inside.outgoing.items c.append.new.self.items inside.line inside.column.items
-    c.in_ok-bag.bag c.from.result c.of.result c.of-2.result c.of-3.result c.of.ensures c.transition-self-inside.result
+    c.in_ok-bag.bag c.from.result c.of.result c.of-2.result c.of-sent.result c.of.ensures c.transition-self-inside.result
     (c.requires.is_next ∙ ap (λ x. next x.process) (sym c.self.view_is)) c.requires.is_due c.requires.is_output bag_is (c.from.ensures ∙ c.new.ensures.items)
-    (ap (λ v. v.items) c.of-2.ensures ∙ c.new-none.ensures.items) (ap (λ v. v.items) c.of-3.ensures ∙ sent_is)
+    (ap (λ v. v.items) c.of-2.ensures ∙ c.new-2.ensures.items) (kept_is ∙ sent_is)
     (rw c.in_ok-reserve.ensures.items at c.push_reserved.ensures.items)
-    (c.in_ok-append.ensures.items ∙ ap (λ xs. inside.outgoing.items ++ xs) (c.in_ok-items.ensures ∙ ap positives (c.as_slice-3.ensures.value ∙ ap (λ v. v.items) (sym c.of-3.ensures))))
+    (c.in_ok-append.ensures.items ∙ ap (λ xs. inside.outgoing.items ++ xs) (sym kept_is))
     after_is in
     subst (λ old. IsStepped net c.args.component old (cell inside.at.state inside.at.last c.transition-self-inside.result inside.pending.items c.push_reserved.new.self.items c.append.new.self.items inside.line inside.column.items) c.args.stamp Out) c.self.view_is stepped

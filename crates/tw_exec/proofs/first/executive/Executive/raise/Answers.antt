@@ -3,15 +3,16 @@ use Rattle.tw_exec.specs.Cells.{Cell}
 use Rattle.tw_exec.specs.First.{answer, after}
 use Rattle.tw_theory.specs.Bundles.{least_stamp}
 use Rattle.tw_theory.specs.Executive.{Raise, Raised, least_next}
+use Rattle.tw_exec.proofs.Comparing.{lesser}
 use Rattle.tw_exec.proofs.Held.{IsTaken, raise_taken}
 use Rattle.tw_exec.proofs.first.executive.Executive.raise.Goals as goal
 
-taken : (c : goal.After-gvt-1) → IsTaken c.self.inside.network c.self.inside.until c.self.inside.end c.self.inside.gvt c.lesser-gvt.result c.self.inside.components.items c.self.inside.components.items c.self.inside.mail.items c.self.inside.mail.items Raise (Raised c.lesser-gvt.result)
+taken : (c : goal.After-gvt-1) → IsTaken c.self.inside.network c.self.inside.until c.self.inside.end c.self.inside.gvt c.min-gvt.result c.self.inside.components.items c.self.inside.components.items c.self.inside.mail.items c.self.inside.mail.items Raise (Raised c.min-gvt.result)
 taken c =
     let inside = c.self.inside in
     let own : c.least_next-own.result ≡ least_next (map (λ (x : Cell). x.process) inside.components.items) = c.least_next-own.ensures ∙ ap (λ xs. least_next (map (λ (x : Cell). x.process) xs)) c.as_slice.ensures.value in
-    let mail : c.least_stamp-mail.result ≡ least_stamp inside.mail.items = c.least_stamp-mail.ensures ∙ ap least_stamp c.as_slice-2.ensures.value in
-    let least : c.lesser-gvt.result ≡ min (least_next (map (λ (x : Cell). x.process) inside.components.items)) (least_stamp inside.mail.items) = c.lesser-gvt.ensures ∙ (λ i. min (own i) (mail i)) in
+    let mail : c.least_stamp.result ≡ least_stamp inside.mail.items = c.least_stamp.ensures ∙ ap least_stamp c.as_slice-2.ensures.value in
+    let least : c.min-gvt.result ≡ min (least_next (map (λ (x : Cell). x.process) inside.components.items)) (least_stamp inside.mail.items) = c.min-gvt.ensures ∙ lesser c.least_next-own.result c.least_stamp.result ∙ (λ i. min (own i) (mail i)) in
     subst (λ (g : ℕ). IsTaken inside.network inside.until inside.end inside.gvt g inside.components.items inside.components.items inside.mail.items inside.mail.items Raise (Raised g)) (sym least)
     (raise_taken inside.network inside.until inside.end inside.gvt inside.components.items inside.mail.items c.self.invariant)
 

@@ -15,6 +15,3 @@ mod runs;
 pub use demonstration::demo_law;
 pub use exit::Exit;
 pub use runs::engine;
-
-#[cfg(test)]
-mod tests;

@@ -1,3 +1,5 @@
+mod files;
+mod jobs;
 mod lines;
 mod records;
 mod texts;

@@ -7,5 +7,3 @@
 #![tactic(auto)]
 
 pub mod first;
-#[cfg(test)]
-mod tests;

@@ -11,8 +11,6 @@
 mod entries;
 mod heap;
 mod sifting;
-#[cfg(test)]
-mod tests;
 
 pub use entries::Entry;
 pub use heap::EventHeap;

@@ -28,6 +28,3 @@ pub use model::{Model, Residue, State};
 pub use queue::{Jobs, Queue, QueueResidue, QueueState};
 pub use relay::{Held, Relay, RelayResidue, RelayState};
 pub use tally::{Tally, TallyState};
-
-#[cfg(test)]
-mod tests;

@@ -24,6 +24,3 @@ pub use message::{Item, Message, Sign, message_order_law};
 pub use record::{Record, equality_law};
 pub use record_kind::RecordKind;
 pub use words::Words;
-
-#[cfg(test)]
-mod tests;

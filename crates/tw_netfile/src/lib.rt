@@ -18,6 +18,3 @@ mod shape;
 
 pub use file::network_of_file;
 pub use refused::FileRefused;
-
-#[cfg(test)]
-mod tests;

@@ -17,6 +17,3 @@ mod routes;
 
 pub use network::{Coupling, Input, Network, Place};
 pub use refused::NetworkRefused;
-
-#[cfg(test)]
-mod tests;

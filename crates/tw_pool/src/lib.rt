@@ -14,8 +14,6 @@
 mod links;
 mod lists;
 mod refused;
-#[cfg(test)]
-mod tests;
 
 pub use lists::{LIVE_LIMIT, Pool};
 pub use refused::PoolRefused;

@@ -21,6 +21,3 @@ mod turns;
 
 pub use refused::SeqRefused;
 pub use simulator::{Seq, simulate};
-
-#[cfg(test)]
-mod tests;

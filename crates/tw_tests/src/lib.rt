@@ -1,0 +1,5 @@
+//! Tests of the crates from messages to the executive: worked examples, and each public function once.
+#![tactic(auto)]
+
+#[cfg(test)]
+mod tests;

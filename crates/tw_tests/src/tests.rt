@@ -1,0 +1,7 @@
+mod executive;
+mod heap;
+mod models;
+mod msgs;
+mod networks;
+mod pool;
+mod sequential;

@@ -1,0 +1,208 @@
+//! Bags, messages, records and words, each by worked examples and with refused growths.
+
+use std::alloc::{AllocError, Global};
+use std::test::Fail;
+use tw_msgs::{
+    Bag, Item, Message, Record, RecordKind, Sign, Words, equality_law, message_order_law,
+    signed_count,
+};
+use tw_vtime::Stamp;
+
+/// Ten items, more than a bag holds without memory.
+const TEN: [(u8, i64); 10] = [
+    (3, -1),
+    (0, 7),
+    (15, i64::MIN),
+    (3, -1),
+    (0, -7),
+    (3, 4),
+    (15, i64::MAX),
+    (0, 7),
+    (1, 0),
+    (3, -2),
+];
+
+/// The same items by port, then value.
+const TEN_SORTED: [(u8, i64); 10] = [
+    (0, -7),
+    (0, 7),
+    (0, 7),
+    (1, 0),
+    (3, -2),
+    (3, -1),
+    (3, -1),
+    (3, 4),
+    (15, i64::MIN),
+    (15, i64::MAX),
+];
+
+fn bag_of(alloc: Global, items: &[(u8, i64)]) -> Result<Bag, AllocError> {
+    let mut bag = Bag::new(alloc);
+    for item in items {
+        bag.push(*item)?;
+    }
+    Ok(bag)
+}
+
+fn words_of(alloc: Global, numbers: &[i128]) -> Result<Words, AllocError> {
+    let mut list = Vec::new(alloc);
+    for number in numbers {
+        list.push(*number)?;
+    }
+    Ok(Words::from(list))
+}
+
+fn message(stamp: Stamp, port: u8, value: i64, to: usize) -> Message {
+    Message {
+        stamp,
+        port,
+        value,
+        to,
+    }
+}
+
+fn item(sign: Sign, message: Message) -> Item {
+    Item { sign, message }
+}
+
+#[test]
+fn sorts_by_port_then_value(rt: HostRuntime) -> Result<(), Fail> {
+    let mut bag = Bag::new(rt.alloc());
+    assert!(rt; bag.is_empty());
+    bag.sort();
+    assert!(rt; bag.is_empty());
+    for item in TEN {
+        bag.push(item)?;
+    }
+    assert_eq!(rt; bag.as_slice(), TEN.as_slice());
+    bag.sort();
+    assert!(rt; !bag.is_empty());
+    assert_eq!(rt; bag.len(), 10);
+    assert_eq!(rt; bag.as_slice(), TEN_SORTED.as_slice());
+    assert_eq!(rt; bag.iter().next(), Some(&(0, -7)));
+    let mut last = (0, i64::MIN);
+    for item in &bag {
+        assert!(rt; last <= *item);
+        last = *item;
+    }
+    assert_eq!(rt; last, (15, i64::MAX));
+    Ok(())
+}
+
+#[test]
+fn gives_words_back(rt: HostRuntime) -> Result<(), Fail> {
+    let words = words_of(rt.alloc(), &[i128::MIN, 0, 9])?;
+    assert_eq!(rt; words.len(), 3);
+    assert!(rt; !words.is_empty());
+    assert_eq!(rt; words.as_slice(), [i128::MIN, 0, 9].as_slice());
+    let list = words.into_vec();
+    assert_eq!(rt; list.as_slice(), [i128::MIN, 0, 9].as_slice());
+    Ok(())
+}
+
+#[test]
+fn copies_and_compares(rt: HostRuntime) -> Result<(), Fail> {
+    equality_law();
+    let record = Record {
+        component: 3,
+        stamp: Stamp::new(3, 0, 1)?,
+        kind: RecordKind::Con,
+        bag: bag_of(rt.alloc(), &TEN)?,
+        words: words_of(rt.alloc(), &[0, -1, i128::MAX])?,
+    };
+    assert_eq!(rt; record.clone()?, record);
+    let mut other = record.clone()?;
+    other.bag.sort();
+    assert_eq!(rt; other.bag.as_slice(), TEN_SORTED.as_slice());
+    assert_eq!(rt; record.bag.as_slice(), TEN.as_slice());
+    assert!(rt; other != record);
+    assert!(rt; other.words == record.words);
+    other.bag = record.bag.clone()?;
+    assert!(rt; other == record);
+    other.kind = RecordKind::Ext;
+    assert!(rt; other != record);
+    other.kind = RecordKind::Con;
+    other.words = words_of(rt.alloc(), &[0, -1])?;
+    assert!(rt; other != record);
+    Ok(())
+}
+
+/// Each push or copy that is refused leaves what it was given, and succeeds once memory is back.
+#[test]
+fn stays_as_it_was_when_memory_is_refused(rt: HostRuntime) -> Result<(), Fail> {
+    let mut bag = Bag::new(rt.alloc());
+    for (at, item) in TEN.iter().enumerate() {
+        if let Err(refused) = bag.push(*item) {
+            assert!(rt; at >= 8);
+            assert_eq!(rt; refused.value, *item);
+            assert_eq!(rt; bag.as_slice(), TEN.get(..at).unwrap_or(&[]));
+            bag.push(*item)?;
+        }
+    }
+    assert_eq!(rt; bag.as_slice(), TEN.as_slice());
+    let numbers = match words_of(rt.alloc(), &[5, -5]) {
+        Ok(words) => words,
+        Err(_) => words_of(rt.alloc(), &[5, -5])?,
+    };
+    let record = Record {
+        component: 0,
+        stamp: Stamp::START,
+        kind: RecordKind::Out,
+        bag,
+        words: numbers,
+    };
+    let copy = match record.clone() {
+        Ok(copy) => copy,
+        Err(_) => {
+            assert_eq!(rt; record.bag.as_slice(), TEN.as_slice());
+            assert_eq!(rt; record.words.as_slice(), [5, -5].as_slice());
+            record.clone()?
+        }
+    };
+    assert_eq!(rt; copy, record);
+    Ok(())
+}
+
+#[test]
+fn orders_by_stamp_port_value_and_receiver(rt: HostRuntime) -> Result<(), Fail> {
+    message_order_law();
+    let early = Stamp::new(1, 0, 1)?;
+    let late = Stamp::new(1, 1, 1)?;
+    let rising = [
+        message(early, 0, 9, 9),
+        message(early, 2, -1, 9),
+        message(early, 2, 3, 0),
+        message(early, 2, 3, 8),
+        message(early, 15, i64::MIN, 0),
+        message(late, 0, i64::MIN, 0),
+    ];
+    for pair in rising.windows(2) {
+        if let [one, other] = pair {
+            assert!(rt; *one < *other && *one != *other);
+        }
+    }
+    Ok(())
+}
+
+#[test]
+fn counts_messages_up_and_anti_messages_down(rt: HostRuntime) -> Result<(), Fail> {
+    let at = Stamp::new(2, 0, 1)?;
+    let counted = message(at, 1, 5, 4);
+    let other = message(at, 1, 5, 3);
+    let items = [
+        item(Sign::Positive, counted),
+        item(Sign::Anti, other),
+        item(Sign::Positive, counted),
+        item(Sign::Anti, counted),
+        item(Sign::Positive, message(at, 1, 6, 4)),
+        item(Sign::Positive, message(at, 2, 5, 4)),
+        item(Sign::Positive, message(Stamp::new(3, 0, 1)?, 1, 5, 4)),
+        item(Sign::Positive, counted),
+        item(Sign::Anti, other),
+    ];
+    assert_eq!(rt; signed_count(&items, &counted), 2);
+    assert_eq!(rt; signed_count(&items, &other), -2);
+    assert_eq!(rt; signed_count(&items, &message(at, 0, 0, 0)), 0);
+    assert_eq!(rt; signed_count(&[], &counted), 0);
+    Ok(())
+}

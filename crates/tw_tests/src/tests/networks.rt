@@ -1,0 +1,153 @@
+//! The faults of the worked examples, each reader once, and want of memory.
+
+use std::alloc::{AllocError, Global};
+use tw_models::Model;
+use tw_network::{Coupling, Input, Network, NetworkRefused};
+use tw_vtime::Refusal;
+
+/// A name and a model.
+fn component(alloc: Global, name: &str, model: Model) -> Result<(String, Model), AllocError> {
+    let name = String::from_str(alloc, name)?;
+    Ok((name, model))
+}
+
+/// Relays of these names.
+fn relays(alloc: Global, names: &[&str]) -> Result<Vec<(String, Model)>, NetworkRefused> {
+    let mut components = Vec::new(alloc);
+    for name in names {
+        let model = Model::relay(1).or(Err(NetworkRefused::BadTick))?;
+        components.push(component(alloc, name, model)?)?;
+    }
+    Ok(components)
+}
+
+/// The network of relays of these names, with these couplings and inputs.
+fn relay_network(
+    alloc: Global,
+    names: &[&str],
+    couplings: &[Coupling],
+    inputs: &[Input],
+    micro_limit: u64,
+) -> Result<Network<Model>, NetworkRefused> {
+    let components = relays(alloc, names)?;
+    let couplings = Vec::from_slice(alloc, couplings)?;
+    let inputs = Vec::from_slice(alloc, inputs)?;
+    Network::new(alloc, components, couplings, inputs, micro_limit)
+}
+
+/// For what this network of relays is refused, by its number; 0 where it is taken.
+fn refusal(
+    alloc: Global,
+    names: &[&str],
+    couplings: &[Coupling],
+    inputs: &[Input],
+    micro_limit: u64,
+) -> u8 {
+    match relay_network(alloc, names, couplings, inputs, micro_limit) {
+        Ok(_) => 0,
+        Err(refused) => Refusal::from(refused).number(),
+    }
+}
+
+#[test]
+fn the_first_fault_is_answered(rt: HostRuntime) {
+    let alloc = rt.alloc();
+    let both = ["a", "b"];
+    assert_eq!(rt; refusal(alloc, &["a", "a"], &[(0, 0, 5, 0)], &[], 100), 18);
+    assert_eq!(rt;
+        refusal(alloc, &both, &[(0, 16, 1, 0), (0, 0, 0, 0)], &[], 100),
+        6
+    );
+    assert_eq!(rt; refusal(alloc, &both, &[(0, 0, 5, 16)], &[], 100), 5);
+    assert_eq!(rt;
+        refusal(alloc, &both, &[(1, 2, 0, 3), (1, 2, 0, 3)], &[], 100),
+        8
+    );
+    assert_eq!(rt; refusal(alloc, &["a b", "b"], &[], &[], 0), 11);
+    assert_eq!(rt;
+        refusal(alloc, &both, &[], &[(1_099_511_627_775, 2, 0, 0)], 100),
+        5
+    );
+}
+
+#[test]
+fn each_other_fault_has_its_number(rt: HostRuntime) {
+    let alloc = rt.alloc();
+    let both = ["a", "b"];
+    let long = "abcdefghijklmnopqrstuvwxyz0123456";
+    assert_eq!(rt; refusal(alloc, &["a b", "b"], &[], &[], 100), 17);
+    assert_eq!(rt; refusal(alloc, &["", "b"], &[], &[], 100), 17);
+    assert_eq!(rt; refusal(alloc, &["a", long], &[], &[], 100), 17);
+    assert_eq!(rt; refusal(alloc, &both, &[(1, 0, 1, 3)], &[], 100), 7);
+    assert_eq!(rt; refusal(alloc, &both, &[], &[(3, 1, 16, 0)], 100), 6);
+    assert_eq!(rt;
+        refusal(alloc, &both, &[], &[(1_099_511_627_775, 1, 0, 0)], 100),
+        10
+    );
+    assert_eq!(rt; refusal(alloc, &both, &[], &[], 8_388_608), 11);
+    assert_eq!(rt;
+        refusal(
+            alloc,
+            &both,
+            &[],
+            &[(1_099_511_627_774, 1, 15, -1)],
+            8_388_607
+        ),
+        0
+    );
+    assert_eq!(rt; refusal(alloc, &[], &[], &[], 1), 0);
+}
+
+#[test]
+fn too_many_components_come_first(rt: HostRuntime) {
+    let alloc = rt.alloc();
+    let mut names = Vec::new(alloc);
+    for _ in 0..1025 {
+        names.push("a").expect(&rt, "memory");
+    }
+    assert_eq!(rt; refusal(alloc, names.as_slice(), &[], &[], 0), 9);
+}
+
+#[test]
+fn a_network_is_read(rt: HostRuntime) {
+    let alloc = rt.alloc();
+    let couplings = [(0, 0, 1, 3), (1, 15, 0, 0), (0, 2, 1, 0), (0, 0, 1, 1)];
+    let inputs = [(5, 1, 0, -7), (2, 0, 9, 7)];
+    let network = relay_network(alloc, &["a", "b_2-c"], &couplings, &inputs, 100).expect(
+        &rt, "memory",
+    );
+    network.facts();
+    assert_eq!(rt; network.len(), 2);
+    assert!(rt; !network.is_empty());
+    assert_eq!(rt; network.name(1), "b_2-c");
+    assert_eq!(rt; network.find("b_2-c"), Some(1));
+    assert_eq!(rt; network.find("b"), None);
+    let relay = Model::relay(1).expect(&rt, "a delay in range");
+    assert!(rt; *network.model(0) == relay);
+    assert_eq!(rt; network.micro_limit(), 100);
+    assert_eq!(rt; network.couplings(), couplings.as_slice());
+    assert_eq!(rt; network.inputs(), inputs.as_slice());
+    assert_eq!(rt; network.routes(0, 0), [(1, 1), (1, 3)].as_slice());
+    assert_eq!(rt; network.routes(0, 2), [(1, 0)].as_slice());
+    assert_eq!(rt; network.routes(1, 15), [(0, 0)].as_slice());
+    assert!(rt; network.routes(1, 0).is_empty());
+    assert!(rt; network.routes(1, 16).is_empty());
+    assert!(rt; network.routes(0, 255).is_empty());
+}
+
+#[test]
+fn a_refused_growth_gives_4_and_leaves_nothing(rt: HostRuntime) {
+    let alloc = rt.alloc();
+    let couplings = [(0, 0, 1, 3), (0, 0, 1, 1)];
+    let network = match relay_network(alloc, &["a", "b"], &couplings, &[(5, 1, 0, -7)], 100) {
+        Ok(network) => network,
+        Err(refused) => {
+            assert_eq!(rt; Refusal::from(refused).number(), 4);
+            relay_network(alloc, &["a", "b"], &couplings, &[(5, 1, 0, -7)], 100).expect(
+                &rt, "memory",
+            )
+        }
+    };
+    assert_eq!(rt; network.len(), 2);
+    assert_eq!(rt; network.routes(0, 0), [(1, 1), (1, 3)].as_slice());
+}

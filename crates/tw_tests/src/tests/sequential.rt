@@ -1,0 +1,456 @@
+//! The worked examples: the records and the fault of each run.
+
+use std::alloc::{AllocError, Global};
+use std::process::Abort;
+use std::test::Fail;
+use tw_models::{BadModel, Model};
+use tw_msgs::{Record, RecordKind};
+use tw_network::{Coupling, Input, Network};
+use tw_seq::{Seq, SeqRefused, simulate};
+use tw_vtime::{Limit, MAX_TICK, Refusal, Stamp};
+
+/// The names of components, in their order.
+const NAMES: [&str; 4] = ["a", "b", "c", "d"];
+
+/// A model's maker and its numbers.
+#[derive(Clone, Copy)]
+enum Made {
+    Generator(u64, i64),
+    Tally,
+    Relay(u64),
+    Queue(u64),
+    Hop(u64, u64, u64),
+}
+
+impl Made {
+    fn model(self) -> Result<Model, BadModel> {
+        match self {
+            Made::Generator(period, value) => Model::generator(period, value),
+            Made::Tally => Model::tally(),
+            Made::Relay(delay) => Model::relay(delay),
+            Made::Queue(service) => Model::queue(service),
+            Made::Hop(seed, ports, spread) => Model::hop(seed, ports, spread),
+        }
+    }
+}
+
+/// A record as the examples write it: tick, microstep, component, kind, bag and words.
+#[derive(Clone, Copy)]
+struct Line<'a>(u64, u32, usize, RecordKind, &'a [(u8, i64)], &'a [i128]);
+
+/// A network, an end tick, and its run.
+struct Example {
+    name: &'static str,
+    models: &'static [Made],
+    couplings: &'static [Coupling],
+    inputs: &'static [Input],
+    micro_limit: u64,
+    until: u64,
+    lines: &'static [Line<'static>],
+    /// The component, the tick and microstep, and the limit that it met.
+    fault: Option<(usize, u64, u32, Limit)>,
+}
+
+/// Runs that are made to their ends.
+const RUNS: [Example; 13] = [
+    Example {
+        name: "gen-tally",
+        models: &[Made::Generator(2, 5), Made::Tally],
+        couplings: &[(0, 0, 1, 0)],
+        inputs: &[],
+        micro_limit: 100,
+        until: 5,
+        lines: &[
+            Line(2, 0, 0, RecordKind::Out, &[(0, 5)], &[]),
+            Line(2, 0, 0, RecordKind::Int, &[], &[1]),
+            Line(2, 0, 1, RecordKind::Ext, &[(0, 5)], &[1, 5, 5]),
+            Line(4, 0, 0, RecordKind::Out, &[(0, 5)], &[]),
+            Line(4, 0, 0, RecordKind::Int, &[], &[2]),
+            Line(4, 0, 1, RecordKind::Ext, &[(0, 5)], &[2, 10, 5]),
+        ],
+        fault: None,
+    },
+    Example {
+        name: "until-zero",
+        models: &[Made::Generator(2, 5), Made::Tally],
+        couplings: &[(0, 0, 1, 0)],
+        inputs: &[],
+        micro_limit: 100,
+        until: 0,
+        lines: &[],
+        fault: None,
+    },
+    Example {
+        name: "no-components",
+        models: &[],
+        couplings: &[],
+        inputs: &[],
+        micro_limit: 100,
+        until: 5,
+        lines: &[],
+        fault: None,
+    },
+    Example {
+        name: "two-gens",
+        models: &[Made::Generator(3, 9), Made::Generator(3, 4), Made::Tally],
+        couplings: &[(0, 0, 2, 0), (1, 0, 2, 0)],
+        inputs: &[],
+        micro_limit: 100,
+        until: 4,
+        lines: &[
+            Line(3, 0, 0, RecordKind::Out, &[(0, 9)], &[]),
+            Line(3, 0, 1, RecordKind::Out, &[(0, 4)], &[]),
+            Line(3, 0, 0, RecordKind::Int, &[], &[1]),
+            Line(3, 0, 1, RecordKind::Int, &[], &[1]),
+            Line(3, 0, 2, RecordKind::Ext, &[(0, 4), (0, 9)], &[2, 13, 9]),
+        ],
+        fault: None,
+    },
+    Example {
+        name: "equal-values",
+        models: &[Made::Generator(3, 4), Made::Generator(3, 4), Made::Tally],
+        couplings: &[(0, 0, 2, 0), (1, 0, 2, 0)],
+        inputs: &[],
+        micro_limit: 100,
+        until: 4,
+        lines: &[
+            Line(3, 0, 0, RecordKind::Out, &[(0, 4)], &[]),
+            Line(3, 0, 1, RecordKind::Out, &[(0, 4)], &[]),
+            Line(3, 0, 0, RecordKind::Int, &[], &[1]),
+            Line(3, 0, 1, RecordKind::Int, &[], &[1]),
+            Line(3, 0, 2, RecordKind::Ext, &[(0, 4), (0, 4)], &[2, 8, 4]),
+        ],
+        fault: None,
+    },
+    Example {
+        name: "relay-microstep",
+        models: &[Made::Generator(2, 5), Made::Relay(0), Made::Tally],
+        couplings: &[(0, 0, 1, 0), (1, 0, 2, 0)],
+        inputs: &[],
+        micro_limit: 100,
+        until: 3,
+        lines: &[
+            Line(2, 0, 0, RecordKind::Out, &[(0, 5)], &[]),
+            Line(2, 0, 0, RecordKind::Int, &[], &[1]),
+            Line(2, 0, 1, RecordKind::Ext, &[(0, 5)], &[0, 5]),
+            Line(2, 1, 1, RecordKind::Out, &[(0, 5)], &[]),
+            Line(2, 1, 1, RecordKind::Int, &[], &[0]),
+            Line(2, 1, 2, RecordKind::Ext, &[(0, 5)], &[1, 5, 5]),
+        ],
+        fault: None,
+    },
+    Example {
+        name: "microstep-fault",
+        models: &[Made::Relay(0), Made::Relay(0)],
+        couplings: &[(0, 0, 1, 0), (1, 0, 0, 0)],
+        inputs: &[(3, 0, 0, 1)],
+        micro_limit: 3,
+        until: 5,
+        lines: &[
+            Line(3, 0, 0, RecordKind::Ext, &[(0, 1)], &[0, 1]),
+            Line(3, 1, 0, RecordKind::Out, &[(0, 1)], &[]),
+            Line(3, 1, 0, RecordKind::Int, &[], &[0]),
+            Line(3, 1, 1, RecordKind::Ext, &[(0, 1)], &[0, 1]),
+            Line(3, 2, 1, RecordKind::Out, &[(0, 1)], &[]),
+            Line(3, 2, 0, RecordKind::Ext, &[(0, 1)], &[0, 1]),
+            Line(3, 2, 1, RecordKind::Int, &[], &[0]),
+            Line(3, 3, 0, RecordKind::Out, &[(0, 1)], &[]),
+        ],
+        fault: Some((1, 3, 3, Limit::Microstep)),
+    },
+    Example {
+        name: "mutual-confluent",
+        models: &[Made::Relay(1), Made::Relay(1)],
+        couplings: &[(0, 0, 1, 0), (1, 0, 0, 0)],
+        inputs: &[(0, 0, 0, 1), (0, 1, 0, 2)],
+        micro_limit: 100,
+        until: 3,
+        lines: &[
+            Line(0, 0, 0, RecordKind::Ext, &[(0, 1)], &[0, 1]),
+            Line(0, 0, 1, RecordKind::Ext, &[(0, 2)], &[0, 2]),
+            Line(1, 0, 0, RecordKind::Out, &[(0, 1)], &[]),
+            Line(1, 0, 1, RecordKind::Out, &[(0, 2)], &[]),
+            Line(1, 0, 0, RecordKind::Con, &[(0, 2)], &[0, 2]),
+            Line(1, 0, 1, RecordKind::Con, &[(0, 1)], &[0, 1]),
+            Line(2, 0, 0, RecordKind::Out, &[(0, 2)], &[]),
+            Line(2, 0, 1, RecordKind::Out, &[(0, 1)], &[]),
+            Line(2, 0, 0, RecordKind::Con, &[(0, 1)], &[0, 1]),
+            Line(2, 0, 1, RecordKind::Con, &[(0, 2)], &[0, 2]),
+        ],
+        fault: None,
+    },
+    Example {
+        name: "a period that never ends",
+        models: &[Made::Generator(MAX_TICK, 1)],
+        couplings: &[],
+        inputs: &[],
+        micro_limit: 100,
+        until: MAX_TICK,
+        lines: &[],
+        fault: None,
+    },
+    Example {
+        name: "tick-limits",
+        models: &[Made::Generator(MAX_TICK - 1, 1)],
+        couplings: &[],
+        inputs: &[],
+        micro_limit: 100,
+        until: MAX_TICK,
+        lines: &[Line(MAX_TICK - 1, 0, 0, RecordKind::Out, &[(0, 1)], &[])],
+        fault: Some((0, MAX_TICK - 1, 0, Limit::Tick)),
+    },
+    Example {
+        name: "hop-external",
+        models: &[Made::Hop(0, 2, 4)],
+        couplings: &[],
+        inputs: &[(0, 0, 0, -1)],
+        micro_limit: 100,
+        until: 1,
+        lines: &[Line(
+            0,
+            0,
+            0,
+            RecordKind::Ext,
+            &[(0, -1)],
+            &[13_525_302_890_751_722_018],
+        )],
+        fault: None,
+    },
+    Example {
+        name: "hop-numbers",
+        models: &[Made::Hop(0, 2, 4)],
+        couplings: &[],
+        inputs: &[],
+        micro_limit: 100,
+        until: 5,
+        lines: &[
+            Line(1, 0, 0, RecordKind::Out, &[(0, 0)], &[]),
+            Line(1, 0, 0, RecordKind::Int, &[], &[1_442_695_040_888_963_407]),
+        ],
+        fault: None,
+    },
+    Example {
+        name: "tally-wraps",
+        models: &[Made::Tally],
+        couplings: &[],
+        inputs: &[(1, 0, 0, i64::MAX), (1, 0, 0, 1)],
+        micro_limit: 100,
+        until: 2,
+        lines: &[Line(
+            1,
+            0,
+            0,
+            RecordKind::Ext,
+            &[(0, 1), (0, 9_223_372_036_854_775_807)],
+            &[2, -9_223_372_036_854_775_808, 9_223_372_036_854_775_807],
+        )],
+        fault: None,
+    },
+];
+
+/// The network of these models, up to four, in this order.
+fn network(
+    alloc: Global,
+    models: &[Made],
+    couplings: &[Coupling],
+    inputs: &[Input],
+    micro_limit: u64,
+) -> Result<Network<Model>, Fail> {
+    let mut components = Vec::new(alloc);
+    for (name, made) in NAMES.iter().zip(models) {
+        components.push((String::from_str(alloc, *name)?, made.model()?))?;
+    }
+    let couplings = Vec::from_slice(alloc, couplings)?;
+    let inputs = Vec::from_slice(alloc, inputs)?;
+    Ok(Network::new(alloc, components, couplings, inputs, micro_limit)?)
+}
+
+/// The network of an example.
+fn network_of(alloc: Global, example: &Example) -> Result<Network<Model>, Fail> {
+    network(
+        alloc,
+        example.models,
+        example.couplings,
+        example.inputs,
+        example.micro_limit,
+    )
+}
+
+/// Whether a record is what a line says.
+fn shows(record: &Record, line: &Line) -> bool {
+    let phase = match line.3 {
+        RecordKind::Out => 0,
+        RecordKind::Int | RecordKind::Ext | RecordKind::Con => 1,
+    };
+    Stamp::new(line.0, line.1, phase) == Ok(record.stamp)
+        && record.component == line.2
+        && record.kind == line.3
+        && record.bag.as_slice() == line.4
+        && record.words.as_slice() == line.5
+}
+
+/// Whether the records are what the lines say.
+fn all_show(run: &Seq, lines: &[Line]) -> bool {
+    run.records.len() == lines.len() && run.records.iter().zip(lines).all(|(r, l)| shows(r, l))
+}
+
+/// The number of a refusal; 0 where there is none.
+fn refusal(answer: Result<Seq, SeqRefused>) -> u8 {
+    match answer {
+        Ok(_) => 0,
+        Err(refused) => Refusal::from(refused).number(),
+    }
+}
+
+/// Whether a fault is the example's.
+fn is_fault(
+    found: &Option<(usize, Stamp, Limit)>,
+    wanted: &Option<(usize, u64, u32, Limit)>,
+) -> bool {
+    match (found, wanted) {
+        (Some((c, at, limit)), Some((component, tick, micro, wanted))) => {
+            c == component && Ok(*at) == Stamp::new(*tick, *micro, 1) && limit == wanted
+        }
+        (None, None) => true,
+        _ => false,
+    }
+}
+
+#[test]
+fn runs_are_the_worked_ones(rt: HostRuntime) -> Result<(), Fail> {
+    for example in RUNS.iter() {
+        let network = network_of(rt.alloc(), example)?;
+        let run = simulate(rt.alloc(), &network, example.until)?;
+        assert!(rt; all_show(&run, example.lines), "{}", example.name);
+        assert!(rt; is_fault(&run.fault, &example.fault), "{}", example.name);
+    }
+    Ok(())
+}
+
+#[test]
+fn end_tick_is_refused(rt: HostRuntime) -> Result<(), Fail> {
+    let alloc = rt.alloc();
+    let network = network_of(alloc, &RUNS[0])?;
+    assert_eq!(rt; refusal(simulate(alloc, &network, MAX_TICK + 1)), 10);
+    assert_eq!(rt; Refusal::from(SeqRefused::from(AllocError)).number(), 4);
+    Ok(())
+}
+
+#[test]
+fn hop_numbers(rt: HostRuntime) -> Result<(), Fail> {
+    let network = network(rt.alloc(), &[Made::Hop(0, 2, 4)], &[], &[], 100)?;
+    let run = simulate(rt.alloc(), &network, 6)?;
+    assert!(rt; run.records.len() > 2);
+    let third = Line(5, 0, 0, RecordKind::Out, &[(1, 614)], &[]);
+    assert!(rt; shows(&run.records[2], &third));
+    Ok(())
+}
+
+/// The generator and the tally of the first example, with an input for the tally; none where memory is
+/// refused.
+fn worked_network(alloc: Global) -> Option<Network<Model>> {
+    let generator = Model::generator(2, 5).ok()?;
+    let tally = Model::tally().ok()?;
+    let mut components = Vec::new(alloc);
+    components
+        .push((String::from_str(alloc, "a").ok()?, generator))
+        .ok()?;
+    components
+        .push((String::from_str(alloc, "b").ok()?, tally))
+        .ok()?;
+    let couplings = Vec::from_slice(alloc, &[(0, 0, 1, 0)]).ok()?;
+    let inputs = Vec::from_slice(alloc, &[(1, 1, 3, 7)]).ok()?;
+    Network::new(alloc, components, couplings, inputs, 100).ok()
+}
+
+/// Whether a run to tick 3 of that network is answered: its records, or refusal 4. Answers whether it is
+/// the records.
+fn is_worked_example(rt: &impl Abort, answer: Result<Seq, SeqRefused>) -> bool {
+    match answer {
+        Ok(run) => {
+            assert!(rt;
+                all_show(
+                    &run,
+                    &[
+                        Line(1, 0, 1, RecordKind::Ext, &[(3, 7)], &[1, 7, 7]),
+                        Line(2, 0, 0, RecordKind::Out, &[(0, 5)], &[]),
+                        Line(2, 0, 0, RecordKind::Int, &[], &[1]),
+                        Line(2, 0, 1, RecordKind::Ext, &[(0, 5)], &[2, 12, 5]),
+                    ]
+                )
+            );
+            assert!(rt; run.fault.is_none());
+            true
+        }
+        Err(refused) => {
+            assert_eq!(rt; Refusal::from(refused).number(), 4);
+            false
+        }
+    }
+}
+
+#[test]
+fn refused_memory_leaves_the_network(rt: HostRuntime) {
+    let alloc = rt.alloc();
+    let network = match worked_network(alloc) {
+        Some(network) => network,
+        None => worked_network(alloc).expect(&rt, "memory"),
+    };
+    let first = is_worked_example(&rt, simulate(alloc, &network, 3));
+    let second = is_worked_example(&rt, simulate(alloc, &network, 3));
+    assert!(rt; first || second);
+}
+
+/// The numbers from `first` to `last`, as values at a tick for port 0 of component 0.
+fn values(alloc: Global, tick: u64, first: i64, last: i64) -> Result<Vec<Input>, AllocError> {
+    (first..=last)
+        .map(|value| (tick, 0, 0, value))
+        .collect(alloc)
+}
+
+/// The numbers from `first` to `last`, as a bag on port 0.
+fn bag_of(alloc: Global, first: i64, last: i64) -> Result<Vec<(u8, i64)>, AllocError> {
+    (first..=last).map(|value| (0, value)).collect(alloc)
+}
+
+/// A number, and then the numbers from 1 to `last`.
+fn counted(alloc: Global, first: u8, last: u8) -> Result<Vec<i128>, AllocError> {
+    (0..=last)
+        .map(|n| i128::from(if n == 0 { first } else { n }))
+        .collect(alloc)
+}
+
+#[test]
+fn relay_overflows(rt: HostRuntime) -> Result<(), Fail> {
+    let alloc = rt.alloc();
+    let inputs = values(alloc, 1, 1, 33)?;
+    let network = network(alloc, &[Made::Relay(100)], &[], &inputs, 100)?;
+    let run = simulate(alloc, &network, 2)?;
+    let bag = bag_of(alloc, 1, 33)?;
+    let words = counted(alloc, 1, 32)?;
+    assert!(rt; all_show(&run, &[Line(1, 0, 0, RecordKind::Ext, &bag, &words)]));
+    Ok(())
+}
+
+#[test]
+fn full_queue(rt: HostRuntime) -> Result<(), Fail> {
+    let alloc = rt.alloc();
+    let mut inputs = values(alloc, 1, 1, 64)?;
+    inputs.append(&mut values(alloc, 2, 101, 105)?)?;
+    let network = network(alloc, &[Made::Queue(100)], &[], &inputs, 100)?;
+    let run = simulate(alloc, &network, 50)?;
+    let first = bag_of(alloc, 1, 64)?;
+    let second = bag_of(alloc, 101, 105)?;
+    let none_dropped = counted(alloc, 0, 64)?;
+    let five_dropped = counted(alloc, 5, 64)?;
+    assert!(rt;
+        all_show(
+            &run,
+            &[
+                Line(1, 0, 0, RecordKind::Ext, &first, &none_dropped),
+                Line(2, 0, 0, RecordKind::Ext, &second, &five_dropped),
+            ]
+        )
+    );
+    Ok(())
+}

@@ -119,15 +119,21 @@ fn a_trace_has_the_records(rt: HostRuntime) {
     assert!(rt; shows(&trace[5], 4, 1, RecordKind::Ext, &[(0, 5)], &[2, 10, 5]));
 }
 
+/// Takes the generator's first output and transition.
+fn take_two_steps(executive: &mut Executive) -> Result<(), ActionRefused> {
+    again!(executive.step(0))?;
+    again!(executive.step(0))?;
+    Ok(())
+}
+
 #[test]
-fn each_action(rt: HostRuntime) {
-    let alloc = rt.alloc();
-    let mut executive = match started(alloc) {
+fn steps_are_taken_in_order(rt: HostRuntime) {
+    let mut executive = match started(rt.alloc()) {
         Ok(executive) => executive,
-        Err(_) => started(alloc).expect(&rt, "an executive"),
+        Err(_) => started(rt.alloc()).expect(&rt, "an executive"),
     };
     let output = Stamp::new(2, 0, 0).expect(&rt, "a stamp");
-    let transition = Stamp::new(2, 0, 1).expect(&rt, "a stamp");
+    let transition = output.transition();
     assert_eq!(rt; executive.step(2), Err(ActionRefused::NoSuch));
     assert_eq!(rt; executive.step(1), Err(ActionRefused::NothingDue));
     assert_eq!(rt; again!(executive.step(0)), Ok((output, RecordKind::Out)));
@@ -136,15 +142,35 @@ fn each_action(rt: HostRuntime) {
         Ok((transition, RecordKind::Int))
     );
     assert_eq!(rt; executive.raise(), transition);
+}
+
+#[test]
+fn a_message_is_posted_and_delivered(rt: HostRuntime) {
+    let mut executive = match started(rt.alloc()) {
+        Ok(executive) => executive,
+        Err(_) => started(rt.alloc()).expect(&rt, "an executive"),
+    };
+    take_two_steps(&mut executive).expect(&rt, "two steps");
+    let transition = Stamp::new(2, 0, 1).expect(&rt, "a stamp");
     assert_eq!(rt; executive.deliver(1), Err(ActionRefused::NoSuch));
     assert_eq!(rt; again!(executive.post(0)), Ok(1));
     assert_eq!(rt; again!(executive.deliver(1)), Ok(()));
-    assert_eq!(rt; executive.raise(), transition);
-    assert_eq!(rt; executive.gvt(), transition);
     assert_eq!(rt;
         again!(executive.step(1)),
         Ok((transition, RecordKind::Ext))
     );
+}
+
+#[test]
+fn records_before_gvt_are_harvested(rt: HostRuntime) {
+    let mut executive = match started(rt.alloc()) {
+        Ok(executive) => executive,
+        Err(_) => started(rt.alloc()).expect(&rt, "an executive"),
+    };
+    take_two_steps(&mut executive).expect(&rt, "two steps");
+    let transition = Stamp::new(2, 0, 1).expect(&rt, "a stamp");
+    assert_eq!(rt; executive.raise(), transition);
+    assert_eq!(rt; executive.gvt(), transition);
     assert_eq!(rt; again!(executive.harvest(0)), Ok(1));
     assert_eq!(rt; again!(executive.harvest(1)), Ok(0));
     assert_eq!(rt; executive.len(), 2);

@@ -108,31 +108,44 @@ fn too_many_components_come_first(rt: HostRuntime) {
     assert_eq!(rt; refusal(alloc, names.as_slice(), &[], &[], 0), 9);
 }
 
+/// The couplings of two relays, in no order.
+const COUPLINGS: [Coupling; 4] = [(0, 0, 1, 3), (1, 15, 0, 0), (0, 2, 1, 0), (0, 0, 1, 1)];
+
+/// The inputs of two relays, in no order.
+const INPUTS: [Input; 2] = [(5, 1, 0, -7), (2, 0, 9, 7)];
+
+/// Two relays that are coupled both ways.
+fn two_relays(alloc: Global) -> Result<Network<Model>, NetworkRefused> {
+    relay_network(alloc, &["a", "b_2-c"], &COUPLINGS, &INPUTS, 100)
+}
+
 #[test]
 fn a_network_is_read(rt: HostRuntime) {
-    let alloc = rt.alloc();
-    let couplings = [(0, 0, 1, 3), (1, 15, 0, 0), (0, 2, 1, 0), (0, 0, 1, 1)];
-    let inputs = [(5, 1, 0, -7), (2, 0, 9, 7)];
-    let network = relay_network(alloc, &["a", "b_2-c"], &couplings, &inputs, 100).expect(
-        &rt, "memory",
-    );
-    network.facts();
-    assert_eq!(rt; network.len(), 2);
+    let network = two_relays(rt.alloc()).expect(&rt, "memory");
+    assert!(rt; network.len() == 2);
     assert!(rt; !network.is_empty());
-    assert_eq!(rt; network.name(1), "b_2-c");
-    assert_eq!(rt; network.find("b_2-c"), Some(1));
-    assert_eq!(rt; network.find("b"), None);
+    assert!(rt; network.name(1) == "b_2-c");
+    assert!(rt; network.find("b_2-c") == Some(1));
+    assert!(rt; network.find("b") == None);
     let relay = Model::relay(1).expect(&rt, "a delay in range");
     assert!(rt; *network.model(0) == relay);
-    assert_eq!(rt; network.micro_limit(), 100);
-    assert_eq!(rt; network.couplings(), couplings.as_slice());
-    assert_eq!(rt; network.inputs(), inputs.as_slice());
+    assert!(rt; network.micro_limit() == 100);
+    assert!(rt; network.couplings() == COUPLINGS.as_slice());
+    assert!(rt; network.inputs() == INPUTS.as_slice());
+    network.facts();
+}
+
+#[test]
+fn routes_are_in_order(rt: HostRuntime) {
+    let network = two_relays(rt.alloc()).expect(&rt, "memory");
+    assert!(rt; network.len() == 2);
     assert_eq!(rt; network.routes(0, 0), [(1, 1), (1, 3)].as_slice());
     assert_eq!(rt; network.routes(0, 2), [(1, 0)].as_slice());
     assert_eq!(rt; network.routes(1, 15), [(0, 0)].as_slice());
-    assert!(rt; network.routes(1, 0).is_empty());
-    assert!(rt; network.routes(1, 16).is_empty());
-    assert!(rt; network.routes(0, 255).is_empty());
+    for (component, port) in [(1, 0), (1, 16), (0, 255)] {
+        assert!(rt; component < network.len());
+        assert!(rt; network.routes(component, port).is_empty());
+    }
 }
 
 #[test]

@@ -52,7 +52,7 @@ struct Example {
 }
 
 /// Runs that are made to their ends.
-const RUNS: [Example; 13] = [
+static RUNS: [Example; 13] = [
     Example {
         name: "gen-tally",
         models: &[Made::Generator(2, 5), Made::Tally],

@@ -328,12 +328,10 @@ fn runs_are_the_worked_ones(rt: HostRuntime) -> Result<(), Fail> {
 }
 
 #[test]
-fn end_tick_is_refused(rt: HostRuntime) -> Result<(), Fail> {
-    let alloc = rt.alloc();
-    let network = network_of(alloc, &RUNS[0])?;
-    assert_eq!(rt; refusal(simulate(alloc, &network, MAX_TICK + 1)), 10);
+fn end_tick_is_refused(rt: HostRuntime) {
+    let network = worked_network(rt.alloc()).expect(&rt, "memory");
+    assert_eq!(rt; refusal(simulate(rt.alloc(), &network, MAX_TICK + 1)), 10);
     assert_eq!(rt; Refusal::from(SeqRefused::from(AllocError)).number(), 4);
-    Ok(())
 }
 
 #[test]

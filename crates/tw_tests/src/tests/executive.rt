@@ -155,6 +155,7 @@ fn a_message_is_posted_and_delivered(rt: HostRuntime) {
     assert_eq!(rt; executive.deliver(1), Err(ActionRefused::NoSuch));
     assert_eq!(rt; again!(executive.post(0)), Ok(1));
     assert_eq!(rt; again!(executive.deliver(1)), Ok(()));
+    assert_eq!(rt; executive.raise(), transition);
     assert_eq!(rt;
         again!(executive.step(1)),
         Ok((transition, RecordKind::Ext))

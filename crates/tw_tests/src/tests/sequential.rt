@@ -332,6 +332,7 @@ fn end_tick_is_refused(rt: HostRuntime) {
     let network = worked_network(rt.alloc()).expect(&rt, "memory");
     assert_eq!(rt; refusal(simulate(rt.alloc(), &network, MAX_TICK + 1)), 10);
     assert_eq!(rt; Refusal::from(SeqRefused::from(AllocError)).number(), 4);
+    assert!(rt; Model::generator(MAX_TICK + 1, 1) == Err(BadModel::BadTick));
 }
 
 #[test]

@@ -1,4 +1,4 @@
-//! Tests of the crates from messages to the executive: worked examples, and each public function once.
+//! Tests of the crates from stamps to the executive: worked examples, and each public function once.
 #![tactic(auto)]
 
 #[cfg(test)]

@@ -5,3 +5,4 @@ mod msgs;
 mod networks;
 mod pool;
 mod sequential;
+mod stamps;

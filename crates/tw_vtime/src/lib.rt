@@ -19,6 +19,3 @@ pub mod stamps;
 pub use limits::{Limit, advance};
 pub use refusal::Refusal;
 pub use stamps::{MAX_MICROSTEP, MAX_TICK, Range, Stamp, order_law};
-
-#[cfg(test)]
-mod tests;

@@ -402,21 +402,30 @@ fn refused_memory_leaves_the_network(rt: HostRuntime) {
 
 /// The numbers from `first` to `last`, as values at a tick for port 0 of component 0.
 fn values(alloc: Global, tick: u64, first: i64, last: i64) -> Result<Vec<Input>, AllocError> {
-    (first..=last)
-        .map(|value| (tick, 0, 0, value))
-        .collect(alloc)
+    let mut inputs = Vec::new(alloc);
+    for value in first..=last {
+        inputs.push((tick, 0, 0, value))?;
+    }
+    Ok(inputs)
 }
 
 /// The numbers from `first` to `last`, as a bag on port 0.
 fn bag_of(alloc: Global, first: i64, last: i64) -> Result<Vec<(u8, i64)>, AllocError> {
-    (first..=last).map(|value| (0, value)).collect(alloc)
+    let mut bag = Vec::new(alloc);
+    for value in first..=last {
+        bag.push((0, value))?;
+    }
+    Ok(bag)
 }
 
 /// A number, and then the numbers from 1 to `last`.
-fn counted(alloc: Global, first: u8, last: u8) -> Result<Vec<i128>, AllocError> {
-    (0..=last)
-        .map(|n| i128::from(if n == 0 { first } else { n }))
-        .collect(alloc)
+fn counted(alloc: Global, first: i128, last: i128) -> Result<Vec<i128>, AllocError> {
+    let mut numbers = Vec::new(alloc);
+    numbers.push(first)?;
+    for number in 1..=last {
+        numbers.push(number)?;
+    }
+    Ok(numbers)
 }
 
 #[test]

@@ -1,5 +1,7 @@
-use super::*;
+//! Stamps, their advance and the table of refusals.
+
 use std::test::Fail;
+use tw_vtime::{Limit, Range, Refusal, Stamp, advance};
 
 /// The listed stamps, by tick, microstep and phase, each with its number and with that number's eight
 /// bytes, the high byte first.

@@ -84,15 +84,15 @@ fn a_drive_gives_the_records(rt: HostRuntime) {
         Ok(executive) => executive,
         Err(_) => driven(alloc).expect(&rt, "an executive"),
     };
-    assert_eq!(rt; executive.len(), 2);
+    assert!(rt; executive.len() == 2);
     let made = executive.committed(0);
-    assert_eq!(rt; made.len(), 4);
+    assert!(rt; made.len() == 4);
     assert!(rt; shows(&made[0], 2, 0, RecordKind::Out, &[(0, 5)], &[]));
     assert!(rt; shows(&made[1], 2, 1, RecordKind::Int, &[], &[1]));
     assert!(rt; shows(&made[2], 4, 0, RecordKind::Out, &[(0, 5)], &[]));
     assert!(rt; shows(&made[3], 4, 1, RecordKind::Int, &[], &[2]));
     let counted = executive.committed(1);
-    assert_eq!(rt; counted.len(), 2);
+    assert!(rt; counted.len() == 2);
     assert!(rt; shows(&counted[0], 2, 1, RecordKind::Ext, &[(0, 5)], &[1, 5, 5]));
     assert!(rt; shows(&counted[1], 4, 1, RecordKind::Ext, &[(0, 5)], &[2, 10, 5]));
 }
@@ -105,12 +105,12 @@ fn a_trace_has_the_records(rt: HostRuntime) {
     let trace = match traced(alloc, network, 5) {
         Ok(trace) => trace,
         Err(refused) => {
-            assert_eq!(rt; refused, StartRefused::OutOfMemory);
+            assert!(rt; refused == StartRefused::OutOfMemory);
             let network = example(alloc).expect(&rt, "a network");
             traced(alloc, network, 5).expect(&rt, "a trace")
         }
     };
-    assert_eq!(rt; trace.len(), 6);
+    assert!(rt; trace.len() == 6);
     assert!(rt; shows(&trace[0], 2, 0, RecordKind::Out, &[(0, 5)], &[]));
     assert!(rt; shows(&trace[1], 2, 1, RecordKind::Int, &[], &[1]));
     assert!(rt; shows(&trace[2], 2, 1, RecordKind::Ext, &[(0, 5)], &[1, 5, 5]));
@@ -134,14 +134,11 @@ fn steps_are_taken_in_order(rt: HostRuntime) {
     };
     let output = Stamp::new(2, 0, 0).expect(&rt, "a stamp");
     let transition = output.transition();
-    assert_eq!(rt; executive.step(2), Err(ActionRefused::NoSuch));
-    assert_eq!(rt; executive.step(1), Err(ActionRefused::NothingDue));
-    assert_eq!(rt; again!(executive.step(0)), Ok((output, RecordKind::Out)));
-    assert_eq!(rt;
-        again!(executive.step(0)),
-        Ok((transition, RecordKind::Int))
-    );
-    assert_eq!(rt; executive.raise(), transition);
+    assert!(rt; executive.step(2) == Err(ActionRefused::NoSuch));
+    assert!(rt; executive.step(1) == Err(ActionRefused::NothingDue));
+    assert!(rt; again!(executive.step(0)) == Ok((output, RecordKind::Out)));
+    assert!(rt; again!(executive.step(0)) == Ok((transition, RecordKind::Int)));
+    assert!(rt; executive.raise() == transition);
 }
 
 #[test]
@@ -152,14 +149,11 @@ fn a_message_is_posted_and_delivered(rt: HostRuntime) {
     };
     take_two_steps(&mut executive).expect(&rt, "two steps");
     let transition = Stamp::new(2, 0, 1).expect(&rt, "a stamp");
-    assert_eq!(rt; executive.deliver(1), Err(ActionRefused::NoSuch));
-    assert_eq!(rt; again!(executive.post(0)), Ok(1));
-    assert_eq!(rt; again!(executive.deliver(1)), Ok(()));
-    assert_eq!(rt; executive.raise(), transition);
-    assert_eq!(rt;
-        again!(executive.step(1)),
-        Ok((transition, RecordKind::Ext))
-    );
+    assert!(rt; executive.deliver(1) == Err(ActionRefused::NoSuch));
+    assert!(rt; again!(executive.post(0)) == Ok(1));
+    assert!(rt; again!(executive.deliver(1)) == Ok(()));
+    assert!(rt; executive.raise() == transition);
+    assert!(rt; again!(executive.step(1)) == Ok((transition, RecordKind::Ext)));
 }
 
 #[test]
@@ -170,14 +164,14 @@ fn records_before_gvt_are_harvested(rt: HostRuntime) {
     };
     take_two_steps(&mut executive).expect(&rt, "two steps");
     let transition = Stamp::new(2, 0, 1).expect(&rt, "a stamp");
-    assert_eq!(rt; executive.raise(), transition);
-    assert_eq!(rt; executive.gvt(), transition);
-    assert_eq!(rt; again!(executive.harvest(0)), Ok(1));
-    assert_eq!(rt; again!(executive.harvest(1)), Ok(0));
-    assert_eq!(rt; executive.len(), 2);
-    assert_eq!(rt; executive.line(0), transition);
+    assert!(rt; executive.raise() == transition);
+    assert!(rt; executive.gvt() == transition);
+    assert!(rt; again!(executive.harvest(0)) == Ok(1));
+    assert!(rt; again!(executive.harvest(1)) == Ok(0));
+    assert!(rt; executive.len() == 2);
+    assert!(rt; executive.line(0) == transition);
     let committed = executive.committed(0);
-    assert_eq!(rt; committed.len(), 1);
+    assert!(rt; committed.len() == 1);
     assert!(rt; shows(&committed[0], 2, 0, RecordKind::Out, &[(0, 5)], &[]));
 }
 
@@ -187,5 +181,5 @@ fn a_late_end_is_refused(rt: HostRuntime) {
     gen_tally_law();
     let network = example(alloc).expect(&rt, "a network");
     let refused = Executive::new(alloc, network, MAX_TICK + 1).err();
-    assert_eq!(rt; refused, Some(StartRefused::BadTick));
+    assert!(rt; refused == Some(StartRefused::BadTick));
 }

@@ -35,14 +35,14 @@ fn orders_messages(rt: HostRuntime) -> Result<(), Fail> {
     heap.insert(2, message(2, 0, 9)?);
     heap.insert(3, message(2, 0, 9)?);
     let first = heap.first().expect(&rt, "an entry");
-    assert_eq!(rt; first.key, message(2, 0, 9)?);
+    assert!(rt; first.key == message(2, 0, 9)?);
 
     heap.remove(1);
-    assert_eq!(rt; take_first(&mut heap), Some(2));
-    assert_eq!(rt; take_first(&mut heap), Some(3));
+    assert!(rt; take_first(&mut heap) == Some(2));
+    assert!(rt; take_first(&mut heap) == Some(3));
     let first = heap.first().expect(&rt, "an entry");
-    assert_eq!(rt; first.key, message(3, 0, 8)?);
-    assert_eq!(rt; take_first(&mut heap), Some(0));
+    assert!(rt; first.key == message(3, 0, 8)?);
+    assert!(rt; take_first(&mut heap) == Some(0));
     assert!(rt; heap.first().is_none());
     Ok(())
 }
@@ -62,7 +62,7 @@ fn reserve_again(
     if heap.reserve(n, top).is_ok() {
         return Ok(());
     }
-    assert_eq!(rt; heap.first(), before);
+    assert!(rt; heap.first() == before);
     heap.reserve(n, top)
 }
 
@@ -74,8 +74,8 @@ fn grows_or_stays(rt: HostRuntime) -> Result<(), Fail> {
     heap.insert(0, message(3, 0, 8)?);
     reserve_again(&rt, &mut heap, 20, 7)?;
     heap.insert(6, message(2, 1, 4)?);
-    assert_eq!(rt; take_first(&mut heap), Some(6));
-    assert_eq!(rt; take_first(&mut heap), Some(0));
+    assert!(rt; take_first(&mut heap) == Some(6));
+    assert!(rt; take_first(&mut heap) == Some(0));
     assert!(rt; heap.first().is_none());
     Ok(())
 }

@@ -128,22 +128,22 @@ fn hop_draws_its_numbers(rt: HostRuntime) {
     let alloc = rt.alloc();
     let hop = Model::hop(0, 2, 4).expect(&rt, "a hop");
     let mut state = started(&rt, alloc, &hop);
-    assert_eq!(rt; hop.ta(&state), Some(1));
-    assert_eq!(rt; sent(&rt, &hop, &state).as_slice(), [(0, 0)].as_slice());
+    assert!(rt; hop.ta(&state) == Some(1));
+    assert!(rt; sent(&rt, &hop, &state).as_slice() == [(0, 0)].as_slice());
 
     // What comes before the first output stirs the number.
     let (ext, left) = there_and_back(&rt, alloc, &hop, &mut state, Turn::Ext, 0, &[(0, -1)]);
-    assert_eq!(rt; ext.as_slice(), [13525302890751722018].as_slice());
-    assert_eq!(rt; left, Some(1));
+    assert!(rt; ext.as_slice() == [13525302890751722018].as_slice());
+    assert!(rt; left == Some(1));
 
     let (int, left) = there_and_back(&rt, alloc, &hop, &mut state, Turn::Int, 1, &[]);
-    assert_eq!(rt; int.as_slice(), [1442695040888963407].as_slice());
-    assert_eq!(rt; left, Some(4));
-    assert_eq!(rt; words(&rt, alloc, &hop, &state).as_slice(), [0].as_slice());
-    assert_eq!(rt; hop.ta(&state), Some(1));
+    assert!(rt; int.as_slice() == [1442695040888963407].as_slice());
+    assert!(rt; left == Some(4));
+    assert!(rt; words(&rt, alloc, &hop, &state).as_slice() == [0].as_slice());
+    assert!(rt; hop.ta(&state) == Some(1));
 
     make(&rt, alloc, &hop, &mut state, Turn::Int, 1, &[]);
-    assert_eq!(rt; sent(&rt, &hop, &state).as_slice(), [(1, 614)].as_slice());
+    assert!(rt; sent(&rt, &hop, &state).as_slice() == [(1, 614)].as_slice());
 }
 
 #[test]
@@ -153,15 +153,9 @@ fn tally_wraps(rt: HostRuntime) {
     let mut state = started(&rt, alloc, &tally);
     let bag = [(0, 1), (0, 9223372036854775807)];
     let (ext, left) = there_and_back(&rt, alloc, &tally, &mut state, Turn::Ext, 1, &bag);
-    assert_eq!(rt;
-        ext.as_slice(),
-        [2, -9223372036854775808, 9223372036854775807].as_slice()
-    );
-    assert_eq!(rt; left, None);
-    assert_eq!(rt;
-        words(&rt, alloc, &tally, &state).as_slice(),
-        [0, 0, 0].as_slice()
-    );
+    assert!(rt; ext.as_slice() == [2, -9223372036854775808, 9223372036854775807].as_slice());
+    assert!(rt; left == None);
+    assert!(rt; words(&rt, alloc, &tally, &state).as_slice() == [0, 0, 0].as_slice());
 }
 
 /// A bag of the values from `first` to `last` on port 0.
@@ -190,13 +184,10 @@ fn relay_overflows(rt: HostRuntime) {
     let mut state = started(&rt, alloc, &relay);
     let bag = values(&rt, alloc, 1, 33);
     let (ext, left) = there_and_back(&rt, alloc, &relay, &mut state, Turn::Ext, 1, &bag);
-    assert_eq!(rt; ext, count_and_numbers(&rt, alloc, 1, 32));
-    assert_eq!(rt; left, Some(100));
-    assert_eq!(rt;
-        words(&rt, alloc, &relay, &state).as_slice(),
-        [0].as_slice()
-    );
-    assert_eq!(rt; relay.ta(&state), None);
+    assert!(rt; ext == count_and_numbers(&rt, alloc, 1, 32));
+    assert!(rt; left == Some(100));
+    assert!(rt; words(&rt, alloc, &relay, &state).as_slice() == [0].as_slice());
+    assert!(rt; relay.ta(&state) == None);
 
     make(
         &rt,
@@ -207,20 +198,14 @@ fn relay_overflows(rt: HostRuntime) {
         1,
         &[(0, 8), (3, -2)],
     );
-    assert_eq!(rt;
-        sent(&rt, &relay, &state).as_slice(),
-        [(0, 8), (0, -2)].as_slice()
-    );
+    assert!(rt; sent(&rt, &relay, &state).as_slice() == [(0, 8), (0, -2)].as_slice());
     let (int, left) = there_and_back(&rt, alloc, &relay, &mut state, Turn::Int, 100, &[]);
-    assert_eq!(rt; int.as_slice(), [0].as_slice());
-    assert_eq!(rt; left, None);
+    assert!(rt; int.as_slice() == [0].as_slice());
+    assert!(rt; left == None);
     let (con, left) = there_and_back(&rt, alloc, &relay, &mut state, Turn::Con, 100, &[(0, 5)]);
-    assert_eq!(rt; con.as_slice(), [0, 5].as_slice());
-    assert_eq!(rt; left, Some(100));
-    assert_eq!(rt;
-        words(&rt, alloc, &relay, &state).as_slice(),
-        [0, 8, -2].as_slice()
-    );
+    assert!(rt; con.as_slice() == [0, 5].as_slice());
+    assert!(rt; left == Some(100));
+    assert!(rt; words(&rt, alloc, &relay, &state).as_slice() == [0, 8, -2].as_slice());
 }
 
 #[test]
@@ -230,26 +215,23 @@ fn queue_is_full(rt: HostRuntime) {
     let mut state = started(&rt, alloc, &queue);
     let jobs = values(&rt, alloc, 1, 64);
     make(&rt, alloc, &queue, &mut state, Turn::Ext, 1, &jobs);
-    assert_eq!(rt; queue.ta(&state), Some(100));
+    assert!(rt; queue.ta(&state) == Some(100));
 
     let more = values(&rt, alloc, 101, 105);
     let (ext, left) = there_and_back(&rt, alloc, &queue, &mut state, Turn::Ext, 1, &more);
-    assert_eq!(rt; ext, count_and_numbers(&rt, alloc, 5, 64));
-    assert_eq!(rt; left, Some(99));
-    assert_eq!(rt;
-        words(&rt, alloc, &queue, &state),
-        count_and_numbers(&rt, alloc, 0, 64)
-    );
-    assert_eq!(rt; queue.ta(&state), Some(100));
+    assert!(rt; ext == count_and_numbers(&rt, alloc, 5, 64));
+    assert!(rt; left == Some(99));
+    assert!(rt; words(&rt, alloc, &queue, &state) == count_and_numbers(&rt, alloc, 0, 64));
+    assert!(rt; queue.ta(&state) == Some(100));
 
     // The first job leaves room for one of two.
-    assert_eq!(rt; sent(&rt, &queue, &state).as_slice(), [(0, 1)].as_slice());
+    assert!(rt; sent(&rt, &queue, &state).as_slice() == [(0, 1)].as_slice());
     let two = values(&rt, alloc, 101, 102);
     let (con, left) = there_and_back(&rt, alloc, &queue, &mut state, Turn::Con, 100, &two);
-    assert_eq!(rt; con.len(), 65);
-    assert_eq!(rt; con.first().copied(), Some(1));
-    assert_eq!(rt; con.last().copied(), Some(101));
-    assert_eq!(rt; left, Some(100));
+    assert!(rt; con.len() == 65);
+    assert!(rt; con.first().copied() == Some(1));
+    assert!(rt; con.last().copied() == Some(101));
+    assert!(rt; left == Some(100));
 }
 
 #[test]
@@ -257,18 +239,18 @@ fn gen_counts_its_outputs(rt: HostRuntime) {
     let alloc = rt.alloc();
     let model = Model::generator(2, 5).expect(&rt, "a generator");
     let mut state = started(&rt, alloc, &model);
-    assert_eq!(rt; sent(&rt, &model, &state).as_slice(), [(0, 5)].as_slice());
+    assert!(rt; sent(&rt, &model, &state).as_slice() == [(0, 5)].as_slice());
     let (int, left) = there_and_back(&rt, alloc, &model, &mut state, Turn::Int, 2, &[]);
-    assert_eq!(rt; int.as_slice(), [1].as_slice());
-    assert_eq!(rt; left, Some(2));
+    assert!(rt; int.as_slice() == [1].as_slice());
+    assert!(rt; left == Some(2));
     let (ext, left) = there_and_back(&rt, alloc, &model, &mut state, Turn::Ext, 1, &[(0, 9)]);
-    assert_eq!(rt; ext.as_slice(), [0].as_slice());
-    assert_eq!(rt; left, Some(1));
+    assert!(rt; ext.as_slice() == [0].as_slice());
+    assert!(rt; left == Some(1));
 
     // A state of another model is passive, and has no words.
     let tally = Model::tally().expect(&rt, "a tally");
-    assert_eq!(rt; tally.ta(&state), None);
-    assert_eq!(rt; words(&rt, alloc, &tally, &state).len(), 0);
+    assert!(rt; tally.ta(&state) == None);
+    assert!(rt; words(&rt, alloc, &tally, &state).len() == 0);
 }
 
 #[test]
@@ -283,7 +265,7 @@ fn parameters_out_of_range_are_refused(rt: HostRuntime) {
         (Model::hop(0, 16, 1048577), 10),
     ] {
         let refused = made.map_err(Refusal::from).err().map(Refusal::number);
-        assert_eq!(rt; refused, Some(number));
+        assert!(rt; refused == Some(number));
     }
     assert!(rt; Model::relay(0).is_ok());
     assert!(rt; Model::generator(1099511627774, 1).is_ok());
@@ -306,7 +288,7 @@ fn refused_words_leave_the_list(rt: HostRuntime) {
     );
     let mut words = Vec::new(alloc);
     match relay.words(alloc, &state, &mut words) {
-        Ok(()) => assert_eq!(rt; words.as_slice(), [0, 8, -2].as_slice()),
-        Err(_) => assert_eq!(rt; words.len(), 0),
+        Ok(()) => assert!(rt; words.as_slice() == [0, 8, -2].as_slice()),
+        Err(_) => assert!(rt; words.len() == 0),
     }
 }

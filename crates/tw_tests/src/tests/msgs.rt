@@ -74,29 +74,29 @@ fn sorts_by_port_then_value(rt: HostRuntime) -> Result<(), Fail> {
     for item in TEN {
         bag.push(item)?;
     }
-    assert_eq!(rt; bag.as_slice(), TEN.as_slice());
+    assert!(rt; bag.as_slice() == TEN.as_slice());
     bag.sort();
     assert!(rt; !bag.is_empty());
-    assert_eq!(rt; bag.len(), 10);
-    assert_eq!(rt; bag.as_slice(), TEN_SORTED.as_slice());
-    assert_eq!(rt; bag.iter().next(), Some(&(0, -7)));
+    assert!(rt; bag.len() == 10);
+    assert!(rt; bag.as_slice() == TEN_SORTED.as_slice());
+    assert!(rt; bag.iter().next() == Some(&(0, -7)));
     let mut last = (0, i64::MIN);
     for item in &bag {
         assert!(rt; last <= *item);
         last = *item;
     }
-    assert_eq!(rt; last, (15, i64::MAX));
+    assert!(rt; last == (15, i64::MAX));
     Ok(())
 }
 
 #[test]
 fn gives_words_back(rt: HostRuntime) -> Result<(), Fail> {
     let words = words_of(rt.alloc(), &[i128::MIN, 0, 9])?;
-    assert_eq!(rt; words.len(), 3);
+    assert!(rt; words.len() == 3);
     assert!(rt; !words.is_empty());
-    assert_eq!(rt; words.as_slice(), [i128::MIN, 0, 9].as_slice());
+    assert!(rt; words.as_slice() == [i128::MIN, 0, 9].as_slice());
     let list = words.into_vec();
-    assert_eq!(rt; list.as_slice(), [i128::MIN, 0, 9].as_slice());
+    assert!(rt; list.as_slice() == [i128::MIN, 0, 9].as_slice());
     Ok(())
 }
 
@@ -116,10 +116,10 @@ fn copies_are_equal_and_apart(rt: HostRuntime) -> Result<(), Fail> {
     equality_law();
     let record = confluent_record(rt.alloc())?;
     let mut copy = record.clone()?;
-    assert_eq!(rt; copy, record);
+    assert!(rt; copy == record);
     copy.bag.sort();
-    assert_eq!(rt; copy.bag.as_slice(), TEN_SORTED.as_slice());
-    assert_eq!(rt; record.bag.as_slice(), TEN.as_slice());
+    assert!(rt; copy.bag.as_slice() == TEN_SORTED.as_slice());
+    assert!(rt; record.bag.as_slice() == TEN.as_slice());
     assert!(rt; copy.words == record.words);
     Ok(())
 }
@@ -147,12 +147,12 @@ fn stays_as_it_was_when_memory_is_refused(rt: HostRuntime) -> Result<(), Fail> {
     for (at, item) in TEN.iter().enumerate() {
         if let Err(refused) = bag.push(*item) {
             assert!(rt; at >= 8);
-            assert_eq!(rt; refused.value, *item);
-            assert_eq!(rt; bag.as_slice(), TEN.get(..at).unwrap_or(&[]));
+            assert!(rt; refused.value == *item);
+            assert!(rt; bag.as_slice() == TEN.get(..at).unwrap_or(&[]));
             bag.push(*item)?;
         }
     }
-    assert_eq!(rt; bag.as_slice(), TEN.as_slice());
+    assert!(rt; bag.as_slice() == TEN.as_slice());
     let numbers = match words_of(rt.alloc(), &[5, -5]) {
         Ok(words) => words,
         Err(_) => words_of(rt.alloc(), &[5, -5])?,
@@ -167,12 +167,12 @@ fn stays_as_it_was_when_memory_is_refused(rt: HostRuntime) -> Result<(), Fail> {
     let copy = match record.clone() {
         Ok(copy) => copy,
         Err(_) => {
-            assert_eq!(rt; record.bag.as_slice(), TEN.as_slice());
-            assert_eq!(rt; record.words.as_slice(), [5, -5].as_slice());
+            assert!(rt; record.bag.as_slice() == TEN.as_slice());
+            assert!(rt; record.words.as_slice() == [5, -5].as_slice());
             record.clone()?
         }
     };
-    assert_eq!(rt; copy, record);
+    assert!(rt; copy == record);
     Ok(())
 }
 
@@ -213,9 +213,9 @@ fn counts_messages_up_and_anti_messages_down(rt: HostRuntime) -> Result<(), Fail
         item(Sign::Positive, counted),
         item(Sign::Anti, other),
     ];
-    assert_eq!(rt; signed_count(&items, &counted), 2);
-    assert_eq!(rt; signed_count(&items, &other), -2);
-    assert_eq!(rt; signed_count(&items, &message(at, 0, 0, 0)), 0);
-    assert_eq!(rt; signed_count(&[], &counted), 0);
+    assert!(rt; signed_count(&items, &counted) == 2);
+    assert!(rt; signed_count(&items, &other) == -2);
+    assert!(rt; signed_count(&items, &message(at, 0, 0, 0)) == 0);
+    assert!(rt; signed_count(&[], &counted) == 0);
     Ok(())
 }

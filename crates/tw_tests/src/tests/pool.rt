@@ -11,13 +11,13 @@ use tw_vtime::Refusal;
 fn assert_items<const L: usize>(rt: &impl Abort, pool: &Pool<u32, L>, list: usize, items: &[u32])
     requires { list < L }
 {
-    assert_eq!(rt; pool.len(list), items.len());
+    assert!(rt; pool.len(list) == items.len());
     let mut at = pool.first(list);
     for item in items {
         let Some(index) = at else {
             panic!(rt; "the list ends before {item}");
         };
-        assert_eq!(rt; pool.get(index), item);
+        assert!(rt; pool.get(index) == item);
         at = pool.next(index);
     }
     assert!(rt; at.is_none());
@@ -27,7 +27,7 @@ fn assert_items<const L: usize>(rt: &impl Abort, pool: &Pool<u32, L>, list: usiz
         let Some(index) = at else {
             panic!(rt; "the list begins after {item}");
         };
-        assert_eq!(rt; pool.get(index), item);
+        assert!(rt; pool.get(index) == item);
         at = pool.prev(index);
     }
     assert!(rt; at.is_none());
@@ -53,20 +53,20 @@ fn relinks(rt: HostRuntime) {
     let k = pool.push_back(0, 9).expect(&rt, "9");
     assert_items(&rt, &pool, 0, &[7, 8, 9]);
 
-    assert_eq!(rt; index_at(&pool, 0, 1), Some(j));
+    assert!(rt; index_at(&pool, 0, 1) == Some(j));
     pool.relink(j, 1);
     assert_items(&rt, &pool, 0, &[7, 9]);
     assert_items(&rt, &pool, 1, &[8]);
 
-    assert_eq!(rt; index_at(&pool, 0, 1), Some(k));
+    assert!(rt; index_at(&pool, 0, 1) == Some(k));
     pool.insert_before(k, 6).expect(&rt, "6");
     assert_items(&rt, &pool, 0, &[7, 6, 9]);
 
-    assert_eq!(rt; index_at(&pool, 0, 0), Some(i));
-    assert_eq!(rt; pool.take(i), 7);
+    assert!(rt; index_at(&pool, 0, 0) == Some(i));
+    assert!(rt; pool.take(i) == 7);
     assert_items(&rt, &pool, 0, &[6, 9]);
 
-    assert_eq!(rt; pool.len(0), 2);
+    assert!(rt; pool.len(0) == 2);
     pool.cut_front(0, 1);
     assert_items(&rt, &pool, 0, &[9]);
     assert_items(&rt, &pool, 1, &[8]);
@@ -82,7 +82,7 @@ fn moves_the_last(rt: HostRuntime) {
         assert!(rt; index < top);
     }
     pool.push_back(2, 6).expect(&rt, "room is left");
-    assert_eq!(rt; pool.len(0), 5);
+    assert!(rt; pool.len(0) == 5);
     pool.relink_last(0, 3, 2);
     assert_items(&rt, &pool, 0, &[1, 2]);
     assert_items(&rt, &pool, 1, &[]);
@@ -92,26 +92,26 @@ fn moves_the_last(rt: HostRuntime) {
 #[test]
 fn refuses_past_the_limit(rt: HostRuntime) {
     let mut pool: Pool<u32, 2> = Pool::new(rt.alloc());
-    assert_eq!(rt; pool.reserve(LIVE_LIMIT + 1), Err(PoolRefused::Full));
-    assert_eq!(rt; pool.top(), 0);
-    assert_eq!(rt; Refusal::from(PoolRefused::Full).number(), 12);
-    assert_eq!(rt; Refusal::from(PoolRefused::OutOfMemory).number(), 4);
+    assert!(rt; pool.reserve(LIVE_LIMIT + 1) == Err(PoolRefused::Full));
+    assert!(rt; pool.top() == 0);
+    assert!(rt; Refusal::from(PoolRefused::Full).number() == 12);
+    assert!(rt; Refusal::from(PoolRefused::OutOfMemory).number() == 4);
 
     pool.reserve(LIVE_LIMIT).expect(&rt, "room for all");
     for item in 0..1_048_576 {
         pool.push_back(0, item).expect(&rt, "room is left");
     }
-    assert_eq!(rt; pool.push_back(1, 5), Err((5, PoolRefused::Full)));
-    assert_eq!(rt; pool.reserve(1), Err(PoolRefused::Full));
+    assert!(rt; pool.push_back(1, 5) == Err((5, PoolRefused::Full)));
+    assert!(rt; pool.reserve(1) == Err(PoolRefused::Full));
     let first = pool.first(0).expect(&rt, "a first index");
-    assert_eq!(rt; pool.insert_before(first, 5), Err((5, PoolRefused::Full)));
-    assert_eq!(rt; pool.len(0), LIVE_LIMIT);
+    assert!(rt; pool.insert_before(first, 5) == Err((5, PoolRefused::Full)));
+    assert!(rt; pool.len(0) == LIVE_LIMIT);
 
     pool.relink(first, 1);
     assert_items(&rt, &pool, 1, &[0]);
     let first = pool.first(0).expect(&rt, "a first index");
-    assert_eq!(rt; pool.take(first), 1);
-    assert_eq!(rt; pool.len(0), LIVE_LIMIT - 2);
+    assert!(rt; pool.take(first) == 1);
+    assert!(rt; pool.len(0) == LIVE_LIMIT - 2);
     pool.cut_front(0, LIVE_LIMIT - 5);
     assert_items(&rt, &pool, 0, &[1_048_573, 1_048_574, 1_048_575]);
     pool.push_back(1, 5).expect(&rt, "room is left");
@@ -125,14 +125,14 @@ fn grows_or_stays(rt: HostRuntime) {
     let mut pool: Pool<u32, 1> = Pool::new(rt.alloc());
     for len in 0..12 {
         if let Err((item, refused)) = pool.push_back(0, items[len]) {
-            assert_eq!(rt; refused, PoolRefused::OutOfMemory);
+            assert!(rt; refused == PoolRefused::OutOfMemory);
             assert_items(&rt, &pool, 0, &items[..len]);
             pool.push_back(0, item).expect(&rt, "memory is there again");
         }
         assert_items(&rt, &pool, 0, &items[..len + 1]);
     }
     if let Err(refused) = pool.reserve(1000) {
-        assert_eq!(rt; refused, PoolRefused::OutOfMemory);
+        assert!(rt; refused == PoolRefused::OutOfMemory);
     }
     assert_items(&rt, &pool, 0, &items);
 }

@@ -330,8 +330,8 @@ fn runs_are_the_worked_ones(rt: HostRuntime) -> Result<(), Fail> {
 #[test]
 fn end_tick_is_refused(rt: HostRuntime) {
     let network = worked_network(rt.alloc()).expect(&rt, "memory");
-    assert_eq!(rt; refusal(simulate(rt.alloc(), &network, MAX_TICK + 1)), 10);
-    assert_eq!(rt; Refusal::from(SeqRefused::from(AllocError)).number(), 4);
+    assert!(rt; refusal(simulate(rt.alloc(), &network, MAX_TICK + 1)) == 10);
+    assert!(rt; Refusal::from(SeqRefused::from(AllocError)).number() == 4);
     assert!(rt; Model::generator(MAX_TICK + 1, 1) == Err(BadModel::BadTick));
 }
 
@@ -382,7 +382,7 @@ fn is_worked_example(rt: &impl Abort, answer: Result<Seq, SeqRefused>) -> bool {
             true
         }
         Err(refused) => {
-            assert_eq!(rt; Refusal::from(refused).number(), 4);
+            assert!(rt; Refusal::from(refused).number() == 4);
             false
         }
     }

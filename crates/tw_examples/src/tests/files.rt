@@ -46,16 +46,16 @@ fn repeated(alloc: Global, text: &str, count: usize) -> Result<String, AllocErro
 #[test]
 fn a_generator_and_a_tally(rt: HostRuntime) {
     let network = network_of_file(rt.alloc(), GEN_TALLY.as_bytes()).expect(&rt, "a network");
-    assert_eq!(rt; network.len(), 2);
-    assert_eq!(rt; network.micro_limit(), 100);
+    assert!(rt; network.len() == 2);
+    assert!(rt; network.micro_limit() == 100);
     for (component, name) in ["g", "t"].iter().enumerate() {
         assert!(rt; component < network.len());
-        assert_eq!(rt; network.name(component), *name);
+        assert!(rt; network.name(component) == *name);
     }
     assert!(rt; network.len() == 2);
-    assert_eq!(rt; Ok(*network.model(0)), Model::generator(2, 5));
-    assert_eq!(rt; Ok(*network.model(1)), Model::tally());
-    assert_eq!(rt; network.couplings(), [(0, 0, 1, 0)].as_slice());
+    assert!(rt; Ok(*network.model(0)) == Model::generator(2, 5));
+    assert!(rt; Ok(*network.model(1)) == Model::tally());
+    assert!(rt; network.couplings() == [(0, 0, 1, 0)].as_slice());
     assert!(rt; network.inputs().is_empty());
 }
 
@@ -72,22 +72,13 @@ fn every_model_and_an_input(rt: HostRuntime) {
     .expect(&rt, "memory");
     let network = network_of_file(rt.alloc(), text.as_bytes()).expect(&rt, "a network");
     assert!(rt; network.len() == 3);
-    assert_eq!(rt; network.micro_limit(), 8388607);
-    assert_eq!(rt; network.name(2), "r-1_Z");
-    assert_eq!(rt;
-        Ok(*network.model(0)),
-        Model::hop(18446744073709551615, 16, 1048576)
-    );
-    assert_eq!(rt; Ok(*network.model(1)), Model::queue(0));
-    assert_eq!(rt; Ok(*network.model(2)), Model::relay(1099511627774));
-    assert_eq!(rt;
-        network.couplings(),
-        [(1, 15, 0, 0), (0, 0, 2, 7)].as_slice()
-    );
-    assert_eq!(rt;
-        network.inputs(),
-        [(1099511627774, 2, 15, -9223372036854775808)].as_slice()
-    );
+    assert!(rt; network.micro_limit() == 8388607);
+    assert!(rt; network.name(2) == "r-1_Z");
+    assert!(rt; Ok(*network.model(0)) == Model::hop(18446744073709551615, 16, 1048576));
+    assert!(rt; Ok(*network.model(1)) == Model::queue(0));
+    assert!(rt; Ok(*network.model(2)) == Model::relay(1099511627774));
+    assert!(rt; network.couplings() == [(1, 15, 0, 0), (0, 0, 2, 7)].as_slice());
+    assert!(rt; network.inputs() == [(1099511627774, 2, 15, -9223372036854775808)].as_slice());
 }
 
 #[test]
@@ -104,15 +95,14 @@ fn what_is_no_json(rt: HostRuntime) {
         ("[]", 21),
         ("null", 21),
     ] {
-        assert_eq!(rt; answer(rt.alloc(), text.as_bytes()), number, "at {text}");
+        assert!(rt; answer(rt.alloc(), text.as_bytes()) == number, "at {text}");
     }
     for (depth, number) in [(127, 21), (128, 20)] {
         let mut text = repeated(rt.alloc(), "[", depth).expect(&rt, "memory");
         let ends = repeated(rt.alloc(), "]", depth).expect(&rt, "memory");
         text.push_str(ends.as_str()).expect(&rt, "memory");
-        assert_eq!(rt;
-            answer(rt.alloc(), text.as_bytes()),
-            number,
+        assert!(rt;
+            answer(rt.alloc(), text.as_bytes()) == number,
             "at depth {depth}"
         );
     }
@@ -166,7 +156,7 @@ fn members_of_a_file(rt: HostRuntime) {
             21,
         ),
     ] {
-        assert_eq!(rt; answer(rt.alloc(), text.as_bytes()), number, "at {text}");
+        assert!(rt; answer(rt.alloc(), text.as_bytes()) == number, "at {text}");
     }
 }
 
@@ -194,9 +184,8 @@ fn whole_numbers(rt: HostRuntime) {
             r#"{{"name":"g","model":"gen","period":{period},"value":{value}}}"#
         ).expect(&rt, "memory");
         let text = file(rt.alloc(), "100", gen_of.as_str(), "", "").expect(&rt, "memory");
-        assert_eq!(rt;
-            answer(rt.alloc(), text.as_bytes()),
-            number,
+        assert!(rt;
+            answer(rt.alloc(), text.as_bytes()) == number,
             "at {period}, {value}"
         );
     }
@@ -246,9 +235,8 @@ fn models_and_their_parameters(rt: HostRuntime) {
         ),
     ] {
         let text = file(rt.alloc(), "0", components, r#"["c",0,"x",0]"#, "").expect(&rt, "memory");
-        assert_eq!(rt;
-            answer(rt.alloc(), text.as_bytes()),
-            number,
+        assert!(rt;
+            answer(rt.alloc(), text.as_bytes()) == number,
             "at {components}"
         );
     }
@@ -273,9 +261,8 @@ fn couplings_and_inputs(rt: HostRuntime) {
         (r#"["r",2,"g",3],["r",2,"g",3]"#, "", 8),
     ] {
         let text = file(rt.alloc(), "100", GRT, couplings, inputs).expect(&rt, "memory");
-        assert_eq!(rt;
-            answer(rt.alloc(), text.as_bytes()),
-            number,
+        assert!(rt;
+            answer(rt.alloc(), text.as_bytes()) == number,
             "at {couplings}"
         );
     }
@@ -292,7 +279,10 @@ fn couplings_and_inputs(rt: HostRuntime) {
         (r#"{"tick":1099511627775,"to":"t","port":0,"value":0}"#, 10),
     ] {
         let text = file(rt.alloc(), "100", GRT, "", inputs).expect(&rt, "memory");
-        assert_eq!(rt; answer(rt.alloc(), text.as_bytes()), number, "at {inputs}");
+        assert!(rt;
+            answer(rt.alloc(), text.as_bytes()) == number,
+            "at {inputs}"
+        );
     }
 }
 
@@ -317,9 +307,8 @@ fn names_limits_and_counts(rt: HostRuntime) {
             "",
         )
         .expect(&rt, "memory");
-        assert_eq!(rt;
-            answer(rt.alloc(), text.as_bytes()),
-            number,
+        assert!(rt;
+            answer(rt.alloc(), text.as_bytes()) == number,
             "at {micro_limit}, {components}"
         );
     }
@@ -332,9 +321,8 @@ fn names_limits_and_counts(rt: HostRuntime) {
     for (last, number) in [(spaced, 9), (late, 10)] {
         let components = format!(in rt.alloc(); "{many}{last}").expect(&rt, "memory");
         let text = file(rt.alloc(), "0", components.as_str(), "", "").expect(&rt, "memory");
-        assert_eq!(rt;
-            answer(rt.alloc(), text.as_bytes()),
-            number,
+        assert!(rt;
+            answer(rt.alloc(), text.as_bytes()) == number,
             "at 1025 and {last}"
         );
     }
@@ -345,14 +333,13 @@ fn names_limits_and_counts(rt: HostRuntime) {
 fn a_file_cut_or_changed_anywhere(rt: HostRuntime) {
     let bytes = GEN_TALLY.as_bytes();
     for place in 0..bytes.len() {
-        assert_eq!(rt; answer(rt.alloc(), &bytes[..place]), 20, "cut at {place}");
+        assert!(rt; answer(rt.alloc(), &bytes[..place]) == 20, "cut at {place}");
         for byte in [0, 255] {
             let mut changed = Vec::from_slice(rt.alloc(), bytes).expect(&rt, "memory");
             assert!(rt; place < changed.len());
             changed[place] = byte;
-            assert_eq!(rt;
-                answer(rt.alloc(), changed.as_slice()),
-                20,
+            assert!(rt;
+                answer(rt.alloc(), changed.as_slice()) == 20,
                 "{byte} at {place}"
             );
         }

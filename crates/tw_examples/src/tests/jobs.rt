@@ -39,9 +39,8 @@ fn runs_are_written(rt: HostRuntime) {
             &mut "".as_bytes(),
             &mut out,
         );
-        assert_eq!(rt;
-            exit,
-            if *fault { Exit::Fault } else { Exit::Done },
+        assert!(rt;
+            exit == if *fault { Exit::Fault } else { Exit::Done },
             "{name}"
         );
         assert!(rt; out.as_slice() == text.as_bytes(), "{name}");
@@ -59,7 +58,7 @@ fn files_are_refused(rt: HostRuntime) {
             &mut "".as_bytes(),
             &mut out,
         );
-        assert_eq!(rt; exit, Exit::Bad(*refusal), "{name}");
+        assert!(rt; exit == Exit::Bad(*refusal), "{name}");
         assert!(rt; out.is_empty(), "{name}");
     }
 }
@@ -74,7 +73,7 @@ fn the_demonstration_is_written(rt: HostRuntime) {
         &mut "".as_bytes(),
         &mut out,
     );
-    assert_eq!(rt; exit, Exit::Done);
+    assert!(rt; exit == Exit::Done);
     assert!(rt; out.as_slice() == DEMO_TEXT.as_bytes());
 }
 
@@ -88,7 +87,7 @@ fn an_end_tick_that_no_stamp_has_is_refused(rt: HostRuntime) {
         &mut "".as_bytes(),
         &mut out,
     );
-    assert_eq!(rt; exit, Exit::Bad(Refusal::BadTick));
+    assert!(rt; exit == Exit::Bad(Refusal::BadTick));
     assert!(rt; out.is_empty());
 }
 
@@ -107,7 +106,7 @@ fn statuses_and_lines(rt: HostRuntime) -> Result<(), AllocError> {
         (Exit::NoWrite, 5, "twarp: 24 WriteFailed\n"),
     ] {
         let mut out: Vec<u8> = Vec::new(rt.alloc());
-        assert_eq!(rt; exit.status(), status);
+        assert!(rt; exit.status() == status);
         assert!(rt; exit.write_line(&mut out).is_ok());
         assert!(rt; out.as_slice() == line.as_bytes());
     }

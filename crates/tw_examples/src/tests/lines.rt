@@ -43,7 +43,7 @@ fn takes_the_lines_of_demo_and_seq(rt: HostRuntime) -> Result<(), Fail> {
             "seq of n.json until 1099511627774",
         ),
     ] {
-        assert_eq!(rt; answer(rt.alloc(), line)?.as_str(), want, "{line}");
+        assert!(rt; answer(rt.alloc(), line)?.as_str() == want, "{line}");
     }
     Ok(())
 }
@@ -80,7 +80,10 @@ fn refuses_every_other_line(rt: HostRuntime) -> Result<(), Fail> {
         "twarp play n.json --until 5 --script s --seed 1 --steps 1",
         "twarp play n.json --until 5 --seed 1 --steps 1000001",
     ] {
-        assert_eq!(rt; answer(rt.alloc(), line)?.as_str(), "23 BadLine", "{line}");
+        assert!(rt;
+            answer(rt.alloc(), line)?.as_str() == "23 BadLine",
+            "{line}"
+        );
     }
     Ok(())
 }
@@ -91,7 +94,7 @@ fn a_line_with_no_word_is_refused(rt: HostRuntime) {
         Ok(_) => None,
         Err(no_job) => no_job.refusal(),
     };
-    assert_eq!(rt; refusal, Some(Refusal::BadLine));
+    assert!(rt; refusal == Some(Refusal::BadLine));
 }
 
 /// The help of a line, or none where it is no call for help.

@@ -67,9 +67,9 @@ fn writes_the_lines_in_order(rt: HostRuntime) -> Result<(), Fail> {
     let records = generator_and_tally(rt.alloc())?;
     let mut out: Vec<u8> = Vec::new(rt.alloc());
     write_trace(rt.alloc(), &GeneratorAndTally, records.as_slice(), &mut out)?;
-    assert_eq!(rt; out.as_slice(), GENERATOR_AND_TALLY.as_bytes());
+    assert!(rt; out.as_slice() == GENERATOR_AND_TALLY.as_bytes());
     write_trace(rt.alloc(), &GeneratorAndTally, &[], &mut out)?;
-    assert_eq!(rt; out.as_slice(), GENERATOR_AND_TALLY.as_bytes());
+    assert!(rt; out.as_slice() == GENERATOR_AND_TALLY.as_bytes());
     Ok(())
 }
 
@@ -81,7 +81,7 @@ fn writes_all_to_a_writer_that_takes_one_byte_a_call(rt: HostRuntime) -> Result<
         calls: 1000,
     };
     write_trace(rt.alloc(), &GeneratorAndTally, records.as_slice(), &mut out)?;
-    assert_eq!(rt; out.taken.as_slice(), GENERATOR_AND_TALLY.as_bytes());
+    assert!(rt; out.taken.as_slice() == GENERATOR_AND_TALLY.as_bytes());
     Ok(())
 }
 
@@ -94,9 +94,9 @@ fn tells_that_the_writer_failed(rt: HostRuntime) -> Result<(), Fail> {
             calls,
         };
         let answer = write_trace(rt.alloc(), &GeneratorAndTally, records.as_slice(), &mut out);
-        assert_eq!(rt; answer, Err(NotWritten::WriteFailed));
-        assert_eq!(rt; answer.map_err(Refusal::from), Err(Refusal::WriteFailed));
-        assert_eq!(rt; out.taken.len(), calls as usize);
+        assert!(rt; answer == Err(NotWritten::WriteFailed));
+        assert!(rt; answer.map_err(Refusal::from) == Err(Refusal::WriteFailed));
+        assert!(rt; out.taken.len() == calls as usize);
         assert!(rt;
             GENERATOR_AND_TALLY
                 .as_bytes()
@@ -115,9 +115,9 @@ fn writes_more_than_a_portion(rt: HostRuntime) -> Result<(), Fail> {
     }
     let mut out: Vec<u8> = Vec::new(rt.alloc());
     write_trace(rt.alloc(), &GeneratorAndTally, records.as_slice(), &mut out)?;
-    assert_eq!(rt; out.len(), 84_000);
+    assert!(rt; out.len() == 84_000);
     for line in out.chunks(14) {
-        assert_eq!(rt; line, "2.0 g int | 1\n".as_bytes());
+        assert!(rt; line == "2.0 g int | 1\n".as_bytes());
     }
     Ok(())
 }

@@ -1,5 +1,6 @@
 mod executive;
 mod heap;
+mod lines;
 mod models;
 mod msgs;
 mod networks;

@@ -6,7 +6,9 @@ ghost use Rattle.tw_exec.specs.First.{meant, start};
 ghost use Rattle.tw_exec.specs.GenTally.{IsGenTally};
 ghost use Rattle.tw_theory.specs.Simulator.{sequential};
 
+use super::lines::{Line, all_show};
 use std::alloc::Global;
+use std::process::Abort;
 use tw_exec::first::{ActionRefused, Executive, StartRefused, drive, gen_tally_law, traced};
 use tw_models::Model;
 use tw_msgs::{Record, RecordKind};
@@ -62,20 +64,47 @@ fn driven(alloc: Global) -> Result<Executive, Refusal> {
     Ok(executive)
 }
 
-/// Whether a record is this.
-fn shows(
-    record: &Record,
-    tick: u64,
-    phase: u8,
-    kind: RecordKind,
-    bag: &[(u8, i64)],
-    words: &[i128],
-) -> bool {
-    Stamp::new(tick, 0, phase) == Ok(record.stamp)
-        && record.kind == kind
-        && record.bag.as_slice() == bag
-        && record.words.as_slice() == words
+/// The same at its start, made again where memory was refused.
+fn started_again(rt: &impl Abort, alloc: Global) -> Executive {
+    match started(alloc) {
+        Ok(executive) => executive,
+        Err(_) => started(alloc).expect(rt, "an executive"),
+    }
 }
+
+/// Takes a step, again where memory was refused.
+fn step(executive: &mut Executive, component: usize) -> Result<(Stamp, RecordKind), ActionRefused> {
+    again!(executive.step(component))
+}
+
+/// Harvests a component's records, again where memory was refused.
+fn harvest(executive: &mut Executive, component: usize) -> Result<usize, ActionRefused> {
+    again!(executive.harvest(component))
+}
+
+/// The generator's records.
+static GENERATED: [Line<'static>; 4] = [
+    Line(2, 0, 0, RecordKind::Out, &[(0, 5)], &[]),
+    Line(2, 0, 0, RecordKind::Int, &[], &[1]),
+    Line(4, 0, 0, RecordKind::Out, &[(0, 5)], &[]),
+    Line(4, 0, 0, RecordKind::Int, &[], &[2]),
+];
+
+/// The tally's records.
+static TALLIED: [Line<'static>; 2] = [
+    Line(2, 0, 1, RecordKind::Ext, &[(0, 5)], &[1, 5, 5]),
+    Line(4, 0, 1, RecordKind::Ext, &[(0, 5)], &[2, 10, 5]),
+];
+
+/// The records of both, in the order of the trace.
+static TRACE: [Line<'static>; 6] = [
+    Line(2, 0, 0, RecordKind::Out, &[(0, 5)], &[]),
+    Line(2, 0, 0, RecordKind::Int, &[], &[1]),
+    Line(2, 0, 1, RecordKind::Ext, &[(0, 5)], &[1, 5, 5]),
+    Line(4, 0, 0, RecordKind::Out, &[(0, 5)], &[]),
+    Line(4, 0, 0, RecordKind::Int, &[], &[2]),
+    Line(4, 0, 1, RecordKind::Ext, &[(0, 5)], &[2, 10, 5]),
+];
 
 #[test]
 fn a_drive_gives_the_records(rt: HostRuntime) {
@@ -85,94 +114,70 @@ fn a_drive_gives_the_records(rt: HostRuntime) {
         Err(_) => driven(alloc).expect(&rt, "an executive"),
     };
     assert!(rt; executive.len() == 2);
-    let made = executive.committed(0);
-    assert!(rt; made.len() == 4);
-    assert!(rt; shows(&made[0], 2, 0, RecordKind::Out, &[(0, 5)], &[]));
-    assert!(rt; shows(&made[1], 2, 1, RecordKind::Int, &[], &[1]));
-    assert!(rt; shows(&made[2], 4, 0, RecordKind::Out, &[(0, 5)], &[]));
-    assert!(rt; shows(&made[3], 4, 1, RecordKind::Int, &[], &[2]));
-    let counted = executive.committed(1);
-    assert!(rt; counted.len() == 2);
-    assert!(rt; shows(&counted[0], 2, 1, RecordKind::Ext, &[(0, 5)], &[1, 5, 5]));
-    assert!(rt; shows(&counted[1], 4, 1, RecordKind::Ext, &[(0, 5)], &[2, 10, 5]));
+    assert!(rt; all_show(executive.committed(0), &GENERATED));
+    assert!(rt; all_show(executive.committed(1), &TALLIED));
+}
+
+/// The trace up to tick 5.
+fn trace(alloc: Global) -> Result<Vec<Record>, Refusal> {
+    gen_tally_law();
+    let network = example(alloc)?;
+    Ok(traced(alloc, network, 5)?)
 }
 
 #[test]
 fn a_trace_has_the_records(rt: HostRuntime) {
     let alloc = rt.alloc();
-    gen_tally_law();
-    let network = example(alloc).expect(&rt, "a network");
-    let trace = match traced(alloc, network, 5) {
-        Ok(trace) => trace,
+    let records = match trace(alloc) {
+        Ok(records) => records,
         Err(refused) => {
-            assert!(rt; refused == StartRefused::OutOfMemory);
-            let network = example(alloc).expect(&rt, "a network");
-            traced(alloc, network, 5).expect(&rt, "a trace")
+            assert!(rt; refused == Refusal::OutOfMemory);
+            trace(alloc).expect(&rt, "a trace")
         }
     };
-    assert!(rt; trace.len() == 6);
-    assert!(rt; shows(&trace[0], 2, 0, RecordKind::Out, &[(0, 5)], &[]));
-    assert!(rt; shows(&trace[1], 2, 1, RecordKind::Int, &[], &[1]));
-    assert!(rt; shows(&trace[2], 2, 1, RecordKind::Ext, &[(0, 5)], &[1, 5, 5]));
-    assert!(rt; shows(&trace[3], 4, 0, RecordKind::Out, &[(0, 5)], &[]));
-    assert!(rt; shows(&trace[4], 4, 1, RecordKind::Int, &[], &[2]));
-    assert!(rt; shows(&trace[5], 4, 1, RecordKind::Ext, &[(0, 5)], &[2, 10, 5]));
-}
-
-/// Takes the generator's first output and transition.
-fn take_two_steps(executive: &mut Executive) -> Result<(), ActionRefused> {
-    again!(executive.step(0))?;
-    again!(executive.step(0))?;
-    Ok(())
+    assert!(rt; all_show(&records, &TRACE));
 }
 
 #[test]
 fn steps_are_taken_in_order(rt: HostRuntime) {
-    let mut executive = match started(rt.alloc()) {
-        Ok(executive) => executive,
-        Err(_) => started(rt.alloc()).expect(&rt, "an executive"),
-    };
+    let mut executive = started_again(&rt, rt.alloc());
     let output = Stamp::new(2, 0, 0).expect(&rt, "a stamp");
     let transition = output.transition();
     assert!(rt; executive.step(2) == Err(ActionRefused::NoSuch));
     assert!(rt; executive.step(1) == Err(ActionRefused::NothingDue));
-    assert!(rt; again!(executive.step(0)) == Ok((output, RecordKind::Out)));
-    assert!(rt; again!(executive.step(0)) == Ok((transition, RecordKind::Int)));
+    assert!(rt; step(&mut executive, 0) == Ok((output, RecordKind::Out)));
+    assert!(rt; step(&mut executive, 0) == Ok((transition, RecordKind::Int)));
     assert!(rt; executive.raise() == transition);
+}
+
+/// The executive after the generator's first output and transition, and the stamp of the latter.
+fn stepped_twice(rt: &impl Abort, alloc: Global) -> (Executive, Stamp) {
+    let mut executive = started_again(rt, alloc);
+    step(&mut executive, 0).expect(rt, "an output");
+    step(&mut executive, 0).expect(rt, "a transition");
+    (executive, Stamp::new(2, 0, 1).expect(rt, "a stamp"))
 }
 
 #[test]
 fn a_message_is_posted_and_delivered(rt: HostRuntime) {
-    let mut executive = match started(rt.alloc()) {
-        Ok(executive) => executive,
-        Err(_) => started(rt.alloc()).expect(&rt, "an executive"),
-    };
-    take_two_steps(&mut executive).expect(&rt, "two steps");
-    let transition = Stamp::new(2, 0, 1).expect(&rt, "a stamp");
+    let (mut executive, transition) = stepped_twice(&rt, rt.alloc());
     assert!(rt; executive.deliver(1) == Err(ActionRefused::NoSuch));
     assert!(rt; again!(executive.post(0)) == Ok(1));
     assert!(rt; again!(executive.deliver(1)) == Ok(()));
     assert!(rt; executive.raise() == transition);
-    assert!(rt; again!(executive.step(1)) == Ok((transition, RecordKind::Ext)));
+    assert!(rt; step(&mut executive, 1) == Ok((transition, RecordKind::Ext)));
 }
 
 #[test]
 fn records_before_gvt_are_harvested(rt: HostRuntime) {
-    let mut executive = match started(rt.alloc()) {
-        Ok(executive) => executive,
-        Err(_) => started(rt.alloc()).expect(&rt, "an executive"),
-    };
-    take_two_steps(&mut executive).expect(&rt, "two steps");
-    let transition = Stamp::new(2, 0, 1).expect(&rt, "a stamp");
+    let (mut executive, transition) = stepped_twice(&rt, rt.alloc());
     assert!(rt; executive.raise() == transition);
     assert!(rt; executive.gvt() == transition);
-    assert!(rt; again!(executive.harvest(0)) == Ok(1));
-    assert!(rt; again!(executive.harvest(1)) == Ok(0));
+    assert!(rt; harvest(&mut executive, 0) == Ok(1));
+    assert!(rt; harvest(&mut executive, 1) == Ok(0));
     assert!(rt; executive.len() == 2);
     assert!(rt; executive.line(0) == transition);
-    let committed = executive.committed(0);
-    assert!(rt; committed.len() == 1);
-    assert!(rt; shows(&committed[0], 2, 0, RecordKind::Out, &[(0, 5)], &[]));
+    assert!(rt; all_show(executive.committed(0), &GENERATED[..1]));
 }
 
 #[test]

@@ -4,19 +4,18 @@ ghost use Rattle.std.specs.Prelude.{◌≡◌, ◌≤◌, OnOk};
 
 use std::alloc::AllocError;
 use std::process::Abort;
-use std::test::Fail;
 use tw_heap::EventHeap;
 use tw_msgs::Message;
-use tw_vtime::{Range, Stamp};
+use tw_vtime::Stamp;
 
 /// A message to component 0.
-fn message(tick: u64, port: u8, value: i64) -> Result<Message, Range> {
-    Ok(Message {
-        stamp: Stamp::new(tick, 0, 1)?,
+fn message(rt: &impl Abort, tick: u64, port: u8, value: i64) -> Message {
+    Message {
+        stamp: Stamp::new(tick, 0, 1).expect(rt, "a stamp"),
         port,
         value,
         to: 0,
-    })
+    }
 }
 
 /// Takes the first entry out, and answers its index.
@@ -27,24 +26,23 @@ fn take_first(heap: &mut EventHeap) -> Option<usize> {
 }
 
 #[test]
-fn orders_messages(rt: HostRuntime) -> Result<(), Fail> {
+fn orders_messages(rt: HostRuntime) {
     let mut heap = EventHeap::new(rt.alloc());
-    heap.reserve(4, 4)?;
-    heap.insert(0, message(3, 0, 8)?);
-    heap.insert(1, message(2, 1, 4)?);
-    heap.insert(2, message(2, 0, 9)?);
-    heap.insert(3, message(2, 0, 9)?);
+    heap.reserve(4, 4).expect(&rt, "memory");
+    heap.insert(0, message(&rt, 3, 0, 8));
+    heap.insert(1, message(&rt, 2, 1, 4));
+    heap.insert(2, message(&rt, 2, 0, 9));
+    heap.insert(3, message(&rt, 2, 0, 9));
     let first = heap.first().expect(&rt, "an entry");
-    assert!(rt; first.key == message(2, 0, 9)?);
+    assert!(rt; first.key == message(&rt, 2, 0, 9));
 
     heap.remove(1);
     assert!(rt; take_first(&mut heap) == Some(2));
     assert!(rt; take_first(&mut heap) == Some(3));
     let first = heap.first().expect(&rt, "an entry");
-    assert!(rt; first.key == message(3, 0, 8)?);
+    assert!(rt; first.key == message(&rt, 3, 0, 8));
     assert!(rt; take_first(&mut heap) == Some(0));
     assert!(rt; heap.first().is_none());
-    Ok(())
 }
 
 /// Makes room, at the second try where the first is refused, which keeps the first entry.
@@ -68,14 +66,13 @@ fn reserve_again(
 
 /// Each growth may be refused: then the entries are what they were.
 #[test]
-fn grows_or_stays(rt: HostRuntime) -> Result<(), Fail> {
+fn grows_or_stays(rt: HostRuntime) {
     let mut heap = EventHeap::new(rt.alloc());
-    reserve_again(&rt, &mut heap, 1, 1)?;
-    heap.insert(0, message(3, 0, 8)?);
-    reserve_again(&rt, &mut heap, 20, 7)?;
-    heap.insert(6, message(2, 1, 4)?);
+    reserve_again(&rt, &mut heap, 1, 1).expect(&rt, "memory");
+    heap.insert(0, message(&rt, 3, 0, 8));
+    reserve_again(&rt, &mut heap, 20, 7).expect(&rt, "memory");
+    heap.insert(6, message(&rt, 2, 1, 4));
     assert!(rt; take_first(&mut heap) == Some(6));
     assert!(rt; take_first(&mut heap) == Some(0));
     assert!(rt; heap.first().is_none());
-    Ok(())
 }

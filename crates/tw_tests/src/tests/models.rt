@@ -2,7 +2,8 @@
 ghost use Rattle.std.specs.Prelude.{◌≡◌, IsTrue};
 ghost use Rattle.tw_atomic.specs.Atomic.{FitsBag, FitsItem, IsBeforeFirst, IsDue, IsSorted, in_order};
 
-use std::alloc::Global;
+use super::lines::{bag_of, counted};
+use std::alloc::{AllocError, Global};
 use std::process::Abort;
 use tw_atomic::{Atomic, Outbox, Turn};
 use tw_models::Model;
@@ -83,44 +84,68 @@ fn started<M: Atomic>(rt: &impl Abort, alloc: Global, model: &M) -> M::State
     model.start(alloc).expect(rt, "memory")
 }
 
-/// What an imminent component sends.
-fn sent<M: Atomic>(rt: &impl Abort, model: &M, state: &M::State) -> Outbox
+/// Asserts that this is what an imminent component sends.
+fn assert_sends<M: Atomic>(rt: &impl Abort, model: &M, state: &M::State, items: &[(u8, i64)])
     requires { M.valid model.now state.now }
 {
     assert!(rt; model.ta(state).is_some());
     let mut outbox = Outbox::new();
     model.output(state, &mut outbox);
-    outbox
+    assert!(rt; outbox.as_slice() == items);
 }
 
-/// The words of a state.
-fn words<M: Atomic>(rt: &impl Abort, alloc: Global, model: &M, state: &M::State) -> Vec<i128> {
-    let mut words = Vec::new(alloc);
-    model.words(alloc, state, &mut words).expect(rt, "memory");
-    words
+/// Asserts that these are the words of a state.
+fn assert_words<M: Atomic>(
+    rt: &impl Abort,
+    alloc: Global,
+    model: &M,
+    state: &M::State,
+    words: &[i128],
+) {
+    let mut found = Vec::new(alloc);
+    model.words(alloc, state, &mut found).expect(rt, "memory");
+    assert!(rt; found.as_slice() == words);
 }
 
-/// Makes a turn that has to be allowed, and takes it back; answers the words and the time advance
-/// between, and looks whether the old state is there again.
+/// A turn and what it gives.
+#[derive(Clone, Copy)]
+struct Worked<'a> {
+    turn: Turn,
+    elapsed: u64,
+    bag: &'a [(u8, i64)],
+    /// The words after it.
+    words: &'a [i128],
+    /// The time advance after it.
+    ta: Option<u64>,
+}
+
+/// Makes a turn that has to be allowed, and takes it back: asserts what it gives, and that the old state is
+/// there again.
 fn there_and_back<M: Atomic>(
     rt: &impl Abort,
     alloc: Global,
     model: &M,
     state: &mut M::State,
-    turn: Turn,
-    elapsed: u64,
-    bag: &[(u8, i64)],
-) -> (Vec<i128>, Option<u64>)
+    worked: &Worked,
+)
     requires { M.valid model.now state.old }
     ensures { M.valid model.now state.new }
 {
     let before = model.copy(alloc, state).expect(rt, "memory");
-    let residue = make(rt, alloc, model, state, turn, elapsed, bag);
-    let after = (words(rt, alloc, model, state), model.ta(state));
-    model.back(state, turn, elapsed, bag, residue);
+    let residue = make(
+        rt,
+        alloc,
+        model,
+        state,
+        worked.turn,
+        worked.elapsed,
+        worked.bag,
+    );
+    assert_words(rt, alloc, model, state, worked.words);
+    assert!(rt; model.ta(state) == worked.ta);
+    model.back(state, worked.turn, worked.elapsed, worked.bag, residue);
     assert!(rt; model.same(&before, state));
     *state = before;
-    after
 }
 
 #[test]
@@ -129,21 +154,30 @@ fn hop_draws_its_numbers(rt: HostRuntime) {
     let hop = Model::hop(0, 2, 4).expect(&rt, "a hop");
     let mut state = started(&rt, alloc, &hop);
     assert!(rt; hop.ta(&state) == Some(1));
-    assert!(rt; sent(&rt, &hop, &state).as_slice() == [(0, 0)].as_slice());
+    assert_sends(&rt, &hop, &state, &[(0, 0)]);
 
     // What comes before the first output stirs the number.
-    let (ext, left) = there_and_back(&rt, alloc, &hop, &mut state, Turn::Ext, 0, &[(0, -1)]);
-    assert!(rt; ext.as_slice() == [13525302890751722018].as_slice());
-    assert!(rt; left == Some(1));
-
-    let (int, left) = there_and_back(&rt, alloc, &hop, &mut state, Turn::Int, 1, &[]);
-    assert!(rt; int.as_slice() == [1442695040888963407].as_slice());
-    assert!(rt; left == Some(4));
-    assert!(rt; words(&rt, alloc, &hop, &state).as_slice() == [0].as_slice());
+    let stirred = Worked {
+        turn: Turn::Ext,
+        elapsed: 0,
+        bag: &[(0, -1)],
+        words: &[13525302890751722018],
+        ta: Some(1),
+    };
+    there_and_back(&rt, alloc, &hop, &mut state, &stirred);
+    let drawn = Worked {
+        turn: Turn::Int,
+        elapsed: 1,
+        bag: &[],
+        words: &[1442695040888963407],
+        ta: Some(4),
+    };
+    there_and_back(&rt, alloc, &hop, &mut state, &drawn);
+    assert_words(&rt, alloc, &hop, &state, &[0]);
     assert!(rt; hop.ta(&state) == Some(1));
 
     make(&rt, alloc, &hop, &mut state, Turn::Int, 1, &[]);
-    assert!(rt; sent(&rt, &hop, &state).as_slice() == [(1, 614)].as_slice());
+    assert_sends(&rt, &hop, &state, &[(1, 614)]);
 }
 
 #[test]
@@ -151,30 +185,15 @@ fn tally_wraps(rt: HostRuntime) {
     let alloc = rt.alloc();
     let tally = Model::tally().expect(&rt, "a tally");
     let mut state = started(&rt, alloc, &tally);
-    let bag = [(0, 1), (0, 9223372036854775807)];
-    let (ext, left) = there_and_back(&rt, alloc, &tally, &mut state, Turn::Ext, 1, &bag);
-    assert!(rt; ext.as_slice() == [2, -9223372036854775808, 9223372036854775807].as_slice());
-    assert!(rt; left == None);
-    assert!(rt; words(&rt, alloc, &tally, &state).as_slice() == [0, 0, 0].as_slice());
-}
-
-/// A bag of the values from `first` to `last` on port 0.
-fn values(rt: &impl Abort, alloc: Global, first: i64, last: i64) -> Vec<(u8, i64)> {
-    let mut bag = Vec::new(alloc);
-    for value in first..=last {
-        bag.push((0, value)).expect(rt, "memory");
-    }
-    bag
-}
-
-/// A count, and then the numbers from 1 to `last`.
-fn count_and_numbers(rt: &impl Abort, alloc: Global, count: i128, last: i128) -> Vec<i128> {
-    let mut numbers = Vec::new(alloc);
-    numbers.push(count).expect(rt, "memory");
-    for number in 1..=last {
-        numbers.push(number).expect(rt, "memory");
-    }
-    numbers
+    let wrapped = Worked {
+        turn: Turn::Ext,
+        elapsed: 1,
+        bag: &[(0, 1), (0, 9223372036854775807)],
+        words: &[2, -9223372036854775808, 9223372036854775807],
+        ta: None,
+    };
+    there_and_back(&rt, alloc, &tally, &mut state, &wrapped);
+    assert_words(&rt, alloc, &tally, &state, &[0, 0, 0]);
 }
 
 #[test]
@@ -182,30 +201,46 @@ fn relay_overflows(rt: HostRuntime) {
     let alloc = rt.alloc();
     let relay = Model::relay(100).expect(&rt, "a relay");
     let mut state = started(&rt, alloc, &relay);
-    let bag = values(&rt, alloc, 1, 33);
-    let (ext, left) = there_and_back(&rt, alloc, &relay, &mut state, Turn::Ext, 1, &bag);
-    assert!(rt; ext == count_and_numbers(&rt, alloc, 1, 32));
-    assert!(rt; left == Some(100));
-    assert!(rt; words(&rt, alloc, &relay, &state).as_slice() == [0].as_slice());
+    let bag = bag_of(alloc, 1, 33).expect(&rt, "memory");
+    let words = counted(alloc, 1, 1, 32).expect(&rt, "memory");
+    let overflow = Worked {
+        turn: Turn::Ext,
+        elapsed: 1,
+        bag: &bag,
+        words: &words,
+        ta: Some(100),
+    };
+    there_and_back(&rt, alloc, &relay, &mut state, &overflow);
+    assert_words(&rt, alloc, &relay, &state, &[0]);
     assert!(rt; relay.ta(&state) == None);
 
-    make(
-        &rt,
-        alloc,
-        &relay,
-        &mut state,
-        Turn::Ext,
-        1,
-        &[(0, 8), (3, -2)],
-    );
-    assert!(rt; sent(&rt, &relay, &state).as_slice() == [(0, 8), (0, -2)].as_slice());
-    let (int, left) = there_and_back(&rt, alloc, &relay, &mut state, Turn::Int, 100, &[]);
-    assert!(rt; int.as_slice() == [0].as_slice());
-    assert!(rt; left == None);
-    let (con, left) = there_and_back(&rt, alloc, &relay, &mut state, Turn::Con, 100, &[(0, 5)]);
-    assert!(rt; con.as_slice() == [0, 5].as_slice());
-    assert!(rt; left == Some(100));
-    assert!(rt; words(&rt, alloc, &relay, &state).as_slice() == [0, 8, -2].as_slice());
+    let two = [(0, 8), (3, -2)];
+    make(&rt, alloc, &relay, &mut state, Turn::Ext, 1, &two);
+    assert_sends(&rt, &relay, &state, &[(0, 8), (0, -2)]);
+    let emptied = Worked {
+        turn: Turn::Int,
+        elapsed: 100,
+        bag: &[],
+        words: &[0],
+        ta: None,
+    };
+    there_and_back(&rt, alloc, &relay, &mut state, &emptied);
+    let refilled = Worked {
+        turn: Turn::Con,
+        elapsed: 100,
+        bag: &[(0, 5)],
+        words: &[0, 5],
+        ta: Some(100),
+    };
+    there_and_back(&rt, alloc, &relay, &mut state, &refilled);
+    assert_words(&rt, alloc, &relay, &state, &[0, 8, -2]);
+}
+
+/// A queue's words once its first job is done and one of two more is dropped.
+fn shifted(alloc: Global) -> Result<Vec<i128>, AllocError> {
+    let mut words = counted(alloc, 1, 2, 64)?;
+    words.push(101)?;
+    Ok(words)
 }
 
 #[test]
@@ -213,25 +248,35 @@ fn queue_is_full(rt: HostRuntime) {
     let alloc = rt.alloc();
     let queue = Model::queue(100).expect(&rt, "a queue");
     let mut state = started(&rt, alloc, &queue);
-    let jobs = values(&rt, alloc, 1, 64);
+    let jobs = bag_of(alloc, 1, 64).expect(&rt, "memory");
     make(&rt, alloc, &queue, &mut state, Turn::Ext, 1, &jobs);
     assert!(rt; queue.ta(&state) == Some(100));
 
-    let more = values(&rt, alloc, 101, 105);
-    let (ext, left) = there_and_back(&rt, alloc, &queue, &mut state, Turn::Ext, 1, &more);
-    assert!(rt; ext == count_and_numbers(&rt, alloc, 5, 64));
-    assert!(rt; left == Some(99));
-    assert!(rt; words(&rt, alloc, &queue, &state) == count_and_numbers(&rt, alloc, 0, 64));
+    let more = bag_of(alloc, 101, 105).expect(&rt, "memory");
+    let words = counted(alloc, 5, 1, 64).expect(&rt, "memory");
+    let dropped = Worked {
+        turn: Turn::Ext,
+        elapsed: 1,
+        bag: &more,
+        words: &words,
+        ta: Some(99),
+    };
+    there_and_back(&rt, alloc, &queue, &mut state, &dropped);
+    let words = counted(alloc, 0, 1, 64).expect(&rt, "memory");
+    assert_words(&rt, alloc, &queue, &state, &words);
     assert!(rt; queue.ta(&state) == Some(100));
 
     // The first job leaves room for one of two.
-    assert!(rt; sent(&rt, &queue, &state).as_slice() == [(0, 1)].as_slice());
-    let two = values(&rt, alloc, 101, 102);
-    let (con, left) = there_and_back(&rt, alloc, &queue, &mut state, Turn::Con, 100, &two);
-    assert!(rt; con.len() == 65);
-    assert!(rt; con.first().copied() == Some(1));
-    assert!(rt; con.last().copied() == Some(101));
-    assert!(rt; left == Some(100));
+    assert_sends(&rt, &queue, &state, &[(0, 1)]);
+    let words = shifted(alloc).expect(&rt, "memory");
+    let shifted = Worked {
+        turn: Turn::Con,
+        elapsed: 100,
+        bag: &[(0, 101), (0, 102)],
+        words: &words,
+        ta: Some(100),
+    };
+    there_and_back(&rt, alloc, &queue, &mut state, &shifted);
 }
 
 #[test]
@@ -239,18 +284,28 @@ fn gen_counts_its_outputs(rt: HostRuntime) {
     let alloc = rt.alloc();
     let model = Model::generator(2, 5).expect(&rt, "a generator");
     let mut state = started(&rt, alloc, &model);
-    assert!(rt; sent(&rt, &model, &state).as_slice() == [(0, 5)].as_slice());
-    let (int, left) = there_and_back(&rt, alloc, &model, &mut state, Turn::Int, 2, &[]);
-    assert!(rt; int.as_slice() == [1].as_slice());
-    assert!(rt; left == Some(2));
-    let (ext, left) = there_and_back(&rt, alloc, &model, &mut state, Turn::Ext, 1, &[(0, 9)]);
-    assert!(rt; ext.as_slice() == [0].as_slice());
-    assert!(rt; left == Some(1));
+    assert_sends(&rt, &model, &state, &[(0, 5)]);
+    let counted = Worked {
+        turn: Turn::Int,
+        elapsed: 2,
+        bag: &[],
+        words: &[1],
+        ta: Some(2),
+    };
+    there_and_back(&rt, alloc, &model, &mut state, &counted);
+    let passed = Worked {
+        turn: Turn::Ext,
+        elapsed: 1,
+        bag: &[(0, 9)],
+        words: &[0],
+        ta: Some(1),
+    };
+    there_and_back(&rt, alloc, &model, &mut state, &passed);
 
     // A state of another model is passive, and has no words.
     let tally = Model::tally().expect(&rt, "a tally");
     assert!(rt; tally.ta(&state) == None);
-    assert!(rt; words(&rt, alloc, &tally, &state).len() == 0);
+    assert_words(&rt, alloc, &tally, &state, &[]);
 }
 
 #[test]

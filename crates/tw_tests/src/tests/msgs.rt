@@ -1,12 +1,12 @@
 //! Bags, messages, records and words, each by worked examples and with refused growths.
 
 use std::alloc::{AllocError, Global};
-use std::test::Fail;
+use std::process::Abort;
 use tw_msgs::{
     Bag, Item, Message, Record, RecordKind, Sign, Words, equality_law, message_order_law,
     signed_count,
 };
-use tw_vtime::Stamp;
+use tw_vtime::{Refusal, Stamp};
 
 /// Ten items, more than a bag holds without memory.
 const TEN: [(u8, i64); 10] = [
@@ -65,14 +65,38 @@ fn item(sign: Sign, message: Message) -> Item {
     Item { sign, message }
 }
 
+/// Puts the ten items into an empty bag. A push that is refused leaves the bag and gives the item back, and
+/// succeeds once memory is back.
+fn fill(rt: &impl Abort, bag: &mut Bag) {
+    for (at, item) in TEN.iter().enumerate() {
+        if let Err(refused) = bag.push(*item) {
+            assert!(rt; at >= 8);
+            assert!(rt; refused.value == *item);
+            assert!(rt; bag.as_slice() == TEN.get(..at).unwrap_or(&[]));
+            bag.push(*item).expect(rt, "memory");
+        }
+    }
+    assert!(rt; bag.as_slice() == TEN.as_slice());
+}
+
+/// Asserts that each item may stand before the next, and that the last is the greatest there is.
+fn assert_rising(rt: &impl Abort, bag: &Bag) {
+    let mut last = (0, i64::MIN);
+    for item in bag {
+        assert!(rt; last <= *item);
+        last = *item;
+    }
+    assert!(rt; last == (15, i64::MAX));
+}
+
 #[test]
-fn sorts_by_port_then_value(rt: HostRuntime) -> Result<(), Fail> {
+fn sorts_by_port_then_value(rt: HostRuntime) {
     let mut bag = Bag::new(rt.alloc());
     assert!(rt; bag.is_empty());
     bag.sort();
     assert!(rt; bag.is_empty());
     for item in TEN {
-        bag.push(item)?;
+        bag.push(item).expect(&rt, "memory");
     }
     assert!(rt; bag.as_slice() == TEN.as_slice());
     bag.sort();
@@ -80,28 +104,21 @@ fn sorts_by_port_then_value(rt: HostRuntime) -> Result<(), Fail> {
     assert!(rt; bag.len() == 10);
     assert!(rt; bag.as_slice() == TEN_SORTED.as_slice());
     assert!(rt; bag.iter().next() == Some(&(0, -7)));
-    let mut last = (0, i64::MIN);
-    for item in &bag {
-        assert!(rt; last <= *item);
-        last = *item;
-    }
-    assert!(rt; last == (15, i64::MAX));
-    Ok(())
+    assert_rising(&rt, &bag);
 }
 
 #[test]
-fn gives_words_back(rt: HostRuntime) -> Result<(), Fail> {
-    let words = words_of(rt.alloc(), &[i128::MIN, 0, 9])?;
+fn gives_words_back(rt: HostRuntime) {
+    let words = words_of(rt.alloc(), &[i128::MIN, 0, 9]).expect(&rt, "memory");
     assert!(rt; words.len() == 3);
     assert!(rt; !words.is_empty());
     assert!(rt; words.as_slice() == [i128::MIN, 0, 9].as_slice());
     let list = words.into_vec();
     assert!(rt; list.as_slice() == [i128::MIN, 0, 9].as_slice());
-    Ok(())
 }
 
 /// A record whose bag is not in order.
-fn confluent_record(alloc: Global) -> Result<Record, Fail> {
+fn confluent_record(alloc: Global) -> Result<Record, Refusal> {
     Ok(Record {
         component: 3,
         stamp: Stamp::new(3, 0, 1)?,
@@ -112,75 +129,74 @@ fn confluent_record(alloc: Global) -> Result<Record, Fail> {
 }
 
 #[test]
-fn copies_are_equal_and_apart(rt: HostRuntime) -> Result<(), Fail> {
+fn copies_are_equal_and_apart(rt: HostRuntime) {
     equality_law();
-    let record = confluent_record(rt.alloc())?;
-    let mut copy = record.clone()?;
+    let record = confluent_record(rt.alloc()).expect(&rt, "memory");
+    let mut copy = record.clone().expect(&rt, "memory");
     assert!(rt; copy == record);
     copy.bag.sort();
     assert!(rt; copy.bag.as_slice() == TEN_SORTED.as_slice());
     assert!(rt; record.bag.as_slice() == TEN.as_slice());
     assert!(rt; copy.words == record.words);
-    Ok(())
 }
 
 #[test]
-fn each_part_is_compared(rt: HostRuntime) -> Result<(), Fail> {
-    let record = confluent_record(rt.alloc())?;
-    let mut other = record.clone()?;
+fn each_part_is_compared(rt: HostRuntime) {
+    let record = confluent_record(rt.alloc()).expect(&rt, "memory");
+    let mut other = record.clone().expect(&rt, "memory");
     other.bag.sort();
     assert!(rt; other != record);
-    other.bag = record.bag.clone()?;
+    other.bag = record.bag.clone().expect(&rt, "memory");
     assert!(rt; other == record);
     other.kind = RecordKind::Ext;
     assert!(rt; other != record);
     other.kind = RecordKind::Con;
-    other.words = words_of(rt.alloc(), &[0, -1])?;
+    other.words = words_of(rt.alloc(), &[0, -1]).expect(&rt, "memory");
     assert!(rt; other != record);
-    Ok(())
+}
+
+/// A copy of this record. A copy that is refused leaves the record, and succeeds once memory is back.
+fn copied(rt: &impl Abort, record: &Record) -> Record {
+    match record.clone() {
+        Ok(copy) => copy,
+        Err(_) => {
+            assert!(rt; record.bag.as_slice() == TEN.as_slice());
+            assert!(rt; record.words.as_slice() == [5, -5].as_slice());
+            record.clone().expect(rt, "memory")
+        }
+    }
 }
 
 /// Each push or copy that is refused leaves what it was given, and succeeds once memory is back.
 #[test]
-fn stays_as_it_was_when_memory_is_refused(rt: HostRuntime) -> Result<(), Fail> {
+fn stays_as_it_was_when_memory_is_refused(rt: HostRuntime) {
     let mut bag = Bag::new(rt.alloc());
-    for (at, item) in TEN.iter().enumerate() {
-        if let Err(refused) = bag.push(*item) {
-            assert!(rt; at >= 8);
-            assert!(rt; refused.value == *item);
-            assert!(rt; bag.as_slice() == TEN.get(..at).unwrap_or(&[]));
-            bag.push(*item)?;
-        }
-    }
-    assert!(rt; bag.as_slice() == TEN.as_slice());
-    let numbers = match words_of(rt.alloc(), &[5, -5]) {
+    fill(&rt, &mut bag);
+    let words = match words_of(rt.alloc(), &[5, -5]) {
         Ok(words) => words,
-        Err(_) => words_of(rt.alloc(), &[5, -5])?,
+        Err(_) => words_of(rt.alloc(), &[5, -5]).expect(&rt, "memory"),
     };
     let record = Record {
         component: 0,
         stamp: Stamp::START,
         kind: RecordKind::Out,
         bag,
-        words: numbers,
+        words,
     };
-    let copy = match record.clone() {
-        Ok(copy) => copy,
-        Err(_) => {
-            assert!(rt; record.bag.as_slice() == TEN.as_slice());
-            assert!(rt; record.words.as_slice() == [5, -5].as_slice());
-            record.clone()?
-        }
-    };
+    let copy = copied(&rt, &record);
     assert!(rt; copy == record);
-    Ok(())
+}
+
+/// The stamp of these numbers.
+fn stamp(rt: &impl Abort, tick: u64, micro: u32, phase: u8) -> Stamp {
+    Stamp::new(tick, micro, phase).expect(rt, "a stamp")
 }
 
 #[test]
-fn orders_by_stamp_port_value_and_receiver(rt: HostRuntime) -> Result<(), Fail> {
+fn orders_by_stamp_port_value_and_receiver(rt: HostRuntime) {
     message_order_law();
-    let early = Stamp::new(1, 0, 1)?;
-    let late = Stamp::new(1, 1, 1)?;
+    let early = stamp(&rt, 1, 0, 1);
+    let late = stamp(&rt, 1, 1, 1);
     let rising = [
         message(early, 0, 9, 9),
         message(early, 2, -1, 9),
@@ -194,12 +210,11 @@ fn orders_by_stamp_port_value_and_receiver(rt: HostRuntime) -> Result<(), Fail> 
             assert!(rt; *one < *other && *one != *other);
         }
     }
-    Ok(())
 }
 
 #[test]
-fn counts_messages_up_and_anti_messages_down(rt: HostRuntime) -> Result<(), Fail> {
-    let at = Stamp::new(2, 0, 1)?;
+fn counts_messages_up_and_anti_messages_down(rt: HostRuntime) {
+    let at = stamp(&rt, 2, 0, 1);
     let counted = message(at, 1, 5, 4);
     let other = message(at, 1, 5, 3);
     let items = [
@@ -209,7 +224,7 @@ fn counts_messages_up_and_anti_messages_down(rt: HostRuntime) -> Result<(), Fail
         item(Sign::Anti, counted),
         item(Sign::Positive, message(at, 1, 6, 4)),
         item(Sign::Positive, message(at, 2, 5, 4)),
-        item(Sign::Positive, message(Stamp::new(3, 0, 1)?, 1, 5, 4)),
+        item(Sign::Positive, message(stamp(&rt, 3, 0, 1), 1, 5, 4)),
         item(Sign::Positive, counted),
         item(Sign::Anti, other),
     ];
@@ -217,5 +232,4 @@ fn counts_messages_up_and_anti_messages_down(rt: HostRuntime) -> Result<(), Fail
     assert!(rt; signed_count(&items, &other) == -2);
     assert!(rt; signed_count(&items, &message(at, 0, 0, 0)) == 0);
     assert!(rt; signed_count(&[], &counted) == 0);
-    Ok(())
 }

@@ -1,6 +1,7 @@
 //! The faults of the worked examples, each reader once, and want of memory.
 
 use std::alloc::{AllocError, Global};
+use std::process::Abort;
 use tw_models::Model;
 use tw_network::{Coupling, Input, Network, NetworkRefused};
 use tw_vtime::Refusal;
@@ -49,40 +50,154 @@ fn refusal(
     }
 }
 
+/// A network of relays, and its refusal's number; 0 where it is taken.
+struct Example {
+    names: &'static [&'static str],
+    couplings: &'static [Coupling],
+    inputs: &'static [Input],
+    micro_limit: u64,
+    number: u8,
+}
+
+/// Networks with several faults, of which the first is answered.
+static FIRST_FAULTS: [Example; 6] = [
+    Example {
+        names: &["a", "a"],
+        couplings: &[(0, 0, 5, 0)],
+        inputs: &[],
+        micro_limit: 100,
+        number: 18,
+    },
+    Example {
+        names: &["a", "b"],
+        couplings: &[(0, 16, 1, 0), (0, 0, 0, 0)],
+        inputs: &[],
+        micro_limit: 100,
+        number: 6,
+    },
+    Example {
+        names: &["a", "b"],
+        couplings: &[(0, 0, 5, 16)],
+        inputs: &[],
+        micro_limit: 100,
+        number: 5,
+    },
+    Example {
+        names: &["a", "b"],
+        couplings: &[(1, 2, 0, 3), (1, 2, 0, 3)],
+        inputs: &[],
+        micro_limit: 100,
+        number: 8,
+    },
+    Example {
+        names: &["a b", "b"],
+        couplings: &[],
+        inputs: &[],
+        micro_limit: 0,
+        number: 11,
+    },
+    Example {
+        names: &["a", "b"],
+        couplings: &[],
+        inputs: &[(1_099_511_627_775, 2, 0, 0)],
+        micro_limit: 100,
+        number: 5,
+    },
+];
+
+/// Networks with one fault or none.
+static OTHER_FAULTS: [Example; 9] = [
+    Example {
+        names: &["a b", "b"],
+        couplings: &[],
+        inputs: &[],
+        micro_limit: 100,
+        number: 17,
+    },
+    Example {
+        names: &["", "b"],
+        couplings: &[],
+        inputs: &[],
+        micro_limit: 100,
+        number: 17,
+    },
+    Example {
+        names: &["a", "abcdefghijklmnopqrstuvwxyz0123456"],
+        couplings: &[],
+        inputs: &[],
+        micro_limit: 100,
+        number: 17,
+    },
+    Example {
+        names: &["a", "b"],
+        couplings: &[(1, 0, 1, 3)],
+        inputs: &[],
+        micro_limit: 100,
+        number: 7,
+    },
+    Example {
+        names: &["a", "b"],
+        couplings: &[],
+        inputs: &[(3, 1, 16, 0)],
+        micro_limit: 100,
+        number: 6,
+    },
+    Example {
+        names: &["a", "b"],
+        couplings: &[],
+        inputs: &[(1_099_511_627_775, 1, 0, 0)],
+        micro_limit: 100,
+        number: 10,
+    },
+    Example {
+        names: &["a", "b"],
+        couplings: &[],
+        inputs: &[],
+        micro_limit: 8_388_608,
+        number: 11,
+    },
+    Example {
+        names: &["a", "b"],
+        couplings: &[],
+        inputs: &[(1_099_511_627_774, 1, 15, -1)],
+        micro_limit: 8_388_607,
+        number: 0,
+    },
+    Example {
+        names: &[],
+        couplings: &[],
+        inputs: &[],
+        micro_limit: 1,
+        number: 0,
+    },
+];
+
+/// Asserts what each network is refused for.
+fn assert_refusals(rt: &impl Abort, alloc: Global, examples: &[Example]) {
+    for example in examples {
+        let number = refusal(
+            alloc,
+            example.names,
+            example.couplings,
+            example.inputs,
+            example.micro_limit,
+        );
+        assert!(rt;
+            number == example.number,
+            "{number} in place of {}",
+            example.number
+        );
+    }
+}
+
 #[test]
 fn the_first_fault_is_answered(rt: HostRuntime) {
-    let alloc = rt.alloc();
-    let both = ["a", "b"];
-    assert!(rt; refusal(alloc, &["a", "a"], &[(0, 0, 5, 0)], &[], 100) == 18);
-    assert!(rt; refusal(alloc, &both, &[(0, 16, 1, 0), (0, 0, 0, 0)], &[], 100) == 6);
-    assert!(rt; refusal(alloc, &both, &[(0, 0, 5, 16)], &[], 100) == 5);
-    assert!(rt; refusal(alloc, &both, &[(1, 2, 0, 3), (1, 2, 0, 3)], &[], 100) == 8);
-    assert!(rt; refusal(alloc, &["a b", "b"], &[], &[], 0) == 11);
-    assert!(rt; refusal(alloc, &both, &[], &[(1_099_511_627_775, 2, 0, 0)], 100) == 5);
+    assert_refusals(&rt, rt.alloc(), &FIRST_FAULTS);
 }
 
 #[test]
 fn each_other_fault_has_its_number(rt: HostRuntime) {
-    let alloc = rt.alloc();
-    let both = ["a", "b"];
-    let long = "abcdefghijklmnopqrstuvwxyz0123456";
-    assert!(rt; refusal(alloc, &["a b", "b"], &[], &[], 100) == 17);
-    assert!(rt; refusal(alloc, &["", "b"], &[], &[], 100) == 17);
-    assert!(rt; refusal(alloc, &["a", long], &[], &[], 100) == 17);
-    assert!(rt; refusal(alloc, &both, &[(1, 0, 1, 3)], &[], 100) == 7);
-    assert!(rt; refusal(alloc, &both, &[], &[(3, 1, 16, 0)], 100) == 6);
-    assert!(rt; refusal(alloc, &both, &[], &[(1_099_511_627_775, 1, 0, 0)], 100) == 10);
-    assert!(rt; refusal(alloc, &both, &[], &[], 8_388_608) == 11);
-    assert!(rt;
-        refusal(
-            alloc,
-            &both,
-            &[],
-            &[(1_099_511_627_774, 1, 15, -1)],
-            8_388_607
-        ) == 0
-    );
-    assert!(rt; refusal(alloc, &[], &[], &[], 1) == 0);
+    assert_refusals(&rt, rt.alloc(), &OTHER_FAULTS);
 }
 
 #[test]

@@ -1,10 +1,10 @@
 //! The worked examples: the records and the fault of each run.
 
+use super::lines::{Line, all_show, bag_of, counted};
 use std::alloc::{AllocError, Global};
 use std::process::Abort;
-use std::test::Fail;
 use tw_models::{BadModel, Model};
-use tw_msgs::{Record, RecordKind};
+use tw_msgs::RecordKind;
 use tw_network::{Coupling, Input, Network};
 use tw_seq::{Seq, SeqRefused, simulate};
 use tw_vtime::{Limit, MAX_TICK, Refusal, Stamp};
@@ -34,10 +34,6 @@ impl Made {
     }
 }
 
-/// A record as the examples write it: tick, microstep, component, kind, bag and words.
-#[derive(Clone, Copy)]
-struct Line<'a>(u64, u32, usize, RecordKind, &'a [(u8, i64)], &'a [i128]);
-
 /// A network, an end tick, and its run.
 struct Example {
     name: &'static str,
@@ -52,7 +48,7 @@ struct Example {
 }
 
 /// Runs that are made to their ends.
-static RUNS: [Example; 13] = [
+static RUNS: [Example; 14] = [
     Example {
         name: "gen-tally",
         models: &[Made::Generator(2, 5), Made::Tally],
@@ -230,6 +226,21 @@ static RUNS: [Example; 13] = [
         fault: None,
     },
     Example {
+        name: "hop-numbers to tick 6",
+        models: &[Made::Hop(0, 2, 4)],
+        couplings: &[],
+        inputs: &[],
+        micro_limit: 100,
+        until: 6,
+        lines: &[
+            Line(1, 0, 0, RecordKind::Out, &[(0, 0)], &[]),
+            Line(1, 0, 0, RecordKind::Int, &[], &[1_442_695_040_888_963_407]),
+            Line(5, 0, 0, RecordKind::Out, &[(1, 614)], &[]),
+            Line(5, 0, 0, RecordKind::Int, &[], &[1_876_011_003_808_476_466]),
+        ],
+        fault: None,
+    },
+    Example {
         name: "tally-wraps",
         models: &[Made::Tally],
         couplings: &[],
@@ -255,43 +266,32 @@ fn network(
     couplings: &[Coupling],
     inputs: &[Input],
     micro_limit: u64,
-) -> Result<Network<Model>, Fail> {
-    let mut components = Vec::new(alloc);
-    for (name, made) in NAMES.iter().zip(models) {
-        components.push((String::from_str(alloc, *name)?, made.model()?))?;
-    }
+) -> Result<Network<Model>, Refusal> {
+    let components = components_of(alloc, models)?;
     let couplings = Vec::from_slice(alloc, couplings)?;
     let inputs = Vec::from_slice(alloc, inputs)?;
     Ok(Network::new(alloc, components, couplings, inputs, micro_limit)?)
 }
 
-/// The network of an example.
-fn network_of(alloc: Global, example: &Example) -> Result<Network<Model>, Fail> {
-    network(
+/// These models, up to four, each with its name.
+fn components_of(alloc: Global, models: &[Made]) -> Result<Vec<(String, Model)>, Refusal> {
+    let mut components = Vec::new(alloc);
+    for (name, made) in NAMES.iter().zip(models) {
+        components.push((String::from_str(alloc, *name)?, made.model()?))?;
+    }
+    Ok(components)
+}
+
+/// The run of an example.
+fn run_of(alloc: Global, example: &Example) -> Result<Seq, Refusal> {
+    let network = network(
         alloc,
         example.models,
         example.couplings,
         example.inputs,
         example.micro_limit,
-    )
-}
-
-/// Whether a record is what a line says.
-fn shows(record: &Record, line: &Line) -> bool {
-    let phase = match line.3 {
-        RecordKind::Out => 0,
-        RecordKind::Int | RecordKind::Ext | RecordKind::Con => 1,
-    };
-    Stamp::new(line.0, line.1, phase) == Ok(record.stamp)
-        && record.component == line.2
-        && record.kind == line.3
-        && record.bag.as_slice() == line.4
-        && record.words.as_slice() == line.5
-}
-
-/// Whether the records are what the lines say.
-fn all_show(run: &Seq, lines: &[Line]) -> bool {
-    run.records.len() == lines.len() && run.records.iter().zip(lines).all(|(r, l)| shows(r, l))
+    )?;
+    Ok(simulate(alloc, &network, example.until)?)
 }
 
 /// The number of a refusal; 0 where there is none.
@@ -317,14 +317,12 @@ fn is_fault(
 }
 
 #[test]
-fn runs_are_the_worked_ones(rt: HostRuntime) -> Result<(), Fail> {
+fn runs_are_the_worked_ones(rt: HostRuntime) {
     for example in RUNS.iter() {
-        let network = network_of(rt.alloc(), example)?;
-        let run = simulate(rt.alloc(), &network, example.until)?;
-        assert!(rt; all_show(&run, example.lines), "{}", example.name);
+        let run = run_of(rt.alloc(), example).expect(&rt, example.name);
+        assert!(rt; all_show(&run.records, example.lines), "{}", example.name);
         assert!(rt; is_fault(&run.fault, &example.fault), "{}", example.name);
     }
-    Ok(())
 }
 
 #[test]
@@ -335,49 +333,31 @@ fn end_tick_is_refused(rt: HostRuntime) {
     assert!(rt; Model::generator(MAX_TICK + 1, 1) == Err(BadModel::BadTick));
 }
 
-#[test]
-fn hop_numbers(rt: HostRuntime) -> Result<(), Fail> {
-    let network = network(rt.alloc(), &[Made::Hop(0, 2, 4)], &[], &[], 100)?;
-    let run = simulate(rt.alloc(), &network, 6)?;
-    assert!(rt; run.records.len() > 2);
-    let third = Line(5, 0, 0, RecordKind::Out, &[(1, 614)], &[]);
-    assert!(rt; shows(&run.records[2], &third));
-    Ok(())
+/// The generator and the tally of the first example, with an input for the tally.
+fn worked_network(alloc: Global) -> Result<Network<Model>, Refusal> {
+    network(
+        alloc,
+        &[Made::Generator(2, 5), Made::Tally],
+        &[(0, 0, 1, 0)],
+        &[(1, 1, 3, 7)],
+        100,
+    )
 }
 
-/// The generator and the tally of the first example, with an input for the tally; none where memory is
-/// refused.
-fn worked_network(alloc: Global) -> Option<Network<Model>> {
-    let generator = Model::generator(2, 5).ok()?;
-    let tally = Model::tally().ok()?;
-    let mut components = Vec::new(alloc);
-    components
-        .push((String::from_str(alloc, "a").ok()?, generator))
-        .ok()?;
-    components
-        .push((String::from_str(alloc, "b").ok()?, tally))
-        .ok()?;
-    let couplings = Vec::from_slice(alloc, &[(0, 0, 1, 0)]).ok()?;
-    let inputs = Vec::from_slice(alloc, &[(1, 1, 3, 7)]).ok()?;
-    Network::new(alloc, components, couplings, inputs, 100).ok()
-}
+/// The records of that network up to tick 3.
+static WORKED: [Line<'static>; 4] = [
+    Line(1, 0, 1, RecordKind::Ext, &[(3, 7)], &[1, 7, 7]),
+    Line(2, 0, 0, RecordKind::Out, &[(0, 5)], &[]),
+    Line(2, 0, 0, RecordKind::Int, &[], &[1]),
+    Line(2, 0, 1, RecordKind::Ext, &[(0, 5)], &[2, 12, 5]),
+];
 
 /// Whether a run to tick 3 of that network is answered: its records, or refusal 4. Answers whether it is
 /// the records.
 fn is_worked_example(rt: &impl Abort, answer: Result<Seq, SeqRefused>) -> bool {
     match answer {
         Ok(run) => {
-            assert!(rt;
-                all_show(
-                    &run,
-                    &[
-                        Line(1, 0, 1, RecordKind::Ext, &[(3, 7)], &[1, 7, 7]),
-                        Line(2, 0, 0, RecordKind::Out, &[(0, 5)], &[]),
-                        Line(2, 0, 0, RecordKind::Int, &[], &[1]),
-                        Line(2, 0, 1, RecordKind::Ext, &[(0, 5)], &[2, 12, 5]),
-                    ]
-                )
-            );
+            assert!(rt; all_show(&run.records, &WORKED));
             assert!(rt; run.fault.is_none());
             true
         }
@@ -392,8 +372,8 @@ fn is_worked_example(rt: &impl Abort, answer: Result<Seq, SeqRefused>) -> bool {
 fn refused_memory_leaves_the_network(rt: HostRuntime) {
     let alloc = rt.alloc();
     let network = match worked_network(alloc) {
-        Some(network) => network,
-        None => worked_network(alloc).expect(&rt, "memory"),
+        Ok(network) => network,
+        Err(_) => worked_network(alloc).expect(&rt, "memory"),
     };
     let first = is_worked_example(&rt, simulate(alloc, &network, 3));
     let second = is_worked_example(&rt, simulate(alloc, &network, 3));
@@ -409,56 +389,46 @@ fn values(alloc: Global, tick: u64, first: i64, last: i64) -> Result<Vec<Input>,
     Ok(inputs)
 }
 
-/// The numbers from `first` to `last`, as a bag on port 0.
-fn bag_of(alloc: Global, first: i64, last: i64) -> Result<Vec<(u8, i64)>, AllocError> {
-    let mut bag = Vec::new(alloc);
-    for value in first..=last {
-        bag.push((0, value))?;
-    }
-    Ok(bag)
-}
-
-/// A number, and then the numbers from 1 to `last`.
-fn counted(alloc: Global, first: i128, last: i128) -> Result<Vec<i128>, AllocError> {
-    let mut numbers = Vec::new(alloc);
-    numbers.push(first)?;
-    for number in 1..=last {
-        numbers.push(number)?;
-    }
-    Ok(numbers)
+/// The run of one model with these inputs.
+fn run_alone(alloc: Global, made: Made, inputs: &[Input], until: u64) -> Result<Seq, Refusal> {
+    let network = network(alloc, &[made], &[], inputs, 100)?;
+    Ok(simulate(alloc, &network, until)?)
 }
 
 #[test]
-fn relay_overflows(rt: HostRuntime) -> Result<(), Fail> {
+fn relay_overflows(rt: HostRuntime) {
     let alloc = rt.alloc();
-    let inputs = values(alloc, 1, 1, 33)?;
-    let network = network(alloc, &[Made::Relay(100)], &[], &inputs, 100)?;
-    let run = simulate(alloc, &network, 2)?;
-    let bag = bag_of(alloc, 1, 33)?;
-    let words = counted(alloc, 1, 32)?;
-    assert!(rt; all_show(&run, &[Line(1, 0, 0, RecordKind::Ext, &bag, &words)]));
-    Ok(())
-}
-
-#[test]
-fn full_queue(rt: HostRuntime) -> Result<(), Fail> {
-    let alloc = rt.alloc();
-    let mut inputs = values(alloc, 1, 1, 64)?;
-    inputs.append(&mut values(alloc, 2, 101, 105)?)?;
-    let network = network(alloc, &[Made::Queue(100)], &[], &inputs, 100)?;
-    let run = simulate(alloc, &network, 50)?;
-    let first = bag_of(alloc, 1, 64)?;
-    let second = bag_of(alloc, 101, 105)?;
-    let none_dropped = counted(alloc, 0, 64)?;
-    let five_dropped = counted(alloc, 5, 64)?;
+    let inputs = values(alloc, 1, 1, 33).expect(&rt, "memory");
+    let run = run_alone(alloc, Made::Relay(100), &inputs, 2).expect(&rt, "a run");
+    let bag = bag_of(alloc, 1, 33).expect(&rt, "memory");
+    let words = counted(alloc, 1, 1, 32).expect(&rt, "memory");
     assert!(rt;
         all_show(
-            &run,
-            &[
-                Line(1, 0, 0, RecordKind::Ext, &first, &none_dropped),
-                Line(2, 0, 0, RecordKind::Ext, &second, &five_dropped),
-            ]
+            &run.records,
+            &[Line(1, 0, 0, RecordKind::Ext, &bag, &words)]
         )
     );
-    Ok(())
+}
+
+/// 64 values at tick 1, and five more at tick 2.
+fn too_many(alloc: Global) -> Result<Vec<Input>, AllocError> {
+    let mut inputs = values(alloc, 1, 1, 64)?;
+    inputs.append(&mut values(alloc, 2, 101, 105)?)?;
+    Ok(inputs)
+}
+
+#[test]
+fn full_queue(rt: HostRuntime) {
+    let alloc = rt.alloc();
+    let inputs = too_many(alloc).expect(&rt, "memory");
+    let run = run_alone(alloc, Made::Queue(100), &inputs, 50).expect(&rt, "a run");
+    let first = bag_of(alloc, 1, 64).expect(&rt, "memory");
+    let second = bag_of(alloc, 101, 105).expect(&rt, "memory");
+    let none_dropped = counted(alloc, 0, 1, 64).expect(&rt, "memory");
+    let five_dropped = counted(alloc, 5, 1, 64).expect(&rt, "memory");
+    let lines = [
+        Line(1, 0, 0, RecordKind::Ext, &first, &none_dropped),
+        Line(2, 0, 0, RecordKind::Ext, &second, &five_dropped),
+    ];
+    assert!(rt; all_show(&run.records, &lines));
 }

@@ -2,3 +2,4 @@ pub mod NoFaults
 pub mod Names
 pub mod RouteOrder
 pub mod RouteParts
+pub mod FirstFault

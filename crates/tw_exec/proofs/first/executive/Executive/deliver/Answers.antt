@@ -11,7 +11,7 @@ use Rattle.tw_theory.specs.Executive.{Deliver, Delivered}
 use Rattle.tw_exec.proofs.Acts.{deliver_none, deliver_empty}
 use Rattle.tw_exec.proofs.Chains.{position_first}
 use Rattle.tw_exec.proofs.LocalSteps.{held_cell}
-use Rattle.tw_exec.proofs.Held.{IsTaken, deliver_taken}
+use Rattle.tw_exec.proofs.Held.{IsTaken, held_unchanged, deliver_taken}
 use Rattle.tw_exec.proofs.first.executive.Executive.deliver.Goals as goal
 
 pub returns-then-receiver-len-clause-refused : goal.returns-then-receiver-len-clause-refused
@@ -49,3 +49,12 @@ returns-clause-done c =
 
 pub invariant_of-self-2 : goal.invariant_of-self-2
 invariant_of-self-2 c = (taken c).held
+
+pub invariant_of-self : goal.invariant_of-self
+invariant_of-self c =
+    let inside = c.self.inside in
+    let b = c.behind-self.inside in
+    let cell = c.index_mut.result.now in
+    let new = λ (pending : List Message). held_cell b.at pending b.history.items b.outgoing.items b.line b.column.items in
+    let cell_at = slice_get_read inside.components.items _ c.args.receiver cell (inside.components.ok.0) (omega (arith, c.len.ensures, inside.components.ok.0)) c.index_mut.ensures.value in
+    held_unchanged inside.network inside.until inside.end inside.gvt inside.components.items inside.mail.items c.self.invariant c.args.receiver cell (new c.push.new.self.items) cell_at (ap new c.in_err-push.ensures.items ∙ c.behind-self.view_is)

@@ -4,7 +4,7 @@ use Rattle.std.proofs.lemmas.Option.{slice_get_read}
 use Rattle.tw_exec.specs.First.{meant, answer, after}
 use Rattle.tw_theory.specs.Executive.{Harvest, Harvested}
 use Rattle.tw_exec.proofs.Acts.{harvest_none}
-use Rattle.tw_exec.proofs.Held.{IsTaken, harvest_taken}
+use Rattle.tw_exec.proofs.Held.{IsTaken, held_unchanged, harvest_taken}
 use Rattle.tw_exec.proofs.first.executive.Executive.harvest.Goals as goal
 
 pub returns-then-component-len-clause-refused : goal.returns-then-component-len-clause-refused
@@ -30,3 +30,10 @@ returns-clause-done c =
 
 pub invariant_of-self-2 : goal.invariant_of-self-2
 invariant_of-self-2 c = (taken c).held
+
+pub invariant_of-self : goal.invariant_of-self
+invariant_of-self c =
+    let inside = c.self.inside in
+    let cell = c.index_mut.result.now in
+    let cell_at = slice_get_read inside.components.items _ c.args.component cell (inside.components.ok.0) (omega (arith, c.len.ensures, inside.components.ok.0)) c.index_mut.ensures.value in
+    held_unchanged inside.network inside.until inside.end inside.gvt inside.components.items inside.mail.items c.self.invariant c.args.component cell c.harvest.new.self cell_at c.in_err-harvest.ensures.stays

@@ -8,7 +8,8 @@ use Rattle.tw_theory.specs.Contents.{with_outgoing}
 use Rattle.tw_theory.specs.Executive.{Post, Posted}
 use Rattle.tw_exec.proofs.Acts.{post_none}
 use Rattle.tw_exec.proofs.LocalSteps.{held_cell}
-use Rattle.tw_exec.proofs.Held.{IsTaken, post_taken}
+use Rattle.tw_exec.proofs.Held.{IsTaken, held_unchanged, post_taken}
+use Rattle.tw_exec.specs.Kept.{IsHeld}
 use Rattle.tw_exec.proofs.first.executive.Executive.post.Goals as goal
 
 pub returns-then-component-len-clause-refused : goal.returns-then-component-len-clause-refused
@@ -39,3 +40,13 @@ returns-clause-done c =
 
 pub invariant_of-self-2 : goal.invariant_of-self-2
 invariant_of-self-2 c = (taken c).held
+
+pub invariant_of-self : goal.invariant_of-self
+invariant_of-self c =
+    let inside = c.self.inside in
+    let b = c.behind-self.inside in
+    let cell = c.index_mut.result.now in
+    let new = λ (outgoing : List Item). held_cell b.at b.pending.items b.history.items outgoing b.line b.column.items in
+    let cell_at = slice_get_read inside.components.items _ c.args.component cell (inside.components.ok.0) (omega (arith, c.len.ensures, inside.components.ok.0)) c.index_mut.ensures.value in
+    subst (λ m. IsHeld inside.network inside.until inside.end inside.gvt (slice_set inside.components.items c.args.component (new c.append.new.other.items)) m) (sym c.in_err-append.ensures.items)
+    (held_unchanged inside.network inside.until inside.end inside.gvt inside.components.items inside.mail.items c.self.invariant c.args.component cell (new c.append.new.other.items) cell_at (ap new c.in_err-append.ensures.other_items ∙ c.behind-self.view_is))

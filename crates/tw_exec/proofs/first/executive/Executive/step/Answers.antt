@@ -1,4 +1,4 @@
-use Rattle.std.proofs.Common.{◌≡◌, ◌≤◌, ap, sym, subst, ◌∙◌, arith}
+use Rattle.std.proofs.Common.{◌≡◌, ◌≤◌, refl, ap, sym, subst, ◌∙◌, arith}
 use Rattle.std.specs.Prelude.{slice_set}
 use Rattle.std.proofs.lemmas.Option.{slice_get_read}
 use Rattle.std.proofs.lemmas.Result.{err_from_is_err_and}
@@ -10,7 +10,7 @@ use Rattle.tw_exec.specs.Refused.{refused_as}
 use Rattle.tw_vtime.specs.Stamps.{stamp}
 use Rattle.tw_exec.proofs.Acts.{step_none, step_late}
 use Rattle.tw_exec.proofs.Comparing.{not_ge, ge}
-use Rattle.tw_exec.proofs.Held.{IsTaken, step_taken, step_ready, has_model, step_refused}
+use Rattle.tw_exec.proofs.Held.{IsTaken, held_unchanged, step_taken, step_ready, has_model, step_refused}
 use Rattle.tw_exec.proofs.first.executive.Executive.step.Goals as goal
 
 pub returns-then-component-len-clause-refused : goal.returns-then-component-len-clause-refused
@@ -88,3 +88,10 @@ returns-clause-done c =
 
 pub invariant_of-self-2 : goal.invariant_of-self-2
 invariant_of-self-2 c = (taken c).held
+
+pub invariant_of-self : goal.invariant_of-self
+invariant_of-self c =
+    let inside = c.self.inside in
+    let cell = c.index_mut-cell.result.now in
+    let cell_at = slice_get_read inside.components.items _ c.args.component cell (inside.components.ok.0) (omega (arith, c.len.ensures, inside.components.ok.0)) c.index_mut-cell.ensures.value in
+    held_unchanged inside.network inside.until inside.end inside.gvt inside.components.items inside.mail.items c.self.invariant c.args.component cell cell cell_at refl

@@ -4,3 +4,4 @@ mod lines;
 mod records;
 mod texts;
 mod traces;
+mod writers;

@@ -1,9 +1,81 @@
 //! Command lines and the jobs that they ask for.
 
 use std::alloc::{AllocError, Global};
+use std::process::Abort;
 use std::test::Fail;
 use tw_line::{Job, NoJob, job};
 use tw_vtime::Refusal;
+
+/// Lines that are taken, and what is answered to each.
+static TAKEN: [(&str, &str); 9] = [
+    ("twarp demo", "demo"),
+    ("twarp seq n.json --until 5", "seq of n.json until 5"),
+    ("twarp seq n.json --until=5", "seq of n.json until 5"),
+    ("twarp seq --until 5 n.json", "seq of n.json until 5"),
+    ("twarp seq n.json --until 0", "seq of n.json until 0"),
+    ("twarp seq n.json --until +5", "seq of n.json until 5"),
+    ("twarp seq n.json --until 007", "seq of n.json until 7"),
+    ("twarp seq --until 5 -- -n.json", "seq of -n.json until 5"),
+    (
+        "twarp seq n.json --until 1099511627774",
+        "seq of n.json until 1099511627774",
+    ),
+];
+
+/// Lines that are refused.
+static REFUSED: [&str; 28] = [
+    "twarp",
+    "twarp walk",
+    "twarp --version",
+    "twarp demo n.json",
+    "twarp demo --until 5",
+    "twarp seq",
+    "twarp seq n.json",
+    "twarp seq --until 5",
+    "twarp seq n.json m.json --until 5",
+    "twarp seq n.json --until 5 --until 6",
+    "twarp seq n.json --until",
+    "twarp seq n.json --until -1",
+    "twarp seq n.json --until=-1",
+    "twarp seq n.json --until 5.0",
+    "twarp seq n.json --until 0x5",
+    "twarp seq n.json --until five",
+    "twarp seq n.json --until=",
+    "twarp seq n.json --until 1099511627775",
+    "twarp seq n.json --until 18446744073709551616",
+    "twarp seq n.json --until 5 --workers 65",
+    "twarp run n.json --until 5",
+    "twarp run n.json --until 5 --workers 65",
+    "twarp run n.json --until 5 --workers 0",
+    "twarp play n.json --until 5 --script s",
+    "twarp play n.json --until 5 --seed 1",
+    "twarp play n.json --until 5 --steps 5",
+    "twarp play n.json --until 5 --script s --seed 1 --steps 1",
+    "twarp play n.json --until 5 --seed 1 --steps 1000001",
+];
+
+/// Lines that ask for help, and parts of what is answered to each.
+static HELPS: [(&str, [&str; 3]); 7] = [
+    ("twarp --help", ["Usage: twarp <COMMAND>", "demo", "seq"]),
+    ("twarp -h", ["Usage: twarp <COMMAND>", "demo", "seq"]),
+    ("twarp help", ["Usage: twarp <COMMAND>", "demo", "seq"]),
+    (
+        "twarp help seq",
+        ["<NET>", "tw-1", "in ticks, 0 to 1099511627774"],
+    ),
+    (
+        "twarp seq --help",
+        ["<NET>", "tw-1", "in ticks, 0 to 1099511627774"],
+    ),
+    (
+        "twarp seq n.json -h",
+        ["<NET>", "tw-1", "in ticks, 0 to 1099511627774"],
+    ),
+    (
+        "twarp demo --help",
+        ["Usage: twarp demo", "tally", "tick 5"],
+    ),
+];
 
 /// The words of a line, which have one space between each two.
 fn words_of(alloc: Global, line: &str) -> Result<Vec<String>, AllocError> {
@@ -27,63 +99,24 @@ fn answer(alloc: Global, line: &str) -> Result<String, AllocError> {
     }
 }
 
+/// Asserts what is answered to a line.
+fn assert_answer(rt: &impl Abort, alloc: Global, line: &str, want: &str) -> Result<(), Fail> {
+    assert!(rt; answer(alloc, line)?.as_str() == want, "{line}");
+    Ok(())
+}
+
 #[test]
 fn takes_the_lines_of_demo_and_seq(rt: HostRuntime) -> Result<(), Fail> {
-    for (line, want) in [
-        ("twarp demo", "demo"),
-        ("twarp seq n.json --until 5", "seq of n.json until 5"),
-        ("twarp seq n.json --until=5", "seq of n.json until 5"),
-        ("twarp seq --until 5 n.json", "seq of n.json until 5"),
-        ("twarp seq n.json --until 0", "seq of n.json until 0"),
-        ("twarp seq n.json --until +5", "seq of n.json until 5"),
-        ("twarp seq n.json --until 007", "seq of n.json until 7"),
-        ("twarp seq --until 5 -- -n.json", "seq of -n.json until 5"),
-        (
-            "twarp seq n.json --until 1099511627774",
-            "seq of n.json until 1099511627774",
-        ),
-    ] {
-        assert!(rt; answer(rt.alloc(), line)?.as_str() == want, "{line}");
+    for (line, want) in TAKEN.iter() {
+        assert_answer(&rt, rt.alloc(), line, want)?;
     }
     Ok(())
 }
 
 #[test]
 fn refuses_every_other_line(rt: HostRuntime) -> Result<(), Fail> {
-    for line in [
-        "twarp",
-        "twarp walk",
-        "twarp --version",
-        "twarp demo n.json",
-        "twarp demo --until 5",
-        "twarp seq",
-        "twarp seq n.json",
-        "twarp seq --until 5",
-        "twarp seq n.json m.json --until 5",
-        "twarp seq n.json --until 5 --until 6",
-        "twarp seq n.json --until",
-        "twarp seq n.json --until -1",
-        "twarp seq n.json --until=-1",
-        "twarp seq n.json --until 5.0",
-        "twarp seq n.json --until 0x5",
-        "twarp seq n.json --until five",
-        "twarp seq n.json --until=",
-        "twarp seq n.json --until 1099511627775",
-        "twarp seq n.json --until 18446744073709551616",
-        "twarp seq n.json --until 5 --workers 65",
-        "twarp run n.json --until 5",
-        "twarp run n.json --until 5 --workers 65",
-        "twarp run n.json --until 5 --workers 0",
-        "twarp play n.json --until 5 --script s",
-        "twarp play n.json --until 5 --seed 1",
-        "twarp play n.json --until 5 --steps 5",
-        "twarp play n.json --until 5 --script s --seed 1 --steps 1",
-        "twarp play n.json --until 5 --seed 1 --steps 1000001",
-    ] {
-        assert!(rt;
-            answer(rt.alloc(), line)?.as_str() == "23 BadLine",
-            "{line}"
-        );
+    for line in REFUSED.iter() {
+        assert_answer(&rt, rt.alloc(), line, "23 BadLine")?;
     }
     Ok(())
 }
@@ -106,34 +139,20 @@ fn help_of(alloc: Global, line: &str) -> Result<Option<String>, AllocError> {
     }
 }
 
+/// Asserts that the help of a line contains these parts.
+fn assert_help(rt: &impl Abort, alloc: Global, line: &str, parts: &[&str]) -> Result<(), Fail> {
+    let help = help_of(alloc, line)?;
+    let text = help.as_ref().map_or("none", |help| help.as_str());
+    for part in parts {
+        assert!(rt; text.contains(*part), "{line}: {text}");
+    }
+    Ok(())
+}
+
 #[test]
 fn helps_with_each_argument_its_unit_and_its_range(rt: HostRuntime) -> Result<(), Fail> {
-    for (line, parts) in [
-        ("twarp --help", ["Usage: twarp <COMMAND>", "demo", "seq"]),
-        ("twarp -h", ["Usage: twarp <COMMAND>", "demo", "seq"]),
-        ("twarp help", ["Usage: twarp <COMMAND>", "demo", "seq"]),
-        (
-            "twarp help seq",
-            ["<NET>", "tw-1", "in ticks, 0 to 1099511627774"],
-        ),
-        (
-            "twarp seq --help",
-            ["<NET>", "tw-1", "in ticks, 0 to 1099511627774"],
-        ),
-        (
-            "twarp seq n.json -h",
-            ["<NET>", "tw-1", "in ticks, 0 to 1099511627774"],
-        ),
-        (
-            "twarp demo --help",
-            ["Usage: twarp demo", "tally", "tick 5"],
-        ),
-    ] {
-        let help = help_of(rt.alloc(), line)?;
-        let text = help.as_ref().map_or("none", |help| help.as_str());
-        for part in parts {
-            assert!(rt; text.contains(part), "{line}: {text}");
-        }
+    for (line, parts) in HELPS.iter() {
+        assert_help(&rt, rt.alloc(), line, parts)?;
     }
     Ok(())
 }

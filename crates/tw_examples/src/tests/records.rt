@@ -5,7 +5,7 @@ use std::test::Fail;
 use tw_msgs::{Bag, Record, RecordKind, Words};
 use tw_vtime::Stamp;
 
-pub(crate) fn bag_of(alloc: Global, items: &[(u8, i64)]) -> Result<Bag, AllocError> {
+fn bag_of(alloc: Global, items: &[(u8, i64)]) -> Result<Bag, AllocError> {
     let mut bag = Bag::new(alloc);
     for item in items {
         bag.push(*item)?;
@@ -13,7 +13,7 @@ pub(crate) fn bag_of(alloc: Global, items: &[(u8, i64)]) -> Result<Bag, AllocErr
     Ok(bag)
 }
 
-pub(crate) fn words_of(alloc: Global, numbers: &[i128]) -> Result<Words, AllocError> {
+fn words_of(alloc: Global, numbers: &[i128]) -> Result<Words, AllocError> {
     let mut list = Vec::new(alloc);
     for number in numbers {
         list.push(*number)?;

@@ -1,39 +1,81 @@
 //! The texts of times, bags, words, records and faults.
 
-use crate::tests::records::{bag_of, record, words_of};
+use crate::tests::records::record;
+use std::alloc::{AllocError, Global};
+use std::process::Abort;
 use std::test::Fail;
 use tw_msgs::{Record, RecordKind};
 use tw_texts::{push_bag, push_fault, push_record, push_time, push_words};
 use tw_vtime::{Limit, Stamp};
 
+/// The ticks, microsteps and phases of stamps, and the text of each after `at `.
+static TIMES: [(u64, u32, u8, &str); 3] = [
+    (3, 2, 1, "at 3.2"),
+    (3, 2, 0, "at 3.2"),
+    (1_099_511_627_774, 8_388_607, 1, "at 1099511627774.8388607"),
+];
+
+/// Bags, and the text after each is added.
+static BAGS: [(&[(u8, i64)], &str); 3] = [
+    (&[], "-"),
+    (&[(0, 5)], "-0=5"),
+    (
+        &[(0, 4), (0, 4), (15, i64::MIN), (3, i64::MAX)],
+        "-0=50=4 0=4 15=-9223372036854775808 3=9223372036854775807",
+    ),
+];
+
+/// The lines at tick 3 of two generators and a tally, of equal values to it, of two relays that meet, and
+/// of an empty output: the kind, the bag and the words of each.
+static RECORDS: [(RecordKind, &[(u8, i64)], &[i128], &str); 6] = [
+    (RecordKind::Out, &[(0, 9)], &[], "3.0 a out 0=9\n"),
+    (RecordKind::Out, &[], &[], "3.0 a out -\n"),
+    (RecordKind::Int, &[], &[1], "3.0 a int | 1\n"),
+    (
+        RecordKind::Ext,
+        &[(0, 4), (0, 9)],
+        &[2, 13, 9],
+        "3.0 a ext 0=4 0=9 | 2 13 9\n",
+    ),
+    (
+        RecordKind::Ext,
+        &[(0, 4), (0, 4)],
+        &[2, 8, 4],
+        "3.0 a ext 0=4 0=4 | 2 8 4\n",
+    ),
+    (RecordKind::Con, &[(0, 1)], &[0, 1], "3.0 a con 0=1 | 0 1\n"),
+];
+
+/// Asserts the text of a time.
+fn assert_time(rt: &impl Abort, alloc: Global, stamp: Stamp, want: &str) -> Result<(), AllocError> {
+    let mut text = String::from_str(alloc, "at ")?;
+    push_time(&mut text, stamp)?;
+    assert!(rt; text.as_str() == want);
+    Ok(())
+}
+
 #[test]
 fn writes_times(rt: HostRuntime) -> Result<(), Fail> {
-    for (stamp, want) in [
-        (Stamp::START, "at 0.0"),
-        (Stamp::new(3, 2, 1)?, "at 3.2"),
-        (Stamp::new(3, 2, 0)?, "at 3.2"),
-        (
-            Stamp::new(1_099_511_627_774, 8_388_607, 1)?,
-            "at 1099511627774.8388607",
-        ),
-        (Stamp::END, "at end"),
-    ] {
-        let mut text = String::from_str(rt.alloc(), "at ")?;
-        push_time(&mut text, stamp)?;
-        assert!(rt; text.as_str() == want);
+    assert_time(&rt, rt.alloc(), Stamp::START, "at 0.0")?;
+    for (tick, microstep, phase, want) in TIMES.iter() {
+        assert_time(
+            &rt,
+            rt.alloc(),
+            Stamp::new(*tick, *microstep, *phase)?,
+            want,
+        )?;
     }
+    assert_time(&rt, rt.alloc(), Stamp::END, "at end")?;
     Ok(())
 }
 
 #[test]
 fn writes_bags(rt: HostRuntime) -> Result<(), Fail> {
     let mut text = String::new(rt.alloc());
-    push_bag(&mut text, &[])?;
-    assert!(rt; text.as_str() == "-");
-    push_bag(&mut text, &[(0, 5)])?;
-    assert!(rt; text.as_str() == "-0=5");
-    push_bag(&mut text, &[(0, 4), (0, 4), (15, i64::MIN), (3, i64::MAX)])?;
-    assert!(rt; text.as_str() == "-0=50=4 0=4 15=-9223372036854775808 3=9223372036854775807");
+    for (bag, want) in BAGS.iter() {
+        push_bag(&mut text, bag)?;
+        assert!(rt; text.as_str() == *want);
+    }
     Ok(())
 }
 
@@ -50,63 +92,71 @@ fn writes_words(rt: HostRuntime) -> Result<(), Fail> {
     Ok(())
 }
 
-/// The lines of two generators and a tally, of equal values to it, of two relays that meet, and of an
-/// empty output.
+/// Asserts the line of a record of a component of this name.
+fn assert_line(
+    rt: &impl Abort,
+    alloc: Global,
+    name: &str,
+    record: &Record,
+    want: &str,
+) -> Result<(), AllocError> {
+    let mut text = String::new(alloc);
+    push_record(&mut text, name, record)?;
+    assert!(rt; text.as_str() == want);
+    Ok(())
+}
+
 #[test]
 fn writes_records(rt: HostRuntime) -> Result<(), Fail> {
-    let nine: &[(u8, i64)] = &[(0, 9)];
-    let none: &[(u8, i64)] = &[];
-    let one: &[i128] = &[1];
-    let no_words: &[i128] = &[];
-    for (kind, bag, words, want) in [
-        (RecordKind::Out, nine, no_words, "3.0 a out 0=9\n"),
-        (RecordKind::Out, none, no_words, "3.0 a out -\n"),
-        (RecordKind::Int, none, one, "3.0 a int | 1\n"),
-        (
-            RecordKind::Ext,
-            &[(0, 4), (0, 9)],
-            &[2, 13, 9],
-            "3.0 a ext 0=4 0=9 | 2 13 9\n",
-        ),
-        (
-            RecordKind::Ext,
-            &[(0, 4), (0, 4)],
-            &[2, 8, 4],
-            "3.0 a ext 0=4 0=4 | 2 8 4\n",
-        ),
-        (RecordKind::Con, &[(0, 1)], &[0, 1], "3.0 a con 0=1 | 0 1\n"),
-    ] {
-        let record = record(rt.alloc(), 0, 3, kind, bag, words)?;
-        let mut text = String::new(rt.alloc());
-        push_record(&mut text, "a", &record)?;
-        assert!(rt; text.as_str() == want);
+    for (kind, bag, words, want) in RECORDS.iter() {
+        let record = record(rt.alloc(), 0, 3, *kind, bag, words)?;
+        assert_line(&rt, rt.alloc(), "a", &record, want)?;
     }
     Ok(())
 }
 
 #[test]
 fn writes_a_record_of_a_later_microstep(rt: HostRuntime) -> Result<(), Fail> {
-    let record = Record {
-        component: 1,
-        stamp: Stamp::new(2, 1, 1)?,
-        kind: RecordKind::Int,
-        bag: bag_of(rt.alloc(), &[])?,
-        words: words_of(rt.alloc(), &[0])?,
-    };
-    let mut text = String::new(rt.alloc());
-    push_record(&mut text, "r", &record)?;
-    assert!(rt; text.as_str() == "2.1 r int | 0\n");
+    let mut record = record(rt.alloc(), 1, 2, RecordKind::Int, &[], &[0])?;
+    record.stamp = Stamp::new(2, 1, 1)?;
+    assert_line(&rt, rt.alloc(), "r", &record, "2.1 r int | 0\n")?;
+    Ok(())
+}
+
+/// Asserts the text of a fault at a tick and a microstep.
+fn assert_fault(
+    rt: &impl Abort,
+    alloc: Global,
+    name: &str,
+    stamp: Stamp,
+    limit: Limit,
+    want: &str,
+) -> Result<(), AllocError> {
+    let mut text = String::new(alloc);
+    push_fault(&mut text, name, stamp, limit)?;
+    assert!(rt; text.as_str() == want);
     Ok(())
 }
 
 #[test]
 fn writes_faults(rt: HostRuntime) -> Result<(), Fail> {
-    let mut text = String::new(rt.alloc());
-    push_fault(&mut text, "b", Stamp::new(3, 3, 1)?, Limit::Microstep)?;
-    assert!(rt; text.as_str() == "fault: microstep limit: b at 3.3\n");
-    text.clear();
+    let micro = Stamp::new(3, 3, 1)?;
+    assert_fault(
+        &rt,
+        rt.alloc(),
+        "b",
+        micro,
+        Limit::Microstep,
+        "fault: microstep limit: b at 3.3\n",
+    )?;
     let last = Stamp::new(1_099_511_627_773, 0, 1)?;
-    push_fault(&mut text, "g", last, Limit::Tick)?;
-    assert!(rt; text.as_str() == "fault: tick limit: g at 1099511627773.0\n");
+    assert_fault(
+        &rt,
+        rt.alloc(),
+        "g",
+        last,
+        Limit::Tick,
+        "fault: tick limit: g at 1099511627773.0\n",
+    )?;
     Ok(())
 }

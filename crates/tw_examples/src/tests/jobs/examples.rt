@@ -1,31 +1,39 @@
 //! Network files, and what a run of each writes.
 
+use tw_engine::Exit;
 use tw_vtime::Refusal;
 
-/// A network file, an end tick and the text of the run.
+/// A network file, an end tick, how the run ends and what it writes.
 pub(crate) struct Example {
     pub(crate) name: &'static str,
     pub(crate) until: u64,
     pub(crate) file: &'static str,
     pub(crate) text: &'static str,
-    /// Whether a limit is met.
-    pub(crate) fault: bool,
+    pub(crate) exit: Exit,
 }
 
+/// A generator of period 2 and value 5, and a tally of what it sends.
+pub(crate) const GEN_TALLY: &str =
+    r#"{"format": "tw-1", "micro_limit": 100, "components": [{"name": "g", "model": "gen", "period": 2,
+"value": 5}, {"name": "t", "model": "tally"}], "couplings": [["g", 0, "t", 0]], "inputs": []}"#;
+
 /// Runs that are made.
-pub(crate) const RUNS: [Example; 15] = [
+pub(crate) fn runs() -> &'static [Example] {
+    &RUNS
+}
+
+static RUNS: [Example; 15] = [
     Example {
         name: "gen-tally",
         until: 5,
-        file: r#"{"format": "tw-1", "micro_limit": 100, "components": [{"name": "g", "model": "gen", "period": 2,
-"value": 5}, {"name": "t", "model": "tally"}], "couplings": [["g", 0, "t", 0]], "inputs": []}"#,
+        file: GEN_TALLY,
         text: "2.0 g out 0=5\n\
 2.0 g int | 1\n\
 2.0 t ext 0=5 | 1 5 5\n\
 4.0 g out 0=5\n\
 4.0 g int | 2\n\
 4.0 t ext 0=5 | 2 10 5\n",
-        fault: false,
+        exit: Exit::Done,
     },
     Example {
         name: "a workshop",
@@ -47,22 +55,21 @@ pub(crate) const RUNS: [Example; 15] = [
 14.0 press out 0=8\n\
 14.0 press int | 0\n\
 14.0 sent ext 0=8 | 2 15 8\n",
-        fault: false,
+        exit: Exit::Done,
     },
     Example {
         name: "until-zero",
         until: 0,
-        file: r#"{"format": "tw-1", "micro_limit": 100, "components": [{"name": "g", "model": "gen", "period": 2,
-"value": 5}, {"name": "t", "model": "tally"}], "couplings": [["g", 0, "t", 0]], "inputs": []}"#,
+        file: GEN_TALLY,
         text: "",
-        fault: false,
+        exit: Exit::Done,
     },
     Example {
         name: "no-components",
         until: 5,
         file: r#"{"format": "tw-1", "micro_limit": 100, "components": [], "couplings": [], "inputs": []}"#,
         text: "",
-        fault: false,
+        exit: Exit::Done,
     },
     Example {
         name: "two-gens",
@@ -75,7 +82,7 @@ pub(crate) const RUNS: [Example; 15] = [
 3.0 a int | 1\n\
 3.0 b int | 1\n\
 3.0 t ext 0=4 0=9 | 2 13 9\n",
-        fault: false,
+        exit: Exit::Done,
     },
     Example {
         name: "equal-values",
@@ -88,7 +95,7 @@ pub(crate) const RUNS: [Example; 15] = [
 3.0 a int | 1\n\
 3.0 b int | 1\n\
 3.0 t ext 0=4 0=4 | 2 8 4\n",
-        fault: false,
+        exit: Exit::Done,
     },
     Example {
         name: "relay-microstep",
@@ -102,7 +109,7 @@ pub(crate) const RUNS: [Example; 15] = [
 2.1 r out 0=5\n\
 2.1 r int | 0\n\
 2.1 t ext 0=5 | 1 5 5\n",
-        fault: false,
+        exit: Exit::Done,
     },
     Example {
         name: "microstep-fault",
@@ -119,7 +126,7 @@ pub(crate) const RUNS: [Example; 15] = [
 3.2 b int | 0\n\
 3.3 a out 0=1\n\
 fault: microstep limit: b at 3.3\n",
-        fault: true,
+        exit: Exit::Fault,
     },
     Example {
         name: "mutual-confluent",
@@ -138,7 +145,7 @@ fault: microstep limit: b at 3.3\n",
 2.0 b out 0=1\n\
 2.0 a con 0=1 | 0 1\n\
 2.0 b con 0=2 | 0 2\n",
-        fault: false,
+        exit: Exit::Done,
     },
     Example {
         name: "tick-limits",
@@ -146,7 +153,7 @@ fault: microstep limit: b at 3.3\n",
         file: r#"{"format": "tw-1", "micro_limit": 100, "components": [{"name": "g", "model": "gen",
 "period": 1099511627774, "value": 1}], "couplings": [], "inputs": []}"#,
         text: "",
-        fault: false,
+        exit: Exit::Done,
     },
     Example {
         name: "tick-limit-met",
@@ -155,7 +162,7 @@ fault: microstep limit: b at 3.3\n",
 "period": 1099511627773, "value": 1}], "couplings": [], "inputs": []}"#,
         text: "1099511627773.0 g out 0=1\n\
 fault: tick limit: g at 1099511627773.0\n",
-        fault: true,
+        exit: Exit::Fault,
     },
     Example {
         name: "hop-external",
@@ -164,7 +171,7 @@ fault: tick limit: g at 1099511627773.0\n",
 "ports": 2, "spread": 4}], "couplings": [], "inputs": [{"tick": 0, "to": "h", "port": 0,
 "value": -1}]}"#,
         text: "0.0 h ext 0=-1 | 13525302890751722018\n",
-        fault: false,
+        exit: Exit::Done,
     },
     Example {
         name: "hop-numbers",
@@ -173,7 +180,7 @@ fault: tick limit: g at 1099511627773.0\n",
 "ports": 2, "spread": 4}], "couplings": [], "inputs": []}"#,
         text: "1.0 h out 0=0\n\
 1.0 h int | 1442695040888963407\n",
-        fault: false,
+        exit: Exit::Done,
     },
     Example {
         name: "tally-wraps",
@@ -182,7 +189,7 @@ fault: tick limit: g at 1099511627773.0\n",
 "couplings": [], "inputs": [{"tick": 1, "to": "t", "port": 0, "value": 9223372036854775807},
 {"tick": 1, "to": "t", "port": 0, "value": 1}]}"#,
         text: "1.0 t ext 0=1 0=9223372036854775807 | 2 -9223372036854775808 9223372036854775807\n",
-        fault: false,
+        exit: Exit::Done,
     },
     Example {
         name: "relay-overflows",
@@ -206,47 +213,72 @@ fault: tick limit: g at 1099511627773.0\n",
 {"tick": 1, "to": "r", "port": 0, "value": 30}, {"tick": 1, "to": "r", "port": 0, "value": 31},
 {"tick": 1, "to": "r", "port": 0, "value": 32}, {"tick": 1, "to": "r", "port": 0, "value": 33}]}"#,
         text: "1.0 r ext 0=1 0=2 0=3 0=4 0=5 0=6 0=7 0=8 0=9 0=10 0=11 0=12 0=13 0=14 0=15 0=16 0=17 0=18 0=19 0=20 0=21 0=22 0=23 0=24 0=25 0=26 0=27 0=28 0=29 0=30 0=31 0=32 0=33 | 1 1 2 3 4 5 6 7 8 9 10 11 12 13 14 15 16 17 18 19 20 21 22 23 24 25 26 27 28 29 30 31 32\n",
-        fault: false,
+        exit: Exit::Done,
     },
 ];
 
-/// Files that are refused, each for this.
-pub(crate) const REFUSED: [(&str, &str, Refusal); 7] = [
-    ("no-json", r#"{"format":"tw-1""#, Refusal::NotJson),
-    (
-        "self-coupling",
-        r#"{"format": "tw-1", "micro_limit": 100, "components": [{"name": "a", "model": "relay",
+/// Files, and an end tick that no stamp has, that are refused: nothing is written.
+pub(crate) static REFUSED: [Example; 8] = [
+    Example {
+        name: "no-json",
+        until: 5,
+        file: r#"{"format":"tw-1""#,
+        text: "",
+        exit: Exit::Bad(Refusal::NotJson),
+    },
+    Example {
+        name: "self-coupling",
+        until: 5,
+        file: r#"{"format": "tw-1", "micro_limit": 100, "components": [{"name": "a", "model": "relay",
 "delay": 1}], "couplings": [["a", 0, "a", 0]], "inputs": []}"#,
-        Refusal::SelfCoupling,
-    ),
-    (
-        "no-microstep",
-        r#"{"format": "tw-1", "micro_limit": 0, "components": [{"name": "g", "model": "gen", "period": 2,
+        text: "",
+        exit: Exit::Bad(Refusal::SelfCoupling),
+    },
+    Example {
+        name: "no-microstep",
+        until: 5,
+        file: r#"{"format": "tw-1", "micro_limit": 0, "components": [{"name": "g", "model": "gen", "period": 2,
 "value": 5}, {"name": "t", "model": "tally"}], "couplings": [["g", 0, "t", 0]], "inputs": []}"#,
-        Refusal::BadLimit,
-    ),
-    (
-        "fraction",
-        r#"{"format": "tw-1", "micro_limit": 100, "components": [{"name": "g", "model": "gen", "period": 2,
+        text: "",
+        exit: Exit::Bad(Refusal::BadLimit),
+    },
+    Example {
+        name: "fraction",
+        until: 5,
+        file: r#"{"format": "tw-1", "micro_limit": 100, "components": [{"name": "g", "model": "gen", "period": 2,
 "value": 5.0}, {"name": "t", "model": "tally"}], "couplings": [["g", 0, "t", 0]], "inputs": []}"#,
-        Refusal::BadShape,
-    ),
-    (
-        "bad-period-first",
-        r#"{"format": "tw-1", "micro_limit": 100, "components": [{"name": "g", "model": "gen", "period": 0,
+        text: "",
+        exit: Exit::Bad(Refusal::BadShape),
+    },
+    Example {
+        name: "bad-period-first",
+        until: 5,
+        file: r#"{"format": "tw-1", "micro_limit": 100, "components": [{"name": "g", "model": "gen", "period": 0,
 "value": 5}, {"name": "t", "model": "tally"}], "couplings": [["g", 0, "x", 0]], "inputs": []}"#,
-        Refusal::BadTick,
-    ),
-    (
-        "unknown-component",
-        r#"{"format": "tw-1", "micro_limit": 100, "components": [{"name": "g", "model": "gen", "period": 2,
+        text: "",
+        exit: Exit::Bad(Refusal::BadTick),
+    },
+    Example {
+        name: "unknown-component",
+        until: 5,
+        file: r#"{"format": "tw-1", "micro_limit": 100, "components": [{"name": "g", "model": "gen", "period": 2,
 "value": 5}, {"name": "t", "model": "tally"}], "couplings": [["g", 0, "x", 0]], "inputs": []}"#,
-        Refusal::UnknownComponent,
-    ),
-    (
-        "period-too-long",
-        r#"{"format": "tw-1", "micro_limit": 100, "components": [{"name": "g", "model": "gen",
+        text: "",
+        exit: Exit::Bad(Refusal::UnknownComponent),
+    },
+    Example {
+        name: "period-too-long",
+        until: 5,
+        file: r#"{"format": "tw-1", "micro_limit": 100, "components": [{"name": "g", "model": "gen",
 "period": 1099511627775, "value": 1}], "couplings": [], "inputs": []}"#,
-        Refusal::BadTick,
-    ),
+        text: "",
+        exit: Exit::Bad(Refusal::BadTick),
+    },
+    Example {
+        name: "end-tick-of-no-stamp",
+        until: 1_099_511_627_775,
+        file: GEN_TALLY,
+        text: "",
+        exit: Exit::Bad(Refusal::BadTick),
+    },
 ];

@@ -1,10 +1,12 @@
 //! Readers and writers that fail, or take one byte a call.
 
-use crate::tests::jobs::examples::RUNS;
-use crate::tests::jobs::{DEMO_TEXT, seq};
+use crate::tests::jobs::examples::{GEN_TALLY, runs};
+use crate::tests::jobs::{DEMO_TEXT, assert_run, seq};
+use crate::tests::writers::OneByteWriter;
+use std::alloc::Global;
 use std::io;
 use std::io::{ErrorKind, Read, Write};
-use std::test::Fail;
+use std::process::Abort;
 use tw_engine::{Exit, engine};
 use tw_line::Job;
 use tw_vtime::Refusal;
@@ -31,31 +33,6 @@ impl Read for OneByteReader<'_> {
     }
 }
 
-/// A writer that takes at most one byte a call, and fails where none of its calls is left.
-#[derive(Drop)]
-struct OneByteWriter {
-    taken: Vec<u8>,
-    calls: usize,
-}
-
-impl Write for OneByteWriter {
-    fn write(&mut self, buf: &[u8]) -> io::Result<usize> {
-        if self.calls == 0 {
-            return Err(io::Error::from(ErrorKind::BrokenPipe));
-        }
-        self.calls -= 1;
-        let Some(byte) = buf.first() else {
-            return Ok(0);
-        };
-        self.taken.push(*byte)?;
-        Ok(1)
-    }
-
-    fn flush(&mut self) -> io::Result<()> {
-        Ok(())
-    }
-}
-
 #[test]
 fn a_writer_that_fails_gets_a_beginning(rt: HostRuntime) {
     for calls in 0..=DEMO_TEXT.len() {
@@ -70,27 +47,36 @@ fn a_writer_that_fails_gets_a_beginning(rt: HostRuntime) {
             &mut "".as_bytes(),
             &mut out,
         );
-        let whole = calls == DEMO_TEXT.len();
-        assert_eq!(rt; exit, if whole { Exit::Done } else { Exit::NoWrite });
+        let end = if calls == DEMO_TEXT.len() {
+            Exit::Done
+        } else {
+            Exit::NoWrite
+        };
+        assert!(rt; exit == end);
         assert!(rt; DEMO_TEXT.as_bytes().starts_with(out.taken.as_slice()));
-        assert_eq!(rt; out.taken.len(), calls);
+        assert!(rt; out.taken.len() == calls);
     }
 }
 
 #[test]
 fn a_reader_that_fails_is_unreadable(rt: HostRuntime) {
-    let file = RUNS[0].file.as_bytes();
+    let file = GEN_TALLY.as_bytes();
     for calls in 0..=250_u32 {
-        let mut net = OneByteReader { left: file, calls };
-        let mut out: Vec<u8> = Vec::new(rt.alloc());
-        let exit = engine(rt.alloc(), &seq(5), &mut net, &mut "".as_bytes(), &mut out);
-        if calls as usize <= file.len() {
-            assert_eq!(rt; exit, Exit::Bad(Refusal::Unreadable));
-            assert!(rt; out.is_empty());
+        let (exit, text) = if calls as usize <= file.len() {
+            (Exit::Bad(Refusal::Unreadable), "")
         } else {
-            assert_eq!(rt; exit, Exit::Done);
-            assert!(rt; out.as_slice() == DEMO_TEXT.as_bytes());
-        }
+            (Exit::Done, DEMO_TEXT)
+        };
+        let mut net = OneByteReader { left: file, calls };
+        assert_run(
+            &rt,
+            rt.alloc(),
+            "a reader that fails",
+            &seq(5),
+            &mut net,
+            exit,
+            text,
+        );
     }
 }
 
@@ -117,39 +103,43 @@ impl Write for Expecting<'_> {
     }
 }
 
-/// Whether a job ends with the whole text, or with a beginning of it for want of memory.
-fn ends_well(rt: &HostRuntime, job: &Job<'_>, file: &str, text: &str, fault: bool) -> bool {
+/// Asserts that a job ends as it is to with the whole text, or with a beginning of it for want of memory.
+fn assert_ends_well(
+    rt: &impl Abort,
+    alloc: Global,
+    job: &Job<'_>,
+    file: &str,
+    exit: Exit,
+    text: &str,
+) {
     let mut out = Expecting {
         left: text.as_bytes(),
     };
-    let exit = engine(
-        rt.alloc(),
+    let end = engine(
+        alloc,
         job,
         &mut file.as_bytes(),
         &mut "".as_bytes(),
         &mut out,
     );
-    let end = if fault { Exit::Fault } else { Exit::Done };
-    exit == Exit::Want(Refusal::OutOfMemory) || (exit == end && out.left.is_empty())
+    assert!(rt; end == Exit::Want(Refusal::OutOfMemory) || (end == exit && out.left.is_empty()));
 }
 
 /// Passes with any request for memory refused, and with none.
 #[test]
 fn refused_memory_leaves_a_beginning(rt: HostRuntime) {
-    for example in RUNS.iter() {
-        for _ in 0..2 {
-            assert!(rt;
-                ends_well(
-                    &rt,
-                    &seq(example.until),
-                    example.file,
-                    example.text,
-                    example.fault
-                )
+    for _ in 0..2 {
+        for example in runs() {
+            let job = seq(example.until);
+            assert_ends_well(
+                &rt,
+                rt.alloc(),
+                &job,
+                example.file,
+                example.exit,
+                example.text,
             );
         }
-    }
-    for _ in 0..2 {
-        assert!(rt; ends_well(&rt, &Job::Demo, "", DEMO_TEXT, false));
+        assert_ends_well(&rt, rt.alloc(), &Job::Demo, "", Exit::Done, DEMO_TEXT);
     }
 }

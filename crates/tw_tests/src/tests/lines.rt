@@ -6,17 +6,17 @@ use tw_vtime::Stamp;
 
 /// A record as the examples write it: tick, microstep, component, kind, bag and words.
 #[derive(Clone, Copy)]
-pub struct Line<'a>(
-    pub u64,
-    pub u32,
-    pub usize,
-    pub RecordKind,
-    pub &'a [(u8, i64)],
-    pub &'a [i128],
+pub(crate) struct Line<'a>(
+    pub(crate) u64,
+    pub(crate) u32,
+    pub(crate) usize,
+    pub(crate) RecordKind,
+    pub(crate) &'a [(u8, i64)],
+    pub(crate) &'a [i128],
 );
 
 /// Whether a record is what a line says.
-pub fn shows(record: &Record, line: &Line) -> bool {
+pub(crate) fn shows(record: &Record, line: &Line) -> bool {
     let phase = match line.3 {
         RecordKind::Out => 0,
         RecordKind::Int | RecordKind::Ext | RecordKind::Con => 1,
@@ -29,12 +29,12 @@ pub fn shows(record: &Record, line: &Line) -> bool {
 }
 
 /// Whether the records are what the lines say.
-pub fn all_show(records: &[Record], lines: &[Line]) -> bool {
+pub(crate) fn all_show(records: &[Record], lines: &[Line]) -> bool {
     records.len() == lines.len() && records.iter().zip(lines).all(|(r, l)| shows(r, l))
 }
 
 /// The numbers from `first` to `last`, as a bag on port 0.
-pub fn bag_of(alloc: Global, first: i64, last: i64) -> Result<Vec<(u8, i64)>, AllocError> {
+pub(crate) fn bag_of(alloc: Global, first: i64, last: i64) -> Result<Vec<(u8, i64)>, AllocError> {
     let mut bag = Vec::new(alloc);
     for value in first..=last {
         bag.push((0, value))?;
@@ -43,7 +43,7 @@ pub fn bag_of(alloc: Global, first: i64, last: i64) -> Result<Vec<(u8, i64)>, Al
 }
 
 /// A count, and then the numbers from `first` to `last`, as words.
-pub fn counted(
+pub(crate) fn counted(
     alloc: Global,
     count: i128,
     first: i128,

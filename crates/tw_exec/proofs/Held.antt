@@ -1,9 +1,9 @@
 -- Each action, as the code takes it, is the action of the definitions, and keeps what is true at all times.
-use Rattle.std.proofs.Common.{◌≡◌, ℕ, zero, suc, ◌-◌, ◌<◌, min, List, [], ◌∷◌, ◌++◌, length, map, Some, refl, sym, ap, ◌∙◌, subst, arith}
+use Rattle.std.proofs.Common.{◌≡◌, ℕ, ◌-◌, ◌<◌, min, List, [], ◌∷◌, ◌++◌, length, map, Some, sym, ap, ◌∙◌, subst, arith}
 use Rattle.std.specs.Prelude.{slice_get, slice_set, remove, ◌==◌}
 use Rattle.std.specs.List.{AllByRecursion as Each}
-use Rattle.std.proofs.lemmas.List.{length-map, length-set}
-use Rattle.std.proofs.lemmas.Option.{slice_get_within, same_Some}
+use Rattle.std.proofs.lemmas.List.{length-map, length-set, set-get_or}
+use Rattle.std.proofs.lemmas.Option.{slice_get_within, get_or_from_slice_get}
 use Rattle.tw_exec.specs.Cells.{Cell, IsStepped, harvested_cell}
 use Rattle.tw_exec.specs.First.{meant}
 use Rattle.tw_exec.specs.Kept.{IsKept, IsHeld, IsFirstFor, for_component, shown}
@@ -37,16 +37,10 @@ pub record IsTaken (n : Contents Model) (until end gvt gvt' : ℕ) (cells cells'
   pub acts : act (meant n) until (shown cells mail gvt) action ≡ (answer, shown cells' mail' gvt')
   pub held : IsHeld n until end gvt' cells' mail'
 
--- the cell that is there, put there again
-set_there : (cells : List Cell) (c : ℕ) (old new : Cell) → slice_get cells c ≡ Some old → new ≡ old → slice_set cells c new ≡ cells
-set_there [] c old new at same = refl
-set_there (x ∷ xs) zero old new at same = ap (λ y. y ∷ xs) (same ∙ sym (same_Some x old at))
-set_there (x ∷ xs) (suc c) old new at same = ap (λ ys. x ∷ ys) (set_there xs c old new at same)
-
 module _ (n : Contents Model) (until end gvt : ℕ) (cells : List Cell) (mail : List Item) (h : IsHeld n until end gvt cells mail) where
   -- where a component is left as it was
   pub held_unchanged : (c : ℕ) (old new : Cell) → slice_get cells c ≡ Some old → new ≡ old → IsHeld n until end gvt (slice_set cells c new) mail
-  held_unchanged c old new at same = subst (λ cs. IsHeld n until end gvt cs mail) (sym (set_there cells c old new at same)) h
+  held_unchanged c old new at same = subst (λ cs. IsHeld n until end gvt cs mail) (sym (ap (slice_set cells c) (same ∙ sym (get_or_from_slice_get cells c old old at)) ∙ set-get_or cells c old)) h
 
   taken_by : (gvt' : ℕ) (cells' : List Cell) (mail' : List Item) (action : Action) (answer : Answer) → act (meant n) until (shown cells mail gvt) action ≡ (answer, shown cells' mail' gvt')
       → IsKept n until (act (meant n) until (shown cells mail gvt) action).1 → Each (λ i. i.message.to < length cells') mail'

@@ -25,14 +25,19 @@ abbrev pub IsSorted : Bag → Type 0
 IsSorted [] = ⊤
 IsSorted (item ∷ items) = IsBeforeFirst item items × IsSorted items
 
--- an item that fits: its port is 0 to 15, its value a number of 64 bits with sign
+-- an item that fits: its port is a number of 8 bits, its value one of 64 bits with sign
 abbrev pub FitsItem : ℕ × ℤ → Type 0
-FitsItem item = (item.0 < 16) × FitsSigned w64 item.1
+FitsItem item = (item.0 < 256) × FitsSigned w64 item.1
 
 -- a bag of items that fit
 abbrev pub FitsBag : Bag → Type 0
 FitsBag [] = ⊤
 FitsBag (item ∷ items) = FitsItem item × FitsBag items
+
+-- an output that fits: each port is 0 to 15, each value a number of 64 bits with sign
+abbrev pub FitsOutput : Bag → Type 0
+FitsOutput [] = ⊤
+FitsOutput (item ∷ items) = ((item.0 < 16) × FitsSigned w64 item.1) × FitsOutput items
 
 -- the plain functions of a model whose states are the values of S
 pub record Meaning (S : Type 0) : Type 0 where

@@ -12,7 +12,7 @@
 #![tactic(auto)]
 
 ghost use Rattle.std.specs.Prelude.{◌≡◌, ℕ, ◌≤◌, ◌↔◌, ◌++◌, [], List, IsTrue, IfOk, OnOk, OnErr, length};
-ghost use Rattle.tw_atomic.specs.Atomic.{Bag, Meaning, FitsBag, turned, CanTurn};
+ghost use Rattle.tw_atomic.specs.Atomic.{Bag, Meaning, FitsOutput, turned, CanTurn};
 
 use arrayvec::ArrayVec;
 use std::alloc::{AllocError, Global};
@@ -122,7 +122,10 @@ pub trait Atomic: Drop {
     ghost stays_valid: { (m : Self) (turn : Turn) (s : Self.State) (elapsed : ℕ) (bag : Bag) → CanTurn (valid m) (meaning m) turn s elapsed bag → valid m (turned (meaning m) turn s elapsed bag) };
 
     /// An output has at most 64 items, on ports 0 to 15, with values that fit.
-    ghost output_fits: { (m : Self) (s : Self.State) → valid m s → (length ((meaning m).out s) ≤ 64) × FitsBag ((meaning m).out s) };
+    ghost output_fits: { (m : Self) (s : Self.State) → valid m s → (length ((meaning m).out s) ≤ 64) × FitsOutput ((meaning m).out s) };
+
+    /// Models of one meaning take back alike.
+    ghost alike: { (m n : Self) → meaning m ≡ meaning n → undone m ≡ undone n };
 
     /// Taking back after a transition gives the old state.
     ghost reverses: { (m : Self) (turn : Turn) (s : Self.State) (elapsed : ℕ) (bag : Bag) → CanTurn (valid m) (meaning m) turn s elapsed bag → undone m turn (turned (meaning m) turn s elapsed bag) elapsed bag (residue_of m turn s elapsed bag) ≡ s };

@@ -1,5 +1,5 @@
 //! A counter that implements the trait, and a function that knows a model by the trait alone.
-ghost use Rattle.std.specs.Prelude.{◌≡◌, ◌≢◌, [], ◌∷◌, ◌<◌, ◌≤◌, IfOk, IfSome, IsNone, true, length, pos};
+ghost use Rattle.std.specs.Prelude.{refl, ◌≡◌, ◌≢◌, [], ◌∷◌, ◌<◌, ◌≤◌, IfOk, IfSome, IsNone, true, length, pos};
 ghost use Rattle.tw_atomic.specs.Atomic.{CanTurn, FitsBag, IsSorted};
 ghost use Rattle.tw_atomic.specs.declared.Turn.TheVariants.{Ext};
 
@@ -96,6 +96,8 @@ impl Atomic for Counter {
     ghost stays_valid = { λ m turn s elapsed bag can. counter_stays_valid turn s elapsed bag can };
 
     ghost output_fits = { λ m s valid. (Prim.omega arith, ((Prim.omega arith, Prim.omega arith), tt)) };
+
+    ghost alike = { λ m n same. refl };
 
     ghost reverses = { λ m turn s elapsed bag can. counter_reverses turn s elapsed bag can };
 }

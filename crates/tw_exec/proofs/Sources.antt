@@ -105,7 +105,7 @@ at_most_one (suc zero) s l le e = inr e
 at_most_one (suc (suc k)) s l le e = absurd (omega arith)
 
 abbrev IsDestination : Contents Model → ℕ → Place → Type 0
-IsDestination n c p = (source_of n.couplings p.0 ≡ c) × (slice_get n.models p.0 ≡ Some Tally) × (p.1 < 16)
+IsDestination n c p = (source_of n.couplings p.0 ≡ c) × (slice_get n.models p.0 ≡ Some Tally) × (p.1 < 256)
 
 all_sent_by : (n : Contents Model) (c s : ℕ) (v : ℤ) (ps : List Place) → FitsSigned w64 v → Each (IsDestination n c) ps → Each (IsSent n c) (positives (copies s v ps))
 all_sent_by n c s v [] fits h = tt

@@ -55,7 +55,7 @@ shown cells mail gvt = record {
 -- ---- one component
 
 pub record FitsMessage (m : Message) : Type 0 where
-  pub port : m.port < 16
+  pub port : m.port < 256
   pub value : FitsSigned w64 m.value
 
 -- the one component from which messages come to q, or q itself where none do

@@ -39,6 +39,8 @@ raise_sound net until w h = record {
   mail = h.mail;
   columns = h.columns;
   each = λ c p at. raised_process net until w.gvt (least_of w) c _ _ p h.gvt_le (h.each c p at);
+  cancel = h.cancel;
+  cancels = h.cancels;
   balance = h.balance;
   gvt_le = omega arith;
 }

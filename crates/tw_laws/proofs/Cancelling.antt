@@ -3,7 +3,7 @@ use Rattle.std.proofs.Common.{◌≡◌, ℕ, zero, suc, ◌-◌, ◌≤◌, min
 use Rattle.std.specs.Prelude.{slice_get, slice_set, nat_lt, ◌==◌}
 use Rattle.std.specs.List.{AllByRecursion as Each}
 use Rattle.std.proofs.lemmas.Bool.{cond_both}
-use Rattle.tw_laws.specs.Cancelling.{Cancels, CancelStays, least_own, IsSwept, SweptLeast}
+use Rattle.tw_laws.specs.Cancelling.{CancelStays, least_own, IsSwept, SweptLeast}
 use Rattle.tw_msgs.specs.Messages.{has}
 use Rattle.tw_msgs.specs.declared.message.Item.{Item}
 use Rattle.tw_msgs.specs.declared.message.Message.{Message}
@@ -15,32 +15,32 @@ use Rattle.tw_theory.specs.Executive.{World, Answer, Action, Post, Deliver, Back
 use Rattle.tw_theory.specs.LocalRun.{Made, NoStep}
 use Rattle.tw_theory.specs.Marks.{rewind, rewound, any_committed}
 use Rattle.tw_theory.specs.Network.{Network}
-use Rattle.tw_theory.specs.Soundness.{new_processes}
+use Rattle.tw_theory.specs.Soundness.{Cancels, new_processes}
 use Rattle.tw_vtime.specs.Stamps.{stamp, never}
 use Rattle.tw_theory.proofs.Elements.{each-get}
 use Rattle.tw_atomic.specs.Atomic.{Meaning}
 
-each-set : {X : Type 0} (P : X → Type 0) (xs : List X) (c : ℕ) (y : X) → P y → Each P xs → Each P (slice_set xs c y)
+pub each-set : {X : Type 0} (P : X → Type 0) (xs : List X) (c : ℕ) (y : X) → P y → Each P xs → Each P (slice_set xs c y)
 each-set P [] c y p h = tt
 each-set P (x ∷ xs) zero y p h = (p, h.1)
 each-set P (x ∷ xs) (suc c) y p h = (h.0, each-set P xs c y p h.1)
 
 module _ {S : Type 0} (cancel : Cancel) where
-  stepped : (p : Process S) (made : Made S) → Cancels cancel p → Cancels cancel (with_step p made)
+  pub stepped : (p : Process S) (made : Made S) → Cancels cancel p → Cancels cancel (with_step p made)
   stepped p made h = record { is = h.is; nothing_owed = λ k. ap (λ c. owed_after c p.owed made.step.sent) (h.is ∙ k) ∙ h.nothing_owed k }
 
-  undone : (n : ℕ) (p : Process S) → Cancels cancel p → Cancels cancel (back_to_first n p)
+  pub undone : (n : ℕ) (p : Process S) → Cancels cancel p → Cancels cancel (back_to_first n p)
   unfolding back_to_first
   undone n p h = record { is = h.is; nothing_owed = λ k. ap (λ c. owed_undone c p.owed (unsent_by (drop n p.history))) (h.is ∙ k) ∙ h.nothing_owed k }
 
-  settled : (p : Process S) → Cancels cancel p → Cancels cancel (settle p)
+  pub settled : (p : Process S) → Cancels cancel p → Cancels cancel (settle p)
   settled p h = go p.cancel h.is
     where
       go : (c : Cancel) → c ≡ cancel → Cancels cancel (settled_as c p)
       go Aggressive e = h
       go Lazy e = record { is = h.is; nothing_owed = λ k. let bad : Lazy ≡ Aggressive = e ∙ k in cc }
 
-  received : (p : Process S) (sign : Sign) (m : Message) → Cancels cancel p → Cancels cancel (receive_signed p sign m).1
+  pub received : (p : Process S) (sign : Sign) (m : Message) → Cancels cancel p → Cancels cancel (receive_signed p sign m).1
   received p Positive m h =
       cond_both (has m p.waiting) _ _ (λ (r : Received × Process S). Cancels cancel r.1) (λ e. record { is = h.is; nothing_owed = h.nothing_owed })
       (λ e. cond_both (steps_from m.stamp p == 0) _ _ (λ (r : Received × Process S). Cancels cancel r.1) (λ d. record { is = h.is; nothing_owed = h.nothing_owed })
@@ -51,11 +51,11 @@ module _ {S : Type 0} (cancel : Cancel) where
       (λ d. let k = undone _ p h in record { is = k.is; nothing_owed = k.nothing_owed })
       (λ d. record { is = h.is; nothing_owed = h.nothing_owed }))
 
-  started : (net : Network S) (c : ℕ) (models : List (Meaning S)) → Each (Cancels cancel) (new_processes net cancel c models)
+  pub started : (net : Network S) (c : ℕ) (models : List (Meaning S)) → Each (Cancels cancel) (new_processes net cancel c models)
   started net c [] = tt
   started net c (model ∷ models) = (record { is = refl; nothing_owed = λ k. refl }, started net (suc c) models)
 
-  rewound_cancels : (ss : List ℕ) (ps : List (Process S)) → Each (Cancels cancel) ps → Each (Cancels cancel) (rewound ss ps)
+  pub rewound_cancels : (ss : List ℕ) (ps : List (Process S)) → Each (Cancels cancel) ps → Each (Cancels cancel) (rewound ss ps)
   rewound_cancels [] ps h = h
   rewound_cancels (s ∷ ss) [] h = tt
   rewound_cancels (s ∷ ss) (p ∷ ps) h = (undone _ p h.0, rewound_cancels ss ps h.1)

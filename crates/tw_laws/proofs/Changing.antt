@@ -9,12 +9,13 @@ use Rattle.tw_msgs.specs.declared.message.Message.{Message}
 use Rattle.tw_msgs.specs.declared.record.Record.{Record}
 use Rattle.tw_theory.specs.Balance.{issued, held}
 use Rattle.tw_theory.specs.Bundles.{least_stamp, least_owed}
-use Rattle.tw_theory.specs.Contents.{Process, next}
+use Rattle.tw_theory.specs.Contents.{Process, Cancel, next}
 use Rattle.tw_theory.specs.Executive.{World, mail_of, least_next, least_mail, with_process, with_mail}
 use Rattle.tw_theory.specs.Network.{Network}
-use Rattle.tw_theory.specs.Soundness.{IsFor, IsSoundProcess, IsSound}
+use Rattle.tw_theory.specs.Soundness.{IsFor, IsSoundProcess, Cancels, IsSound}
 use Rattle.tw_vtime.specs.Stamps.{never}
-use Rattle.tw_theory.proofs.Elements.{get_of_set}
+use Rattle.tw_laws.proofs.Cancelling.{each-set}
+use Rattle.tw_theory.proofs.Elements.{get_of_set, each-get}
 use Rattle.tw_theory.proofs.Totals.{total-set}
 
 pub each_from_least : (g : ℕ) (items : List Item) → g ≤ least_stamp items → Each (λ i. g ≤ i.message.stamp) items
@@ -79,6 +80,7 @@ module _ {S : Type 0} (net : Network S) (until : ℕ) where
     pub for_mail : (d : ℕ) → Each (λ i. IsFor net d i.message) (mail_of w.mail d) → Each (λ i. IsFor net d i.message) (mail_of mail d)
     pub balance : (weight : Message → ℕ)
         → issued weight q + held weight p + total (total (when_anti weight)) mail + total (total (when_positive weight)) w.mail ≡ issued weight p + held weight q + total (total (when_anti weight)) w.mail + total (total (when_positive weight)) mail
+    pub cancels : (cancel : Cancel) → Cancels cancel p → Cancels cancel q
     pub next : w.gvt ≤ next q
     pub outgoing : w.gvt ≤ least_stamp q.outgoing
     pub owed : w.gvt ≤ least_owed q.owed
@@ -91,6 +93,8 @@ module _ {S : Type 0} (net : Network S) (until : ℕ) where
     mail = may.boxes ∙ h.mail;
     columns = h.columns;
     each = λ d r e. ⊎_elim (λ same. here d r same) (λ other. there d r other) (get_of_set w.processes c d q r e);
+    cancel = h.cancel;
+    cancels = each-set (Cancels h.cancel) w.processes c q (may.cancels h.cancel (each-get (Cancels h.cancel) w.processes c p at h.cancels)) h.cancels;
     balance = λ weight. omega (arith, h.balance weight, may.balance weight, total-set (issued weight) w.processes c p q at, total-set (held weight) w.processes c p q at);
     gvt_le = let a = least_next-set w.gvt w.processes c q (let g = h.gvt_le in omega arith) may.next may.outgoing may.owed in omega (arith, may.least);
   }

@@ -14,7 +14,7 @@ use Rattle.tw_msgs.specs.declared.message.Sign.TheVariants.{Positive, Anti}
 use Rattle.tw_msgs.specs.declared.record.Record.{Record}
 use Rattle.tw_theory.specs.Balance.{issued, held}
 use Rattle.tw_theory.specs.Bundles.{least_stamp, least_owed, first_stamp, Ascending}
-use Rattle.tw_theory.specs.Contents.{Process, next, inputs, consumed_by, steps_from, cut, placed, removed, with_waiting, with_pending, Received, receive_message, receive_anti, receive_signed, receive}
+use Rattle.tw_theory.specs.Contents.{Process, next, inputs, consumed_by, steps_from, cut, placed, removed, with_waiting, with_pending, Received, receive_message, receive_anti, receive_signed, receive, steps_before}
 use Rattle.tw_theory.specs.Executive.{World, Answer, act_deliver, act_back, mail_of, least_mail}
 use Rattle.tw_theory.specs.LocalRun.{Step}
 use Rattle.tw_theory.specs.Network.{Network, IsNetwork}
@@ -24,6 +24,7 @@ use Rattle.tw_theory.proofs.Elements.{each-append, each_parts, each_weaker, each
 use Rattle.tw_theory.proofs.Totals.{total-set, total-remove}
 use Rattle.tw_theory.proofs.MessageOrder.{first_of_place, first_of_without, sorted_join, sorted_right}
 use Rattle.tw_laws.proofs.Runs.{leads_other, in_order}
+use Rattle.tw_laws.proofs.Cancelling.{received, undone}
 use Rattle.tw_laws.proofs.Changing.{each_from_least, least_from_each, least_mail_top, box_from_least, least_mail-set, process_from_least, replaced_sound}
 use Rattle.tw_laws.proofs.Stepping.{all_odd, inputs_ascending, get_box}
 use Rattle.tw_laws.proofs.Cutting.{IsCutOf, cut_sound, none_from, leads_consumes}
@@ -292,6 +293,7 @@ module _ {S : Type 0} (net : Network S) (until : ℕ) (ok : IsNetwork net) (boun
               total-remove (when_anti weight) box i item is,
               total-remove (when_positive weight) box i item is,
             );
+        cancels = λ k x. received k p item.sign item.message x;
         next = r.next;
         outgoing = r.outgoing;
         owed = r.owed;
@@ -311,4 +313,4 @@ module _ {S : Type 0} (net : Network S) (until : ℕ) (ok : IsNetwork net) (boun
       let least : w.gvt ≤ least_mail w.mail = let g = h.gvt_le in omega arith in
       let k = cut_sound net until ok bound w.gvt c (slice_index_or w.columns c []) (mail_of w.mail c) p s sound (ltb-false s w.gvt e) old.0 top old.1 old.2 in
       replaced_sound net until w c p (cut s p) w.mail h at
-      (record { boxes = refl; sound = k.sound; for_mail = λ d m. m; balance = λ weight. let b = k.balance weight in omega arith; next = k.next; outgoing = k.outgoing; owed = k.owed; least = least }))
+      (record { boxes = refl; sound = k.sound; for_mail = λ d m. m; balance = λ weight. let b = k.balance weight in omega arith; cancels = λ cancel x. undone cancel (steps_before s p.history) p x; next = k.next; outgoing = k.outgoing; owed = k.owed; least = least }))

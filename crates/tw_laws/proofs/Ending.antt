@@ -1,17 +1,18 @@
 -- How a sound executive shows the end of the run.
-use Rattle.std.proofs.Common.{◌≡◌, ℕ, zero, suc, ◌+◌, ◌<◌, ◌≤◌, List, [], ◌∷◌, Bool, true, false, cond, not, ◌&&◌, true≢false, Option, Some, None, Result, Ok, Err, refl, sym, ap, ◌∙◌, subst, arith}
-use Rattle.std.specs.Prelude.{slice_get, slice_index_or, filter, ◌==◌, nat_lt, ◌≢◌}
+use Rattle.std.proofs.Common.{◌≡◌, ℕ, zero, suc, ◌+◌, ◌<◌, ◌≤◌, List, [], ◌∷◌, Bool, true, false, cond, not, ◌&&◌, true≢false, Option, Some, None, Result, Ok, Err, refl, sym, ap, ◌∙◌, subst, arith, ⊎_elim}
+use Rattle.std.specs.Prelude.{slice_get, filter, ◌==◌, nat_lt, ◌≢◌}
 use Rattle.std.specs.List.{AllByRecursion as Each}
-use Rattle.std.proofs.lemmas.Bool.{and_parts, eq-eqb, eqb-true, leb-true, ltb-true, cond_both}
+use Rattle.std.proofs.lemmas.Bool.{and_parts, eq-eqb, eqb-true, ne_eqb, leb-true, le-leb, ltb-true, lt-ltb, cond_both, cases_Bool}
 use Rattle.std.proofs.lemmas.Option.{same_Some, none-some}
-use Rattle.tw_laws.specs.Ending.{ShowsFault, EndingLaw, State, Complete, Fault, Going, is_empty, none_at, all_quiet, all_empty, limit_of, fault_at, first_fault, all_past, state, StateLaw}
+use Rattle.tw_laws.specs.Ending.{ShowsFault, AllPast, HasAll, EndingLaw, State, Complete, Fault, Going, none_at, all_quiet, limit_of, fault_at, first_fault, all_past, state, StateLaw}
 use Rattle.tw_msgs.specs.declared.message.Item.{Item}
 use Rattle.tw_msgs.specs.declared.message.Message.{Message}
 use Rattle.tw_theory.specs.Contents.{Process, next}
+use Rattle.tw_theory.specs.Exchange.{is_empty, all_empty}
 use Rattle.tw_theory.specs.Executive.{World}
 use Rattle.tw_theory.specs.LocalRun.{Made, NothingDue, OverLimit, local_step, NoStep}
 use Rattle.tw_theory.specs.Network.{Network, IsNetwork}
-use Rattle.tw_theory.specs.Simulator.{sequential, up_to, records_before}
+use Rattle.tw_theory.specs.Simulator.{sequential, up_to}
 use Rattle.tw_theory.specs.Soundness.{IsSound}
 use Rattle.tw_vtime.specs.Stamps.{stamp, max_tick, phase_of}
 use Rattle.tw_vtime.specs.declared.limits.Limit.{Limit}
@@ -38,8 +39,7 @@ module _ {S : Type 0} (net : Network S) (until : ℕ) (ok : IsNetwork net) (boun
       let early = within.1 in
       absurd (omega arith)
 
-  complete : ((c : ℕ) (p : Process S) → slice_get w.processes c ≡ Some p → stamp until 0 0 ≤ p.line)
-      → ((sequential net until).fault ≡ None) × ((c : ℕ) (p : Process S) → slice_get w.processes c ≡ Some p → slice_index_or w.columns c [] ≡ records_before net until c (stamp until 0 0))
+  complete : AllPast (stamp until 0 0) w → ((sequential net until).fault ≡ None) × HasAll net until w
   complete past = (
     no_fault past (sequential net until).fault refl,
     λ c p at.
@@ -159,6 +159,62 @@ module _ {S : Type 0} (net : Network S) (g : ℕ) where
       go ih true n k = met ih (eqb-true (next p) g n) _ refl k
       go ih false n k = later (λ other m bad. true≢false (sym (eq-eqb (next p) g m) ∙ n)) (ih k)
 
+-- ---- and the other way round: what shows a fault is said to
+
+both : {a b : Bool} → a ≡ true → b ≡ true → (a && b) ≡ true
+both e f = λ i. e i && f i
+
+none_at_all : (s : ℕ) (ms : List Message) → Each (λ m. m.stamp ≢ s) ms → none_at s ms ≡ true
+none_at_all s [] h = refl
+none_at_all s (m ∷ ms) h = both (ap not (ne_eqb m.stamp s h.0)) (none_at_all s ms h.1)
+
+all_empty_is : (mail : List (List Item)) → Each (λ box. box ≡ []) mail → all_empty mail ≡ true
+all_empty_is [] h = refl
+all_empty_is (box ∷ mail) h = both (ap is_empty h.0) (all_empty_is mail h.1)
+
+quiet_is : {S : Type 0} (g : ℕ) (ps : List (Process S)) → ((d : ℕ) (q : Process S) → slice_get ps d ≡ Some q → (q.outgoing ≡ []) × Each (λ m. m.stamp ≢ g) q.owed)
+    → all_quiet g ps ≡ true
+quiet_is g [] h = refl
+quiet_is g (p ∷ ps) h = let here = h 0 p refl in both (both (ap is_empty here.0) (none_at_all g p.owed here.1)) (quiet_is g ps (λ d q at. h (suc d) q at))
+
+all_past_is : {S : Type 0} (end : ℕ) (ps : List (Process S)) → ((d : ℕ) (q : Process S) → slice_get ps d ≡ Some q → end ≤ q.line) → all_past end ps ≡ true
+all_past_is end [] h = refl
+all_past_is end (p ∷ ps) h = both (le-leb end p.line (h 0 p refl)) (all_past_is end ps (λ d q at. h (suc d) q at))
+
+not_past : {S : Type 0} (end : ℕ) (ps : List (Process S)) → (((d : ℕ) (q : Process S) → slice_get ps d ≡ Some q → end ≤ q.line) → ⊥) → all_past end ps ≡ false
+not_past end ps going = ⊎_elim (λ e. absurd (going (λ d q at. past_at end ps e d q at))) (λ e. e) (cases_Bool (all_past end ps))
+
+module _ {S : Type 0} (net : Network S) (g : ℕ) where
+  first_fault_found : (b : ℕ) (ps : List (Process S)) (place : ℕ) (p : Process S) (limit : Limit) → slice_get ps place ≡ Some p → next p ≡ g
+      → local_step net (b + place) p.now p.pending ≡ Err (OverLimit limit)
+      → ((d : ℕ) (q : Process S) (other : Limit) → slice_get ps d ≡ Some q → d < place → next q ≡ g → local_step net (b + d) q.now q.pending ≡ Err (OverLimit other) → ⊥)
+      → first_fault net g b ps ≡ Fault (b + place) g limit
+  first_fault_found b [] place p limit at n met least = absurd (none-some p at)
+  first_fault_found b (x ∷ ps) zero p limit at n met least =
+      let same : x ≡ p = same_Some x p at in
+      let here : b + 0 ≡ b = omega arith in
+      let rest = first_fault net g (suc b) ps in
+      ap (λ t. fault_at b g (cond t (limit_of (local_step net b x.now x.pending)) None) rest) (eq-eqb (next x) g (ap (λ (y : Process S). next y) same ∙ n))
+      ∙ ap (λ (r : Result (Made S) NoStep). fault_at b g (limit_of r) rest) (ap (λ (y : Process S). local_step net b y.now y.pending) same ∙ ap (λ k. local_step net k p.now p.pending) (sym here) ∙ met)
+      ∙ ap (λ k. Fault k g limit) (sym here)
+  first_fault_found b (x ∷ ps) (suc place) p limit at n met least =
+      let here : b + 0 ≡ b = omega arith in
+      let more : (d : ℕ) → suc b + d ≡ b + suc d = λ d. omega arith in
+      ap (λ o. fault_at b g o (first_fault net g (suc b) ps)) (none (next x == g) refl)
+      ∙ first_fault_found (suc b) ps place p limit at n (ap (λ k. local_step net k p.now p.pending) (more place) ∙ met)
+      (λ d q other at l is meets. least (suc d) q other at (omega arith) is (ap (λ k. local_step net k q.now q.pending) (sym (more d)) ∙ meets))
+      ∙ ap (λ k. Fault k g limit) (more place)
+    where
+      no_limit : next x ≡ g → (o : Option Limit) → limit_of (local_step net b x.now x.pending) ≡ o → o ≡ None
+      no_limit is None e = refl
+      no_limit is (Some other) e =
+          let here : b + 0 ≡ b = omega arith in
+          absurd (least 0 x other refl (omega arith) is (ap (λ k. local_step net k x.now x.pending) here ∙ limit_is (local_step net b x.now x.pending) other e))
+
+      none : (t : Bool) → (next x == g) ≡ t → cond t (limit_of (local_step net b x.now x.pending)) None ≡ None
+      none true e = no_limit (eqb-true (next x) g e) (limit_of (local_step net b x.now x.pending)) refl
+      none false e = refl
+
 module _ {S : Type 0} (net : Network S) (until : ℕ) (w : World S) where
   shows : (c s : ℕ) (limit : Limit)
       → (all_quiet w.gvt w.processes && all_empty w.mail && nat_lt w.gvt (stamp until 0 0) && (phase_of w.gvt == 1)) ≡ true
@@ -200,14 +256,46 @@ module _ {S : Type 0} (net : Network S) (until : ℕ) (w : World S) where
       go ih None k = ih k
       go ih (Some limit) k = let bad : Fault b w.gvt limit ≡ Complete = k in cc
 
-  state_complete : IsNetwork net → until ≤ max_tick → IsSound net until w → state net until w ≡ Complete → (sequential net until).fault ≡ None
+  complete_past : state net until w ≡ Complete → AllPast (stamp until 0 0) w
   unfolding state
-  state_complete ok bound h =
-      cond_both (all_past (stamp until 0 0) w.processes) _ _ (λ (x : State). x ≡ Complete → (sequential net until).fault ≡ None)
-      (λ e k. (complete net until ok bound w h (λ c p at. past_at (stamp until 0 0) w.processes e c p at)).0)
-      (λ e. cond_both (all_quiet w.gvt w.processes && all_empty w.mail && nat_lt w.gvt (stamp until 0 0) && (phase_of w.gvt == 1)) _ _ (λ (x : State). x ≡ Complete → (sequential net until).fault ≡ None)
+  complete_past =
+      cond_both (all_past (stamp until 0 0) w.processes) _ _ (λ (x : State). x ≡ Complete → AllPast (stamp until 0 0) w)
+      (λ e k c p at. past_at (stamp until 0 0) w.processes e c p at)
+      (λ e. cond_both (all_quiet w.gvt w.processes && all_empty w.mail && nat_lt w.gvt (stamp until 0 0) && (phase_of w.gvt == 1)) _ _ (λ (x : State). x ≡ Complete → AllPast (stamp until 0 0) w)
       (λ d k. absurd (not_complete w.processes 0 k))
       (λ d bad. absurd (let k : Going ≡ Complete = bad in cc)))
 
+  past_complete : AllPast (stamp until 0 0) w → state net until w ≡ Complete
+  unfolding state
+  past_complete past =
+      ap (λ b. cond b Complete (cond (all_quiet w.gvt w.processes && all_empty w.mail && nat_lt w.gvt (stamp until 0 0) && (phase_of w.gvt == 1)) (first_fault net w.gvt 0 w.processes) Going)) (all_past_is (stamp until 0 0) w.processes past)
+
+  fault_shows : (c s : ℕ) (limit : Limit) → state net until w ≡ Fault c s limit
+      → (AllPast (stamp until 0 0) w → ⊥) × (s ≡ w.gvt) × ShowsFault net until w c limit
+  unfolding state
+  fault_shows c s limit =
+      cond_both (all_past (stamp until 0 0) w.processes) _ _ (λ (x : State). x ≡ Fault c s limit → (AllPast (stamp until 0 0) w → ⊥) × (s ≡ w.gvt) × ShowsFault net until w c limit)
+      (λ e bad. absurd (let k : Complete ≡ Fault c s limit = bad in cc))
+      (λ e. cond_both (all_quiet w.gvt w.processes && all_empty w.mail && nat_lt w.gvt (stamp until 0 0) && (phase_of w.gvt == 1)) _ _ (λ (x : State). x ≡ Fault c s limit → (AllPast (stamp until 0 0) w → ⊥) × (s ≡ w.gvt) × ShowsFault net until w c limit)
+      (λ d k. let f = first_fault_is net w.gvt 0 w.processes c s limit k in ((λ past. true≢false (sym (all_past_is (stamp until 0 0) w.processes past) ∙ e)), f.stamp_is, shows c s limit d f))
+      (λ d bad. absurd (let k : Going ≡ Fault c s limit = bad in cc)))
+
+  shows_fault : (c s : ℕ) (limit : Limit) → (AllPast (stamp until 0 0) w → ⊥) → s ≡ w.gvt → ShowsFault net until w c limit → state net until w ≡ Fault c s limit
+  unfolding state
+  shows_fault c s limit going same f =
+      let end = stamp until 0 0 in
+      let calm = both (both (both (quiet_is w.gvt w.processes (λ d q at. (f.outgoing d q at, f.owed d q at))) (all_empty_is w.mail f.mail)) (lt-ltb w.gvt end f.before)) (eq-eqb (phase_of w.gvt) 1 f.odd) in
+      let zero_c : 0 + c ≡ c = omega arith in
+      ap (λ b. cond b Complete (cond (all_quiet w.gvt w.processes && all_empty w.mail && nat_lt w.gvt end && (phase_of w.gvt == 1)) (first_fault net w.gvt 0 w.processes) Going)) (not_past end w.processes going)
+      ∙ ap (λ b. cond b (first_fault net w.gvt 0 w.processes) Going) calm
+      ∙ first_fault_found net w.gvt 0 w.processes c f.process limit f.at f.next_is (ap (λ k. local_step net k f.process.now f.process.pending) zero_c ∙ f.meets)
+      (λ d q other at l n met. let zero_d : 0 + d ≡ d = omega arith in f.least d q other at l n (sym (ap (λ k. local_step net k q.now q.pending) zero_d) ∙ met))
+      ∙ ap (λ x. Fault x w.gvt limit) zero_c ∙ ap (λ x. Fault c x limit) (sym same)
+
 pub state_law : {S : Type 0} → StateLaw S
-state_law = record { fault = λ net until w ok bound h. state_fault net until w ok bound h; complete = λ net until w ok bound h. state_complete net until w ok bound h }
+state_law = record {
+  past = λ net until w. (complete_past net until w, past_complete net until w);
+  shows = λ net until w c s limit. (fault_shows net until w c s limit, λ h. shows_fault net until w c s limit h.0 h.1 h.2);
+  fault = λ net until w ok bound h. state_fault net until w ok bound h;
+  complete = λ net until w ok bound h e. complete net until ok bound w h (complete_past net until w e);
+}

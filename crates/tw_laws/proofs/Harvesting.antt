@@ -17,15 +17,16 @@ use Rattle.tw_theory.specs.Executive.{World, Action, Post, Deliver, Back, Raise,
 use Rattle.tw_theory.specs.LocalRun.{Step, Leads}
 use Rattle.tw_theory.specs.Network.{Network, IsNetwork}
 use Rattle.tw_theory.specs.Simulator.{sequential, rounds, due_from, up_to, records_before, moment_at, all_sent, sent_in}
-use Rattle.tw_theory.specs.Soundness.{AllBefore, IsFor, IsSoundProcess, IsSound, new_world}
+use Rattle.tw_theory.specs.Soundness.{AllBefore, IsFor, IsSoundProcess, Cancels, IsSound, new_world}
 use Rattle.tw_vtime.specs.Stamps.{stamp, max_tick}
 use Rattle.tw_laws.proofs.History.Committed.{committed_history}
 use Rattle.tw_laws.proofs.Starting.{start_sound}
-use Rattle.tw_theory.proofs.Elements.{each_parts, each_weaker, get_of_set}
+use Rattle.tw_theory.proofs.Elements.{each_parts, each_weaker, each-get, get_of_set}
 use Rattle.tw_theory.proofs.Totals.{total-set}
 use Rattle.tw_theory.proofs.MessageOrder.{sorted_right}
 use Rattle.tw_theory.proofs.TakingBack.{consumed_by-append, sent_by-append}
 use Rattle.tw_laws.proofs.Runs.{leads_split}
+use Rattle.tw_laws.proofs.Cancelling.{each-set}
 use Rattle.tw_laws.proofs.Changing.{process_from_least, least_next-set}
 use Rattle.tw_laws.proofs.Cutting.{all_before_parts}
 use Rattle.tw_laws.proofs.Recorded.{leads_recorded}
@@ -111,6 +112,10 @@ module _ {S : Type 0} (law : CommittedHistory S) (net : Network S) (until : ℕ)
             (subst₂ (λ column r. IsSoundProcess net until w.gvt c column (mail_of w.mail c) r) (sym column_same) (sym k.1) sound))
             (λ k. subst (λ column. IsSoundProcess net until w.gvt d column (mail_of w.mail d) q) (sym (get_or-set_other w.columns c d new [] k.0)) (h.each d q k.1))
             (get_of_set w.processes c d (harvested w.gvt p) q e);
+        cancel = h.cancel;
+        cancels =
+            let k = each-get (Cancels h.cancel) w.processes c p at h.cancels in
+            each-set (Cancels h.cancel) w.processes c (harvested w.gvt p) (record { is = k.is; nothing_owed = k.nothing_owed }) h.cancels;
         balance = λ weight.
             omega (
               arith,
@@ -144,5 +149,6 @@ replay_sound net until w [] ok bound h = h
 replay_sound net until w (a ∷ actions) ok bound h = replay_sound net until (act net until w a).1 actions ok bound (acts_soundly net until w ok bound h a)
 
 pub committed_law : {S : Type 0} → CommittedLaw S
-committed_law {S} net cancel until actions ok bound c p at =
-    ((replay_sound net until (new_world net cancel) actions ok bound (start_sound net cancel until ok)).each c p at).column_is
+committed_law {S} net cancel until actions ok bound =
+    let h = replay_sound net until (new_world net cancel) actions ok bound (start_sound net cancel until ok) in
+    record { processes = h.processes; columns = h.columns; each = λ c p at. (h.each c p at).column_is }

@@ -1,15 +1,15 @@
 -- Steps on any components, and a rewind to the marks before them.
 use Rattle.std.proofs.Common.{◌≡◌, ℕ, zero, suc, ◌≤◌, List, [], ◌∷◌, ◌++◌, length, cond, Option, Some, None, Result, Ok, Err, refl, sym, ap, ◌∙◌, subst, arith, length-append}
-use Rattle.std.specs.Prelude.{nat_lt, slice_get, slice_set}
+use Rattle.std.specs.Prelude.{nat_lt, slice_get, slice_set, ◌≢◌}
 use Rattle.std.proofs.lemmas.Bool.{cond_both, lt-ltb, le-ltb}
-use Rattle.std.proofs.lemmas.Option.{same_Some}
-use Rattle.tw_laws.specs.Inverse.{IsRestoredBy, RestoredAll, count_all, steps_of}
+use Rattle.std.proofs.lemmas.Option.{same_Some, none-some}
+use Rattle.tw_laws.specs.Inverse.{IsRestoredBy, RestoredAll, IsBacked, count_all, steps_of}
 use Rattle.tw_laws.proofs.Ordered.{OrderedInverse}
 use Rattle.tw_laws.proofs.Ordered.{IsOrdered, AllOrdered}
 use Rattle.tw_msgs.specs.Counting.{total}
 use Rattle.tw_theory.specs.Bundles.{Ascending, first_stamp, positives, sent_anew, still_owed}
 use Rattle.tw_theory.specs.Contents.{Process, next, Lazy, with_step, with_lists, back_to_first, cut, steps_before, steps_from, sent_by, unsent_by}
-use Rattle.tw_theory.specs.Executive.{World, Action, Answer, act, act_step, if_made, replay}
+use Rattle.tw_theory.specs.Executive.{World, Action, Answer, Undone, Refused, BeforeGvt, act, act_step, act_back, if_made, replay, with_process}
 use Rattle.tw_theory.specs.LocalRun.{Step, Made, local_step, NoStep}
 use Rattle.tw_theory.specs.Marks.{marks, rewound, rewound_steps}
 use Rattle.tw_theory.specs.Network.{Network}
@@ -59,11 +59,12 @@ cut_place : {S : Type 0} (p p' : Process S) (steps : List (Step S)) → IsOrdere
     → steps_before (next p) p'.history ≡ length p.history
 cut_place p p' steps o r = ap (steps_before (next p)) r.after.history ∙ steps_before-append (next p) p.history steps o.past r.late
 
-cut_restores : {S : Type 0} (p p' : Process S) (steps : List (Step S)) → IsOrdered p → IsReached p p' steps → IsRestoredBy steps p (cut (next p) p')
+cut_restores : {S : Type 0} (p p' : Process S) (steps : List (Step S)) → IsOrdered p → IsReached p p' steps → IsRestoredBy steps p p' (cut (next p) p')
 cut_restores {S} p p' steps o r =
     let is : cut (next p) p' ≡ restored_as p.cancel p steps = ap (λ n. back_to_first n p') (cut_place p p' steps o r) ∙ back_to_before p p' steps r.after in
     let lazily = λ (k : p.cancel ≡ Lazy). is ∙ ap (λ x. restored_as x p steps) k in
     record {
+      made = r.after.history;
       aggressive = λ k. is ∙ ap (λ x. restored_as x p steps) k;
       lazy = λ k. lazily k ∙ ap (λ (q : Process S). with_lists p (p.outgoing ++ positives (sent_anew p.owed (sent_by steps))) q.owed) (sym (lazily k));
       lazy_owed = λ k weight.
@@ -106,7 +107,7 @@ all_reached_set (steps ∷ all) (p ∷ ps) (x ∷ qs) (suc c) q q' step r e more
     (steps ∷ rest.0, (r.0, rest.1))
 
 restored_all : {S : Type 0} (all : List (List (Step S))) (ps qs : List (Process S)) → AllOrdered ps → AllReached all ps qs
-    → RestoredAll all ps (rewound (marks ps) qs) × (rewound_steps (marks ps) qs ≡ count_all all)
+    → RestoredAll all ps qs (rewound (marks ps) qs) × (rewound_steps (marks ps) qs ≡ count_all all)
 restored_all [] [] [] o r = (tt, refl)
 restored_all [] [] (x ∷ qs) o r = absurd r
 restored_all [] (p ∷ ps) qs o r = absurd r
@@ -152,3 +153,58 @@ ordered_inverse {S} net until w cs o =
     let h = replay_reached net until w w cs (record { all = start.0; processes = start.1; mail = refl; columns = refl; gvt = refl }) in
     let back = restored_all h.all w.processes (replay net until w (steps_of cs)).processes o h.processes in
     (h.all, back.0, back.1, h.mail, h.columns, h.gvt)
+
+-- ---- back to the mark of one component
+
+reached_at : {S : Type 0} (all : List (List (Step S))) (ps qs : List (Process S)) (c : ℕ) (p : Process S) → AllReached all ps qs → slice_get ps c ≡ Some p
+    → (steps : List (Step S)) × (q : Process S) × (slice_get qs c ≡ Some q) × IsReached p q steps
+reached_at [] [] [] c p r e = absurd (none-some p e)
+reached_at [] [] (x ∷ qs) c p r e = absurd r
+reached_at [] (y ∷ ps) qs c p r e = absurd r
+reached_at (steps ∷ all) [] qs c p r e = absurd r
+reached_at (steps ∷ all) (y ∷ ps) [] c p r e = absurd r
+reached_at (steps ∷ all) (y ∷ ps) (x ∷ qs) zero p r e = (steps, x, refl, subst (λ z. IsReached z x steps) (same_Some y p e) r.0)
+reached_at (steps ∷ all) (y ∷ ps) (x ∷ qs) (suc c) p r e = reached_at all ps qs c p r.1 e
+
+pub set_here : {X : Type 0} (xs : List X) (c : ℕ) (x y : X) → slice_get xs c ≡ Some x → slice_get (slice_set xs c y) c ≡ Some y
+set_here [] c x y e = absurd (none-some x e)
+set_here (z ∷ xs) zero x y e = refl
+set_here (z ∷ xs) (suc c) x y e = set_here xs c x y e
+
+pub set_there : {X : Type 0} (xs : List X) (c d : ℕ) (y : X) → d ≢ c → slice_get (slice_set xs c y) d ≡ slice_get xs d
+set_there [] c d y ne = refl
+set_there (z ∷ xs) zero zero y ne = absurd (ne refl)
+set_there (z ∷ xs) zero (suc d) y ne = refl
+set_there (z ∷ xs) (suc c) zero y ne = refl
+set_there (z ∷ xs) (suc c) (suc d) y ne = set_there xs c d y (λ e. ne (ap suc e))
+
+pub back_is : {S : Type 0} (net : Network S) (until : ℕ) (w : World S) (c s : ℕ) (p : Process S) → slice_get w.processes c ≡ Some p → w.gvt ≤ s
+    → act net until w (Action.Back c s) ≡ (Undone (steps_from s p), with_process w c (cut s p))
+unfolding act
+back_is {S} net until w c s p at l =
+    let refused : Answer × World S = (Refused BeforeGvt, w) in
+    ap (act_back w c s) at ∙ ap (λ b. cond b refused (Undone (steps_from s p), with_process w c (cut s p))) (le-ltb s w.gvt l)
+
+pub ordered_back : {S : Type 0} (net : Network S) (until : ℕ) (w : World S) (cs : List ℕ) (c : ℕ) (p : Process S) → AllOrdered w.processes → IsOrdered p
+    → slice_get w.processes c ≡ Some p → w.gvt ≤ next p
+    → IsBacked w (replay net until w (steps_of cs)) (act net until (replay net until w (steps_of cs)) (Action.Back c (next p))).1 c p (act net until (replay net until w (steps_of cs)) (Action.Back c (next p))).0
+ordered_back {S} net until w cs c p o mine at l =
+    let reached = replay net until w (steps_of cs) in
+    let start = all_reached_none w.processes o in
+    let h = replay_reached net until w w cs (record { all = start.0; processes = start.1; mail = refl; columns = refl; gvt = refl }) in
+    let found = reached_at h.all w.processes reached.processes c p h.processes at in
+    let is = back_is net until reached c (next p) found.1 found.2 (omega (arith, h.gvt, l)) in
+    subst (λ (r : Answer × World S). IsBacked w reached r.1 c p r.0) (sym is)
+    (record {
+      steps = found.0;
+      middle = found.1;
+      restored = cut (next p) found.1;
+      middle_at = found.2;
+      restored_at = set_here reached.processes c found.1 (cut (next p) found.1) found.2;
+      process = cut_restores p found.1 found.0 mine found.3;
+      answer_is = ap Undone (cut_count p found.1 found.0 mine found.3);
+      others = λ d ne. set_there reached.processes c d (cut (next p) found.1) ne;
+      mail = h.mail;
+      columns = h.columns;
+      gvt = h.gvt;
+    })

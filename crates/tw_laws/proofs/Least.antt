@@ -9,7 +9,8 @@ use Rattle.tw_theory.specs.Executive.{World, mail_of, least_next, least_mail, le
 use Rattle.tw_vtime.specs.Stamps.{never}
 use Rattle.tw_theory.proofs.Owing.{each_from_owed, owed_from_each}
 use Rattle.tw_laws.proofs.Changing.{each_from_least, least_from_each, box_from_least, process_from_least}
-use Rattle.tw_laws.proofs.Lines.{gvt_rises}
+use Rattle.tw_laws.proofs.Growing.{count_grows, act_grows, replay_grows, rewind_leaves}
+use Rattle.tw_laws.proofs.Lines.{gvt_rises, gvt_rises_by}
 
 greatest_mail : (g : ℕ) (mail : List (List Item)) → g ≤ never → ((q : ℕ) → Each (λ i. g ≤ i.message.stamp) (mail_of mail q)) → g ≤ least_mail mail
 greatest_mail g [] top h = top
@@ -46,4 +47,15 @@ module _ {S : Type 0} where
 
   pub gvt_law : GvtLaw S
   unfolding act
-  gvt_law = record { rises = gvt_rises; raise = λ net until w. refl; at_or_before = below_all; greatest = greatest }
+  gvt_law = record {
+    rises = gvt_rises;
+    rises_by = gvt_rises_by;
+    rewind_gvt = λ w ss. (rewind_leaves w ss).0;
+    grows = act_grows;
+    grows_by = replay_grows;
+    rewind_columns = λ w ss. (rewind_leaves w ss).1;
+    count = count_grows;
+    raise = λ net until w. refl;
+    at_or_before = below_all;
+    greatest = greatest;
+  }

@@ -5,6 +5,7 @@ pub mod Sends
 pub mod Recorded
 pub mod Runs
 -- the start, and each action, keep an executive sound
+pub mod Cancelling
 pub mod Starting
 pub mod Changing
 pub mod Stepping
@@ -17,6 +18,7 @@ pub mod History
 pub mod Settled
 pub mod Harvesting
 pub mod Lines
+pub mod Growing
 pub mod Least
 -- taking back
 pub mod Ordered
@@ -25,13 +27,19 @@ pub mod Rewinding
 pub mod TransitWeights
 pub mod Transit
 pub mod Rewound
+pub mod Committing
 pub mod Keeping
 -- the end of a sweep, of a run, and the one trace
 pub mod Sweeping
 pub mod SweepEnds
+pub mod Passes
+pub mod Swept
+pub mod Drawn
 pub mod Ending
 pub mod Traces
 pub mod Merging
--- the ways of cancelling, and all laws on a concrete network
-pub mod Cancelling
+pub mod Outcomes
+-- the theorem of the whole, and all laws on concrete networks
+pub mod TimeWarp
 pub mod Three
+pub mod Driven

@@ -1,12 +1,12 @@
 -- The simulator's fault stands before the end of the run, and no line passes it; gvt never falls.
-use Rattle.std.proofs.Common.{◌≡◌, ℕ, ◌<◌, ◌≤◌, Option, Some, None, Result, Ok, Err, subst, arith, slice_get}
+use Rattle.std.proofs.Common.{◌≡◌, ℕ, ◌<◌, ◌≤◌, List, [], ◌∷◌, Option, Some, None, Result, Ok, Err, subst, arith, slice_get}
 use Rattle.std.specs.Prelude.{◌==◌, ◌≢◌, nat_lt}
 use Rattle.std.proofs.lemmas.Bool.{eq-eqb, cond_both}
 use Rattle.tw_laws.specs.Committed.{LinesLaw}
 use Rattle.tw_msgs.specs.Bags.{Bag}
 use Rattle.tw_msgs.specs.declared.message.Item.{Item}
 use Rattle.tw_theory.specs.Contents.{Process, next}
-use Rattle.tw_theory.specs.Executive.{World, Action, Post, Deliver, Back, Raise, Harvest, Answer, act, act_step, act_post, act_deliver, act_back, act_harvest, if_made, mail_of}
+use Rattle.tw_theory.specs.Executive.{World, Action, Post, Deliver, Back, Raise, Harvest, Answer, act, replay, act_step, act_post, act_deliver, act_back, act_harvest, if_made, mail_of}
 use Rattle.tw_theory.specs.LocalRun.{Moment, Made, output, NoStep}
 use Rattle.tw_theory.specs.Network.{Network, IsNetwork}
 use Rattle.tw_theory.specs.Simulator.{Moves, Stays, sequential}
@@ -18,7 +18,7 @@ use Rattle.tw_laws.proofs.History.Clock as clocked
 use Rattle.tw_laws.proofs.History.Committed.{extent}
 use Rattle.tw_laws.proofs.Settled.{all_phase_one}
 use Rattle.tw_laws.proofs.Starting.{start_sound}
-use Rattle.tw_laws.proofs.Harvesting.{replay_sound}
+use Rattle.tw_laws.proofs.Harvesting.{acts_soundly, replay_sound}
 
 module _ {S : Type 0} (net : Network S) where
   -- no limit is met at an output stamp
@@ -82,3 +82,11 @@ gvt_rises net until w h (Deliver c i) = deliver_gvt net until w c i (slice_get w
 gvt_rises net until w h (Back c s) = back_gvt net until w c s (slice_get w.processes c)
 gvt_rises net until w h Raise = h.gvt_le
 gvt_rises net until w h (Harvest c) = harvest_gvt net until w c (slice_get w.processes c)
+
+pub gvt_rises_by : {S : Type 0} (net : Network S) (until : ℕ) (w : World S) → IsNetwork net → until ≤ max_tick → IsSound net until w → (actions : List Action)
+    → w.gvt ≤ (replay net until w actions).gvt
+gvt_rises_by net until w ok bound h [] = omega arith
+gvt_rises_by net until w ok bound h (a ∷ actions) =
+    let one = gvt_rises net until w h a in
+    let rest = gvt_rises_by net until (act net until w a).1 ok bound (acts_soundly net until w ok bound h a) actions in
+    omega arith

@@ -23,7 +23,7 @@ abbrev pub OrderedInverse : Type 0 → Type 0
 OrderedInverse S =
     (net : Network S) (until : ℕ) (w : World S) (cs : List ℕ) → AllOrdered w.processes
     → (made : List (List (Step S)))
-    × RestoredAll made w.processes (rewound (marks w.processes) (replay net until w (steps_of cs)).processes)
+    × RestoredAll made w.processes (replay net until w (steps_of cs)).processes (rewound (marks w.processes) (replay net until w (steps_of cs)).processes)
     × (rewound_steps (marks w.processes) (replay net until w (steps_of cs)).processes ≡ count_all made)
     × ((replay net until w (steps_of cs)).mail ≡ w.mail)
     × ((replay net until w (steps_of cs)).columns ≡ w.columns)

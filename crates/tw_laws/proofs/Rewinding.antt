@@ -3,7 +3,7 @@ use Rattle.std.proofs.Common.{◌≡◌, ℕ, zero, suc, ◌+◌, ◌≤◌, max
 use Rattle.std.specs.Prelude.{slice_get, slice_index_or, ◌==◌, nat_lt, nat_le}
 use Rattle.std.proofs.lemmas.Bool.{cond_both, or_parts, and_cases, lt-ltb, le-ltb, ltb-true, ltb-false, leb-false, leb-true, eqb-true, eq-eqb, cases_lt, not-false}
 use Rattle.std.proofs.lemmas.Option.{same_Some, none-some}
-use Rattle.tw_laws.specs.Inverse.{RestoredAll, steps_of, IsRestored, InverseLaw}
+use Rattle.tw_laws.specs.Inverse.{RestoredAll, steps_of, IsRestored, InverseLaw, BackLaw}
 use Rattle.tw_laws.proofs.Ordered.{IsOrdered, AllOrdered}
 use Rattle.tw_msgs.specs.Counting.{total}
 use Rattle.tw_msgs.specs.declared.message.Item.{Item}
@@ -19,9 +19,10 @@ use Rattle.tw_theory.specs.Network.{Network, IsNetwork}
 use Rattle.tw_theory.specs.Soundness.{IsSoundProcess, IsSound}
 use Rattle.tw_vtime.specs.Stamps.{never, max_tick}
 use Rattle.tw_laws.proofs.Runs.{in_order}
+use Rattle.tw_laws.proofs.Cancelling.{rewound_cancels}
 use Rattle.tw_laws.proofs.Changing.{process_from_least, least_mail_top}
 use Rattle.tw_laws.proofs.Stepping.{all_odd, inputs_ascending}
-use Rattle.tw_laws.proofs.Inverse.{ordered_inverse}
+use Rattle.tw_laws.proofs.Inverse.{ordered_inverse, ordered_back}
 use Rattle.tw_laws.proofs.Cutting.{IsCutOf, cut_sound}
 
 -- ---- a cut before gvt that meets no step before gvt
@@ -111,6 +112,8 @@ module _ {S : Type 0} (net : Network S) (until : ℕ) (ok : IsNetwork net) (boun
     each = λ c q e.
         let r = rewound_get ss w.processes c q n e in
         subst (IsSoundProcess net until w.gvt c (slice_index_or w.columns c []) (mail_of w.mail c)) (sym r.4) (cut_at w ss h free c r.0 r.1 r.2 r.3).sound;
+    cancel = h.cancel;
+    cancels = rewound_cancels h.cancel ss w.processes h.cancels;
     balance = λ weight. omega (arith, h.balance weight, rewound_totals weight ss w.processes (λ c s p a at. (cut_at w ss h free c s p a at).balance weight));
     gvt_le = let g = h.gvt_le in let l = rewound_least w.gvt ss w.processes (omega arith) (λ c s p a at. let k = cut_at w ss h free c s p a at in (k.next, k.outgoing, k.owed)) in omega arith;
   }
@@ -164,13 +167,15 @@ length-marks : {S : Type 0} (ps : List (Process S)) → length (marks ps) ≡ le
 length-marks [] = refl
 length-marks (p ∷ ps) = ap suc (length-marks ps)
 
-length-restored : {S : Type 0} (all : List (List (Step S))) (ps qs : List (Process S)) → RestoredAll all ps qs → length qs ≡ length ps
-length-restored [] [] [] h = refl
-length-restored [] [] (q ∷ qs) h = absurd h
-length-restored [] (p ∷ ps) qs h = absurd h
-length-restored (x ∷ all) [] qs h = absurd h
-length-restored (x ∷ all) (p ∷ ps) [] h = absurd h
-length-restored (x ∷ all) (p ∷ ps) (q ∷ qs) h = ap suc (length-restored all ps qs h.1)
+length-restored : {S : Type 0} (all : List (List (Step S))) (ps rs qs : List (Process S)) → RestoredAll all ps rs qs → length rs ≡ length ps
+length-restored [] [] [] [] h = refl
+length-restored [] [] [] (q ∷ qs) h = absurd h
+length-restored [] [] (r ∷ rs) qs h = absurd h
+length-restored [] (p ∷ ps) rs qs h = absurd h
+length-restored (x ∷ all) [] rs qs h = absurd h
+length-restored (x ∷ all) (p ∷ ps) [] qs h = absurd h
+length-restored (x ∷ all) (p ∷ ps) (r ∷ rs) [] h = absurd h
+length-restored (x ∷ all) (p ∷ ps) (r ∷ rs) (q ∷ qs) h = ap suc (length-restored all ps rs qs h.1)
 
 rewind_is : {S : Type 0} (w : World S) (ss : List ℕ) → length ss ≡ length w.processes → any_committed w.gvt ss w.processes w.columns ≡ false
     → rewind w ss ≡ (Undone (rewound_steps ss w.processes), record { processes = rewound ss w.processes; mail = w.mail; columns = w.columns; gvt = w.gvt })
@@ -182,9 +187,14 @@ inverse_law {S} net until w cs ok bound h =
     let law = ordered_inverse net until w cs (world_ordered net until w h) in
     let after = replay net until w (steps_of cs) in
     let ss = marks w.processes in
-    let n : length ss ≡ length after.processes = length-marks w.processes ∙ sym (length-restored law.0 w.processes _ law.1) ∙ length-rewound ss after.processes in
+    let n : length ss ≡ length after.processes = length-marks w.processes ∙ sym (length-restored law.0 w.processes after.processes (rewound ss after.processes) law.1) in
     let free : any_committed after.gvt ss after.processes after.columns ≡ false =
     ap (λ g. any_committed g ss after.processes after.columns) law.5 ∙ none_committed w.gvt w.processes after.processes after.columns (let g = h.gvt_le in omega arith) in
     let is = rewind_is after ss n free in
-    subst (λ (r : Answer × World S). IsRestored w r.1 r.0) (sym is)
+    subst (λ (r : Answer × World S). IsRestored w after r.1 r.0) (sym is)
     (record { made = law.0; processes = law.1; answer_is = ap Undone law.2; mail = law.3; columns = law.4; gvt = law.5 })
+
+pub back_law : {S : Type 0} → BackLaw S
+back_law net until w cs c p ok bound h at =
+    let low = process_from_least w.gvt w.processes c p (let g = h.gvt_le in omega arith) at in
+    ordered_back net until w cs c p (world_ordered net until w h) (sound_ordered net until w.gvt c _ _ p (h.each c p at)) at low.0

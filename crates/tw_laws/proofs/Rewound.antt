@@ -1,18 +1,22 @@
--- What a rewind that is not refused leaves.
-use Rattle.std.proofs.Common.{◌≡◌, ℕ, zero, suc, ◌+◌, List, [], ◌∷◌, ◌++◌, length, Bool, true, false, cond, not, Some, refl, sym, ap, ap₂, ◌∙◌, arith}
-use Rattle.std.specs.Prelude.{slice_get, ◌==◌, pos, ◌-ℤ◌}
+-- What a rewind, or Back, that is not refused leaves.
+use Rattle.std.proofs.Common.{◌≡◌, ℕ, zero, suc, ◌+◌, ◌≤◌, List, [], ◌∷◌, ◌++◌, length, Bool, true, false, cond, not, Option, Some, None, refl, sym, ap, ap₂, ◌∙◌, arith}
+use Rattle.std.specs.Prelude.{slice_get, slice_set, ◌==◌, nat_lt, pos, ◌-ℤ◌}
+use Rattle.std.proofs.lemmas.Bool.{ltb-false}
 use Rattle.std.proofs.lemmas.Int.{ints}
 use Rattle.std.proofs.lemmas.Option.{same_Some, none-some}
-use Rattle.tw_laws.specs.Rewinding.{taken_back, AllCancel, IsCutAt, IsRewound, RewindingLaw}
+use Rattle.tw_laws.specs.Rewinding.{taken_back, all_owed, AllCancel, IsCutAt, IsRewound, RewindingLaw, IsBackedTo, BackingLaw}
 use Rattle.tw_msgs.specs.Counting.{total, one_at, when_positive, when_anti, signed_count}
 use Rattle.tw_msgs.specs.declared.message.Message.{Message}
 use Rattle.tw_theory.specs.Balance.{all_outgoing, all_mail, in_transit}
-use Rattle.tw_theory.specs.Contents.{Process, Aggressive, cut, back_to_first, steps_before}
-use Rattle.tw_theory.specs.Executive.{World, Answer, Undone, Refused, NoSuch, Committed}
+use Rattle.tw_theory.specs.Contents.{Process, Aggressive, sent_by, cut, back_to_first, steps_before, steps_from}
+use Rattle.tw_theory.specs.Executive.{World, Answer, Undone, Refused, NoSuch, Committed, BeforeGvt, act, act_back, with_process}
 use Rattle.tw_theory.specs.Marks.{any_committed, rewound, rewound_steps, rewind}
+use Rattle.tw_theory.proofs.Balancing.{transit}
 use Rattle.tw_theory.proofs.Cuts.{inputs_of_cut}
+use Rattle.tw_theory.proofs.Totals.{total-set}
 use Rattle.tw_laws.proofs.Cutting.{kept_before}
-use Rattle.tw_laws.proofs.Transit.{rewound_transit}
+use Rattle.tw_laws.proofs.Inverse.{set_here, set_there}
+use Rattle.tw_laws.proofs.Transit.{rewound_transit, dropped, cut_positive, cut_anti, cut_no_anti, cut_more_owed}
 use Rattle.tw_msgs.proofs.Totals.{total-append}
 
 fewer : (plus minus less plus' minus' : ℕ) → plus' ≡ plus → minus' ≡ minus + less → pos plus' -ℤ pos minus' ≡ (pos plus -ℤ pos minus) -ℤ pos less
@@ -72,3 +76,70 @@ module _ {S : Type 0} where
   pub rewinding_law : RewindingLaw S
   unfolding rewind
   rewinding_law w ss n e = by_tests w ss n (not (length ss == length w.processes)) (any_committed w.gvt ss w.processes w.columns) e
+
+  -- ---- Back
+
+  set_outgoing : (ps : List (Process S)) (c : ℕ) (p q : Process S) → slice_get ps c ≡ Some p → q.outgoing ≡ p.outgoing
+      → all_outgoing (slice_set ps c q) ≡ all_outgoing ps
+  set_outgoing [] c p q at e = refl
+  set_outgoing (x ∷ ps) zero p q at e = ap (λ out. out ++ all_outgoing ps) (e ∙ ap (λ (y : Process S). y.outgoing) (sym (same_Some x p at)))
+  set_outgoing (x ∷ ps) (suc c) p q at e = ap (λ out. x.outgoing ++ out) (set_outgoing ps c p q at e)
+
+  total-owed : (weight : Message → ℕ) (ps : List (Process S)) → total weight (all_owed ps) ≡ total (λ p. total weight p.owed) ps
+  total-owed weight [] = refl
+  total-owed weight (p ∷ ps) = omega (arith, total-append weight p.owed (all_owed ps), total-owed weight ps)
+
+  backed_count : (w : World S) (c s : ℕ) (p : Process S) → slice_get w.processes c ≡ Some p → p.cancel ≡ Aggressive → (m : Message)
+      → signed_count m (in_transit (with_process w c (cut s p))) ≡ signed_count m (in_transit w) -ℤ pos (total (one_at m) (sent_by (dropped s p)))
+  backed_count w c s p at k m =
+      let plus = when_positive (one_at m) in
+      let minus = when_anti (one_at m) in
+      let w' = with_process w c (cut s p) in
+      fewer (total plus (in_transit w)) (total minus (in_transit w)) (total (one_at m) (sent_by (dropped s p))) (total plus (in_transit w')) (total minus (in_transit w'))
+      (omega (arith, transit plus w, transit plus w', total-set (λ (x : Process S). total plus x.outgoing) w.processes c p (cut s p) at, cut_positive s p (one_at m)))
+      (omega (arith, transit minus w, transit minus w', total-set (λ (x : Process S). total minus x.outgoing) w.processes c p (cut s p) at, cut_anti s p (one_at m) k))
+
+  backed_is : (w : World S) (c s n : ℕ) (p : Process S) → slice_get w.processes c ≡ Some p → w.gvt ≤ s → steps_from s p ≡ n
+      → IsBackedTo w c s n (with_process w c (cut s p))
+  backed_is w c s n p at l e = record {
+    from = l;
+    old = p;
+    new = cut s p;
+    old_at = at;
+    new_at = set_here w.processes c p (cut s p) at;
+    process = cut_back s p;
+    number = sym e;
+    others = λ d ne. set_there w.processes c d (cut s p) ne;
+    mail = refl;
+    columns = refl;
+    gvt = refl;
+    aggressive = λ k m. backed_count w c s p at k m;
+    lazy = λ k. (
+      ap (λ out. out ++ all_mail w.mail) (set_outgoing w.processes c p (cut s p) at (cut_no_anti s p k)),
+      λ m.
+          omega (
+            arith,
+            total-owed (one_at m) w.processes,
+            total-owed (one_at m) (slice_set w.processes c (cut s p)),
+            total-set (λ (x : Process S). total (one_at m) x.owed) w.processes c p (cut s p) at,
+            cut_more_owed s p (one_at m) k,
+          ),
+    );
+  }
+
+  -- what Back gives, by its test
+  abbrev back_gives : World S → ℕ → ℕ → Process S → Bool → Answer × World S
+  back_gives w c s p early = cond early (Refused BeforeGvt, w) (Undone (steps_from s p), with_process w c (cut s p))
+
+  backed : (w : World S) (c s n : ℕ) (o : Option (Process S)) → slice_get w.processes c ≡ o → (act_back w c s o).0 ≡ Undone n
+      → IsBackedTo w c s n (act_back w c s o).1
+  backed w c s n None at e = absurd (let bad : Refused NoSuch ≡ Undone n = e in cc)
+  backed w c s n (Some p) at e = go (nat_lt s w.gvt) refl e
+    where
+      go : (b : Bool) → nat_lt s w.gvt ≡ b → (back_gives w c s p b).0 ≡ Undone n → IsBackedTo w c s n (back_gives w c s p b).1
+      go true t k = absurd (let bad : Refused BeforeGvt ≡ Undone n = k in cc)
+      go false t k = let same : Undone (steps_from s p) ≡ Undone n = k in backed_is w c s n p at (ltb-false s w.gvt t) (cc same)
+
+  pub backing_law : BackingLaw S
+  unfolding act
+  backing_law net until w c s n e = backed w c s n (slice_get w.processes c) refl e

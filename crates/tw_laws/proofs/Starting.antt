@@ -15,6 +15,7 @@ use Rattle.tw_theory.specs.LocalRun.{Moment, start_moment}
 use Rattle.tw_theory.specs.Network.{Network, Fits, IsNetwork}
 use Rattle.tw_theory.specs.Simulator.{start_moments, sequential, rounds, up_to, moment_at, due_from, all_sent}
 use Rattle.tw_theory.specs.Soundness.{new_process, new_processes, new_world, IsFor, IsSoundProcess, IsSound}
+use Rattle.tw_laws.proofs.Cancelling.{started}
 use Rattle.tw_theory.proofs.Elements.{each-sorted}
 use Rattle.tw_theory.proofs.Totals.{total-replicate}
 use Rattle.tw_atomic.specs.Atomic.{Meaning}
@@ -142,6 +143,8 @@ module _ {S : Type 0} (net : Network S) (cancel : Cancel) where
     mail = length-replicate (length net.models) [];
     columns = length-replicate (length net.models) [];
     each = λ c p e. subst₂ (λ column mail. IsSoundProcess net until 0 c column mail p) (sym (no_mail (length net.models) c)) (sym (no_mail (length net.models) c)) (start_process until c p ok e);
+    cancel = cancel;
+    cancels = started cancel net 0 net.models;
     balance = λ weight.
         omega (
           arith,

@@ -25,6 +25,7 @@ use Rattle.tw_theory.proofs.Steps.{local_step_follows}
 use Rattle.tw_theory.proofs.TakingBack.{consumed_by-append, sent_by-append}
 use Rattle.tw_laws.proofs.Runs.{leads_more, in_order}
 use Rattle.tw_laws.proofs.Sends.{IsSentAt, local_step_sends}
+use Rattle.tw_laws.proofs.Cancelling.{stepped, settled}
 use Rattle.tw_laws.proofs.Changing.{each_from_least, least_from_each, least_mail_top, box_from_least, least_mail-set, process_from_least, replaced_sound}
 use Rattle.tw_msgs.proofs.Totals.{total-append}
 
@@ -94,6 +95,7 @@ module _ {S : Type 0} (net : Network S) (until : ℕ) (ok : IsNetwork net) (boun
         sound = step_process w.gvt c _ _ p made sound e early;
         for_mail = λ d m. m;
         balance = λ weight. let b = step_balance weight p made f.messages in omega arith;
+        cancels = λ k x. stepped k p made x;
         next = let l = f.later in let o = old.0 in omega arith;
         outgoing = least_from_each w.gvt (p.outgoing ++ positives (sent_out p.cancel p.owed made.step.sent)) top
             (each-append (λ i. w.gvt ≤ i.message.stamp) p.outgoing (positives (sent_out p.cancel p.owed made.step.sent)) (each_from_least w.gvt p.outgoing old.1)
@@ -240,6 +242,7 @@ module _ {S : Type 0} (net : Network S) (until : ℕ) where
         sound = post_process w.gvt c _ (mail_of w.mail c) _ q k.sound (all c k.sound.for_mail);
         for_mail = all;
         balance = λ weight. omega (arith, k.balance weight, total-posted (when_anti weight) w.mail q.outgoing near, total-posted (when_positive weight) w.mail q.outgoing near);
+        cancels = λ cancel x. let y = settled cancel p x in record { is = y.is; nothing_owed = y.nothing_owed };
         next = k.next;
         outgoing = top;
         owed = k.owed;

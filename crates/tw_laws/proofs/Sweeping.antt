@@ -5,7 +5,7 @@ use Rattle.std.specs.List.{AllByRecursion as Each}
 use Rattle.std.proofs.lemmas.Bool.{cond_both}
 use Rattle.std.proofs.lemmas.List.{length-map}
 use Rattle.std.proofs.lemmas.Option.{slice_get_within}
-use Rattle.tw_laws.specs.Sweeping.{work_of, work, WorkFalls}
+use Rattle.tw_laws.specs.Sweeping.{WorkFalls}
 use Rattle.tw_msgs.specs.Counting.{total}
 use Rattle.tw_msgs.specs.Messages.{has}
 use Rattle.tw_msgs.specs.declared.message.Item.{Item}
@@ -14,6 +14,7 @@ use Rattle.tw_msgs.specs.declared.message.Sign.{Sign}
 use Rattle.tw_msgs.specs.declared.message.Sign.TheVariants.{Positive, Anti}
 use Rattle.tw_theory.specs.Bundles.{anti, antis, overdue}
 use Rattle.tw_theory.specs.Contents.{Process, consumed_by, next, sent_by, unsent_by, Cancel, Aggressive, Lazy, settled_as, settle, back_to_first, steps_before, steps_from, cut, with_outgoing, Received, receive, receive_signed}
+use Rattle.tw_theory.specs.Exchange.{work_of, work}
 use Rattle.tw_theory.specs.Executive.{World, Post, Deliver, act, act_post, act_deliver, mail_of, posted}
 use Rattle.tw_theory.specs.Network.{Network, Fits}
 use Rattle.tw_theory.specs.Soundness.{IsSound}
@@ -23,11 +24,11 @@ use Rattle.tw_theory.proofs.Totals.{total-set, total-remove}
 use Rattle.tw_theory.proofs.TakingBack.{sent_by-append}
 use Rattle.tw_laws.proofs.Stepping.{get_box, total-posted}
 
-one_each : {X : Type 0} (xs : List X) → total (λ x. 1) xs ≡ length xs
+pub one_each : {X : Type 0} (xs : List X) → total (λ x. 1) xs ≡ length xs
 one_each [] = refl
 one_each (x ∷ xs) = omega (arith, one_each xs)
 
-one_each_all : (mail : List (List Item)) → total (total (λ i. 1)) mail ≡ total length mail
+pub one_each_all : (mail : List (List Item)) → total (total (λ i. 1)) mail ≡ total length mail
 one_each_all [] = refl
 one_each_all (box ∷ mail) = omega (arith, one_each box, one_each_all mail)
 
@@ -49,7 +50,7 @@ received_work {S} p Anti m =
     (λ e. cond_both (has m (consumed_by p.history)) _ _ (λ (r : Received × Process S). work_of r.1 ≤ work_of p) (λ d. cut_work m.stamp p) (λ d. omega arith))
 
 -- messages owed that become anti-messages fit, and weigh the same
-settle_fits : {S : Type 0} (P : Message → Type 0) (k : Cancel) (p : Process S) → Each (λ i. P i.message) p.outgoing → Each P p.owed
+pub settle_fits : {S : Type 0} (P : Message → Type 0) (k : Cancel) (p : Process S) → Each (λ i. P i.message) p.outgoing → Each P p.owed
     → Each (λ i. P i.message) (settled_as k p).outgoing
 settle_fits P Aggressive p a b = a
 settle_fits P Lazy p a b = each-append (λ i. P i.message) p.outgoing (antis (overdue (next p) p.owed)) a (each-antis P (overdue (next p) p.owed) (each-overdue P (next p) p.owed b).0)

@@ -1,21 +1,23 @@
 -- Two traces with the same records of each component are one.
-use Rattle.std.proofs.Common.{◌≡◌, ℕ, ◌<◌, List, [], ◌∷◌, Bool, true, false, cond, refl, sym, ap, ap₂, ◌∙◌, subst, arith, ⊎_elim}
+use Rattle.std.proofs.Common.{◌≡◌, ℕ, ◌<◌, List, [], ◌∷◌, Bool, true, false, cond, Option, Some, None, refl, sym, ap, ap₂, ◌∙◌, subst, arith, ⊎_elim}
 use Rattle.std.specs.Prelude.{◌==◌, ◌≢◌, filter, ◌&&◌, nat_lt, ◌≤◌}
 use Rattle.std.specs.List.{AllByRecursion as Each}
 use Rattle.std.proofs.lemmas.Bool.{cond-true, cond-false, cond_both, eq-eqb, ne_eqb, cases_eq, lt-ltb}
 use Rattle.tw_laws.specs.Traces.{Precedes, IsTrace, of_component, OneTrace, TraceLaw}
+use Rattle.tw_laws.specs.Committed.{RoundsLaw}
 use Rattle.tw_msgs.specs.declared.record.Record.{Record}
 use Rattle.tw_theory.specs.Network.{Network, IsNetwork}
-use Rattle.tw_theory.specs.Simulator.{Run, rounds, sequential, up_to, records_before}
+use Rattle.tw_theory.specs.Simulator.{Run, rounds, round_time, sequential, up_to, records_before}
 use Rattle.tw_vtime.specs.Stamps.{stamp, max_tick}
+use Rattle.tw_vtime.specs.declared.limits.Limit.{Limit}
 use Rattle.tw_theory.proofs.Elements.{each_weaker}
 use Rattle.tw_laws.proofs.Settled.{all_phase_one}
-use Rattle.tw_laws.proofs.History.Rounds.{Reached, Running, Faulted, rounds_reach}
+use Rattle.tw_laws.proofs.History.Rounds.{Reached, Running, Faulted, rounds_reach, time_due}
 
 own_here : (x : Record) (xs : List Record) → of_component x.component (x ∷ xs) ≡ x ∷ of_component x.component xs
 own_here x xs = cond-true (x.component == x.component) _ _ (eq-eqb x.component x.component refl)
 
-own_other : (c : ℕ) (x : Record) (xs : List Record) → x.component ≢ c → of_component c (x ∷ xs) ≡ of_component c xs
+pub own_other : (c : ℕ) (x : Record) (xs : List Record) → x.component ≢ c → of_component c (x ∷ xs) ≡ of_component c xs
 own_other c x xs ne = cond-false (x.component == c) _ _ (ne_eqb x.component c ne)
 
 each_own : (P : Record → Type 0) (c : ℕ) (xs : List Record) → Each P xs → Each P (of_component c xs)
@@ -90,3 +92,18 @@ module _ {S : Type 0} (net : Network S) (until : ℕ) where
 
 pub trace_law : {S : Type 0} → TraceLaw S
 trace_law = record { ordered = λ net until ok bound. (sequential_trace net until ok bound).0; only = only_trace }
+
+-- ---- the rounds of a run without a fault are all made
+
+pub rounds_law : {S : Type 0} → RoundsLaw S
+unfolding sequential
+rounds_law {S} net until ok bound none =
+    let end = stamp until 0 0 in
+    left (rounds net end) none (rounds_reach net end end (all_phase_one net net.inputs ok.inputs) (omega arith) (omega arith) (omega arith) (omega arith))
+  where
+    clash : {x : ℕ × ℕ × Limit} → ◌≡◌ {A = Option (ℕ × ℕ × Limit)} None (Some x) → ⊥
+    clash k = cc
+
+    left : (run : Run S) → run.fault ≡ None → Reached net (stamp until 0 0) run → stamp until 0 0 ≤ round_time run.at
+    left run e (Running at) = (time_due net (stamp until 0 0) run at (omega arith)).0
+    left run e (Faulted f l at) = absurd (clash (sym e ∙ at.fault))

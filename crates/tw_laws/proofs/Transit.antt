@@ -16,21 +16,21 @@ use Rattle.tw_msgs.proofs.Totals.{total-append}
 
 -- what is outgoing and owed after a cut
 module _ {S : Type 0} (s : ℕ) (p : Process S) where
-  abbrev dropped : List (Step S)
+  abbrev pub dropped : List (Step S)
   dropped = drop (steps_before s p.history) p.history
 
-  cut_outgoing : (cut s p).outgoing ≡ outgoing_undone p.cancel p.outgoing (unsent_by dropped)
+  pub cut_outgoing : (cut s p).outgoing ≡ outgoing_undone p.cancel p.outgoing (unsent_by dropped)
   unfolding back_to_first
   cut_outgoing = refl
 
-  cut_owed : (cut s p).owed ≡ owed_undone p.cancel p.owed (unsent_by dropped)
+  pub cut_owed : (cut s p).owed ≡ owed_undone p.cancel p.owed (unsent_by dropped)
   unfolding back_to_first
   cut_owed = refl
 
-  cut_positive : (weight : Message → ℕ) → total (when_positive weight) (cut s p).outgoing ≡ total (when_positive weight) p.outgoing
+  pub cut_positive : (weight : Message → ℕ) → total (when_positive weight) (cut s p).outgoing ≡ total (when_positive weight) p.outgoing
   cut_positive weight = ap (total (when_positive weight)) cut_outgoing ∙ positive-undone weight p.cancel p.outgoing (unsent_by dropped)
 
-  cut_anti : (weight : Message → ℕ) → p.cancel ≡ Aggressive
+  pub cut_anti : (weight : Message → ℕ) → p.cancel ≡ Aggressive
       → total (when_anti weight) (cut s p).outgoing ≡ total (when_anti weight) p.outgoing + total weight (sent_by dropped)
   cut_anti weight k =
       omega (
@@ -41,13 +41,13 @@ module _ {S : Type 0} (s : ℕ) (p : Process S) where
         total-unsent weight dropped,
       )
 
-  cut_no_owed : p.cancel ≡ Aggressive → (cut s p).owed ≡ p.owed
+  pub cut_no_owed : p.cancel ≡ Aggressive → (cut s p).owed ≡ p.owed
   cut_no_owed k = cut_owed ∙ ap (λ c. owed_undone c p.owed (unsent_by dropped)) k
 
-  cut_no_anti : p.cancel ≡ Lazy → (cut s p).outgoing ≡ p.outgoing
+  pub cut_no_anti : p.cancel ≡ Lazy → (cut s p).outgoing ≡ p.outgoing
   cut_no_anti k = cut_outgoing ∙ ap (λ c. outgoing_undone c p.outgoing (unsent_by dropped)) k
 
-  cut_more_owed : (weight : Message → ℕ) → p.cancel ≡ Lazy → total weight (cut s p).owed ≡ total weight p.owed + total weight (sent_by dropped)
+  pub cut_more_owed : (weight : Message → ℕ) → p.cancel ≡ Lazy → total weight (cut s p).owed ≡ total weight p.owed + total weight (sent_by dropped)
   cut_more_owed weight k =
       omega (arith, ap (total weight) (cut_owed ∙ ap (λ c. owed_undone c p.owed (unsent_by dropped)) k), total-append weight p.owed (unsent_by dropped), total-unsent weight dropped)
 

@@ -1,21 +1,26 @@
--- Each law applied to a concrete network, so that none has a premise that nothing meets: generator, relay and tally in a row.
-use Rattle.std.specs.Prelude.{ℕ, ◌<◌, ◌≡◌, List, [], ◌∷◌, ◌++◌, None, Some, slice_get}
-use Rattle.tw_laws.specs.Ending.{state, Complete, Fault, Going}
+-- The laws applied to concrete networks, so that none has a premise that nothing meets: generator, relay and tally in a row; a run that is driven to its end; one that a limit stops.
+use Rattle.std.specs.Prelude.{ℕ, ◌<◌, ◌≤◌, ◌≡◌, pos, length, List, [], ◌∷◌, None, Some, slice_get}
+use Rattle.tw_laws.specs.Committed.{HasCommitted, Grow}
+use Rattle.tw_laws.specs.Ending.{state, HasAll, Complete, Fault, Going}
+use Rattle.tw_laws.specs.Headline.{Deed, all_done, IsTimeWarp}
 use Rattle.tw_laws.specs.History.{Held, IsSettled, IsCommitted}
-use Rattle.tw_laws.specs.Inverse.{IsRestored, steps_of}
-use Rattle.tw_laws.specs.Rewinding.{IsRewound}
-use Rattle.tw_laws.specs.Sweeping.{work}
+use Rattle.tw_laws.specs.Inverse.{IsRestored, IsBacked, steps_of}
+use Rattle.tw_laws.specs.Rewinding.{IsRewound, IsBackedTo}
+use Rattle.tw_laws.specs.Sweeping.{AllProgress}
 use Rattle.tw_laws.specs.Traces.{IsTrace}
 use Rattle.tw_msgs.specs.declared.record.Record.{Record}
+use Rattle.tw_msgs.specs.declared.record_kind.RecordKind.TheVariants.{Out, Int, Ext}
 use Rattle.tw_vtime.specs.Stamps.{stamp}
 use Rattle.tw_vtime.specs.declared.limits.Limit.TheVariants.{Tick}
-use Rattle.tw_theory.specs.Contents.{Process, Cancel}
+use Rattle.tw_theory.specs.Contents.{Process, Cancel, Placed, next}
 use Rattle.tw_theory.specs.ExampleModels.{State}
-use Rattle.tw_theory.specs.ExampleNetworks.{three, lone}
-use Rattle.tw_theory.specs.Executive.{World, Action, Step, Post, Deliver, Raise, act, replay, column_of}
+use Rattle.tw_theory.specs.ExampleNetworks.{three, lone, gen_tally}
+use Rattle.tw_theory.specs.ExampleTraces.{out, int, ext, item}
+use Rattle.tw_theory.specs.Exchange.{work}
+use Rattle.tw_theory.specs.Executive.{World, Action, Step, Post, Deliver, Back, Raise, Harvest, Stepped, Posted, Delivered, Raised, Harvested, act, replay, answers}
 use Rattle.tw_theory.specs.Marks.{marks, rewind}
 use Rattle.tw_theory.specs.Network.{IsNetwork}
-use Rattle.tw_theory.specs.Simulator.{sequential, records_before}
+use Rattle.tw_theory.specs.Simulator.{sequential, round_time, up_to}
 use Rattle.tw_theory.specs.Soundness.{IsSound, new_world}
 
 abbrev pub start : Cancel → World State
@@ -28,18 +33,47 @@ after cancel actions = replay three 10 (start cancel) actions
 abbrev pub posted : Cancel → World State
 posted cancel = after cancel (Step 0 ∷ Post 0 ∷ [])
 
+-- a generator and a tally, driven until tick 3: the generator sends, its message is delivered, both make their transitions, and all of it is committed
+abbrev pub drive : List Action
+drive = Step 0 ∷ Post 0 ∷ Deliver 1 0 ∷ Step 0 ∷ Step 1 ∷ Raise ∷ Harvest 0 ∷ Harvest 1 ∷ []
+
+abbrev pub driven : Cancel → World State
+driven cancel = replay gen_tally 3 (new_world gen_tally cancel) drive
+
+abbrev pub driven_trace : List Record
+driven_trace = out 2 0 0 (item 5) ∷ int 2 0 0 (pos 1 ∷ []) ∷ ext 2 0 1 (item 5) (pos 1 ∷ pos 5 ∷ pos 5 ∷ []) ∷ []
+
+pub record DrivenRun (cancel : Cancel) : Type 0 where
+  pub answers_are : answers gen_tally 3 (new_world gen_tally cancel) drive
+      ≡ Stepped (stamp 2 0 0) Out ∷ Posted 1 ∷ Delivered Placed ∷ Stepped (stamp 2 0 1) Int ∷ Stepped (stamp 2 0 1) Ext ∷ Raised (stamp 4 0 0) ∷ Harvested 2 ∷ Harvested 1 ∷ []
+  pub columns : (driven cancel).columns ≡ (out 2 0 0 (item 5) ∷ int 2 0 0 (pos 1 ∷ []) ∷ []) ∷ (ext 2 0 1 (item 5) (pos 1 ∷ pos 5 ∷ pos 5 ∷ []) ∷ []) ∷ []
+  pub complete : state gen_tally 3 (driven cancel) ≡ Complete
+  -- by the laws: the simulator has no fault, its records are the columns, and those merged are its trace
+  pub no_fault : (sequential gen_tally 3).fault ≡ None
+  pub has_all : HasAll gen_tally 3 (driven cancel)
+  pub merged : driven_trace ≡ (sequential gen_tally 3).records
+  pub all_rounds : stamp 3 0 0 ≤ round_time (sequential gen_tally 3).at
+
 -- one generator has stepped, and gvt was raised to its transition
 abbrev pub stuck : Cancel → World State
 stuck cancel = replay (lone 1099511627773) 1099511627774 (new_world (lone 1099511627773) cancel) (Step 0 ∷ Raise ∷ [])
 
 pub record LawsOfThree (cancel : Cancel) : Type 0 where
   pub network : IsNetwork three
+  pub time_warp : (deeds : List Deed) → IsTimeWarp three cancel 10 (all_done three 10 (start cancel) deeds)
   pub sound : IsSound three 10 (start cancel)
   pub kept : (actions : List Action) → IsSound three 10 (after cancel actions)
-  pub settled : (h : Held State) × IsSettled three 10 0 h × IsCommitted three 10 0 h
-  pub committed : (actions : List Action) (c : ℕ) (p : Process State) → slice_get (after cancel actions).processes c ≡ Some p → column_of (after cancel actions).columns c ≡ records_before three 10 c p.line
-  pub restored : (cs : List ℕ) → IsRestored (start cancel) (rewind (after cancel (steps_of cs)) (marks (start cancel).processes)).1 (rewind (after cancel (steps_of cs)) (marks (start cancel).processes)).0
+  -- after any actions, at gvt
+  pub settled : (actions : List Action) → (h : Held State) × IsSettled three 10 (up_to 10 (after cancel actions).gvt) h × IsCommitted three 10 (up_to 10 (after cancel actions).gvt) h
+  pub committed : (actions : List Action) → HasCommitted three 10 (after cancel actions)
+  pub restored : (cs : List ℕ) → IsRestored (start cancel) (after cancel (steps_of cs)) (rewind (after cancel (steps_of cs)) (marks (start cancel).processes)).1 (rewind (after cancel (steps_of cs)) (marks (start cancel).processes)).0
   pub rewound : IsRewound (posted cancel) (marks (start cancel).processes) (rewind (posted cancel) (marks (start cancel).processes)).1
+  pub backed : (cs : List ℕ) (c : ℕ) (p : Process State) → slice_get (start cancel).processes c ≡ Some p
+      → IsBacked (start cancel) (after cancel (steps_of cs)) (act three 10 (after cancel (steps_of cs)) (Back c (next p))).1 c p (act three 10 (after cancel (steps_of cs)) (Back c (next p))).0
+  pub backed_to : IsBackedTo (posted cancel) 0 0 1 (act three 10 (posted cancel) (Back 0 0)).1
+  pub rises : (first more : List Action) → (after cancel first).gvt ≤ (replay three 10 (after cancel first) more).gvt
+  pub grows : (first more : List Action) → Grow (after cancel first).columns (replay three 10 (after cancel first) more).columns
+  pub sweeps_end : (first more : List Action) → AllProgress three 10 (after cancel first) more → length more ≤ work (after cancel first)
   pub less_work : work (act three 10 (posted cancel) (Deliver 1 0)).1 < work (posted cancel)
   pub going : state three 10 (start cancel) ≡ Going
   -- with nothing to do, all is complete, and the simulator has no fault
@@ -47,6 +81,8 @@ pub record LawsOfThree (cancel : Cancel) : Type 0 where
   -- a generator whose second period would be past the greatest tick: at gvt, with nothing in transit, it meets that limit, and this is the simulator's fault
   pub fault : (state (lone 1099511627773) 1099511627774 (stuck cancel) ≡ Fault 0 (stamp 1099511627773 0 1) Tick)
       × ((sequential (lone 1099511627773) 1099511627774).fault ≡ Some (0, stamp 1099511627773 0 1, Tick))
-  -- no column has a record before 0.0.0
-  pub merged : (rest : List Record) × ([] ++ rest ≡ (sequential three 10).records)
+  -- whatever was done to that generator, no line is past the fault
+  pub lines : (actions : List Action) (c : ℕ) (p : Process State) → slice_get (replay (lone 1099511627773) 1099511627774 (new_world (lone 1099511627773) cancel) actions).processes c ≡ Some p
+      → p.line ≤ stamp 1099511627773 0 1
+  pub driven_run : DrivenRun cancel
   pub traced : IsTrace (sequential three 10).records

@@ -1,10 +1,10 @@
 -- How a sound executive shows that the run has ended: all is committed, or the simulator's fault is reached.
-use Rattle.std.specs.Prelude.{ℕ, suc, ◌<◌, ◌≤◌, ◌≡◌, List, [], ◌∷◌, Bool, true, false, not, ◌&&◌, ◌==◌, nat_lt, nat_le, if◌then◌else◌, Option, Some, None, Result, Ok, Err, slice_get, slice_index_or, ◌≢◌}
+use Rattle.std.specs.Prelude.{ℕ, suc, ◌<◌, ◌≤◌, ◌≡◌, List, [], ◌∷◌, Bool, true, not, ◌&&◌, ◌==◌, nat_lt, nat_le, if◌then◌else◌, Option, Some, None, Result, Ok, Err, slice_get, ◌≢◌, ◌↔◌}
 use Rattle.std.specs.List.{AllByRecursion as Each}
-use Rattle.tw_msgs.specs.declared.message.Item.{Item}
 use Rattle.tw_msgs.specs.declared.message.Message.{Message}
 use Rattle.tw_theory.specs.Contents.{Process, next}
-use Rattle.tw_theory.specs.Executive.{World}
+use Rattle.tw_theory.specs.Exchange.{is_empty, all_empty}
+use Rattle.tw_theory.specs.Executive.{World, column_of}
 use Rattle.tw_theory.specs.LocalRun.{Made, NothingDue, OverLimit, local_step, NoStep}
 use Rattle.tw_theory.specs.Network.{Network, IsNetwork}
 use Rattle.tw_theory.specs.Simulator.{sequential, records_before}
@@ -25,13 +25,20 @@ pub record ShowsFault {S : Type 0} (net : Network S) (until : ℕ) (w : World S)
   pub meets : local_step net c process.now process.pending ≡ Err (OverLimit limit)
   pub least : (d : ℕ) (q : Process S) (other : Limit) → slice_get w.processes d ≡ Some q → d < c → next q ≡ w.gvt → local_step net d q.now q.pending ≡ Err (OverLimit other) → ⊥
 
+-- every line is at or after this stamp
+abbrev pub AllPast : {S : Type 0} → ℕ → World S → Type 0
+AllPast {S} end w = (c : ℕ) (p : Process S) → slice_get w.processes c ≡ Some p → end ≤ p.line
+
+-- the columns are the simulator's records, each of its component
+abbrev pub HasAll : {S : Type 0} → Network S → ℕ → World S → Type 0
+HasAll {S} net until w = (c : ℕ) (p : Process S) → slice_get w.processes c ≡ Some p → column_of w.columns c ≡ records_before net until c (stamp until 0 0)
+
 -- that is the simulator's fault; and where every line is at the end, the simulator has no fault and the columns are its records
 pub record EndingLaw (S : Type 0) : Type 0 where
   pub fault : (net : Network S) (until : ℕ) (w : World S) → IsNetwork net → until ≤ max_tick → IsSound net until w
       → (c : ℕ) (limit : Limit) → ShowsFault net until w c limit → (sequential net until).fault ≡ Some (c, w.gvt, limit)
-  pub complete : (net : Network S) (until : ℕ) (w : World S) → IsNetwork net → until ≤ max_tick → IsSound net until w
-      → ((c : ℕ) (p : Process S) → slice_get w.processes c ≡ Some p → stamp until 0 0 ≤ p.line)
-      → ((sequential net until).fault ≡ None) × ((c : ℕ) (p : Process S) → slice_get w.processes c ≡ Some p → slice_index_or w.columns c [] ≡ records_before net until c (stamp until 0 0))
+  pub complete : (net : Network S) (until : ℕ) (w : World S) → IsNetwork net → until ≤ max_tick → IsSound net until w → AllPast (stamp until 0 0) w
+      → ((sequential net until).fault ≡ None) × HasAll net until w
 
 -- ---- the state of a run
 
@@ -39,10 +46,6 @@ pub data State : Type 0 where
   Complete : State
   Fault : (component stamp : ℕ) (limit : Limit) → State
   Going : State
-
-abbrev pub is_empty : {X : Type 0} → List X → Bool
-is_empty [] = true
-is_empty (x ∷ xs) = false
 
 -- whether no message of this stamp is in the list
 abbrev pub none_at : ℕ → List Message → Bool
@@ -53,10 +56,6 @@ none_at s (m ∷ ms) = not (m.stamp == s) && none_at s ms
 abbrev pub all_quiet : {S : Type 0} → ℕ → List (Process S) → Bool
 all_quiet g [] = true
 all_quiet g (p ∷ ps) = is_empty p.outgoing && none_at g p.owed && all_quiet g ps
-
-abbrev pub all_empty : List (List Item) → Bool
-all_empty [] = true
-all_empty (box ∷ mail) = is_empty box && all_empty mail
 
 abbrev pub limit_of : {S : Type 0} → Result (Made S) NoStep → Option Limit
 limit_of (Ok made) = None
@@ -84,6 +83,13 @@ state net until w =
 
 -- what it says is so
 pub record StateLaw (S : Type 0) : Type 0 where
+  -- of every world, sound or not: it is complete exactly where every line is at the end or after it
+  pub past : (net : Network S) (until : ℕ) (w : World S) → (state net until w ≡ Complete) ↔ AllPast (stamp until 0 0) w
+  -- and otherwise shows a fault exactly where it stands at gvt, with nothing in transit
+  pub shows : (net : Network S) (until : ℕ) (w : World S) (c s : ℕ) (limit : Limit)
+      → (state net until w ≡ Fault c s limit) ↔ ((AllPast (stamp until 0 0) w → ⊥) × (s ≡ w.gvt) × ShowsFault net until w c limit)
+  -- of a sound one: that fault is the sequential simulator's; and a complete one has all its records, and the simulator no fault
   pub fault : (net : Network S) (until : ℕ) (w : World S) → IsNetwork net → until ≤ max_tick → IsSound net until w
       → (c s : ℕ) (limit : Limit) → state net until w ≡ Fault c s limit → (s ≡ w.gvt) × ((sequential net until).fault ≡ Some (c, s, limit))
-  pub complete : (net : Network S) (until : ℕ) (w : World S) → IsNetwork net → until ≤ max_tick → IsSound net until w → state net until w ≡ Complete → (sequential net until).fault ≡ None
+  pub complete : (net : Network S) (until : ℕ) (w : World S) → IsNetwork net → until ≤ max_tick → IsSound net until w → state net until w ≡ Complete
+      → ((sequential net until).fault ≡ None) × HasAll net until w

@@ -1,10 +1,14 @@
 pub mod Applied
 pub mod Cancelling
 pub mod Committed
+pub mod Driven
 pub mod Ending
+pub mod Exchange
+pub mod Headline
 pub mod History
 pub mod Inverse
 pub mod Keeping
+pub mod Outcome
 pub mod Rewinding
 pub mod Sweeping
 pub mod Traces

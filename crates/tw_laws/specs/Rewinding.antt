@@ -1,12 +1,14 @@
--- What a rewind does where any actions came since its marks were taken.
-use Rattle.std.specs.Prelude.{ℕ, ◌+◌, ◌≡◌, List, [], ◌∷◌, ◌++◌, drop, pos, ◌-ℤ◌, Some, slice_get}
+-- What a rewind, or Back, does where any actions came since the marks were taken.
+use Rattle.std.specs.Prelude.{ℕ, ◌+◌, ◌<◌, ◌≤◌, ◌≡◌, ◌≢◌, ◌↔◌, List, [], ◌∷◌, ◌++◌, length, drop, pos, ◌-ℤ◌, Some, slice_get}
 use Rattle.std.specs.List.{AllByRecursion as Each}
 use Rattle.tw_msgs.specs.Counting.{total, one_at, signed_count}
 use Rattle.tw_msgs.specs.declared.message.Message.{Message}
+use Rattle.tw_msgs.specs.declared.record.Record.{Record}
 use Rattle.tw_theory.specs.Balance.{in_transit}
-use Rattle.tw_theory.specs.Contents.{Process, Cancel, Aggressive, Lazy, inputs, sent_by, steps_before, cut}
-use Rattle.tw_theory.specs.Executive.{World, Undone}
+use Rattle.tw_theory.specs.Contents.{Process, Cancel, Aggressive, Lazy, inputs, sent_by, steps_before, steps_from, cut, records_of}
+use Rattle.tw_theory.specs.Executive.{World, Back, Undone, Refused, NoSuch, Committed, act, column_of}
 use Rattle.tw_theory.specs.Marks.{rewound_steps, rewind}
+use Rattle.tw_theory.specs.Network.{Network}
 use Rattle.tw_theory.specs.Soundness.{AllBefore}
 
 -- what the steps sent that a rewind takes back
@@ -47,3 +49,50 @@ pub record IsRewound {S : Type 0} (w : World S) (ss : List ℕ) (w' : World S) :
 abbrev pub RewindingLaw : Type 0 → Type 0
 RewindingLaw S =
     (w : World S) (ss : List ℕ) (n : ℕ) → (rewind w ss).0 ≡ Undone n → (n ≡ rewound_steps ss w.processes) × IsRewound w ss (rewind w ss).1
+
+-- w' is w with process c cut at s, which was not refused; n steps were taken back
+pub record IsBackedTo {S : Type 0} (w : World S) (c s n : ℕ) (w' : World S) : Type 0 where
+  pub from : w.gvt ≤ s
+  pub old : Process S
+  pub new : Process S
+  pub old_at : slice_get w.processes c ≡ Some old
+  pub new_at : slice_get w'.processes c ≡ Some new
+  pub process : IsCutAt s old new
+  pub number : n ≡ steps_from s old
+  pub others : (d : ℕ) → d ≢ c → slice_get w'.processes d ≡ slice_get w.processes d
+  pub mail : w'.mail ≡ w.mail
+  pub columns : w'.columns ≡ w.columns
+  pub gvt : w'.gvt ≡ w.gvt
+  -- the signed count in transit of each message falls by just the times that the cut steps sent it
+  pub aggressive : old.cancel ≡ Aggressive → (m : Message) → signed_count m (in_transit w') ≡ signed_count m (in_transit w) -ℤ pos (total (one_at m) (sent_by (drop (steps_before s old.history) old.history)))
+  -- or what is in transit stays, and what is owed rises by as much
+  pub lazy : old.cancel ≡ Lazy → (in_transit w' ≡ in_transit w)
+      × ((m : Message) → total (one_at m) (all_owed w'.processes) ≡ total (one_at m) (all_owed w.processes) + total (one_at m) (sent_by (drop (steps_before s old.history) old.history)))
+
+abbrev pub BackingLaw : Type 0 → Type 0
+BackingLaw S =
+    (net : Network S) (until : ℕ) (w : World S) (c s n : ℕ) → (act net until w (Back c s)).0 ≡ Undone n → IsBackedTo w c s n (act net until w (Back c s)).1
+
+-- ---- since a commitment
+
+-- a step of a component, committed or in its history, stands at or after its mark and before gvt
+pub record IsCommittedSince {S : Type 0} (w : World S) (ss : List ℕ) : Type 0 where
+  pub component : ℕ
+  pub mark : ℕ
+  pub process : Process S
+  pub mark_at : slice_get ss component ≡ Some mark
+  pub process_at : slice_get w.processes component ≡ Some process
+  pub place : ℕ
+  pub entry : Record
+  pub entry_at : slice_get (column_of w.columns component ++ records_of process.history) place ≡ Some entry
+  pub since : mark ≤ entry.stamp
+  pub before : entry.stamp < w.gvt
+
+-- A rewind is refused where its marks are not one for each component, or where such a step is there; nowhere else
+pub record RewindAnswers {S : Type 0} (w : World S) (ss : List ℕ) : Type 0 where
+  pub wrong : ((rewind w ss).0 ≡ Refused NoSuch) ↔ (length ss ≢ length w.processes)
+  pub committed : length ss ≡ length w.processes → ((rewind w ss).0 ≡ Refused Committed) ↔ IsCommittedSince w ss
+  pub taken : length ss ≡ length w.processes → (IsCommittedSince w ss → ⊥) → (rewind w ss).0 ≡ Undone (rewound_steps ss w.processes)
+
+abbrev pub RewindAnswersLaw : Type 0 → Type 0
+RewindAnswersLaw S = (w : World S) (ss : List ℕ) → length w.columns ≡ length w.processes → RewindAnswers w ss

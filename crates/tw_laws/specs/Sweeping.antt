@@ -1,19 +1,12 @@
 -- What is left to post and deliver.
-use Rattle.std.specs.Prelude.{ℕ, ◌+◌, ◌*◌, ◌<◌, ◌≤◌, ◌≡◌, List, [], ◌∷◌, length, Some, slice_get}
-use Rattle.tw_msgs.specs.Counting.{total}
+use Rattle.std.specs.Prelude.{ℕ, ◌+◌, ◌<◌, ◌≤◌, ◌≡◌, List, [], ◌∷◌, length, Some, slice_get}
 use Rattle.tw_msgs.specs.declared.message.Item.{Item}
-use Rattle.tw_theory.specs.Contents.{Process, Received, sent_by, settle}
+use Rattle.tw_theory.specs.Contents.{Process, Received, settle}
 use Rattle.tw_theory.specs.Executive.{World, Action, Step, Post, Deliver, Back, Raise, Harvest, Posted, Delivered, act, mail_of}
+use Rattle.tw_theory.specs.Exchange.{work}
 use Rattle.tw_theory.specs.Network.{Network, IsNetwork}
 use Rattle.tw_theory.specs.Soundness.{IsSound}
 use Rattle.tw_vtime.specs.Stamps.{max_tick}
-
--- three for each message sent in a history, two for each outgoing item and each message owed, one for each item in a mailbox
-abbrev pub work_of : {S : Type 0} → Process S → ℕ
-work_of p = 3 * length (sent_by p.history) + 2 * length p.outgoing + 2 * length p.owed
-
-abbrev pub work : {S : Type 0} → World S → ℕ
-work w = total work_of w.processes + total length w.mail
 
 -- each item posted, and each delivery with all that it undoes, lets the work fall
 pub record WorkFalls (S : Type 0) : Type 0 where

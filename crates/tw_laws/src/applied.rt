@@ -2,8 +2,14 @@
 
 ghost use Rattle.tw_theory.specs.Contents.{Cancel};
 ghost use Rattle.tw_laws.specs.Applied.{LawsOfThree};
+ghost use Rattle.tw_laws.specs.Driven.{Driven};
 
 /// The laws hold of a generator, a relay and a tally in a row, for both ways of cancelling.
 pub fn laws_of_three()
     ensures { (cancel : Cancel) → LawsOfThree cancel }
+{}
+
+/// What a sweep is on a small network, and two runs driven to their ends: one complete, one in a fault.
+pub fn driven_runs()
+    ensures { Driven }
 {}

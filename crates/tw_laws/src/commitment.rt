@@ -1,7 +1,7 @@
 //! What is committed is what the sequential simulator does.
 
 ghost use Rattle.tw_laws.specs.History.{CommittedHistory, FaultStamp, FaultLaw};
-ghost use Rattle.tw_laws.specs.Committed.{CommittedLaw, LinesLaw, GvtLaw};
+ghost use Rattle.tw_laws.specs.Committed.{CommittedLaw, LinesLaw, GvtLaw, RoundsLaw};
 
 /// The law of committed history: local runs that are taken up to a stamp, and that balance before it, are the
 /// sequential simulator's run before it.
@@ -20,7 +20,8 @@ pub fn lines_law<S>()
     ensures { LinesLaw S }
 {}
 
-/// Global virtual time never falls, and Raise sets it to the exact least of all that can still change.
+/// Global virtual time never falls, and Raise sets it to the exact least of all that can still change. What is
+/// committed stays: each column is a beginning of what it is later.
 pub fn gvt_law<S>()
     ensures { GvtLaw S }
 {}
@@ -30,4 +31,9 @@ pub fn gvt_law<S>()
 pub fn fault_law<S>()
     ensures stamp { FaultStamp S }
     ensures least { FaultLaw S }
+{}
+
+/// A sequential run without a fault has made all its rounds: none is left of a time before its end.
+pub fn rounds_law<S>()
+    ensures { RoundsLaw S }
 {}

@@ -1,6 +1,8 @@
 //! How a sweep and a run end.
 
-ghost use Rattle.tw_laws.specs.Ending.{StateLaw};
+ghost use Rattle.tw_laws.specs.Ending.{EndingLaw, StateLaw};
+ghost use Rattle.tw_laws.specs.Exchange.{SweepLaw, SweepSteps, DrawLaw};
+ghost use Rattle.tw_laws.specs.Outcome.{OutcomeLaw};
 ghost use Rattle.tw_laws.specs.Sweeping.{WorkFalls, SweepEnds};
 ghost use Rattle.tw_laws.specs.Traces.{OneTrace, TraceLaw, MergingLaw};
 
@@ -12,9 +14,13 @@ pub fn sweep_law<S>()
     ensures ends { SweepEnds S }
 {}
 
-/// What the state of a sound executive says is so: complete, or the sequential simulator's fault.
+/// Where a sound executive shows a fault at global virtual time, with nothing in transit, it is the sequential
+/// simulator's; and where every line is at the end of the run, the simulator has no fault and the columns are its
+/// records. The state of a run says just this: it is complete exactly where every line is at the end, and shows a
+/// fault exactly where the executive does.
 pub fn state_law<S>()
-    ensures { StateLaw S }
+    ensures ending { EndingLaw S }
+    ensures state { StateLaw S }
 {}
 
 /// The sequential trace is the only list in the order of a trace that has, of each component, that component's
@@ -27,4 +33,21 @@ pub fn trace_law<S>()
 /// Merging the columns up to the least line gives a beginning of the sequential trace.
 pub fn merging_law<S>()
     ensures { MergingLaw S }
+{}
+
+/// A sweep posts and delivers until the executive is swept, then raises global virtual time and commits: no action
+/// of it is refused, and afterwards every commit line is global virtual time, the least of the next stamps.
+pub fn whole_sweep_law<S>()
+    ensures whole { SweepLaw S }
+    ensures steps { SweepSteps S }
+{}
+
+/// A component may be given out exactly where its next step is before the bound, and at most one is the next.
+pub fn draw_law<S>()
+    ensures { DrawLaw S }
+{}
+
+/// What the state of a run says, with the columns merged, is the sequential simulator's outcome.
+pub fn outcome_law<S>()
+    ensures { OutcomeLaw S }
 {}

@@ -1,7 +1,7 @@
 //! Taking back.
 
-ghost use Rattle.tw_laws.specs.Inverse.{InverseLaw};
-ghost use Rattle.tw_laws.specs.Rewinding.{RewindingLaw};
+ghost use Rattle.tw_laws.specs.Inverse.{InverseLaw, BackLaw};
+ghost use Rattle.tw_laws.specs.Rewinding.{RewindingLaw, RewindAnswersLaw, BackingLaw};
 
 /// Steps on any components of a sound executive, and a rewind to the marks before them, restore everything but
 /// what is outgoing and owed: each outgoing list is the old one, then each message sent since, once positive and
@@ -11,6 +11,17 @@ pub fn inverse_law<S>()
 {}
 
 /// A rewind cuts each process at its mark, whatever came since, and takes out of transit what the cut steps sent.
+/// It is refused where its marks are not one for each component, or where a step since its mark stands before
+/// global virtual time; and nowhere else.
 pub fn rewinding_law<S>()
-    ensures { RewindingLaw S }
+    ensures cuts { RewindingLaw S }
+    ensures answers { RewindAnswersLaw S }
+{}
+
+/// After steps on any components of a sound executive, Back to one component's mark takes back that component's
+/// steps and no others: its process is restored, with one anti-message for each message that they sent. And Back,
+/// whatever came before it, cuts that process at its stamp and takes out of transit what the cut steps sent.
+pub fn back_law<S>()
+    ensures restores { BackLaw S }
+    ensures takes_back { BackingLaw S }
 {}

@@ -4,12 +4,13 @@
 //!
 //! | Module | Says |
 //! |---|---|
+//! | [`headline`] | the theorem of the whole, both halves in one statement |
 //! | [`soundness`] | the start is sound, and every action, rewind and list of actions keeps it so |
 //! | [`commitment`] | columns are the sequential records; global virtual time is the exact least and never falls; no line passes the fault |
 //! | [`inversion`] | steps and a rewind restore everything, with one anti-message for each message sent |
-//! | [`endings`] | a sweep ends; what the state of a run says is so; columns merge to the one sequential trace |
+//! | [`endings`] | a sweep ends, and what it does; what the state of a run says is so; columns merge to the one sequential trace; the outcome |
 //! | [`cancellation`] | the way of cancelling stays as it began |
-//! | [`applied`] | all of it on a concrete network |
+//! | [`applied`] | all of it on concrete networks |
 //!
 //! The functions do nothing: their contracts are the laws, for states of any type, so for every model. The
 //! statements are in `specs/`. The proofs are in `proofs/`: `History/` has the law of committed history (both
@@ -21,5 +22,6 @@ pub mod applied;
 pub mod cancellation;
 pub mod commitment;
 pub mod endings;
+pub mod headline;
 pub mod inversion;
 pub mod soundness;

@@ -1,7 +1,7 @@
 -- The laws of the generator.
 use Rattle.std.specs.Prelude.{◌≡◌, ℕ, ◌≤◌, Option, length, refl}
 use Rattle.std.proofs.Common.{arith, ap₂, sym}
-use Rattle.tw_atomic.specs.Atomic.{Bag, CanTurn, FitsBag, turned}
+use Rattle.tw_atomic.specs.Atomic.{Bag, CanTurn, FitsOutput, turned}
 use Rattle.tw_atomic.specs.declared.Turn.{Turn}
 use Rattle.tw_atomic.specs.declared.Turn.TheVariants.{Int, Ext, Con}
 use Rattle.tw_models.specs.declared.generator.GenState.{GenState}
@@ -17,7 +17,7 @@ gen_stays_valid g Int s elapsed bag can = record { parameters = can.valid.parame
 gen_stays_valid g Ext s elapsed bag can = record { parameters = can.valid.parameters; count_fits = can.valid.count_fits; left_fits = FitsLeft-minus s.left elapsed can.valid.left_fits }
 gen_stays_valid g Con s elapsed bag can = record { parameters = can.valid.parameters; count_fits = omega arith; left_fits = omega (arith, can.valid.parameters.period_fits) }
 
-pub gen_output_fits : (g : GenParameters) (s : GenState) → IsGen g s → (length ((gen_meaning g).out s) ≤ 64) × FitsBag ((gen_meaning g).out s)
+pub gen_output_fits : (g : GenParameters) (s : GenState) → IsGen g s → (length ((gen_meaning g).out s) ≤ 64) × FitsOutput ((gen_meaning g).out s)
 gen_output_fits g s valid = (omega arith, ((omega arith, valid.parameters.value_fits), tt))
 
 pub gen_reverses : (g : GenParameters) (turn : Turn) (s : GenState) (elapsed : ℕ) (bag : Bag) → CanTurn (IsGen g) (gen_meaning g) turn s elapsed bag → gen_undone turn (turned (gen_meaning g) turn s elapsed bag) elapsed ≡ s

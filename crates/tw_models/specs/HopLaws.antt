@@ -3,7 +3,7 @@ use Rattle.std.specs.Prelude.{◌≡◌, ℕ, ℤ, ◌+◌, ◌-◌, ◌*◌, �
 use Rattle.std.specs.Int.{w64, cast_unsigned}
 use Rattle.std.proofs.Common.{arith, ap, ap₂, ◌∙◌, sym}
 use Rattle.std.proofs.lemmas.Nat.{mul-mod_second}
-use Rattle.tw_atomic.specs.Atomic.{Bag, CanTurn, FitsBag, turned}
+use Rattle.tw_atomic.specs.Atomic.{Bag, CanTurn, FitsBag, FitsOutput, turned}
 use Rattle.tw_atomic.specs.declared.Turn.{Turn}
 use Rattle.tw_atomic.specs.declared.Turn.TheVariants.{Int, Ext, Con}
 use Rattle.tw_models.specs.declared.hop.HopState.{HopState}
@@ -59,7 +59,7 @@ hop_stays_valid h Con s elapsed bag can =
       left_fits = FitsLeft-minus (Some (wait h.spread (lcg s.x))) 0 (wait-fits h.spread (lcg s.x) can.valid.parameters.spread_some can.valid.parameters.spread_fits);
     }
 
-pub hop_output_fits : (h : HopParameters) (s : HopState) → IsHop h s → (length ((hop_meaning h).out s) ≤ 64) × FitsBag ((hop_meaning h).out s)
+pub hop_output_fits : (h : HopParameters) (s : HopState) → IsHop h s → (length ((hop_meaning h).out s) ≤ 64) × FitsOutput ((hop_meaning h).out s)
 hop_output_fits h s valid = (omega arith, ((omega (arith, valid.parameters.ports_some, valid.parameters.ports_fit), omega arith), tt))
 
 pub hop_reverses : (h : HopParameters) (turn : Turn) (s : HopState) (elapsed : ℕ) (bag : Bag) → CanTurn (IsHop h) (hop_meaning h) turn s elapsed bag → hop_undone turn (turned (hop_meaning h) turn s elapsed bag) elapsed bag ≡ s

@@ -2,7 +2,7 @@
 use Rattle.std.specs.Prelude.{◌≡◌, ◌≢◌, ℕ, ℤ, ◌-◌, ◌≤◌, ◌<◌, List, [], ◌∷◌, length, Option, refl, nat_lt, true, if◌then◌else◌}
 use Rattle.std.proofs.Common.{arith, ap, ap₂, ◌∙◌, sym}
 use Rattle.std.proofs.lemmas.Bool.{lt-ltb}
-use Rattle.tw_atomic.specs.Atomic.{Bag, CanTurn, FitsBag, turned}
+use Rattle.tw_atomic.specs.Atomic.{Bag, CanTurn, FitsBag, FitsOutput, turned}
 use Rattle.tw_atomic.specs.declared.Turn.{Turn}
 use Rattle.tw_atomic.specs.declared.Turn.TheVariants.{Int, Ext, Con}
 use Rattle.tw_models.specs.declared.queue.QueueState.{QueueState}
@@ -68,11 +68,11 @@ queue_stays_valid q Int s elapsed bag can = IsQueue-int q s can.valid
 queue_stays_valid q Ext s elapsed bag can = IsQueue-ext q s elapsed bag can.valid can.bag_fits (some-bag s.left elapsed bag can.due)
 queue_stays_valid q Con s elapsed bag can = IsQueue-ext q (queue_int q s) 0 bag (IsQueue-int q s can.valid) can.bag_fits can.due.1
 
-out-fits : (jobs : List ℤ) → FitsValues jobs → (length (queue_out jobs) ≤ 64) × FitsBag (queue_out jobs)
+out-fits : (jobs : List ℤ) → FitsValues jobs → (length (queue_out jobs) ≤ 64) × FitsOutput (queue_out jobs)
 out-fits [] fits = (omega arith, tt)
 out-fits (job ∷ jobs) fits = (omega arith, ((omega arith, fits.0), tt))
 
-pub queue_output_fits : (q : QueueParameters) (s : QueueState) → IsQueue q s → (length ((queue_meaning q).out s) ≤ 64) × FitsBag ((queue_meaning q).out s)
+pub queue_output_fits : (q : QueueParameters) (s : QueueState) → IsQueue q s → (length ((queue_meaning q).out s) ≤ 64) × FitsOutput ((queue_meaning q).out s)
 queue_output_fits q s valid = out-fits s.jobs.items valid.values_fit
 
 pub queue_reverses : (q : QueueParameters) (turn : Turn) (s : QueueState) (elapsed : ℕ) (bag : Bag) → CanTurn (IsQueue q) (queue_meaning q) turn s elapsed bag

@@ -2,7 +2,7 @@
 use Rattle.std.specs.Prelude.{◌≡◌, ◌≢◌, ℕ, ℤ, ◌≤◌, List, [], ◌∷◌, map, length, Option, refl}
 use Rattle.std.proofs.Common.{arith, ap, ap₂, ◌∙◌, sym}
 use Rattle.std.proofs.lemmas.List.{length-map}
-use Rattle.tw_atomic.specs.Atomic.{Bag, CanTurn, FitsBag, turned}
+use Rattle.tw_atomic.specs.Atomic.{Bag, CanTurn, FitsBag, FitsOutput, turned}
 use Rattle.tw_atomic.specs.declared.Turn.{Turn}
 use Rattle.tw_atomic.specs.declared.Turn.TheVariants.{Int, Ext, Con}
 use Rattle.tw_models.specs.declared.relay.RelayState.{RelayState}
@@ -37,12 +37,12 @@ relay_stays_valid r Int s elapsed bag can = IsRelay-int r s can.valid
 relay_stays_valid r Ext s elapsed bag can = IsRelay-ext r s elapsed bag can.valid can.bag_fits (some-bag s.left elapsed bag can.due)
 relay_stays_valid r Con s elapsed bag can = IsRelay-ext r (relay_int s) 0 bag (IsRelay-int r s can.valid) can.bag_fits can.due.1
 
-FitsBag-values : (values : List ℤ) → FitsValues values → FitsBag (map (λ value. (0, value)) values)
-FitsBag-values [] fits = tt
-FitsBag-values (value ∷ values) fits = ((omega arith, fits.0), FitsBag-values values fits.1)
+FitsOutput-values : (values : List ℤ) → FitsValues values → FitsOutput (map (λ value. (0, value)) values)
+FitsOutput-values [] fits = tt
+FitsOutput-values (value ∷ values) fits = ((omega arith, fits.0), FitsOutput-values values fits.1)
 
-pub relay_output_fits : (r : RelayParameters) (s : RelayState) → IsRelay r s → (length ((relay_meaning r).out s) ≤ 64) × FitsBag ((relay_meaning r).out s)
-relay_output_fits r s valid = (omega (arith, valid.room, let item : ℤ → ℕ × ℤ = λ value. (0, value) in length-map s.held.items item), FitsBag-values s.held.items valid.values_fit)
+pub relay_output_fits : (r : RelayParameters) (s : RelayState) → IsRelay r s → (length ((relay_meaning r).out s) ≤ 64) × FitsOutput ((relay_meaning r).out s)
+relay_output_fits r s valid = (omega (arith, valid.room, let item : ℤ → ℕ × ℤ = λ value. (0, value) in length-map s.held.items item), FitsOutput-values s.held.items valid.values_fit)
 
 pub relay_reverses : (r : RelayParameters) (turn : Turn) (s : RelayState) (elapsed : ℕ) (bag : Bag) → CanTurn (IsRelay r) (relay_meaning r) turn s elapsed bag
     → relay_undone turn (turned (relay_meaning r) turn s elapsed bag) elapsed bag (relay_residue turn s bag) ≡ s

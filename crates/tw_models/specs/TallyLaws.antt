@@ -2,7 +2,7 @@
 use Rattle.std.specs.Prelude.{◌≡◌, ℕ, ℤ, ◌+◌, ◌%◌, ◌≤◌, [], ◌∷◌, length, refl, FitsSigned}
 use Rattle.std.proofs.Common.{arith, ap, ap₂, ◌∙◌}
 use Rattle.std.specs.Int.{w64, int_wrapping_sub}
-use Rattle.tw_atomic.specs.Atomic.{Bag, CanTurn, FitsBag, turned}
+use Rattle.tw_atomic.specs.Atomic.{Bag, CanTurn, FitsBag, FitsOutput, turned}
 use Rattle.tw_atomic.specs.declared.Turn.{Turn}
 use Rattle.tw_atomic.specs.declared.Turn.TheVariants.{Int, Ext, Con}
 use Rattle.tw_models.specs.declared.tally.TallyState.{TallyState}
@@ -37,7 +37,7 @@ tally_stays_valid Int s elapsed bag can = can.valid
 tally_stays_valid Ext s elapsed bag can = IsTally-all s bag can.valid can.bag_fits
 tally_stays_valid Con s elapsed bag can = IsTally-all s bag can.valid can.bag_fits
 
-pub tally_output_fits : (s : TallyState) → (length (tally_meaning.out s) ≤ 64) × FitsBag (tally_meaning.out s)
+pub tally_output_fits : (s : TallyState) → (length (tally_meaning.out s) ≤ 64) × FitsOutput (tally_meaning.out s)
 tally_output_fits s = (omega arith, tt)
 
 pub tally_reverses : (turn : Turn) (s : TallyState) (elapsed : ℕ) (bag : Bag) → CanTurn IsTally tally_meaning turn s elapsed bag → tally_undone turn (turned tally_meaning turn s elapsed bag) bag s.last ≡ s

@@ -1,5 +1,5 @@
 //! A model that sends its value each period.
-ghost use Rattle.std.specs.Prelude.{◌≡◌, ◌≤◌, ◌↔◌, IsOk, IfOk, IfErr};
+ghost use Rattle.std.specs.Prelude.{refl, ◌≡◌, ◌≤◌, ◌↔◌, IsOk, IfOk, IfErr};
 ghost use Rattle.tw_models.specs.declared.bad_model.BadModel.TheVariants.{BadTick};
 
 use crate::bad_model::BadModel;
@@ -138,6 +138,8 @@ impl Atomic for Gen {
     ghost stays_valid = { gen_stays_valid };
 
     ghost output_fits = { gen_output_fits };
+
+    ghost alike = { λ m n same. refl };
 
     ghost reverses = { λ m turn s elapsed bag can. gen_reverses m turn s elapsed bag can };
 }

@@ -1,5 +1,5 @@
 //! A model that draws its ports, values and waiting times by a linear congruential generator.
-ghost use Rattle.std.specs.Prelude.{◌≡◌, ◌≤◌, ◌<◌, ◌↔◌, IsOk, IfOk, IsErrOf, ◌⊎◌};
+ghost use Rattle.std.specs.Prelude.{refl, ◌≡◌, ◌≤◌, ◌<◌, ◌↔◌, IsOk, IfOk, IsErrOf, ◌⊎◌};
 ghost use Rattle.tw_models.specs.Hop.{lcg, lcg_back, wait, drawn_item, stirred, stirred_all, unstirred, unstirred_all};
 ghost use Rattle.tw_models.specs.declared.bad_model.BadModel.TheVariants.{BadPort, BadTick};
 
@@ -245,6 +245,8 @@ impl Atomic for Hop {
     ghost stays_valid = { hop_stays_valid };
 
     ghost output_fits = { hop_output_fits };
+
+    ghost alike = { λ m n same. refl };
 
     ghost reverses = { λ m turn s elapsed bag can. hop_reverses m turn s elapsed bag can };
 }

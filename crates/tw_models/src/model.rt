@@ -102,7 +102,7 @@ pub enum Residue {
 
 impl Atomic for Model {
     ghost use Rattle.tw_models.specs.Model.{IsModel, model_meaning, model_residue, model_undone};
-    ghost use Rattle.tw_models.specs.ModelLaws.{model_stays_valid, model_output_fits, model_reverses};
+    ghost use Rattle.tw_models.specs.ModelLaws.{model_alike, model_stays_valid, model_output_fits, model_reverses};
 
     type State = State;
 
@@ -245,6 +245,8 @@ impl Atomic for Model {
     ghost stays_valid = { model_stays_valid };
 
     ghost output_fits = { model_output_fits };
+
+    ghost alike = { λ m n same. model_alike m n same };
 
     ghost reverses = { λ m turn s elapsed bag can. model_reverses m turn s elapsed bag can };
 }

@@ -1,5 +1,5 @@
 //! A model that works on the first of its jobs, and sends it when its service is over.
-ghost use Rattle.std.specs.Prelude.{◌≡◌, ◌-◌, ◌≤◌, ◌↔◌, IsOk, IfOk, IfErr, IsTrue, length, min, take};
+ghost use Rattle.std.specs.Prelude.{refl, ◌≡◌, ◌-◌, ◌≤◌, ◌↔◌, IsOk, IfOk, IfErr, IsTrue, length, min, take};
 ghost use Rattle.tw_models.specs.Left.{IsWithin};
 ghost use Rattle.tw_models.specs.Intake.{dropped_before};
 ghost use Rattle.tw_models.specs.Queue.{first_job, later_jobs, left_with, with_first, queue_out, queue_int, queue_ext};
@@ -259,6 +259,8 @@ impl Atomic for Queue {
     ghost stays_valid = { queue_stays_valid };
 
     ghost output_fits = { queue_output_fits };
+
+    ghost alike = { λ m n same. refl };
 
     ghost reverses = { λ m turn s elapsed bag can. queue_reverses m turn s elapsed bag can };
 }

@@ -1,5 +1,5 @@
 //! A model that holds what comes, and sends it all after its delay.
-ghost use Rattle.std.specs.Prelude.{◌≡◌, ◌-◌, ◌≤◌, ◌↔◌, IsOk, IfOk, IfErr, IsTrue, length, min};
+ghost use Rattle.std.specs.Prelude.{refl, ◌≡◌, ◌-◌, ◌≤◌, ◌↔◌, IsOk, IfOk, IfErr, IsTrue, length, min};
 ghost use Rattle.tw_models.specs.Left.{IsWithin};
 ghost use Rattle.tw_models.specs.Relay.{relay_int, relay_ext};
 ghost use Rattle.tw_models.specs.declared.bad_model.BadModel.TheVariants.{BadTick};
@@ -222,6 +222,8 @@ impl Atomic for Relay {
     ghost stays_valid = { relay_stays_valid };
 
     ghost output_fits = { relay_output_fits };
+
+    ghost alike = { λ m n same. refl };
 
     ghost reverses = { λ m turn s elapsed bag can. relay_reverses m turn s elapsed bag can };
 }

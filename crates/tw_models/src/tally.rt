@@ -1,5 +1,5 @@
 //! A model that counts and adds what comes, and never sends.
-ghost use Rattle.std.specs.Prelude.{◌≡◌};
+ghost use Rattle.std.specs.Prelude.{refl, ◌≡◌};
 ghost use Rattle.tw_models.specs.Tally.{tally_one, tally_all, tally_less, tally_none};
 
 use std::alloc::{AllocError, Global};
@@ -147,6 +147,8 @@ impl Atomic for Tally {
     ghost stays_valid = { λ m turn s elapsed bag can. tally_stays_valid turn s elapsed bag can };
 
     ghost output_fits = { λ m s valid. tally_output_fits s };
+
+    ghost alike = { λ m n same. refl };
 
     ghost reverses = { λ m turn s elapsed bag can. tally_reverses turn s elapsed bag can };
 }

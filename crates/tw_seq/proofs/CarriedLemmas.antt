@@ -45,16 +45,16 @@ each-places P c port (k ∷ ks) h =
     let rest = each-places P c port ks h.1 in
     cond_both ((k.0 == c) && (k.1 == port)) (insert_place (k.2, k.3) (places c port ks)) (places c port ks) (Each P) (λ e. each-insert_place P (k.2, k.3) (places c port ks) h.0 rest) (λ e. rest)
 
-copies_carried : (s : ℕ) (item : ℕ × ℤ) (ps : List Place) → FitsItem item → Each (λ place. place.1 < 16) ps → Each Carried (copies s item.1 ps)
+copies_carried : (s : ℕ) (item : ℕ × ℤ) (ps : List Place) → FitsItem item → Each (λ place. place.1 < 256) ps → Each Carried (copies s item.1 ps)
 copies_carried s item [] f h = tt
 copies_carried s item (place ∷ ps) f h = ((h.0, f.1), copies_carried s item ps f h.1)
 
-module _ {S : Type 0} (net : Network S) (ports : Each (λ k. k.3 < 16) net.couplings) where
+module _ {S : Type 0} (net : Network S) (ports : Each (λ k. k.3 < 256) net.couplings) where
   pub routed_carried : (c s : ℕ) (bag : Bag) → FitsBag bag → Each Carried (routed net c s bag)
   routed_carried c s [] f = tt
   routed_carried c s (item ∷ items) f =
       each-append Carried (copies s item.1 (routes net c item.0)) (routed net c s items)
-      (copies_carried s item (routes net c item.0) f.0 (each-places (λ place. place.1 < 16) c item.0 net.couplings ports))
+      (copies_carried s item (routes net c item.0) f.0 (each-places (λ place. place.1 < 256) c item.0 net.couplings ports))
       (routed_carried c s items f.1)
 
   entry_carried : (c t : ℕ) (now : Moment S) → FitsBag (output net c now t).entry.bag → Each Carried (sent_in net (output net c now t).entry)

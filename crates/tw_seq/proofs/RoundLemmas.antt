@@ -7,7 +7,7 @@ use Rattle.std.proofs.lemmas.List.{length-replicate}
 use Rattle.std.proofs.lemmas.List.Elements.{All-nil}
 use Rattle.std.proofs.lemmas.Option.{same_Some, none-some}
 use Rattle.std.proofs.lemmas.Bool.{cond_both, cases_lt, ltb-true}
-use Rattle.tw_atomic.specs.Atomic.{Meaning, FitsBag}
+use Rattle.tw_atomic.specs.Atomic.{Meaning, FitsBag, FitsOutput}
 use Rattle.tw_msgs.specs.Bags.{Bag, sorted_bag}
 use Rattle.tw_msgs.specs.declared.message.Message.{Message}
 use Rattle.tw_msgs.specs.declared.record.Record.{Record}
@@ -23,7 +23,7 @@ use Rattle.tw_theory.specs.Network.{Network}
 use Rattle.tw_theory.specs.Simulator.{RoundTurn, take_turn, after_output, turns, first_stop, turn_records, turned_moments, outputs, all_sent, with_stamp, past_stamp, Run, round, round_end, round_time, least_due, least_input}
 use Rattle.tw_vtime.specs.Stamps.{never, phase_of}
 use Rattle.tw_vtime.specs.declared.limits.Limit.{Limit}
-use Rattle.tw_seq.proofs.BagLemmas.{sorted_bag-FitsBag}
+use Rattle.tw_seq.proofs.BagLemmas.{sorted_bag-FitsBag, FitsOutput-bag}
 use Rattle.tw_seq.proofs.CarriedLemmas.{each-filter, sent_carried, none_fits, dealt_fits}
 use Rattle.tw_seq.proofs.DealingLemmas.{dealt-append}
 use Rattle.tw_seq.proofs.OutputLemmas.{output_is}
@@ -213,18 +213,18 @@ turns_here net t at run for_outputs for_turns inputs room first bags m m' i s f 
 
 -- all bags of the round fit
 pub bags_fit : {M S : Type 0} (valid : M → S → Type 0) (meaning : M → Meaning S) (contents : Contents M) (t at : ℕ) (run : Run S) (for_outputs : List (Moment S)) (inputs : List Message) (room first bags : List Bag) →
-    ((model : M) (s : S) → valid model s → FitsBag ((meaning model).out s)) → All (IsCoupling (length contents.models)) contents.couplings → IsUnderway valid meaning contents t run →
+    ((model : M) (s : S) → valid model s → FitsOutput ((meaning model).out s)) → All (IsCoupling (length contents.models)) contents.couplings → IsUnderway valid meaning contents t run →
     for_outputs ≡ run.at.moments → inputs ≡ run.at.inputs → room ≡ replicate (length run.at.moments) [] → first ≡ dealt 0 room (all_sent (network_of meaning contents) (outputs (network_of meaning contents) t 0 for_outputs)) → bags ≡ dealt 0 first (with_stamp at inputs) → Each FitsBag bags
 bags_fit {M} {S} valid meaning contents t at run for_outputs inputs room first bags fits ports under m i f k b =
     let net : Network S = network_of meaning contents in
     let sent : Each Carried (all_sent net (outputs net t 0 run.at.moments)) =
-    sent_carried net (each_weaker (IsCoupling (length contents.models)) (λ k. k.3 < 16) (λ k p. let q = p.destination_port in omega (arith, q)) contents.couplings (each_of_all (IsCoupling (length contents.models)) contents.couplings ports)) t 0 run.at.moments
+    sent_carried net (each_weaker (IsCoupling (length contents.models)) (λ k. k.3 < 256) (λ k p. let q = p.destination_port in omega (arith, q)) contents.couplings (each_of_all (IsCoupling (length contents.models)) contents.couplings ports)) t 0 run.at.moments
     (λ c now e.
     let found = model_there contents.models run.at.moments c now under.moments.size e in
     let stands = under.moments.each c found.0 now found.1 e in
     let z : 0 + c ≡ c = omega arith in
     let bag = output_is meaning contents c t found.0 now (sorted_bag ((meaning found.0).out now.state)) found.1 refl in
-    let out : FitsBag (sorted_bag ((meaning found.0).out now.state)) = sorted_bag-FitsBag ((meaning found.0).out now.state) (fits found.0 now.state stands.valid) in
+    let out : FitsBag (sorted_bag ((meaning found.0).out now.state)) = sorted_bag-FitsBag ((meaning found.0).out now.state) (FitsOutput-bag ((meaning found.0).out now.state) (fits found.0 now.state stands.valid)) in
     subst (λ d. FitsBag (output net d now t).entry.bag) (sym z) (subst (λ r. FitsBag r.bag) bag out)) in
     let given : Each Carried (with_stamp at inputs) =
     each-filter Carried (λ x. x.stamp == at) inputs (subst (Each Carried) (sym i) (each_weaker (IsToCome (length contents.models) t) Carried (λ x p. p.carried) run.at.inputs under.inputs)) in

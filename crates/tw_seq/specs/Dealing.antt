@@ -1,6 +1,6 @@
 -- Messages dealt out to the components' bags.
 --     dealt c bags ms      the bags of the components from c on, each with what these messages bring it at its end
---     Carried m      what a message carries fits: its port is 0 to 15, its value a number of 64 bits
+--     Carried m      what a message carries fits: its port is a number of 8 bits, its value one of 64 bits with sign
 use Rattle.std.specs.Prelude.{ℕ, suc, List, [], ◌∷◌, ◌++◌}
 use Rattle.tw_atomic.specs.Atomic.{FitsItem}
 use Rattle.tw_msgs.specs.Bags.{Bag}

@@ -11,7 +11,7 @@ use Rattle.tw_theory.specs.Executive.{World}
 use Rattle.tw_theory.specs.Laws.{BalanceLaw}
 use Rattle.tw_msgs.proofs.Totals.{total-append}
 
-total-outgoing : {S : Type 0} (weight : Item → ℕ) (ps : List (Process S)) → total weight (all_outgoing ps) ≡ total (λ p. total weight p.outgoing) ps
+pub total-outgoing : {S : Type 0} (weight : Item → ℕ) (ps : List (Process S)) → total weight (all_outgoing ps) ≡ total (λ p. total weight p.outgoing) ps
 total-outgoing weight [] = refl
 total-outgoing weight (p ∷ ps) = omega (arith, total-append weight p.outgoing (all_outgoing ps), total-outgoing weight ps)
 
@@ -30,7 +30,7 @@ held_parts weight [] = refl
 held_parts weight (p ∷ ps) = omega (arith, held_parts weight ps)
 
 -- what is in transit, of one sign
-transit : {S : Type 0} (weight : Item → ℕ) (w : World S)
+pub transit : {S : Type 0} (weight : Item → ℕ) (w : World S)
     → total weight (in_transit w) ≡ total (λ p. total weight p.outgoing) w.processes + total (total weight) w.mail
 transit weight w = omega (arith, total-append weight (all_outgoing w.processes) (all_mail w.mail), total-outgoing weight w.processes, total-mail weight w.mail)
 

@@ -5,6 +5,7 @@ pub mod ExampleActions
 pub mod ExampleModels
 pub mod ExampleNetworks
 pub mod ExampleTraces
+pub mod Exchange
 pub mod Executive
 pub mod Laws
 pub mod LocalRun

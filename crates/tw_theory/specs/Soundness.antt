@@ -12,7 +12,7 @@ use Rattle.tw_vtime.specs.Stamps.{stamp}
 use Rattle.tw_vtime.specs.declared.limits.Limit.{Limit}
 use Rattle.tw_theory.specs.Balance.{Balance}
 use Rattle.tw_theory.specs.Bundles.{addressed}
-use Rattle.tw_theory.specs.Contents.{Cancel, Process, inputs, Stands}
+use Rattle.tw_theory.specs.Contents.{Cancel, Aggressive, Process, inputs, Stands}
 use Rattle.tw_theory.specs.Executive.{World, mail_of, column_of, least_of}
 use Rattle.tw_theory.specs.LocalRun.{Moment, Step, start_moment}
 use Rattle.tw_theory.specs.Network.{Network, count_of, Fits}
@@ -81,11 +81,19 @@ pub record IsSoundProcess {S : Type 0} (net : Network S) (until gvt c : ℕ) (co
   pub line_le : p.line ≤ gvt
   pub line_le_fault : (b s : ℕ) (limit : Limit) → (sequential net until).fault ≡ Some (b, s, limit) → up_to until p.line ≤ s
 
+-- it cancels so; and where anti-messages are made at once, nothing is owed
+pub record Cancels {S : Type 0} (cancel : Cancel) (p : Process S) : Type 0 where
+  pub is : p.cancel ≡ cancel
+  pub nothing_owed : cancel ≡ Aggressive → p.owed ≡ []
+
 pub record IsSound {S : Type 0} (net : Network S) (until : ℕ) (w : World S) : Type 0 where
   pub processes : length w.processes ≡ count_of net
   pub mail : length w.mail ≡ count_of net
   pub columns : length w.columns ≡ count_of net
   pub each : (c : ℕ) (p : Process S) → slice_get w.processes c ≡ Some p → IsSoundProcess net until w.gvt c (column_of w.columns c) (mail_of w.mail c) p
+  -- they all cancel in one way
+  pub cancel : Cancel
+  pub cancels : Each (Cancels cancel) w.processes
   pub balance : Balance net w
   -- nothing that can still change stands before gvt
   pub gvt_le : w.gvt ≤ least_of w

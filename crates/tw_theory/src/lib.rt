@@ -13,6 +13,7 @@
 //! | `Contents` | what a process holds; steps, rollback, receipts, both ways of cancelling | Jefferson 1985 |
 //! | `Executive` | the actions, global virtual time, lists of actions | Jefferson 1985; Carothers, Perumalla and Fujimoto 1999 |
 //! | `Marks` | marks and rewinding | |
+//! | `Exchange` | which component is given out next; a sweep as a list of actions | |
 //! | `Balance` | what was sent is somewhere | |
 //! | `Soundness` | the start, and what every action keeps | |
 //! | `Laws` | what follows from the definitions alone | |

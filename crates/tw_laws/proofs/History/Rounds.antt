@@ -311,7 +311,7 @@ input_least s (m ∷ ms) n a =
     let p = a.1 in
     least_of_two s (m.stamp - 1) (least_input ms) (omega (arith, l), inl (omega (arith, l, p))) (input_least s ms n a.2)
 
-time_due : {S : Type 0} (net : Network S) (s : ℕ) (run : Run S) → Stand net s run → s ≤ never → IsDue s (round_time run.at)
+pub time_due : {S : Type 0} (net : Network S) (s : ℕ) (run : Run S) → Stand net s run → s ≤ never → IsDue s (round_time run.at)
 time_due net s run at n = least_of_two s (least_due run.at.moments) (least_input run.at.inputs) (due_least s run.at.moments n at.dues) (input_least s run.at.inputs n at.given)
 
 -- up to the next round

@@ -1,0 +1,63 @@
+-- Sweeps and outcomes on concrete networks: what a sweep is as a list, and two runs driven to their end.
+use Rattle.std.specs.Prelude.{ℕ, pos, ◌≡◌, List, [], ◌∷◌, ◌++◌, true, false}
+use Rattle.tw_laws.specs.Applied.{after, stuck}
+use Rattle.tw_laws.specs.Ending.{state, Complete, Fault}
+use Rattle.tw_laws.specs.Exchange.{IsAfterSweep}
+use Rattle.tw_laws.specs.Outcome.{IsOutcome}
+use Rattle.tw_msgs.specs.declared.record.Record.{Record}
+use Rattle.tw_vtime.specs.Stamps.{stamp}
+use Rattle.tw_vtime.specs.declared.limits.Limit.TheVariants.{Tick}
+use Rattle.tw_theory.specs.Contents.{Cancel, Aggressive, Lazy}
+use Rattle.tw_theory.specs.ExampleModels.{State}
+use Rattle.tw_theory.specs.ExampleNetworks.{three, gen_tally, lone}
+use Rattle.tw_theory.specs.ExampleTraces.{out, int, ext, item}
+use Rattle.tw_theory.specs.Exchange.{sweep, IsDrawn}
+use Rattle.tw_theory.specs.Executive.{World, Action, Step, Post, Deliver, Raise, Harvest, replay}
+use Rattle.tw_theory.specs.Network.{Network}
+use Rattle.tw_theory.specs.Soundness.{new_world}
+
+abbrev pub swept : Network State → ℕ → World State → World State
+swept net until w = replay net until w (sweep net until w)
+
+-- the relay has gone ahead with the input of tick 3, and the generator has made its output of tick 2
+abbrev pub ahead : Cancel → World State
+ahead cancel = after cancel (Step 1 ∷ Step 1 ∷ Step 1 ∷ Step 0 ∷ [])
+
+abbrev pub posts_of_three : List Action
+posts_of_three = Post 0 ∷ Post 1 ∷ Post 2 ∷ []
+
+abbrev pub end_of_three : List Action
+end_of_three = Raise ∷ Harvest 0 ∷ Harvest 1 ∷ Harvest 2 ∷ []
+
+-- generator and tally, driven to tick 3: output and transition, sweep, the tally's transition, sweep
+abbrev pub made : Cancel → World State
+made cancel = swept gen_tally 3 (replay gen_tally 3 (new_world gen_tally cancel) (Step 0 ∷ Step 0 ∷ []))
+
+abbrev pub driven : Cancel → World State
+driven cancel = swept gen_tally 3 (replay gen_tally 3 (made cancel) (Step 1 ∷ []))
+
+-- what the simulator records of it, and of a generator that meets the greatest tick
+abbrev pub whole_trace : List Record
+whole_trace = out 2 0 0 (item 5) ∷ int 2 0 0 (pos 1 ∷ []) ∷ ext 2 0 1 (item 5) (pos 1 ∷ pos 5 ∷ pos 5 ∷ []) ∷ []
+
+abbrev pub last_output : List Record
+last_output = out 1099511627773 0 0 (item 1) ∷ []
+
+-- the generator that meets the greatest tick, its output committed
+abbrev pub ended : Cancel → World State
+ended cancel = swept (lone 1099511627773) 1099511627774 (stuck cancel)
+
+pub record Driven : Type 0 where
+  -- the generator's message takes back the relay's steps; their message is cancelled in a second pass
+  pub aggressive : sweep three 10 (ahead Aggressive) ≡ posts_of_three ++ Deliver 1 0 ∷ Deliver 2 0 ∷ posts_of_three ++ Deliver 2 0 ∷ end_of_three
+  -- or stays owed, since it is not overdue
+  pub lazy : sweep three 10 (ahead Lazy) ≡ posts_of_three ++ Deliver 1 0 ∷ Deliver 2 0 ∷ end_of_three
+  pub after : (cancel : Cancel) → IsAfterSweep (ahead cancel) (swept three 10 (ahead cancel))
+  pub gvt : (cancel : Cancel) → (swept three 10 (ahead cancel)).gvt ≡ stamp 2 0 1
+  -- then the generator is given out first, and after it the relay
+  pub first : (cancel : Cancel) → IsDrawn 10 (stamp 2 0 1) 5 (false ∷ false ∷ false ∷ []) (swept three 10 (ahead cancel)).processes 0
+  pub second : (cancel : Cancel) → IsDrawn 10 (stamp 2 0 1) 5 (true ∷ false ∷ false ∷ []) (swept three 10 (ahead cancel)).processes 1
+  pub complete : (cancel : Cancel) → (state gen_tally 3 (driven cancel) ≡ Complete)
+      × IsOutcome gen_tally 3 Complete whole_trace
+  pub fault : (cancel : Cancel) → (state (lone 1099511627773) 1099511627774 (ended cancel) ≡ Fault 0 (stamp 1099511627773 0 1) Tick)
+      × IsOutcome (lone 1099511627773) 1099511627774 (Fault 0 (stamp 1099511627773 0 1) Tick) last_output

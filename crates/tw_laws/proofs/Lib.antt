@@ -39,6 +39,8 @@ pub mod Ending
 pub mod Traces
 pub mod Merging
 pub mod Outcomes
+-- chains
+pub mod Agreeing
 -- the theorem of the whole, and all laws on concrete networks
 pub mod TimeWarp
 pub mod Three

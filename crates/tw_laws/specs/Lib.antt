@@ -1,5 +1,6 @@
 pub mod Applied
 pub mod Cancelling
+pub mod Chains
 pub mod Committed
 pub mod Driven
 pub mod Ending

@@ -10,6 +10,7 @@
 //! | [`inversion`] | steps and a rewind restore everything, with one anti-message for each message sent |
 //! | [`endings`] | a sweep ends, and what it does; what the state of a run says is so; columns merge to the one sequential trace; the outcome |
 //! | [`cancellation`] | the way of cancelling stays as it began |
+//! | [`chains`] | a chain is what its component does next |
 //! | [`applied`] | all of it on concrete networks |
 //!
 //! The functions do nothing: their contracts are the laws, for states of any type, so for every model. The
@@ -20,6 +21,7 @@
 
 pub mod applied;
 pub mod cancellation;
+pub mod chains;
 pub mod commitment;
 pub mod endings;
 pub mod headline;

@@ -1,3 +1,4 @@
+pub mod Agreeing
 pub mod Balancing
 pub mod Cancelling
 pub mod Cuts
@@ -5,6 +6,7 @@ pub mod Elements
 pub mod MessageOrder
 pub mod Owing
 pub mod Routes
+pub mod Standing
 pub mod Steps
 pub mod TakingBack
 pub mod Totals

@@ -46,7 +46,7 @@ pub IfOk-cond : {T E : Type 0} (P : T → Type 0) (b : Bool) (x y : Result T E) 
 IfOk-cond P true x y f g = f refl
 IfOk-cond P false x y f g = g refl
 
-behind_strict : (s : ℕ) (ms : List Message) → s < never → Ascending ms → s ≤ first_stamp ms → s < first_stamp (behind s ms)
+pub behind_strict : (s : ℕ) (ms : List Message) → s < never → Ascending ms → s ≤ first_stamp ms → s < first_stamp (behind s ms)
 behind_strict s [] top up le = top
 behind_strict s (m ∷ ms) top up le =
     cond_both (m.stamp == s) (behind s ms) (m ∷ ms) (λ l. s < first_stamp l)

@@ -1,5 +1,6 @@
 pub mod Balance
 pub mod Bundles
+pub mod Chains
 pub mod Contents
 pub mod ExampleActions
 pub mod ExampleModels
@@ -13,3 +14,4 @@ pub mod Marks
 pub mod Network
 pub mod Simulator
 pub mod Soundness
+pub mod Standing

@@ -16,6 +16,8 @@
 //! | `Exchange` | which component is given out next; a sweep as a list of actions | |
 //! | `Balance` | what was sent is somewhere | |
 //! | `Soundness` | the start, and what every action keeps | |
+//! | `Standing` | when a component's next step can be made | |
+//! | `Chains` | steps of a component, worked out apart from its process | |
 //! | `Laws` | what follows from the definitions alone | |
 //! | `Example..` | small networks, their traces and lists of actions, computed by hand | |
 //!

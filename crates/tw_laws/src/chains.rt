@@ -1,0 +1,10 @@
+//! What a chain has to do with the process of its component.
+
+ghost use Rattle.tw_laws.specs.Chains.{ChainLaw};
+
+/// The steps of a chain are the next steps of its component, where that stands at the chain's start and has its
+/// messages before the bound; and wherever a step of a chain agrees with its next one in stamp and bag, it is its
+/// next one.
+pub fn chain_law<S>()
+    ensures { ChainLaw S }
+{}

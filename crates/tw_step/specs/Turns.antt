@@ -1,0 +1,15 @@
+-- What the advance of time says of a turn.
+--     IsDueBy advance due      it gave the next own step, or none, which is due at the end
+--     IsRefusedBy advance refused      it met this limit; or memory was refused, of which it says nothing
+use Rattle.std.specs.Prelude.{ℕ, ◌≡◌, Option, Result, Ok, Err, ⊤}
+use Rattle.tw_step.specs.declared.refused.TurnRefused.{TurnRefused}
+use Rattle.tw_step.specs.declared.refused.TurnRefused.TheVariants.{OutOfMemory, OverLimit}
+use Rattle.tw_theory.specs.LocalRun.{due_of}
+use Rattle.tw_vtime.specs.declared.limits.Limit.{Limit}
+
+abbrev pub IsDueBy : Result (Option ℕ) Limit → ℕ → Type 0
+IsDueBy advance due = (next : Option ℕ) × (advance ≡ Ok next) × (due ≡ due_of next)
+
+abbrev pub IsRefusedBy : Result (Option ℕ) Limit → TurnRefused → Type 0
+IsRefusedBy advance OutOfMemory = ⊤
+IsRefusedBy advance (OverLimit limit) = advance ≡ Err limit

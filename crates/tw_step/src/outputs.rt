@@ -1,0 +1,54 @@
+//! What a component sends.
+
+ghost use Rattle.std.specs.Prelude.{◌≡◌, ◌<◌, IfOk, length};
+ghost use Rattle.tw_msgs.specs.Bags.{sorted_bag};
+ghost use Rattle.tw_network.specs.Contents.{network_of};
+ghost use Rattle.tw_theory.specs.Network.{routed};
+
+use std::alloc::{AllocError, Global};
+use tw_atomic::{Atomic, Outbox};
+use tw_msgs::{Bag, Message};
+use tw_network::Network;
+use tw_vtime::Stamp;
+
+/// What a model sends in a state, sorted by port, then value. It is refused for want of memory alone (4), and takes
+/// none for up to eight items.
+pub fn output_bag<M: Atomic>(alloc: Global, model: &M, state: &M::State) -> Result<Bag, AllocError>
+    requires { M.valid model.now state.now }
+    ensures { IfOk result (λ bag. bag ≡ sorted_bag ((M.meaning model.now).out state.now)) }
+{
+    let mut outbox = Outbox::new();
+    model.output(state, &mut outbox);
+    let mut bag = Bag::new(alloc);
+    for item in outbox.as_slice() {
+        bag.push(*item)?;
+    }
+    bag.sort();
+    Ok(bag)
+}
+
+/// The messages of this stamp that an output bag of a component makes: for each item in order, one to each place to
+/// which its port is coupled, in the order of the routes. It is refused for want of memory alone (4).
+pub fn routed<M: Atomic>(
+    alloc: Global,
+    network: &Network<M>,
+    component: usize,
+    stamp: Stamp,
+    bag: &Bag,
+) -> Result<Vec<Message>, AllocError>
+    requires { component < length network.now.models }
+    ensures { IfOk result (λ messages. messages.items ≡ routed (network_of M.meaning network.now) component stamp bag.now) }
+{
+    let mut messages = Vec::new(alloc);
+    for (port, value) in bag.as_slice() {
+        for (to, entrance) in network.routes(component, *port) {
+            messages.push(Message {
+                stamp,
+                port: *entrance,
+                value: *value,
+                to: *to,
+            })?;
+        }
+    }
+    Ok(messages)
+}

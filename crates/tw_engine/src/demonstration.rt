@@ -7,7 +7,7 @@ ghost use Rattle.tw_network.specs.Contents.{network_of};
 ghost use Rattle.tw_theory.specs.Simulator.{sequential};
 
 use std::alloc::{AllocError, Global};
-use tw_exec::first::{gen_tally_law, traced};
+use tw_first::first::{gen_tally_law, traced};
 use tw_models::Model;
 use tw_msgs::Record;
 use tw_network::Network;

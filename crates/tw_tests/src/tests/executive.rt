@@ -2,14 +2,14 @@
 //!
 //! Each test passes also where one request for memory is refused: what was refused is then done again.
 ghost use Rattle.std.specs.Prelude.{◌≡◌, IfOk, None};
-ghost use Rattle.tw_exec.specs.First.{meant, start};
-ghost use Rattle.tw_exec.specs.GenTally.{IsGenTally};
+ghost use Rattle.tw_first.specs.First.{meant, start};
+ghost use Rattle.tw_first.specs.GenTally.{IsGenTally};
 ghost use Rattle.tw_theory.specs.Simulator.{sequential};
 
 use super::lines::{Line, all_show};
 use std::alloc::Global;
 use std::process::Abort;
-use tw_exec::first::{ActionRefused, Executive, StartRefused, drive, gen_tally_law, traced};
+use tw_first::first::{ActionRefused, Executive, StartRefused, drive, gen_tally_law, traced};
 use tw_models::Model;
 use tw_msgs::{Record, RecordKind};
 use tw_network::Network;

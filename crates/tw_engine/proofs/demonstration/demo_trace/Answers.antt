@@ -1,6 +1,6 @@
 -- The network of the demonstration is the worked example of the executive.
 use Rattle.std.proofs.Common.{◌≡◌, ap}
-use Rattle.tw_exec.specs.GenTally.{IsGenTally}
+use Rattle.tw_first.specs.GenTally.{IsGenTally}
 use Rattle.tw_models.specs.declared.model.Model.{Model}
 use Rattle.tw_network.specs.Contents.{Contents}
 use Rattle.tw_engine.specs.Runs.{demo_network}

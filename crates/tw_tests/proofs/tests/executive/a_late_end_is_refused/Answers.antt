@@ -1,6 +1,6 @@
 use Rattle.std.proofs.Common.{subst}
 use Rattle.std.specs.Prelude.{IfOk}
-use Rattle.tw_exec.specs.GenTally.{IsGenTally}
+use Rattle.tw_first.specs.GenTally.{IsGenTally}
 use Rattle.tw_tests.proofs.tests.executive.a_late_end_is_refused.Goals as goal
 
 pub new-requires : goal.new-requires

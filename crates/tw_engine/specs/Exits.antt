@@ -13,6 +13,13 @@ status_of Fault = 3
 status_of (Want why) = 4
 status_of NoWrite = 5
 
+-- how a run ends that is refused for this: want of memory or of nodes, a failed writer, or a bad line or file
+abbrev pub exit_of : Refusal → Exit
+exit_of refusal.OutOfMemory = Want refusal.OutOfMemory
+exit_of refusal.Full = Want refusal.Full
+exit_of refusal.WriteFailed = NoWrite
+exit_of why = Bad why
+
 abbrev pub refusal_line : Refusal → List ℕ
 refusal_line why = codes "twarp: " ++ refusal_text why ++ codes "\n"
 

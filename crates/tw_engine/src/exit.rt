@@ -17,10 +17,25 @@ pub enum Exit {
     Bad(Refusal),
     /// A component met a limit: the trace before it was written, and then the line of the fault.
     Fault,
-    /// A growth was refused: 4. A beginning of the text may be written.
+    /// A growth was refused: 4, or 12. A beginning of the text may be written.
     Want(Refusal),
     /// The writer failed. A beginning of the text may be written.
     NoWrite,
+}
+
+/// A run that is refused: for want of memory (4) or nodes (12), for a failed writer (24), or for a bad line or file.
+impl From<Refusal> for Exit {
+    ghost use Rattle.tw_engine.specs.Exits.{exit_of};
+
+    ghost from_gives = { λ refusal exit. exit ≡ exit_of refusal };
+
+    fn from(refusal: Refusal) -> Exit {
+        match refusal {
+            Refusal::OutOfMemory | Refusal::Full => Exit::Want(refusal),
+            Refusal::WriteFailed => Exit::NoWrite,
+            _ => Exit::Bad(refusal),
+        }
+    }
 }
 
 impl Exit {

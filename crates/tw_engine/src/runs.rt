@@ -16,9 +16,9 @@ use std::alloc::{AllocError, Global};
 use std::io::{ErrorKind, Read, Write};
 use tw_line::Job;
 use tw_models::Model;
-use tw_netfile::{FileRefused, network_of_file};
+use tw_netfile::network_of_file;
 use tw_network::Network;
-use tw_seq::{Seq, SeqRefused, simulate};
+use tw_seq::{Seq, simulate};
 use tw_texts::{Names, NotWritten, push_fault, write_trace};
 use tw_vtime::Refusal;
 
@@ -107,8 +107,7 @@ fn network(alloc: Global, bytes: &[u8]) -> Result<Network<Model>, Exit>
 {
     match network_of_file(alloc, bytes) {
         Ok(network) => Ok(network),
-        Err(FileRefused::OutOfMemory) => Err(Exit::Want(Refusal::OutOfMemory)),
-        Err(refused) => Err(Exit::Bad(Refusal::from(refused))),
+        Err(refused) => Err(Exit::from(Refusal::from(refused))),
     }
 }
 
@@ -120,8 +119,7 @@ fn simulated(alloc: Global, network: &Network<Model>, until: u64) -> Result<Seq,
 {
     match simulate(alloc, network, until) {
         Ok(seq) => Ok(seq),
-        Err(SeqRefused::OutOfMemory) => Err(Exit::Want(Refusal::OutOfMemory)),
-        Err(SeqRefused::BadTick) => Err(Exit::Bad(Refusal::BadTick)),
+        Err(refused) => Err(Exit::from(Refusal::from(refused))),
     }
 }
 

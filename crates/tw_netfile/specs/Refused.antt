@@ -6,11 +6,10 @@ use Rattle.tw_network.specs.Refused.{network_refusal}
 use Rattle.tw_network.specs.declared.refused.NetworkRefused.{NetworkRefused}
 use Rattle.tw_network.specs.declared.refused.NetworkRefused.TheVariants as network
 use Rattle.tw_netfile.specs.declared.refused.FileRefused.{FileRefused}
-use Rattle.tw_netfile.specs.declared.refused.FileRefused.TheVariants.{OutOfMemory, Unreadable, NotJson, BadShape, Parameter, Network}
+use Rattle.tw_netfile.specs.declared.refused.FileRefused.TheVariants.{OutOfMemory, NotJson, BadShape, Parameter, Network}
 
 abbrev pub file_refusal : FileRefused → Refusal
 file_refusal OutOfMemory = refusal.OutOfMemory
-file_refusal Unreadable = refusal.Unreadable
 file_refusal NotJson = refusal.NotJson
 file_refusal BadShape = refusal.BadShape
 file_refusal (Parameter bad) = bad_model_refusal bad

@@ -16,10 +16,6 @@ pub enum FileRefused {
     /// A growth of memory was refused: refusal 4.
     #[error("out of memory")]
     OutOfMemory,
-    /// The file cannot be read: refusal 19. Whoever reads the bytes answers it; [`crate::network_of_file`]
-    /// has them and never does.
-    #[error("the file cannot be read")]
-    Unreadable,
     /// The bytes are not UTF-8, not JSON, or nested deeper than 127 levels: refusal 20.
     #[error("the file is not JSON")]
     NotJson,
@@ -75,7 +71,6 @@ impl From<FileRefused> for Refusal {
     fn from(refused: FileRefused) -> Refusal {
         match refused {
             FileRefused::OutOfMemory => Refusal::OutOfMemory,
-            FileRefused::Unreadable => Refusal::Unreadable,
             FileRefused::NotJson => Refusal::NotJson,
             FileRefused::BadShape => Refusal::BadShape,
             FileRefused::Parameter(bad) => Refusal::from(bad),

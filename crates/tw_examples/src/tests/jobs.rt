@@ -1,4 +1,4 @@
-//! Jobs done on files and writers: the worked examples, and readers and writers that fail.
+//! Jobs done on files and writers: an example for each way to end, and readers and writers that fail.
 
 mod examples;
 mod failing;

@@ -186,7 +186,7 @@ static RUNS: [Example; 14] = [
         fault: None,
     },
     Example {
-        name: "tick-limits",
+        name: "last-tick",
         models: &[Made::Generator(MAX_TICK - 1, 1)],
         couplings: &[],
         inputs: &[],

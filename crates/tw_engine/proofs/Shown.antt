@@ -7,7 +7,7 @@ use Rattle.tw_msgs.specs.declared.record.Record.{Record}
 use Rattle.tw_models.specs.declared.model.Model.{Model}
 use Rattle.tw_models.specs.Model.{model_meaning}
 use Rattle.tw_network.specs.Contents.{Contents, network_of}
-use Rattle.tw_theory.specs.LocalRun.{output, moved, transition}
+use Rattle.tw_theory.specs.Transitions.{output, moved, transition}
 use Rattle.tw_theory.specs.Simulator.{sequential, rounds, round}
 use Rattle.tw_netfile.specs.Meaning.{meaning_of}
 use Rattle.tw_texts.specs.Traces.{AppendsBeginning}

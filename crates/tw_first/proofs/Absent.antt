@@ -4,9 +4,9 @@ use Rattle.std.specs.Prelude.{◌==◌, ◌&&◌, filter, slice_get}
 use Rattle.std.specs.Option.{option_map}
 use Rattle.std.proofs.lemmas.Bool.{cond-true, cond-false}
 use Rattle.std.proofs.lemmas.Option.{slice_get_past}
-use Rattle.tw_laws.specs.Traces.{of_component}
+use Rattle.tw_theory.specs.Traces.{of_component}
 use Rattle.tw_msgs.specs.declared.record.Record.{Record}
-use Rattle.tw_theory.specs.LocalRun.{Moment, start_moment}
+use Rattle.tw_theory.specs.Transitions.{Moment, start_moment}
 use Rattle.tw_theory.specs.Network.{Network, IsNetwork}
 use Rattle.tw_theory.specs.Simulator.{Run, sequential, records_before}
 use Rattle.tw_vtime.specs.Stamps.{stamp, max_tick}

@@ -19,7 +19,8 @@ use Rattle.tw_network.specs.Contents.{Contents}
 use Rattle.tw_theory.specs.Contents.{Process, Aggressive, Placed, next, with_step, with_outgoing, with_pending, settle, settled_as, harvested, inputs}
 use Rattle.tw_theory.specs.Executive.{World, Step, Post, Deliver, Raise, Harvest, Stepped, Posted, Delivered, Harvested, Refused, Refusal, act, act_step, act_post, act_deliver, act_harvest, if_made, mail_of, posted, least_of, column_of}
 use Rattle.tw_theory.specs.LocalRun as local
-use Rattle.tw_theory.specs.LocalRun.{Made, NoStep, NothingDue, OverLimit, Moment, Move, local_step, step_at, next_of, output, output_made, if_moved, transition}
+use Rattle.tw_theory.specs.LocalRun.{Made, NoStep, NothingDue, OverLimit, local_step, step_at, next_of, output_made, if_moved}
+use Rattle.tw_theory.specs.Transitions.{Moment, Move, output, transition}
 use Rattle.tw_theory.specs.Network.{Network, count_of}
 use Rattle.tw_theory.specs.Bundles.{front, items_of}
 use Rattle.tw_msgs.specs.declared.message.Message.{Message}

@@ -5,7 +5,7 @@ use Rattle.tw_first.specs.GenTally.{IsGenTally}
 use Rattle.tw_models.specs.declared.model.Model.{Model}
 use Rattle.tw_models.specs.declared.model.Model.TheVariants.{Gen, Tally}
 use Rattle.tw_network.specs.Contents.{Contents}
-use Rattle.tw_theory.specs.LocalRun.{output, moved, transition}
+use Rattle.tw_theory.specs.Transitions.{output, moved, transition}
 use Rattle.tw_theory.specs.Simulator.{sequential, rounds, round}
 
 abbrev example : List (List ℕ) → Contents Model

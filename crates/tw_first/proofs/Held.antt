@@ -17,7 +17,8 @@ use Rattle.tw_first.specs.Stops.{IsStop}
 use Rattle.tw_first.specs.declared.first.refused.ActionRefused.{ActionRefused}
 use Rattle.tw_first.specs.declared.first.refused.ActionRefused.TheVariants.{OutOfMemory, NothingDue, OverLimit, NoSuch}
 use Rattle.tw_theory.specs.LocalRun as local
-use Rattle.tw_theory.specs.LocalRun.{turn, local_step}
+use Rattle.tw_theory.specs.LocalRun.{local_step}
+use Rattle.tw_theory.specs.Transitions.{turn}
 use Rattle.tw_vtime.specs.Stamps.{never, stamp, phase_of, tick_of}
 use Rattle.tw_msgs.specs.declared.message.Item.{Item}
 use Rattle.tw_network.specs.Contents.{Contents}

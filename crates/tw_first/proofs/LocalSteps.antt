@@ -28,7 +28,8 @@ use Rattle.tw_msgs.specs.declared.record_kind.RecordKind.TheVariants.{Out}
 use Rattle.tw_network.specs.Contents.{Contents}
 use Rattle.tw_theory.specs.Bundles.{front, behind, items_of, positives}
 use Rattle.tw_theory.specs.Contents.{Aggressive}
-use Rattle.tw_theory.specs.LocalRun.{Moment, Move, Made, NoStep, next_of, step_at, local_step, output, output_made, if_moved, if_within, moved, transition, transition_made, turn, kind_of, due_of}
+use Rattle.tw_theory.specs.LocalRun.{Made, NoStep, next_of, step_at, local_step, output_made, if_moved, transition_made}
+use Rattle.tw_theory.specs.Transitions.{Moment, Move, output, if_within, moved, transition, turn, kind_of, due_of}
 use Rattle.tw_theory.specs.Network.{Network, model_of, routed}
 use Rattle.tw_vtime.specs.Advance.{advanced}
 use Rattle.tw_vtime.specs.Stamps.{never, phase_of, tick_of}

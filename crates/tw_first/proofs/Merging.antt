@@ -11,7 +11,7 @@ use Rattle.tw_first.specs.Cells.{Cell}
 use Rattle.tw_first.specs.First.{meant}
 use Rattle.tw_first.specs.Kept.{IsKept, nobody}
 use Rattle.tw_first.specs.Merging.{IsRising, IsColumn, AreColumns}
-use Rattle.tw_laws.specs.Traces.{Precedes, IsTrace, of_component}
+use Rattle.tw_theory.specs.Traces.{Precedes, IsTrace, of_component}
 use Rattle.tw_models.specs.declared.model.Model.{Model}
 use Rattle.tw_models.specs.declared.model.State.{State}
 use Rattle.tw_msgs.specs.declared.record.Record.{Record}

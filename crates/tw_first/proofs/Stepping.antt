@@ -25,8 +25,9 @@ use Rattle.tw_theory.specs.Bundles.{first_stamp, front, behind, items_of, positi
 use Rattle.tw_theory.specs.Contents.{Process, Aggressive, next, with_step, consumed_by, sent_out, owed_after}
 use Rattle.tw_theory.specs.Executive.{World, Step, act, act_step, if_made, mail_of}
 use Rattle.tw_theory.specs.LocalRun as local
-use Rattle.tw_theory.specs.LocalRun.{Moment, Made, local_step, output, output_made, moved, transition_made, turn, kind_of, due_of}
-use Rattle.tw_theory.specs.Network.{model_of, places, copies, routed}
+use Rattle.tw_theory.specs.LocalRun.{Made, local_step, output_made, transition_made}
+use Rattle.tw_theory.specs.Transitions.{Moment, output, moved, turn, kind_of, due_of}
+use Rattle.tw_theory.specs.Network.{model_of, destinations, copies, routed}
 use Rattle.tw_msgs.specs.Bags.{sorted_bag}
 use Rattle.tw_vtime.specs.Advance.{advanced}
 use Rattle.tw_vtime.specs.declared.limits.Limit.{Limit}
@@ -123,9 +124,9 @@ module _ (n : Contents Model) (until : ℕ) (w : World State) (h : IsKept n unti
         let is = made_output net c p.now p.pending s made e refl top even in
         let out : (model_of net c p.now.state).out p.now.state ≡ (0, g.value) ∷ [] =
         (λ i. (model_at n c (Gen g) p.now.state model i).out p.now.state) ∙ ap (λ x. (model_meaning (Gen g)).out x) k.state_is in
-        let sent : made.step.sent ≡ copies (s + 1) g.value (places c 0 n.couplings) =
-        ap (λ x. x.step.sent) is ∙ ap (λ b. routed net c (s + 1) (sorted_bag b)) out ∙ append-nil (copies (s + 1) g.value (places c 0 n.couplings)) in
-        let items = positives (copies (s + 1) g.value (places c 0 n.couplings)) in
+        let sent : made.step.sent ≡ copies (s + 1) g.value (destinations c 0 n.couplings) =
+        ap (λ x. x.step.sent) is ∙ ap (λ b. routed net c (s + 1) (sorted_bag b)) out ∙ append-nil (copies (s + 1) g.value (destinations c 0 n.couplings)) in
+        let items = positives (copies (s + 1) g.value (destinations c 0 n.couplings)) in
         let due : made.after.due ≡ s + 1 = ap (λ x. x.after.due) is in
         let last : made.after.last ≡ p.now.last = ap (λ x. x.after.last) is in
         let state : made.after.state ≡ p.now.state = ap (λ x. x.after.state) is in

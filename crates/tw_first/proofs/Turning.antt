@@ -8,7 +8,8 @@ use Rattle.tw_atomic.specs.declared.Turn.{Turn}
 use Rattle.tw_first.specs.Kept.{stamps}
 use Rattle.tw_msgs.specs.declared.message.Message.{Message}
 use Rattle.tw_theory.specs.Bundles.{front, behind, items_of}
-use Rattle.tw_theory.specs.LocalRun.{Moment, Made, OverLimit, next_of, local_step, output, output_made, if_moved, if_within, moved, transition, transition_made, turn, kind_of, due_of}
+use Rattle.tw_theory.specs.LocalRun.{Made, OverLimit, next_of, local_step, output_made, if_moved, transition_made}
+use Rattle.tw_theory.specs.Transitions.{Moment, output, if_within, moved, transition, turn, kind_of, due_of}
 use Rattle.tw_theory.specs.Network.{Network, model_of}
 use Rattle.tw_vtime.specs.Advance.{advanced}
 use Rattle.tw_vtime.specs.Stamps.{never, phase_of, tick_of}

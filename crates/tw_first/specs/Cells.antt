@@ -8,7 +8,8 @@ use Rattle.tw_models.specs.declared.model.State.{State}
 use Rattle.tw_msgs.specs.declared.record.Record.{Record}
 use Rattle.tw_msgs.specs.declared.record_kind.RecordKind.{RecordKind}
 use Rattle.tw_theory.specs.Contents.{Process, Aggressive, with_step, harvested, steps_before, records_of}
-use Rattle.tw_theory.specs.LocalRun.{Step, Made, local_step, start_moment}
+use Rattle.tw_theory.specs.LocalRun.{Step, Made, local_step}
+use Rattle.tw_theory.specs.Transitions.{start_moment}
 use Rattle.tw_theory.specs.Network.{Network}
 
 pub record Cell : Type 0 where

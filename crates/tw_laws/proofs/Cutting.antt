@@ -12,7 +12,8 @@ use Rattle.tw_msgs.specs.declared.record.Record.{Record}
 use Rattle.tw_theory.specs.Balance.{issued, held}
 use Rattle.tw_theory.specs.Bundles.{least_stamp, least_owed, Ascending}
 use Rattle.tw_theory.specs.Contents.{Process, next, inputs, consumed_by, sent_by, unsent_by, before_all, back_to_first, steps_before, steps_from, cut}
-use Rattle.tw_theory.specs.LocalRun.{Moment, Step, next_of, Leads}
+use Rattle.tw_theory.specs.LocalRun.{Step, next_of, Leads}
+use Rattle.tw_theory.specs.Transitions.{Moment}
 use Rattle.tw_theory.specs.Network.{Network, Fits, IsNetwork}
 use Rattle.tw_theory.specs.Soundness.{AllBefore, IsFor, IsSoundProcess}
 use Rattle.tw_vtime.specs.Stamps.{stamp, never, max_tick, phase_of}

@@ -5,18 +5,19 @@ use Rattle.std.specs.List.{AllByRecursion as Each}
 use Rattle.std.proofs.lemmas.Option.{same_Some, none-some}
 use Rattle.std.proofs.lemmas.Bool.{cond-false, ne_eqb, cases_lt}
 use Rattle.tw_laws.specs.Applied.{stuck}
-use Rattle.tw_laws.specs.Driven.{swept, ahead, posts_of_three, end_of_three, made, driven, ended, whole_trace, last_output, Driven}
-use Rattle.tw_laws.specs.Ending.{State as Shown, state, Complete, Fault, Going}
+use Rattle.tw_laws.specs.Driven.{swept, ahead, posts_of_three, end_of_three, made, driven, ended, driven_trace, last_output, Driven}
+use Rattle.tw_theory.specs.Outcomes.{RunState, state, Complete, Fault, Going}
 use Rattle.tw_laws.specs.Exchange.{IsAfterSweep}
-use Rattle.tw_laws.specs.Outcome.{IsOutcome}
-use Rattle.tw_laws.specs.Traces.{of_component}
+use Rattle.tw_theory.specs.Outcomes.{IsOutcome}
+use Rattle.tw_theory.specs.Traces.{of_component}
 use Rattle.tw_msgs.specs.declared.record.Record.{Record}
 use Rattle.tw_theory.specs.Contents.{Process, Cancel, Aggressive, Lazy, next, back_to_first}
 use Rattle.tw_theory.specs.ExampleModels.{State}
 use Rattle.tw_theory.specs.ExampleNetworks.{three, gen_tally, lone}
 use Rattle.tw_theory.specs.Exchange.{sweep, MayDraw, IsDrawn}
 use Rattle.tw_theory.specs.Executive.{World, Action, Step, Deliver, act, replay, column_of}
-use Rattle.tw_theory.specs.LocalRun.{output, moved, transition, step_at, local_step}
+use Rattle.tw_theory.specs.LocalRun.{step_at, local_step}
+use Rattle.tw_theory.specs.Transitions.{output, moved, transition}
 use Rattle.tw_theory.specs.Network.{Network, IsNetwork}
 use Rattle.tw_theory.specs.Soundness.{IsSound, new_world}
 use Rattle.tw_vtime.specs.Stamps.{stamp, max_tick}
@@ -82,21 +83,21 @@ unfolding act local_step step_at output moved transition back_to_first state
 is_complete Aggressive = refl
 is_complete Lazy = refl
 
-parts : (cancel : Cancel) (c : ℕ) → of_component c whole_trace ≡ column_of (driven cancel).columns c
+parts : (cancel : Cancel) (c : ℕ) → of_component c driven_trace ≡ column_of (driven cancel).columns c
 unfolding act local_step step_at output moved transition back_to_first
 parts Aggressive zero = refl
 parts Aggressive (suc zero) = refl
-parts Aggressive (suc (suc c)) = none_of (suc (suc c)) whole_trace ((λ e. omega (arith, e)), ((λ e. omega (arith, e)), ((λ e. omega (arith, e)), tt)))
+parts Aggressive (suc (suc c)) = none_of (suc (suc c)) driven_trace ((λ e. omega (arith, e)), ((λ e. omega (arith, e)), ((λ e. omega (arith, e)), tt)))
 parts Lazy zero = refl
 parts Lazy (suc zero) = refl
-parts Lazy (suc (suc c)) = none_of (suc (suc c)) whole_trace ((λ e. omega (arith, e)), ((λ e. omega (arith, e)), ((λ e. omega (arith, e)), tt)))
+parts Lazy (suc (suc c)) = none_of (suc (suc c)) driven_trace ((λ e. omega (arith, e)), ((λ e. omega (arith, e)), ((λ e. omega (arith, e)), tt)))
 
-complete : (cancel : Cancel) → IsOutcome gen_tally 3 Complete whole_trace
+complete : (cancel : Cancel) → IsOutcome gen_tally 3 Complete driven_trace
 complete cancel =
     let h = driven_sound cancel in
     let lines = (after_sweep gen_tally 3 (replay gen_tally 3 (made cancel) (Step 1 ∷ [])) gen_tally_fits (omega arith) (stepped_sound cancel)).lines in
-    subst (λ (s : Shown). IsOutcome gen_tally 3 s whole_trace) (is_complete cancel)
-    (outcome_law.at_gvt gen_tally 3 (driven cancel) gen_tally_fits (omega arith) h lines whole_trace
+    subst (λ (s : RunState). IsOutcome gen_tally 3 s driven_trace) (is_complete cancel)
+    (outcome_law.at_gvt gen_tally 3 (driven cancel) gen_tally_fits (omega arith) h lines driven_trace
     ((inl (omega arith), (inl (omega arith), tt)), ((inr (refl, omega arith), tt), (tt, tt)))
     (parts cancel)
     (λ bad. let k : Complete ≡ Going = sym (is_complete cancel) ∙ bad in cc)).0
@@ -120,7 +121,7 @@ fault_parts Lazy (suc c) = none_of (suc c) last_output ((λ e. omega (arith, e))
 
 fault : (cancel : Cancel) → IsOutcome (lone 1099511627773) 1099511627774 (Fault 0 (stamp 1099511627773 0 1) Tick) last_output
 fault cancel =
-    subst (λ (s : Shown). IsOutcome (lone 1099511627773) 1099511627774 s last_output) (is_fault cancel)
+    subst (λ (s : RunState). IsOutcome (lone 1099511627773) 1099511627774 s last_output) (is_fault cancel)
     (outcome_law.at_gvt (lone 1099511627773) 1099511627774 (ended cancel) lone_fits (omega arith) (ended_sound cancel)
     (after_sweep (lone 1099511627773) 1099511627774 (stuck cancel) lone_fits (omega arith) (stuck_sound cancel)).lines last_output (tt, tt) (fault_parts cancel)
     (λ bad. let k : Fault 0 (stamp 1099511627773 0 1) Tick ≡ Going = sym (is_fault cancel) ∙ bad in cc)).0

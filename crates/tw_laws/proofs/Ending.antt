@@ -4,7 +4,8 @@ use Rattle.std.specs.Prelude.{slice_get, filter, ◌==◌, nat_lt, ◌≢◌}
 use Rattle.std.specs.List.{AllByRecursion as Each}
 use Rattle.std.proofs.lemmas.Bool.{and_parts, eq-eqb, eqb-true, ne_eqb, leb-true, le-leb, ltb-true, lt-ltb, cond_both, cases_Bool}
 use Rattle.std.proofs.lemmas.Option.{same_Some, none-some}
-use Rattle.tw_laws.specs.Ending.{ShowsFault, AllPast, HasAll, EndingLaw, State, Complete, Fault, Going, none_at, all_quiet, limit_of, fault_at, first_fault, all_past, state, StateLaw}
+use Rattle.tw_laws.specs.Ending.{ShowsFault, AllPast, HasAll, EndingLaw, StateLaw}
+use Rattle.tw_theory.specs.Outcomes.{RunState, Complete, Fault, Going, none_at, all_quiet, limit_of, fault_at, first_fault, all_past, state}
 use Rattle.tw_msgs.specs.declared.message.Item.{Item}
 use Rattle.tw_msgs.specs.declared.message.Message.{Message}
 use Rattle.tw_theory.specs.Contents.{Process, next}
@@ -241,9 +242,9 @@ module _ {S : Type 0} (net : Network S) (until : ℕ) (w : World S) where
       → (s ≡ w.gvt) × ((sequential net until).fault ≡ Some (c, s, limit))
   unfolding state
   state_fault ok bound h c s limit =
-      cond_both (all_past (stamp until 0 0) w.processes) _ _ (λ (x : State). x ≡ Fault c s limit → (s ≡ w.gvt) × ((sequential net until).fault ≡ Some (c, s, limit)))
+      cond_both (all_past (stamp until 0 0) w.processes) _ _ (λ (x : RunState). x ≡ Fault c s limit → (s ≡ w.gvt) × ((sequential net until).fault ≡ Some (c, s, limit)))
       (λ e bad. absurd (let k : Complete ≡ Fault c s limit = bad in cc))
-      (λ e. cond_both (all_quiet w.gvt w.processes && all_empty w.mail && nat_lt w.gvt (stamp until 0 0) && (phase_of w.gvt == 1)) _ _ (λ (x : State). x ≡ Fault c s limit → (s ≡ w.gvt) × ((sequential net until).fault ≡ Some (c, s, limit)))
+      (λ e. cond_both (all_quiet w.gvt w.processes && all_empty w.mail && nat_lt w.gvt (stamp until 0 0) && (phase_of w.gvt == 1)) _ _ (λ (x : RunState). x ≡ Fault c s limit → (s ≡ w.gvt) × ((sequential net until).fault ≡ Some (c, s, limit)))
       (λ d k. let f = first_fault_is net w.gvt 0 w.processes c s limit k in (f.stamp_is, fault_shown net until ok bound w h c limit (shows c s limit d f) ∙ ap (λ x. Some (c, x, limit)) (sym f.stamp_is)))
       (λ d bad. absurd (let k : Going ≡ Fault c s limit = bad in cc)))
 
@@ -259,9 +260,9 @@ module _ {S : Type 0} (net : Network S) (until : ℕ) (w : World S) where
   complete_past : state net until w ≡ Complete → AllPast (stamp until 0 0) w
   unfolding state
   complete_past =
-      cond_both (all_past (stamp until 0 0) w.processes) _ _ (λ (x : State). x ≡ Complete → AllPast (stamp until 0 0) w)
+      cond_both (all_past (stamp until 0 0) w.processes) _ _ (λ (x : RunState). x ≡ Complete → AllPast (stamp until 0 0) w)
       (λ e k c p at. past_at (stamp until 0 0) w.processes e c p at)
-      (λ e. cond_both (all_quiet w.gvt w.processes && all_empty w.mail && nat_lt w.gvt (stamp until 0 0) && (phase_of w.gvt == 1)) _ _ (λ (x : State). x ≡ Complete → AllPast (stamp until 0 0) w)
+      (λ e. cond_both (all_quiet w.gvt w.processes && all_empty w.mail && nat_lt w.gvt (stamp until 0 0) && (phase_of w.gvt == 1)) _ _ (λ (x : RunState). x ≡ Complete → AllPast (stamp until 0 0) w)
       (λ d k. absurd (not_complete w.processes 0 k))
       (λ d bad. absurd (let k : Going ≡ Complete = bad in cc)))
 
@@ -274,9 +275,9 @@ module _ {S : Type 0} (net : Network S) (until : ℕ) (w : World S) where
       → (AllPast (stamp until 0 0) w → ⊥) × (s ≡ w.gvt) × ShowsFault net until w c limit
   unfolding state
   fault_shows c s limit =
-      cond_both (all_past (stamp until 0 0) w.processes) _ _ (λ (x : State). x ≡ Fault c s limit → (AllPast (stamp until 0 0) w → ⊥) × (s ≡ w.gvt) × ShowsFault net until w c limit)
+      cond_both (all_past (stamp until 0 0) w.processes) _ _ (λ (x : RunState). x ≡ Fault c s limit → (AllPast (stamp until 0 0) w → ⊥) × (s ≡ w.gvt) × ShowsFault net until w c limit)
       (λ e bad. absurd (let k : Complete ≡ Fault c s limit = bad in cc))
-      (λ e. cond_both (all_quiet w.gvt w.processes && all_empty w.mail && nat_lt w.gvt (stamp until 0 0) && (phase_of w.gvt == 1)) _ _ (λ (x : State). x ≡ Fault c s limit → (AllPast (stamp until 0 0) w → ⊥) × (s ≡ w.gvt) × ShowsFault net until w c limit)
+      (λ e. cond_both (all_quiet w.gvt w.processes && all_empty w.mail && nat_lt w.gvt (stamp until 0 0) && (phase_of w.gvt == 1)) _ _ (λ (x : RunState). x ≡ Fault c s limit → (AllPast (stamp until 0 0) w → ⊥) × (s ≡ w.gvt) × ShowsFault net until w c limit)
       (λ d k. let f = first_fault_is net w.gvt 0 w.processes c s limit k in ((λ past. true≢false (sym (all_past_is (stamp until 0 0) w.processes past) ∙ e)), f.stamp_is, shows c s limit d f))
       (λ d bad. absurd (let k : Going ≡ Fault c s limit = bad in cc)))
 

@@ -7,7 +7,8 @@ use Rattle.tw_msgs.specs.Bags.{Bag}
 use Rattle.tw_msgs.specs.declared.message.Item.{Item}
 use Rattle.tw_theory.specs.Contents.{Process, next}
 use Rattle.tw_theory.specs.Executive.{World, Action, Post, Deliver, Back, Raise, Harvest, Answer, act, replay, act_step, act_post, act_deliver, act_back, act_harvest, if_made, mail_of}
-use Rattle.tw_theory.specs.LocalRun.{Moment, Made, output, NoStep}
+use Rattle.tw_theory.specs.LocalRun.{Made, NoStep}
+use Rattle.tw_theory.specs.Transitions.{Moment, output}
 use Rattle.tw_theory.specs.Network.{Network, IsNetwork}
 use Rattle.tw_theory.specs.Simulator.{Moves, Stays, sequential}
 use Rattle.tw_theory.specs.Soundness.{new_world, IsSound}

@@ -5,9 +5,11 @@ use Rattle.std.specs.List.{AllByRecursion as Each}
 use Rattle.std.proofs.lemmas.Bool.{cond-true, cond-false, cond_both, and_parts, ltb-true, lt-ltb, cases_lt, cases_eq, ne_eqb, eq-eqb}
 use Rattle.std.proofs.lemmas.List.{get_or-set_same, get_or-set_other, get_or_past}
 use Rattle.std.proofs.lemmas.Option.{same_Some, none-some, slice_get-get_or, slice_get_cases}
-use Rattle.tw_laws.specs.Ending.{State, Complete, Fault, Going, state}
-use Rattle.tw_laws.specs.Outcome.{IsOutcome, IsMerged, OutcomeLaw}
-use Rattle.tw_laws.specs.Traces.{IsTrace, of_component, before}
+use Rattle.tw_theory.specs.Outcomes.{RunState, Complete, Fault, Going, state}
+use Rattle.tw_laws.specs.Outcome.{OutcomeLaw}
+use Rattle.tw_theory.specs.Outcomes.{IsOutcome}
+use Rattle.tw_theory.specs.Traces.{IsMerged}
+use Rattle.tw_theory.specs.Traces.{IsTrace, of_component, before}
 use Rattle.tw_msgs.specs.Counting.{total}
 use Rattle.tw_msgs.specs.declared.record.Record.{Record}
 use Rattle.tw_theory.specs.Contents.{Process}
@@ -126,11 +128,11 @@ module _ {S : Type 0} (net : Network S) (until : ℕ) (ok : IsNetwork net) (boun
       → IsOutcome net until (state net until w) trace × (length trace ≡ total length w.columns)
   at_gvt lines trace t parts ended = (go (state net until w) refl, length_parts trace w.columns parts)
     where
-      go : (s : State) → state net until w ≡ s → IsOutcome net until (state net until w) trace
-      go Complete e = subst (λ (s : State). IsOutcome net until s trace) (sym e) (complete net until ok bound w h e trace (whole (stamp until 0 0) (omega arith) trace t parts))
+      go : (s : RunState) → state net until w ≡ s → IsOutcome net until (state net until w) trace
+      go Complete e = subst (λ (s : RunState). IsOutcome net until s trace) (sym e) (complete net until ok bound w h e trace (whole (stamp until 0 0) (omega arith) trace t parts))
       go (Fault c s limit) e =
           let at : s ≡ w.gvt = (state_law.fault net until w ok bound h c s limit e).0 in
-          subst (λ (x : State). IsOutcome net until x trace) (sym e)
+          subst (λ (x : RunState). IsOutcome net until x trace) (sym e)
           (fault net until ok bound w h c s limit e (λ d p there. let l = lines d p there in omega (arith, at, l)) trace (whole s (omega (arith, at)) trace t parts))
       go Going e = absurd (ended e)
 

@@ -9,7 +9,8 @@ use Rattle.tw_msgs.specs.declared.record_kind.RecordKind.TheVariants.{Out, Int, 
 use Rattle.tw_theory.specs.Balance.{consumed_in, all_consumed}
 use Rattle.tw_theory.specs.Bundles.{front, behind, items_of, messages_for}
 use Rattle.tw_theory.specs.Contents.{records_of, sent_by, consumed_by}
-use Rattle.tw_theory.specs.LocalRun.{Moment, Move, Step, Made, next_of, turn, output, moved, if_within, transition, output_made, transition_made, if_moved, step_at, local_step, Leads, kind_of}
+use Rattle.tw_theory.specs.LocalRun.{Step, Made, next_of, output_made, transition_made, if_moved, step_at, local_step, Leads}
+use Rattle.tw_theory.specs.Transitions.{Moment, Move, turn, output, moved, if_within, transition, kind_of}
 use Rattle.tw_theory.specs.Network.{Network}
 use Rattle.tw_theory.specs.Simulator.{sent_in, all_sent}
 use Rattle.tw_vtime.specs.Stamps.{never, phase_of}

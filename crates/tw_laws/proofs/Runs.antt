@@ -7,7 +7,8 @@ use Rattle.std.proofs.lemmas.Result.{IfOk-at_ok}
 use Rattle.tw_msgs.specs.declared.message.Message.{Message}
 use Rattle.tw_theory.specs.Bundles.{first_stamp, front, behind, items_of, Ascending}
 use Rattle.tw_theory.specs.Contents.{before_all, consumed_by}
-use Rattle.tw_theory.specs.LocalRun.{Moment, Move, Step, Made, next_of, output, transition, output_made, transition_made, if_moved, step_at, local_step, Leads}
+use Rattle.tw_theory.specs.LocalRun.{Step, Made, next_of, output_made, transition_made, if_moved, step_at, local_step, Leads}
+use Rattle.tw_theory.specs.Transitions.{Moment, Move, output, transition}
 use Rattle.tw_theory.specs.Network.{Network}
 use Rattle.tw_theory.specs.Soundness.{AllBefore}
 use Rattle.tw_vtime.specs.Stamps.{never, phase_of}

@@ -5,7 +5,7 @@ use Rattle.std.specs.List.{AllByRecursion as Each}
 use Rattle.std.proofs.lemmas.Option.{get_or_from_slice_get, slice_get_within, same_Some}
 use Rattle.std.proofs.lemmas.Bool.{cond_both, cases_Bool, and_parts, eqb-true, cases_eq}
 use Rattle.tw_laws.specs.Ending.{ShowsFault}
-use Rattle.tw_laws.specs.History.{count, sum_below, AreInputs, AllPhaseOne, Held, StandsTo, sent_count, IsSettled, IsFaulting}
+use Rattle.tw_laws.specs.History.{count, sum_below, AreInputs, AllPhaseOne, Holdings, StandsTo, sent_count, IsRunTo, IsFaulting}
 use Rattle.tw_msgs.specs.Bags.{Bag}
 use Rattle.tw_msgs.specs.Counting.{one_at, total, when_positive, when_anti}
 use Rattle.tw_msgs.specs.Messages.{same_message, has, Sorted}
@@ -20,7 +20,8 @@ use Rattle.tw_theory.specs.Balance.{issued, held, consumed_in, all_consumed}
 use Rattle.tw_theory.specs.Bundles.{messages_for}
 use Rattle.tw_theory.specs.Contents.{Process, inputs, sent_by}
 use Rattle.tw_theory.specs.Executive.{World, least_mail}
-use Rattle.tw_theory.specs.LocalRun.{Moment, Step, Leads, next_of, local_step}
+use Rattle.tw_theory.specs.LocalRun.{Step, Leads, next_of, local_step}
+use Rattle.tw_theory.specs.Transitions.{Moment}
 use Rattle.tw_theory.specs.Network.{Network, Fits, IsNetwork}
 use Rattle.tw_theory.specs.Simulator.{sequential, rounds, due_from, up_to, all_sent}
 use Rattle.tw_theory.specs.Soundness.{IsFor, IsSound}
@@ -128,7 +129,7 @@ abbrev pub waiting_of : {S : Type 0} → Option (Process S) → List Message
 waiting_of None = []
 waiting_of (Some p) = p.waiting
 
-abbrev pub held_by : {S : Type 0} → ℕ → World S → Held S
+abbrev pub held_by : {S : Type 0} → ℕ → World S → Holdings S
 held_by until w = record {
   line = λ c. up_to until (line_of (slice_get w.processes c));
   column = λ c. slice_index_or w.columns c [];
@@ -283,7 +284,7 @@ module _ {S : Type 0} (net : Network S) (until : ℕ) (ok : IsNetwork net) (w : 
   unfolding stands_at
   stands_at-now c p at = refl
 
-  pub settled : IsSettled net until (up_to until w.gvt) (held_by until w)
+  pub settled : IsRunTo net until (up_to until w.gvt) (held_by until w)
   settled = record {
     horizon = omega arith;
     given = all_phase_one net net.inputs ok.inputs;

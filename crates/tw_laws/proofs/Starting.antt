@@ -11,7 +11,7 @@ use Rattle.tw_msgs.specs.declared.record.Record.{Record}
 use Rattle.tw_theory.specs.Balance.{issued, held, all_consumed}
 use Rattle.tw_theory.specs.Bundles.{addressed}
 use Rattle.tw_theory.specs.Contents.{Process, Cancel}
-use Rattle.tw_theory.specs.LocalRun.{Moment, start_moment}
+use Rattle.tw_theory.specs.Transitions.{Moment, start_moment}
 use Rattle.tw_theory.specs.Network.{Network, Fits, IsNetwork}
 use Rattle.tw_theory.specs.Simulator.{start_moments, sequential, rounds, up_to, moment_at, due_from, all_sent}
 use Rattle.tw_theory.specs.Soundness.{new_process, new_processes, new_world, IsFor, IsSoundProcess, IsSound}

@@ -159,7 +159,7 @@ least_mail-posted g mail (i ∷ items) top l h =
     least_mail-posted g (slice_set mail to (mail_of mail to ++ i ∷ [])) items top (least_mail-set g mail to (mail_of mail to ++ i ∷ []) l (least_from_each g (mail_of mail to ++ i ∷ []) top box)) h.1
 
 -- what is kept when messages owed become anti-messages
-pub record IsSettled {S : Type 0} (net : Network S) (until gvt c : ℕ) (column : List Record) (mail : List Item) (p q : Process S) : Type 0 where
+pub record IsSoundWhenSettled {S : Type 0} (net : Network S) (until gvt c : ℕ) (column : List Record) (mail : List Item) (p q : Process S) : Type 0 where
   pub sound : IsSoundProcess net until gvt c column mail q
   pub balance : (weight : Message → ℕ) → issued weight q + held weight p ≡ issued weight p + held weight q
   pub next : gvt ≤ next q
@@ -168,7 +168,7 @@ pub record IsSettled {S : Type 0} (net : Network S) (until gvt c : ℕ) (column 
 
 module _ {S : Type 0} (net : Network S) (until : ℕ) where
   settle_sound : (gvt c : ℕ) (column : List Record) (mail : List Item) (p : Process S) (k : Cancel) → IsSoundProcess net until gvt c column mail p
-      → gvt ≤ never → gvt ≤ next p → gvt ≤ least_stamp p.outgoing → gvt ≤ least_owed p.owed → IsSettled net until gvt c column mail p (settled_as k p)
+      → gvt ≤ never → gvt ≤ next p → gvt ≤ least_stamp p.outgoing → gvt ≤ least_owed p.owed → IsSoundWhenSettled net until gvt c column mail p (settled_as k p)
   settle_sound gvt c column mail p Aggressive h top n out owe = record { sound = h; balance = λ weight. refl; next = n; outgoing = out; owed = owe }
   settle_sound gvt c column mail p Lazy h top n out owe =
       let due = overdue (next p) p.owed in

@@ -2,8 +2,8 @@
 use Rattle.std.proofs.Common.{◌<◌, ◌≡◌, ◌∙◌, refl, sym, ap, arith, inl, inr, ℕ, zero, suc, List, [], ◌∷◌, Some}
 use Rattle.std.specs.Prelude.{pos}
 use Rattle.tw_laws.specs.Applied.{start, after, posted, drive, driven, driven_trace, DrivenRun, LawsOfThree, stuck}
-use Rattle.tw_laws.specs.Ending.{state, Complete, Fault, Going}
-use Rattle.tw_laws.specs.History.{Held, IsSettled, IsCommitted}
+use Rattle.tw_theory.specs.Outcomes.{state, Complete, Fault, Going}
+use Rattle.tw_laws.specs.History.{Holdings, IsRunTo, IsCommitted}
 use Rattle.tw_laws.specs.Rewinding.{IsRewound, IsBackedTo}
 use Rattle.tw_theory.specs.Soundness.{IsSound, new_world}
 use Rattle.tw_theory.specs.Contents.{Cancel, Aggressive, Lazy, Placed}
@@ -12,7 +12,8 @@ use Rattle.tw_theory.specs.ExampleNetworks.{three, lone, gen_tally}
 use Rattle.tw_theory.specs.ExampleTraces.{out, int, ext, item}
 use Rattle.tw_theory.specs.Exchange.{work}
 use Rattle.tw_theory.specs.Executive.{Action, Step, Deliver, Back, Raise, Answer, Stepped, Posted, Delivered, Raised, Harvested, column_of, act, answers}
-use Rattle.tw_theory.specs.LocalRun.{output, moved, transition, step_at, local_step}
+use Rattle.tw_theory.specs.LocalRun.{step_at, local_step}
+use Rattle.tw_theory.specs.Transitions.{output, moved, transition}
 use Rattle.tw_theory.specs.Marks.{marks, rewind}
 use Rattle.tw_theory.specs.Network.{IsNetwork}
 use Rattle.tw_laws.proofs.Acting.{start_law}
@@ -29,7 +30,7 @@ use Rattle.tw_laws.proofs.Traces.{own_other, trace_law, sequential_trace, rounds
 use Rattle.tw_laws.proofs.Ending.{state_law}
 use Rattle.tw_laws.proofs.Merging.{merging_law}
 use Rattle.tw_laws.proofs.Outcomes.{all_before}
-use Rattle.tw_laws.specs.Traces.{IsTrace, of_component, before}
+use Rattle.tw_theory.specs.Traces.{IsTrace, of_component, before}
 use Rattle.tw_msgs.specs.declared.record.Record.{Record}
 use Rattle.tw_msgs.specs.declared.record_kind.RecordKind.TheVariants.{Out, Int, Ext}
 use Rattle.tw_theory.specs.Simulator.{sequential, up_to}
@@ -149,7 +150,7 @@ module _ (cancel : Cancel) where
   sound_after : (actions : List Action) → IsSound three 10 (after cancel actions)
   sound_after actions = replay_sound three 10 (start cancel) actions three_fits (omega arith) sound
 
-  settled_after : (actions : List Action) → (h : Held State) × IsSettled three 10 (up_to 10 (after cancel actions).gvt) h × IsCommitted three 10 (up_to 10 (after cancel actions).gvt) h
+  settled_after : (actions : List Action) → (h : Holdings State) × IsRunTo three 10 (up_to 10 (after cancel actions).gvt) h × IsCommitted three 10 (up_to 10 (after cancel actions).gvt) h
   settled_after actions =
       let w = after cancel actions in
       let is = settled three 10 three_fits w (sound_after actions) in

@@ -3,7 +3,8 @@ use Rattle.std.proofs.Common.{◌≡◌, ℕ, ◌<◌, List, [], ◌∷◌, Bool
 use Rattle.std.specs.Prelude.{◌==◌, ◌≢◌, filter, ◌&&◌, nat_lt, ◌≤◌}
 use Rattle.std.specs.List.{AllByRecursion as Each}
 use Rattle.std.proofs.lemmas.Bool.{cond-true, cond-false, cond_both, eq-eqb, ne_eqb, cases_eq, lt-ltb}
-use Rattle.tw_laws.specs.Traces.{Precedes, IsTrace, of_component, OneTrace, TraceLaw}
+use Rattle.tw_laws.specs.Traces.{OneTrace, TraceLaw}
+use Rattle.tw_theory.specs.Traces.{Precedes, IsTrace, of_component}
 use Rattle.tw_laws.specs.Committed.{RoundsLaw}
 use Rattle.tw_msgs.specs.declared.record.Record.{Record}
 use Rattle.tw_theory.specs.Network.{Network, IsNetwork}

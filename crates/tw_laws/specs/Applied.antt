@@ -1,13 +1,14 @@
 -- The laws applied to concrete networks, so that none has a premise that nothing meets: generator, relay and tally in a row; a run that is driven to its end; one that a limit stops.
 use Rattle.std.specs.Prelude.{ℕ, ◌<◌, ◌≤◌, ◌≡◌, pos, length, List, [], ◌∷◌, None, Some, slice_get}
 use Rattle.tw_laws.specs.Committed.{HasCommitted, Grow}
-use Rattle.tw_laws.specs.Ending.{state, HasAll, Complete, Fault, Going}
+use Rattle.tw_laws.specs.Ending.{HasAll}
+use Rattle.tw_theory.specs.Outcomes.{state, Complete, Fault, Going}
 use Rattle.tw_laws.specs.Headline.{Deed, all_done, IsTimeWarp}
-use Rattle.tw_laws.specs.History.{Held, IsSettled, IsCommitted}
+use Rattle.tw_laws.specs.History.{Holdings, IsRunTo, IsCommitted}
 use Rattle.tw_laws.specs.Inverse.{IsRestored, IsBacked, steps_of}
 use Rattle.tw_laws.specs.Rewinding.{IsRewound, IsBackedTo}
 use Rattle.tw_laws.specs.Sweeping.{AllProgress}
-use Rattle.tw_laws.specs.Traces.{IsTrace}
+use Rattle.tw_theory.specs.Traces.{IsTrace}
 use Rattle.tw_msgs.specs.declared.record.Record.{Record}
 use Rattle.tw_msgs.specs.declared.record_kind.RecordKind.TheVariants.{Out, Int, Ext}
 use Rattle.tw_vtime.specs.Stamps.{stamp}
@@ -64,7 +65,7 @@ pub record LawsOfThree (cancel : Cancel) : Type 0 where
   pub sound : IsSound three 10 (start cancel)
   pub kept : (actions : List Action) → IsSound three 10 (after cancel actions)
   -- after any actions, at gvt
-  pub settled : (actions : List Action) → (h : Held State) × IsSettled three 10 (up_to 10 (after cancel actions).gvt) h × IsCommitted three 10 (up_to 10 (after cancel actions).gvt) h
+  pub settled : (actions : List Action) → (h : Holdings State) × IsRunTo three 10 (up_to 10 (after cancel actions).gvt) h × IsCommitted three 10 (up_to 10 (after cancel actions).gvt) h
   pub committed : (actions : List Action) → HasCommitted three 10 (after cancel actions)
   pub restored : (cs : List ℕ) → IsRestored (start cancel) (after cancel (steps_of cs)) (rewind (after cancel (steps_of cs)) (marks (start cancel).processes)).1 (rewind (after cancel (steps_of cs)) (marks (start cancel).processes)).0
   pub rewound : IsRewound (posted cancel) (marks (start cancel).processes) (rewind (posted cancel) (marks (start cancel).processes)).1

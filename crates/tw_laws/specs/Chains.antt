@@ -4,7 +4,8 @@ use Rattle.tw_atomic.specs.Atomic.{Meaning}
 use Rattle.tw_msgs.specs.declared.message.Message.{Message}
 use Rattle.tw_theory.specs.Bundles.{first_stamp}
 use Rattle.tw_theory.specs.Chains.{Start, SoloRun, IsSoloRun, IsHome, Agrees, alone, own_steps, made_anew}
-use Rattle.tw_theory.specs.LocalRun.{Moment, Made, Leads, local_step}
+use Rattle.tw_theory.specs.LocalRun.{Made, Leads, local_step}
+use Rattle.tw_theory.specs.Transitions.{Moment}
 use Rattle.tw_theory.specs.Network.{Network}
 
 pub record ChainLaw (S : Type 0) : Type 0 where

@@ -1,9 +1,9 @@
 -- Sweeps and outcomes on concrete networks: what a sweep is as a list, and two runs driven to their end.
 use Rattle.std.specs.Prelude.{ℕ, pos, ◌≡◌, List, [], ◌∷◌, ◌++◌, true, false}
 use Rattle.tw_laws.specs.Applied.{after, stuck}
-use Rattle.tw_laws.specs.Ending.{state, Complete, Fault}
+use Rattle.tw_theory.specs.Outcomes.{state, Complete, Fault}
 use Rattle.tw_laws.specs.Exchange.{IsAfterSweep}
-use Rattle.tw_laws.specs.Outcome.{IsOutcome}
+use Rattle.tw_theory.specs.Outcomes.{IsOutcome}
 use Rattle.tw_msgs.specs.declared.record.Record.{Record}
 use Rattle.tw_vtime.specs.Stamps.{stamp}
 use Rattle.tw_vtime.specs.declared.limits.Limit.TheVariants.{Tick}
@@ -37,8 +37,8 @@ abbrev pub driven : Cancel → World State
 driven cancel = swept gen_tally 3 (replay gen_tally 3 (made cancel) (Step 1 ∷ []))
 
 -- what the simulator records of it, and of a generator that meets the greatest tick
-abbrev pub whole_trace : List Record
-whole_trace = out 2 0 0 (item 5) ∷ int 2 0 0 (pos 1 ∷ []) ∷ ext 2 0 1 (item 5) (pos 1 ∷ pos 5 ∷ pos 5 ∷ []) ∷ []
+abbrev pub driven_trace : List Record
+driven_trace = out 2 0 0 (item 5) ∷ int 2 0 0 (pos 1 ∷ []) ∷ ext 2 0 1 (item 5) (pos 1 ∷ pos 5 ∷ pos 5 ∷ []) ∷ []
 
 abbrev pub last_output : List Record
 last_output = out 1099511627773 0 0 (item 1) ∷ []
@@ -58,6 +58,6 @@ pub record Driven : Type 0 where
   pub first : (cancel : Cancel) → IsDrawn 10 (stamp 2 0 1) 5 (false ∷ false ∷ false ∷ []) (swept three 10 (ahead cancel)).processes 0
   pub second : (cancel : Cancel) → IsDrawn 10 (stamp 2 0 1) 5 (true ∷ false ∷ false ∷ []) (swept three 10 (ahead cancel)).processes 1
   pub complete : (cancel : Cancel) → (state gen_tally 3 (driven cancel) ≡ Complete)
-      × IsOutcome gen_tally 3 Complete whole_trace
+      × IsOutcome gen_tally 3 Complete driven_trace
   pub fault : (cancel : Cancel) → (state (lone 1099511627773) 1099511627774 (ended cancel) ≡ Fault 0 (stamp 1099511627773 0 1) Tick)
       × IsOutcome (lone 1099511627773) 1099511627774 (Fault 0 (stamp 1099511627773 0 1) Tick) last_output

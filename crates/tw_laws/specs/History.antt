@@ -1,15 +1,16 @@
 -- The law of committed history: local runs that are taken up to a stamp g, and that balance before g, are the sequential simulator's run before g.
 -- It speaks of lines, columns, histories, inputs and waiting anti-messages alone: of nothing in transit, nor of how anything came about.
---     IsSettled net until g h      the premise: local runs taken up to g, balanced before g
+--     IsRunTo net until g h      the premise: local runs taken up to g, balanced before g
 --     IsCommitted net until g h      the conclusion: the sequential records and moments before g, and no fault before g
---     IsFaulting net until g h is_settled c limit      component c is the least that meets a limit at g, and nothing is in transit at g either
+--     IsFaulting net until g h is_run c limit      component c is the least that meets a limit at g, and nothing is in transit at g either
 use Rattle.std.specs.Prelude.{Err, ℕ, zero, suc, ◌+◌, ◌<◌, ◌≤◌, ◌≡◌, ◌⊎◌, List, [], ◌∷◌, ◌++◌, length, take, drop, Some}
 use Rattle.tw_msgs.specs.Counting.{total, one_at}
 use Rattle.tw_msgs.specs.declared.message.Message.{Message}
 use Rattle.tw_msgs.specs.declared.record.Record.{Record}
 use Rattle.tw_theory.specs.Balance.{all_consumed}
 use Rattle.tw_theory.specs.Contents.{before_all, steps_before, records_of, sent_by}
-use Rattle.tw_theory.specs.LocalRun.{Moment, Step, Leads, next_of, local_step, OverLimit}
+use Rattle.tw_theory.specs.LocalRun.{Step, Leads, next_of, local_step, OverLimit}
+use Rattle.tw_theory.specs.Transitions.{Moment}
 use Rattle.tw_theory.specs.Network.{Network}
 use Rattle.tw_theory.specs.Simulator.{sequential, records_before, moment_at, all_sent}
 use Rattle.tw_vtime.specs.Stamps.{stamp, phase_of, max_tick}
@@ -36,7 +37,7 @@ AllPhaseOne [] = Unit {0}
 AllPhaseOne (m ∷ ms) = (phase_of m.stamp ≡ 1) × AllPhaseOne ms
 
 -- what each component holds: its commit line, its committed records, its uncommitted steps, its inputs and the anti-messages that wait
-pub record Held (S : Type 0) : Type 0 where
+pub record Holdings (S : Type 0) : Type 0 where
   pub line : ℕ → ℕ
   pub column : ℕ → List Record
   pub history : ℕ → List (Step S)
@@ -44,7 +45,7 @@ pub record Held (S : Type 0) : Type 0 where
   pub waiting : ℕ → List Message
 
 -- component c's history is a beginning of its local run from the simulator's moment at its line, and its next step is not before g
-pub record StandsTo {S : Type 0} (net : Network S) (until g : ℕ) (h : Held S) (c : ℕ) : Type 0 where
+pub record StandsTo {S : Type 0} (net : Network S) (until g : ℕ) (h : Holdings S) (c : ℕ) : Type 0 where
   pub from : Moment S
   pub now : Moment S
   pub pending : List Message
@@ -53,12 +54,12 @@ pub record StandsTo {S : Type 0} (net : Network S) (until g : ℕ) (h : Held S) 
   pub next : g ≤ next_of now pending
 
 -- how often a message was sent: by the outside, by committed outputs and by uncommitted ones
-abbrev pub sent_count : {S : Type 0} → Network S → Held S → Message → ℕ
+abbrev pub sent_count : {S : Type 0} → Network S → Holdings S → Message → ℕ
 sent_count net h m =
     count m net.inputs + sum_below (λ c. count m (all_sent net (h.column c)) + count m (sent_by (h.history c))) (length net.models)
 
 -- all local runs were taken up to g, and before g nothing is in transit
-pub record IsSettled {S : Type 0} (net : Network S) (until g : ℕ) (h : Held S) : Type 0 where
+pub record IsRunTo {S : Type 0} (net : Network S) (until g : ℕ) (h : Holdings S) : Type 0 where
   -- up to the end of the run at most
   pub horizon : g ≤ stamp until 0 0
   pub given : AllPhaseOne net.inputs
@@ -77,13 +78,13 @@ pub record IsSettled {S : Type 0} (net : Network S) (until g : ℕ) (h : Held S)
   pub apart : (m : Message) → m.to < length net.models → m.stamp < g → (count m (h.waiting m.to) ≡ 0) ⊎ (count m (h.inputs m.to) ≡ 0)
 
 -- the steps before g are the simulator's
-pub record IsCommitted {S : Type 0} (net : Network S) (until g : ℕ) (h : Held S) : Type 0 where
+pub record IsCommitted {S : Type 0} (net : Network S) (until g : ℕ) (h : Holdings S) : Type 0 where
   pub unstopped : (b s : ℕ) (limit : Limit) → (sequential net until).fault ≡ Some (b, s, limit) → g ≤ s
   pub records : (c : ℕ) → c < length net.models → h.column c ++ records_of (take (steps_before g (h.history c)) (h.history c)) ≡ records_before net until c g
   pub moment : (c : ℕ) → c < length net.models → (stand : StandsTo net until g h c) → moment_at net until c g ≡ Some (before_all (drop (steps_before g (h.history c)) (h.history c)) stand.now)
 
 abbrev pub CommittedHistory : Type 0 → Type 0
-CommittedHistory S = (net : Network S) (until g : ℕ) (h : Held S) → until ≤ max_tick → IsSettled net until g h → IsCommitted net until g h
+CommittedHistory S = (net : Network S) (until g : ℕ) (h : Holdings S) → until ≤ max_tick → IsRunTo net until g h → IsCommitted net until g h
 
 -- a fault is of a component of the network, at a transition before the end of the run
 abbrev pub FaultStamp : Type 0 → Type 0
@@ -92,22 +93,22 @@ FaultStamp S =
     → (b s : ℕ) (limit : Limit) → (sequential net until).fault ≡ Some (b, s, limit) → (b < length net.models) × (s < stamp until 0 0) × (phase_of s ≡ 1)
 
 -- the next step of component c is at g, and meets this limit
-pub record MeetsAt {S : Type 0} (net : Network S) (until g : ℕ) (h : Held S) (c : ℕ) (stand : StandsTo net until g h c) (limit : Limit) : Type 0 where
+pub record MeetsAt {S : Type 0} (net : Network S) (until g : ℕ) (h : Holdings S) (c : ℕ) (stand : StandsTo net until g h c) (limit : Limit) : Type 0 where
   pub at : next_of stand.now stand.pending ≡ g
   pub meets : local_step net c stand.now stand.pending ≡ Err (OverLimit limit)
 
 -- nothing is in transit at g either, and c is the least component whose next step is at g and meets a limit
-pub record IsFaulting {S : Type 0} (net : Network S) (until g : ℕ) (h : Held S) (is_settled : IsSettled net until g h) (c : ℕ) (limit : Limit) : Type 0 where
+pub record IsFaulting {S : Type 0} (net : Network S) (until g : ℕ) (h : Holdings S) (is_run : IsRunTo net until g h) (c : ℕ) (limit : Limit) : Type 0 where
   pub before : g < stamp until 0 0
   pub odd : phase_of g ≡ 1
   pub balance : (m : Message) → m.to < length net.models → m.stamp ≡ g → sent_count net h m + count m (h.waiting m.to) ≡ count m (all_consumed (h.column m.to)) + count m (h.inputs m.to)
   pub apart : (m : Message) → m.to < length net.models → m.stamp ≡ g → (count m (h.waiting m.to) ≡ 0) ⊎ (count m (h.inputs m.to) ≡ 0)
   pub below : c < length net.models
-  pub meets : MeetsAt net until g h c (is_settled.stands c below) limit
-  pub least : (d : ℕ) (is_below : d < length net.models) (other : Limit) → d < c → MeetsAt net until g h d (is_settled.stands d is_below) other → ⊥
+  pub meets : MeetsAt net until g h c (is_run.stands c below) limit
+  pub least : (d : ℕ) (is_below : d < length net.models) (other : Limit) → d < c → MeetsAt net until g h d (is_run.stands d is_below) other → ⊥
 
 -- it is the simulator's fault
 abbrev pub FaultLaw : Type 0 → Type 0
 FaultLaw S =
-    (net : Network S) (until g : ℕ) (h : Held S) → until ≤ max_tick → (is_settled : IsSettled net until g h)
-    → (c : ℕ) (limit : Limit) → IsFaulting net until g h is_settled c limit → (sequential net until).fault ≡ Some (c, g, limit)
+    (net : Network S) (until g : ℕ) (h : Holdings S) → until ≤ max_tick → (is_run : IsRunTo net until g h)
+    → (c : ℕ) (limit : Limit) → IsFaulting net until g h is_run c limit → (sequential net until).fault ≡ Some (c, g, limit)

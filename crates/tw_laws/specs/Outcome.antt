@@ -1,27 +1,16 @@
 -- What the outcome of a run says: it is the sequential simulator's, with its whole trace, or its trace before the fault.
 use Rattle.std.specs.Prelude.{ℕ, ◌≤◌, ◌≡◌, ◌≢◌, List, length, None, Some, slice_get}
-use Rattle.tw_laws.specs.Ending.{State, Complete, Fault, Going, state}
-use Rattle.tw_laws.specs.Traces.{IsTrace, of_component, before}
 use Rattle.tw_msgs.specs.Counting.{total}
 use Rattle.tw_msgs.specs.declared.record.Record.{Record}
 use Rattle.tw_theory.specs.Contents.{Process}
 use Rattle.tw_theory.specs.Executive.{World, column_of}
 use Rattle.tw_theory.specs.Network.{Network, IsNetwork}
+use Rattle.tw_theory.specs.Outcomes.{Complete, Fault, Going, state, IsOutcome}
 use Rattle.tw_theory.specs.Simulator.{sequential, up_to}
 use Rattle.tw_theory.specs.Soundness.{IsSound}
+use Rattle.tw_theory.specs.Traces.{IsTrace, IsMerged, of_component, before}
 use Rattle.tw_vtime.specs.Stamps.{stamp, max_tick}
 use Rattle.tw_vtime.specs.declared.limits.Limit.{Limit}
-
--- a run that is complete, or that ended in a fault, with this trace
-abbrev pub IsOutcome : {S : Type 0} → Network S → ℕ → State → List Record → Type 0
-IsOutcome net until Complete trace = ((sequential net until).fault ≡ None) × (trace ≡ (sequential net until).records)
-IsOutcome net until (Fault c s limit) trace = ((sequential net until).fault ≡ Some (c, s, limit)) × (trace ≡ before s (sequential net until).records)
-IsOutcome net until Going trace = ⊥
-
--- a trace that has of each component what its column has before stamp g
-pub record IsMerged {S : Type 0} (g : ℕ) (w : World S) (trace : List Record) : Type 0 where
-  pub ordered : IsTrace trace
-  pub parts : (c : ℕ) → of_component c trace ≡ before g (column_of w.columns c)
 
 pub record OutcomeLaw (S : Type 0) : Type 0 where
   -- with a fault the simulator has recorded nothing at it or after

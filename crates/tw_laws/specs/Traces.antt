@@ -1,4 +1,4 @@
--- The order of a trace: by stamp, then component.
+-- The sequential trace, and the merging of columns.
 use Rattle.std.specs.Prelude.{ℕ, ◌<◌, ◌≤◌, ◌≡◌, ◌⊎◌, ◌==◌, List, [], ◌∷◌, ◌++◌, filter, nat_lt, Some, slice_get, ⊤}
 use Rattle.std.specs.List.{AllByRecursion as Each}
 use Rattle.tw_msgs.specs.declared.record.Record.{Record}
@@ -7,18 +7,8 @@ use Rattle.tw_theory.specs.Executive.{World, column_of}
 use Rattle.tw_theory.specs.Network.{Network, IsNetwork}
 use Rattle.tw_theory.specs.Simulator.{sequential, records_before}
 use Rattle.tw_theory.specs.Soundness.{IsSound}
+use Rattle.tw_theory.specs.Traces.{IsTrace, of_component, before}
 use Rattle.tw_vtime.specs.Stamps.{stamp, max_tick}
-
--- x stands before y: by stamp, then component
-abbrev pub Precedes : Record → Record → Type 0
-Precedes x y = (x.stamp < y.stamp) ⊎ ((x.stamp ≡ y.stamp) × (x.component < y.component))
-
-abbrev pub IsTrace : List Record → Type 0
-IsTrace [] = ⊤
-IsTrace (x ∷ xs) = Each (Precedes x) xs × IsTrace xs
-
-abbrev pub of_component : ℕ → List Record → List Record
-of_component c rs = filter (λ r. r.component == c) rs
 
 -- two traces with the same records of each component are one
 abbrev pub OneTrace : Type 0
@@ -28,10 +18,6 @@ OneTrace = (xs ys : List Record) → IsTrace xs → IsTrace ys → ((c : ℕ) �
 pub record TraceLaw (S : Type 0) : Type 0 where
   pub ordered : (net : Network S) (until : ℕ) → IsNetwork net → until ≤ max_tick → IsTrace (sequential net until).records
   pub only : (net : Network S) (until : ℕ) → IsNetwork net → until ≤ max_tick → (trace : List Record) → IsTrace trace → ((c : ℕ) → of_component c trace ≡ records_before net until c (stamp until 0 0)) → trace ≡ (sequential net until).records
-
--- the records before stamp g
-abbrev pub before : ℕ → List Record → List Record
-before g rs = filter (λ r. nat_lt r.stamp g) rs
 
 -- In a sound executive, merging the columns up to a stamp that no line is before gives the sequential records before it: a beginning of the whole trace
 abbrev pub MergingLaw : Type 0 → Type 0

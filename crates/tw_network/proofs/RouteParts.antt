@@ -1,4 +1,4 @@
--- The places of a part: the couplings in order, between the start of the part and the start of the next.
+-- The destinations of a part: the couplings in order, between the start of the part and the start of the next.
 use Rattle.std.proofs.Common.{◌≡◌, ◌≢◌, ℕ, ◌+◌, ◌-◌, ◌*◌, ◌<◌, ◌≤◌, Bool, true, false, ◌&&◌, ◌==◌, nat_le, List, [], ◌∷◌, length, map, take, drop, refl, sym, ap, ◌∙◌, arith, slice_index, slice_range, zero, suc, if◌then◌else◌}
 use Rattle.std.specs.Cmp.{then_total, on_total, nat_cmp_total}
 use Rattle.std.specs.declared.cmp.Ordering.{Ordering}
@@ -13,7 +13,7 @@ use Rattle.tw_msgs.proofs.Orders.{lex_le, lex_exact, nat_cmp-exact, nat_le-is}
 use Rattle.tw_network.specs.Contents.{IsCoupling}
 use Rattle.tw_network.specs.RouteIndex.{coupling_cmp, part_of, place_of, IsStart, IsRouteIndex}
 use Rattle.tw_network.proofs.RouteOrder.{couplings_rank, number_of}
-use Rattle.tw_theory.specs.Network.{Coupling, Place, places, insert_place, place_at_or_before}
+use Rattle.tw_theory.specs.Network.{Coupling, Destination, destinations, insert_destination, destination_at_or_before}
 
 -- whether a coupling is of this port of this component
 abbrev is_of : ℕ → ℕ → Coupling → Bool
@@ -21,10 +21,10 @@ is_of c port k = (k.0 == c) && (k.1 == port)
 
 -- ---- one coupling more
 
-places_other : (c port : ℕ) (k : Coupling) (ks : List Coupling) → is_of c port k ≡ false → places c port (k ∷ ks) ≡ places c port ks
+places_other : (c port : ℕ) (k : Coupling) (ks : List Coupling) → is_of c port k ≡ false → destinations c port (k ∷ ks) ≡ destinations c port ks
 places_other c port k ks e = cond-false (is_of c port k) _ _ e
 
-places_own : (c port : ℕ) (k : Coupling) (ks : List Coupling) → is_of c port k ≡ true → places c port (k ∷ ks) ≡ insert_place (place_of k) (places c port ks)
+places_own : (c port : ℕ) (k : Coupling) (ks : List Coupling) → is_of c port k ≡ true → destinations c port (k ∷ ks) ≡ insert_destination (place_of k) (destinations c port ks)
 places_own c port k ks e = cond-true (is_of c port k) _ _ e
 
 own_by_number : (c port : ℕ) (k : Coupling) → port < 16 → k.1 < 16 → number_of k ≡ part_of c port → is_of c port k ≡ true
@@ -37,7 +37,7 @@ other_port : (c port : ℕ) (k : Coupling) → 15 < port → k.1 < 16 → is_of 
 other_port c port k high p = grind (arith, nat_tests)
 
 -- of one part, the coupling that stands first leads to the place that stands first
-places_lead : (j k : Coupling) → number_of j ≡ number_of k → j.1 < 16 → k.1 < 16 → is_le (coupling_cmp j k) ≡ true → place_at_or_before (place_of j) (place_of k) ≡ true
+places_lead : (j k : Coupling) → number_of j ≡ number_of k → j.1 < 16 → k.1 < 16 → is_le (coupling_cmp j k) ≡ true → destination_at_or_before (place_of j) (place_of k) ≡ true
 places_lead j k e p q le = grind (arith, nat_tests)
 
 -- ---- the starts of a list are those of its rest
@@ -62,16 +62,16 @@ range_of_rest x xs s e = let n : suc e - suc s ≡ e - s = omega arith in ap (λ
 rest_ports : (k : Coupling) (ks : List Coupling) → All (λ j. j.1 < 16) (k ∷ ks) → All (λ j. j.1 < 16) ks
 rest_ports k ks ports = λ i d lt. ports (suc i) d (omega (arith, lt))
 
--- ---- the places of a part
+-- ---- the destinations of a part
 
--- x stands up to the first of the places
-abbrev LeadsPlaces : Place → List Place → Type 0
+-- x stands up to the first of the destinations
+abbrev LeadsPlaces : Destination → List Destination → Type 0
 LeadsPlaces x [] = Unit {0}
-LeadsPlaces x (y ∷ ys) = place_at_or_before x y ≡ true
+LeadsPlaces x (y ∷ ys) = destination_at_or_before x y ≡ true
 
-insert_first : (x : Place) (ys : List Place) → LeadsPlaces x ys → insert_place x ys ≡ x ∷ ys
+insert_first : (x : Destination) (ys : List Destination) → LeadsPlaces x ys → insert_destination x ys ≡ x ∷ ys
 insert_first x [] e = refl
-insert_first x (y ∷ ys) e = cond-true (place_at_or_before x y) _ _ e
+insert_first x (y ∷ ys) e = cond-true (destination_at_or_before x y) _ _ e
 
 leads_front : (k : Coupling) (ks : List Coupling) (c port e : ℕ) → number_of k ≡ part_of c port → k.1 < 16 → All (λ j. j.1 < 16) ks → LeadsBy coupling_cmp k ks → IsStart ks (part_of c port) 0 → IsStart ks (part_of c port + 1) e → LeadsPlaces (place_of k) (take e (map place_of ks))
 leads_front k [] c port zero n q ports l s t = tt
@@ -83,7 +83,7 @@ leads_front k (j ∷ ks) c port (suc e) n q ports l s t =
     places_lead k j (omega (arith, n, low, high)) q (ports 0 j (omega arith)) l
 
 -- where the part stands first
-places_front : (c port : ℕ) (ks : List Coupling) (e : ℕ) → port < 16 → All (λ k. k.1 < 16) ks → RisesBy coupling_cmp ks → IsStart ks (part_of c port) 0 → IsStart ks (part_of c port + 1) e → places c port ks ≡ take e (map place_of ks)
+places_front : (c port : ℕ) (ks : List Coupling) (e : ℕ) → port < 16 → All (λ k. k.1 < 16) ks → RisesBy coupling_cmp ks → IsStart ks (part_of c port) 0 → IsStart ks (part_of c port + 1) e → destinations c port ks ≡ take e (map place_of ks)
 places_front c port [] zero p ports up a b = refl
 places_front c port [] (suc e) p ports up a b = refl
 places_front c port (k ∷ ks) zero p ports up a b =
@@ -98,10 +98,10 @@ places_front c port (k ∷ ks) (suc e) p ports up a b =
     let s = start_at_rest k ks (part_of c port) a in
     let t = start_of_rest k ks (part_of c port + 1) e b in
     places_own c port k ks (own_by_number c port k p q n)
-    ∙ ap (insert_place (place_of k)) (places_front c port ks e p (rest_ports k ks ports) up.1 s t)
+    ∙ ap (insert_destination (place_of k)) (places_front c port ks e p (rest_ports k ks ports) up.1 s t)
     ∙ insert_first (place_of k) (take e (map place_of ks)) (leads_front k ks c port e n q (rest_ports k ks ports) up.0 s t)
 
-places_between : (c port : ℕ) (ks : List Coupling) (s e : ℕ) → port < 16 → All (λ k. k.1 < 16) ks → RisesBy coupling_cmp ks → IsStart ks (part_of c port) s → IsStart ks (part_of c port + 1) e → places c port ks ≡ slice_range (map place_of ks) s e
+places_between : (c port : ℕ) (ks : List Coupling) (s e : ℕ) → port < 16 → All (λ k. k.1 < 16) ks → RisesBy coupling_cmp ks → IsStart ks (part_of c port) s → IsStart ks (part_of c port + 1) e → destinations c port ks ≡ slice_range (map place_of ks) s e
 places_between c port ks zero e p ports up a b =
     let n : e - 0 ≡ e = omega arith in
     places_front c port ks e p ports up a b ∙ ap (λ m. take m (map place_of ks)) (sym n)
@@ -128,7 +128,7 @@ starts_rise (k ∷ ks) part (suc s) (suc e) a b = let h = starts_rise ks part s 
 
 -- ---- the order of the couplings does not matter
 
-abbrev place_cmp : Place → Place → Ordering
+abbrev place_cmp : Destination → Destination → Ordering
 place_cmp x y = ordering_then (nat_cmp x.0 y.0) (nat_cmp x.1 y.1)
 
 places_rank : Ranks place_cmp
@@ -137,48 +137,48 @@ places_rank = record {
   exact = λ x y e. let p = lex_exact x.0 y.0 (nat_cmp x.1 y.1) e in let v = nat_cmp-exact x.1 y.1 p.1 in λ i. (p.0 i, v i);
 }
 
-place_order : (x y : Place) → place_at_or_before x y ≡ is_le (place_cmp x y)
+place_order : (x y : Destination) → destination_at_or_before x y ≡ is_le (place_cmp x y)
 place_order x y = lex_le x.0 y.0 (nat_le x.1 y.1) (nat_cmp x.1 y.1) (nat_le-is x.1 y.1)
 
-insert_place-is : (x : Place) (ys : List Place) → insert_place x ys ≡ insert_by place_cmp x ys
+insert_place-is : (x : Destination) (ys : List Destination) → insert_destination x ys ≡ insert_by place_cmp x ys
 insert_place-is x [] = refl
 insert_place-is x (y ∷ ys) = λ i. if place_order x y i then x ∷ y ∷ ys else y ∷ insert_place-is x ys i
 
 -- the place of a coupling, where it is of the part
-abbrev placed : ℕ → ℕ → Coupling → List Place → List Place
-placed c port k ps = if is_of c port k then insert_place (place_of k) ps else ps
+abbrev placed : ℕ → ℕ → Coupling → List Destination → List Destination
+placed c port k ps = if is_of c port k then insert_destination (place_of k) ps else ps
 
-insert_place-comm : (x y : Place) (ps : List Place) → insert_place x (insert_place y ps) ≡ insert_place y (insert_place x ps)
+insert_place-comm : (x y : Destination) (ps : List Destination) → insert_destination x (insert_destination y ps) ≡ insert_destination y (insert_destination x ps)
 insert_place-comm x y ps =
-    insert_place-is x (insert_place y ps) ∙ ap (insert_by place_cmp x) (insert_place-is y ps) ∙ insert-comm places_rank x y ps
-    ∙ sym (insert_place-is y (insert_place x ps) ∙ ap (insert_by place_cmp y) (insert_place-is x ps))
+    insert_place-is x (insert_destination y ps) ∙ ap (insert_by place_cmp x) (insert_place-is y ps) ∙ insert-comm places_rank x y ps
+    ∙ sym (insert_place-is y (insert_destination x ps) ∙ ap (insert_by place_cmp y) (insert_place-is x ps))
 
-placed-comm : (c port : ℕ) (j k : Coupling) (ps : List Place) → placed c port j (placed c port k ps) ≡ placed c port k (placed c port j ps)
+placed-comm : (c port : ℕ) (j k : Coupling) (ps : List Destination) → placed c port j (placed c port k ps) ≡ placed c port k (placed c port j ps)
 placed-comm c port j k ps = go (is_of c port j) (is_of c port k)
   where
-    go : (a b : Bool) → (if a then insert_place (place_of j) (if b then insert_place (place_of k) ps else ps) else (if b then insert_place (place_of k) ps else ps)) ≡ (if b then insert_place (place_of k) (if a then insert_place (place_of j) ps else ps) else (if a then insert_place (place_of j) ps else ps))
+    go : (a b : Bool) → (if a then insert_destination (place_of j) (if b then insert_destination (place_of k) ps else ps) else (if b then insert_destination (place_of k) ps else ps)) ≡ (if b then insert_destination (place_of k) (if a then insert_destination (place_of j) ps else ps) else (if a then insert_destination (place_of j) ps else ps))
     go true true = insert_place-comm (place_of j) (place_of k) ps
     go true false = refl
     go false true = refl
     go false false = refl
 
-places_inserted : (c port : ℕ) (k : Coupling) (ks : List Coupling) → places c port (insert_by coupling_cmp k ks) ≡ placed c port k (places c port ks)
+places_inserted : (c port : ℕ) (k : Coupling) (ks : List Coupling) → destinations c port (insert_by coupling_cmp k ks) ≡ placed c port k (destinations c port ks)
 places_inserted c port k [] = refl
 places_inserted c port k (j ∷ ks) = go (is_le (coupling_cmp k j)) (places_inserted c port k ks)
   where
-    go : (b : Bool) → places c port (insert_by coupling_cmp k ks) ≡ placed c port k (places c port ks) → places c port (if b then k ∷ j ∷ ks else j ∷ insert_by coupling_cmp k ks) ≡ placed c port k (placed c port j (places c port ks))
+    go : (b : Bool) → destinations c port (insert_by coupling_cmp k ks) ≡ placed c port k (destinations c port ks) → destinations c port (if b then k ∷ j ∷ ks else j ∷ insert_by coupling_cmp k ks) ≡ placed c port k (placed c port j (destinations c port ks))
     go true ih = refl
-    go false ih = ap (placed c port j) ih ∙ placed-comm c port j k (places c port ks)
+    go false ih = ap (placed c port j) ih ∙ placed-comm c port j k (destinations c port ks)
 
-pub places_sorted : (c port : ℕ) (ks : List Coupling) → places c port (sort_by coupling_cmp ks) ≡ places c port ks
+pub places_sorted : (c port : ℕ) (ks : List Coupling) → destinations c port (sort_by coupling_cmp ks) ≡ destinations c port ks
 places_sorted c port [] = refl
 places_sorted c port (k ∷ ks) = places_inserted c port k (sort_by coupling_cmp ks) ∙ ap (placed c port k) (places_sorted c port ks)
 
-pub places_of_part : (c port : ℕ) (ks sorted : List Coupling) (s e : ℕ) → port < 16 → All (λ k. k.1 < 16) sorted → IsPermutation ks sorted → IsSorted coupling_cmp sorted → IsStart sorted (part_of c port) s → IsStart sorted (part_of c port + 1) e → slice_range (map place_of sorted) s e ≡ places c port ks
+pub places_of_part : (c port : ℕ) (ks sorted : List Coupling) (s e : ℕ) → port < 16 → All (λ k. k.1 < 16) sorted → IsPermutation ks sorted → IsSorted coupling_cmp sorted → IsStart sorted (part_of c port) s → IsStart sorted (part_of c port + 1) e → slice_range (map place_of sorted) s e ≡ destinations c port ks
 places_of_part c port ks sorted s e p ports same up a b =
     let rises = RisesBy-from_IsSorted couplings_rank sorted up in
     sym (places_between c port sorted s e p ports rises a b)
-    ∙ ap (places c port) (only_sorted couplings_rank ks sorted same rises)
+    ∙ ap (destinations c port) (only_sorted couplings_rank ks sorted same rises)
     ∙ places_sorted c port ks
 
 -- ---- the index as a whole
@@ -195,7 +195,7 @@ pub ports_of : (count : ℕ) (ks : List Coupling) → All (IsCoupling count) ks 
 ports_of count ks all = λ i d lt. let p = (all i d lt).source_port in omega (arith, p)
 
 -- no coupling is of a port that no component has
-pub places_of_no_port : (c port : ℕ) (ks : List Coupling) → 15 < port → All (λ k. k.1 < 16) ks → places c port ks ≡ []
+pub places_of_no_port : (c port : ℕ) (ks : List Coupling) → 15 < port → All (λ k. k.1 < 16) ks → destinations c port ks ≡ []
 places_of_no_port c port [] high ports = refl
 places_of_no_port c port (k ∷ ks) high ports =
     places_other c port k ks (other_port c port k high (ports 0 k (omega arith))) ∙ places_of_no_port c port ks high (rest_ports k ks ports)

@@ -3,14 +3,14 @@
 use Rattle.std.specs.Prelude.{ℕ, ◌≡◌, ◌+◌, ◌*◌, ◌<◌, ◌≤◌, List, length, slice_index, slice_index_or, slice_range}
 use Rattle.std.specs.Ordering.{nat_cmp, ordering_then}
 use Rattle.std.specs.declared.cmp.Ordering.{Ordering}
-use Rattle.tw_theory.specs.Network.{Coupling, Place, places as places_of}
+use Rattle.tw_theory.specs.Network.{Coupling, Destination, destinations as destinations_of}
 
 -- the number of a port of a component: each component has 16
 abbrev pub part_of : ℕ → ℕ → ℕ
 part_of component port = 16 * component + port
 
 -- where a coupling leads
-abbrev pub place_of : Coupling → Place
+abbrev pub place_of : Coupling → Destination
 place_of k = (k.2, k.3)
 
 -- by source, port, destination and port
@@ -23,8 +23,8 @@ pub record IsStart (couplings : List Coupling) (part start : ℕ) : Type 0 where
   pub before : (i : ℕ) (d : Coupling) → i < start → part_of (slice_index_or couplings i d).0 (slice_index_or couplings i d).1 < part
   pub after : (i : ℕ) (d : Coupling) → start ≤ i → i < length couplings → part ≤ part_of (slice_index_or couplings i d).0 (slice_index_or couplings i d).1
 
-pub record IsRouteIndex (couplings : List Coupling) (count : ℕ) (places : List Place) (starts : List ℕ) : Type 0 where
+pub record IsRouteIndex (couplings : List Coupling) (count : ℕ) (places : List Destination) (starts : List ℕ) : Type 0 where
   pub parts : length starts ≡ 16 * count + 1
   pub in_order : (part : ℕ) → part < 16 * count → slice_index starts part ≤ slice_index starts (part + 1)
   pub within : (part : ℕ) → part < 16 * count → slice_index starts (part + 1) ≤ length places
-  pub routes : (component port : ℕ) → component < count → port < 16 → slice_range places (slice_index starts (part_of component port)) (slice_index starts (part_of component port + 1)) ≡ places_of component port couplings
+  pub routes : (component port : ℕ) → component < count → port < 16 → slice_range places (slice_index starts (part_of component port)) (slice_index starts (part_of component port + 1)) ≡ destinations_of component port couplings

@@ -16,7 +16,7 @@ use Rattle.std.proofs.Math.ListN.{get_or-append}
 use Rattle.std.proofs.Math.Seq.{get_or-append_seam}
 use Rattle.tw_msgs.proofs.Orders.{lex_exact, nat_cmp-exact}
 use Rattle.tw_seq.specs.Agenda.{step_order, IsOn, IsAgenda, Puts, PutsOff}
-use Rattle.tw_theory.specs.LocalRun.{Moment}
+use Rattle.tw_theory.specs.Transitions.{Moment}
 use Rattle.tw_theory.proofs.Elements.{get_of_set}
 use Rattle.tw_theory.specs.Simulator.{least_due}
 use Rattle.tw_vtime.specs.Stamps.{never}

@@ -8,8 +8,8 @@ use Rattle.tw_msgs.specs.Bags.{Bag}
 use Rattle.tw_msgs.specs.declared.message.Message.{Message}
 use Rattle.tw_seq.specs.Dealing.{dealt, Carried}
 use Rattle.tw_theory.specs.Bundles.{items_of, addressed}
-use Rattle.tw_theory.specs.LocalRun.{Moment, output}
-use Rattle.tw_theory.specs.Network.{Network, Coupling, Place, place_at_or_before, insert_place, places, routes, copies, routed}
+use Rattle.tw_theory.specs.Transitions.{Moment, output}
+use Rattle.tw_theory.specs.Network.{Network, Coupling, Destination, destination_at_or_before, insert_destination, destinations, routes, copies, routed}
 use Rattle.tw_theory.specs.Simulator.{outputs, all_sent, sent_in}
 use Rattle.tw_theory.proofs.Elements.{each-append}
 
@@ -35,17 +35,17 @@ each-filter P test (x ∷ xs) h = let rest = each-filter P test xs h.1 in cond_b
 
 -- ---- what outputs send
 
-each-insert_place : (P : Place → Type 0) (x : Place) (ys : List Place) → P x → Each P ys → Each P (insert_place x ys)
+each-insert_place : (P : Destination → Type 0) (x : Destination) (ys : List Destination) → P x → Each P ys → Each P (insert_destination x ys)
 each-insert_place P x [] p h = (p, tt)
-each-insert_place P x (y ∷ ys) p h = cond_both (place_at_or_before x y) (x ∷ y ∷ ys) (y ∷ insert_place x ys) (Each P) (λ e. (p, h)) (λ e. (h.0, each-insert_place P x ys p h.1))
+each-insert_place P x (y ∷ ys) p h = cond_both (destination_at_or_before x y) (x ∷ y ∷ ys) (y ∷ insert_destination x ys) (Each P) (λ e. (p, h)) (λ e. (h.0, each-insert_place P x ys p h.1))
 
-each-places : (P : Place → Type 0) (c port : ℕ) (ks : List Coupling) → Each (λ k. P (k.2, k.3)) ks → Each P (places c port ks)
+each-places : (P : Destination → Type 0) (c port : ℕ) (ks : List Coupling) → Each (λ k. P (k.2, k.3)) ks → Each P (destinations c port ks)
 each-places P c port [] h = tt
 each-places P c port (k ∷ ks) h =
     let rest = each-places P c port ks h.1 in
-    cond_both ((k.0 == c) && (k.1 == port)) (insert_place (k.2, k.3) (places c port ks)) (places c port ks) (Each P) (λ e. each-insert_place P (k.2, k.3) (places c port ks) h.0 rest) (λ e. rest)
+    cond_both ((k.0 == c) && (k.1 == port)) (insert_destination (k.2, k.3) (destinations c port ks)) (destinations c port ks) (Each P) (λ e. each-insert_place P (k.2, k.3) (destinations c port ks) h.0 rest) (λ e. rest)
 
-copies_carried : (s : ℕ) (item : ℕ × ℤ) (ps : List Place) → FitsItem item → Each (λ place. place.1 < 256) ps → Each Carried (copies s item.1 ps)
+copies_carried : (s : ℕ) (item : ℕ × ℤ) (ps : List Destination) → FitsItem item → Each (λ place. place.1 < 256) ps → Each Carried (copies s item.1 ps)
 copies_carried s item [] f h = tt
 copies_carried s item (place ∷ ps) f h = ((h.0, f.1), copies_carried s item ps f h.1)
 

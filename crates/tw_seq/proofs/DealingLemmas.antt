@@ -7,7 +7,7 @@ use Rattle.tw_msgs.specs.Bags.{Bag}
 use Rattle.tw_msgs.specs.declared.message.Message.{Message}
 use Rattle.tw_seq.specs.Dealing.{dealt}
 use Rattle.tw_theory.specs.Bundles.{items_of, addressed}
-use Rattle.tw_theory.specs.Network.{Network, Place, copies, routed, routes, IsNetwork, count_of}
+use Rattle.tw_theory.specs.Network.{Network, Destination, copies, routed, routes, IsNetwork, count_of}
 use Rattle.tw_theory.specs.Simulator.{with_stamp}
 use Rattle.tw_theory.proofs.Routes.{routes_lead}
 use Rattle.tw_seq.proofs.Places.{each_at, drop_next, drop_all}
@@ -82,17 +82,17 @@ inputs_all s i inputs bags all l h = sym (dealt-none 0 bags) ∙ ap (λ ms. deal
 
 -- ---- where an output goes
 
-abbrev pub copy_to : ℕ → ℤ → Place → Message
+abbrev pub copy_to : ℕ → ℤ → Destination → Message
 copy_to s v place = record { stamp = s; port = place.1; value = v; to = place.0 }
 
-pub place_taken : (s : ℕ) (v : ℤ) (i : ℕ) (places : List Place) (bags all : List Bag) (d : Place) → i < length places → dealt 0 bags (copies s v (drop i places)) ≡ all → dealt 0 (dealt 0 bags (copy_to s v (slice_index_or places i d) ∷ [])) (copies s v (drop (i + 1) places)) ≡ all
-place_taken s v i places bags all d l h =
-    dealt_next bags (copy_to s v (slice_index_or places i d)) (copies s v (drop (i + 1) places)) all (ap (λ ps. dealt 0 bags (copies s v ps)) (sym (drop_next places i d l)) ∙ h)
+pub place_taken : (s : ℕ) (v : ℤ) (i : ℕ) (destinations : List Destination) (bags all : List Bag) (d : Destination) → i < length destinations → dealt 0 bags (copies s v (drop i destinations)) ≡ all → dealt 0 (dealt 0 bags (copy_to s v (slice_index_or destinations i d) ∷ [])) (copies s v (drop (i + 1) destinations)) ≡ all
+place_taken s v i destinations bags all d l h =
+    dealt_next bags (copy_to s v (slice_index_or destinations i d)) (copies s v (drop (i + 1) destinations)) all (ap (λ ps. dealt 0 bags (copies s v ps)) (sym (drop_next destinations i d l)) ∙ h)
 
-pub places_all : (s : ℕ) (v : ℤ) (i : ℕ) (places : List Place) (bags all : List Bag) → length places ≤ i → dealt 0 bags (copies s v (drop i places)) ≡ all → bags ≡ all
-places_all s v i places bags all l h = sym (dealt-none 0 bags) ∙ ap (λ ps. dealt 0 bags (copies s v ps)) (sym (drop_all places i l)) ∙ h
+pub places_all : (s : ℕ) (v : ℤ) (i : ℕ) (destinations : List Destination) (bags all : List Bag) → length destinations ≤ i → dealt 0 bags (copies s v (drop i destinations)) ≡ all → bags ≡ all
+places_all s v i destinations bags all l h = sym (dealt-none 0 bags) ∙ ap (λ ps. dealt 0 bags (copies s v ps)) (sym (drop_all destinations i l)) ∙ h
 
--- the places of an item more
+-- the destinations of an item more
 pub item_taken : {S : Type 0} (net : Network S) (c s i : ℕ) (items : Bag) (bags after all : List Bag) (d : ℕ × ℤ) → i < length items → after ≡ dealt 0 bags (copies s (slice_index_or items i d).1 (routes net c (slice_index_or items i d).0)) → dealt 0 bags (routed net c s (drop i items)) ≡ all → dealt 0 after (routed net c s (drop (i + 1) items)) ≡ all
 item_taken net c s i items bags after all d l e h =
     let item = slice_index_or items i d in
@@ -104,6 +104,6 @@ pub items_all : {S : Type 0} (net : Network S) (c s i : ℕ) (items : Bag) (bags
 items_all net c s i items bags all l h = sym (dealt-none 0 bags) ∙ ap (λ is. dealt 0 bags (routed net c s is)) (sym (drop_all items i l)) ∙ h
 
 -- the receivers are components
-pub place_leads : {S : Type 0} (net : Network S) (c port i : ℕ) (places : List Place) (d : Place) → IsNetwork net → places ≡ routes net c port → i < length places → (slice_index_or places i d).0 < count_of net
-place_leads net c port i places d ok e l =
-    each_at (λ place. place.0 < count_of net) places i d l (subst (Each (λ place. place.0 < count_of net)) (sym e) (routes_lead net ok c port))
+pub place_leads : {S : Type 0} (net : Network S) (c port i : ℕ) (destinations : List Destination) (d : Destination) → IsNetwork net → destinations ≡ routes net c port → i < length destinations → (slice_index_or destinations i d).0 < count_of net
+place_leads net c port i destinations d ok e l =
+    each_at (λ place. place.0 < count_of net) destinations i d l (subst (Each (λ place. place.0 < count_of net)) (sym e) (routes_lead net ok c port))

@@ -12,7 +12,7 @@ use Rattle.tw_msgs.proofs.Bags.{sorted_bag-permutation}
 use Rattle.tw_msgs.proofs.Messages.{sorted_messages-IsPermutation}
 use Rattle.tw_seq.specs.InOrder.{start_in_order, rounds_in_order}
 use Rattle.tw_theory.specs.Bundles.{items_of, addressed}
-use Rattle.tw_theory.specs.LocalRun.{Moment}
+use Rattle.tw_theory.specs.Transitions.{Moment}
 use Rattle.tw_theory.specs.Network.{Network}
 use Rattle.tw_theory.specs.Simulator.{Run, RoundTurn, round, round_end, round_time, rounds_from, rounds, start_run, sequential, turns, take_turn, after_output, first_stop, turn_records, turned_moments, outputs, all_sent, with_stamp, least_due, least_input}
 use Rattle.tw_vtime.specs.Stamps.{stamp}

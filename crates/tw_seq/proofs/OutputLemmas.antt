@@ -9,7 +9,7 @@ use Rattle.tw_network.specs.Contents.{Contents, network_of}
 use Rattle.std.proofs.lemmas.Option.{get_or_from_slice_get}
 use Rattle.tw_seq.specs.Agenda.{IsDueAt}
 use Rattle.tw_seq.specs.Dealing.{dealt}
-use Rattle.tw_theory.specs.LocalRun.{Moment, output}
+use Rattle.tw_theory.specs.Transitions.{Moment, output}
 use Rattle.tw_theory.specs.Network.{Network, model_of, absent, routed}
 use Rattle.tw_theory.specs.Simulator.{outputs, all_sent, sent_in}
 use Rattle.tw_vtime.specs.Stamps.{stamp, tick_of, micro_of, phase_of}

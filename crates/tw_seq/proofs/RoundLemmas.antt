@@ -18,7 +18,7 @@ use Rattle.tw_seq.specs.Invariant.{IsTied, IsNextMicrostep, IsStanding, AllStand
 use Rattle.tw_seq.specs.Turning.{turns_with}
 use Rattle.tw_seq.specs.Waking.{WakesAll}
 use Rattle.tw_theory.specs.Bundles.{items_of, addressed}
-use Rattle.tw_theory.specs.LocalRun.{Moment, output}
+use Rattle.tw_theory.specs.Transitions.{Moment, output}
 use Rattle.tw_theory.specs.Network.{Network}
 use Rattle.tw_theory.specs.Simulator.{RoundTurn, take_turn, after_output, turns, first_stop, turn_records, turned_moments, outputs, all_sent, with_stamp, past_stamp, Run, round, round_end, round_time, least_due, least_input}
 use Rattle.tw_vtime.specs.Stamps.{never, phase_of}

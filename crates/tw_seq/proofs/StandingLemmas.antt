@@ -11,7 +11,7 @@ use Rattle.tw_msgs.specs.declared.record_kind.RecordKind.{RecordKind}
 use Rattle.tw_msgs.specs.declared.record_kind.RecordKind.TheVariants as kinds
 use Rattle.tw_seq.specs.Invariant.{IsTied, IsNextMicrostep, IsStanding}
 use Rattle.tw_seq.specs.Turning.{kind_and_turn}
-use Rattle.tw_theory.specs.LocalRun.{Moment, due_of}
+use Rattle.tw_theory.specs.Transitions.{Moment, due_of}
 use Rattle.tw_vtime.specs.Advance.{advanced, next_microstep, later_tick}
 use Rattle.tw_vtime.specs.Stamps.{max_tick, never, stamp, tick_of, micro_of, phase_of}
 

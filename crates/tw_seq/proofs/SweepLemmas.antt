@@ -13,7 +13,7 @@ use Rattle.tw_seq.specs.Turning.{seen, CanGoOn, kind_and_turn, turns_with}
 use Rattle.tw_seq.specs.Waking.{HasTurn, IsInTurn}
 use Rattle.tw_seq.specs.declared.turns.Taken.{Taken}
 use Rattle.tw_seq.specs.declared.turns.Taken.TheVariants as taken
-use Rattle.tw_theory.specs.LocalRun.{Moment}
+use Rattle.tw_theory.specs.Transitions.{Moment}
 use Rattle.tw_theory.specs.Network.{Network}
 use Rattle.tw_theory.specs.Simulator.{RoundTurn, Stays, take_turn, after_output, turn_records, turned_moments, first_stop}
 use Rattle.tw_vtime.specs.declared.limits.Limit.{Limit}

@@ -4,7 +4,7 @@ use Rattle.std.proofs.Common.{nat_cmp, is_lt, true, false, true≢false, ⊎_eli
 use Rattle.std.specs.Cmp.{nat_cmp_is}
 use Rattle.std.specs.declared.cmp.Ordering.TheVariants.{Less, Equal, Greater}
 use Rattle.std.proofs.lemmas.Bool.{cases_eq, cases_lt}
-use Rattle.tw_theory.specs.LocalRun.{Moment}
+use Rattle.tw_theory.specs.Transitions.{Moment}
 use Rattle.tw_theory.specs.Simulator.{least_due}
 use Rattle.tw_vtime.specs.Stamps.{never, stamp, tick_of, micro_of, phase_of}
 

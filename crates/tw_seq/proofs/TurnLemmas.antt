@@ -12,7 +12,7 @@ use Rattle.tw_msgs.specs.declared.record_kind.RecordKind.TheVariants as kinds
 use Rattle.tw_network.specs.Contents.{Contents, network_of}
 use Rattle.tw_seq.specs.Invariant.{IsStanding}
 use Rattle.tw_seq.specs.Turning.{kind_and_turn}
-use Rattle.tw_theory.specs.LocalRun.{Moment, Move, turn, kind_of, due_of, moved, if_within, output, transition}
+use Rattle.tw_theory.specs.Transitions.{Moment, Move, turn, kind_of, due_of, moved, if_within, output, transition}
 use Rattle.tw_theory.specs.Network.{Network, model_of}
 use Rattle.tw_theory.specs.Simulator.{Stays, Moves, Stops, take_turn, after_output, turn_of_result}
 use Rattle.tw_vtime.specs.Advance.{advanced}

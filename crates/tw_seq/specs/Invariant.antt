@@ -9,7 +9,7 @@ use Rattle.tw_msgs.specs.declared.message.Message.{Message}
 use Rattle.tw_network.specs.Contents.{Contents}
 use Rattle.tw_seq.specs.Dealing.{Carried}
 use Rattle.tw_theory.specs.Bundles.{Ascending}
-use Rattle.tw_theory.specs.LocalRun.{Moment}
+use Rattle.tw_theory.specs.Transitions.{Moment}
 use Rattle.tw_theory.specs.Simulator.{Run}
 use Rattle.tw_vtime.specs.Stamps.{stamp, never, tick_of, phase_of}
 

@@ -11,7 +11,7 @@ use Rattle.tw_msgs.specs.declared.record_kind.RecordKind.{RecordKind}
 use Rattle.tw_msgs.specs.declared.record_kind.RecordKind.TheVariants as kinds
 use Rattle.tw_seq.specs.declared.turns.Taken.{Taken}
 use Rattle.tw_seq.specs.declared.turns.Taken.TheVariants as taken
-use Rattle.tw_theory.specs.LocalRun.{Moment}
+use Rattle.tw_theory.specs.Transitions.{Moment}
 use Rattle.tw_theory.specs.Network.{Network}
 use Rattle.tw_theory.specs.Simulator.{RoundTurn, Stays, Moves, Stops, take_turn, after_output}
 

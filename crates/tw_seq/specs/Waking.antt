@@ -8,7 +8,7 @@ use Rattle.std.specs.List.{All, Contains}
 use Rattle.std.specs.List.Sorted.{IsStrictlyIncreasing}
 use Rattle.tw_msgs.specs.Bags.{Bag}
 use Rattle.tw_seq.specs.Agenda.{IsDueAt}
-use Rattle.tw_theory.specs.LocalRun.{Moment}
+use Rattle.tw_theory.specs.Transitions.{Moment}
 
 abbrev pub IsReached : List Bag → ℕ → Type 0
 IsReached bags c = (bag : Bag) × (slice_get bags c ≡ Some bag) × (bag ≢ [])

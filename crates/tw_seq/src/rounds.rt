@@ -24,7 +24,7 @@ ghost use Rattle.tw_seq.specs.Dealing.{Carried};
 ghost use Rattle.tw_seq.specs.InOrder.{start_in_order};
 ghost use Rattle.tw_seq.specs.Invariant.{IsStanding, IsUnderway};
 ghost use Rattle.tw_theory.specs.Bundles.{Ascending};
-ghost use Rattle.tw_theory.specs.LocalRun.{start_moment};
+ghost use Rattle.tw_theory.specs.Transitions.{start_moment};
 ghost use Rattle.tw_theory.specs.Simulator.{least_input, round_time, round};
 ghost use Rattle.tw_vtime.specs.Stamps.{max_tick, never, tick_of, phase_of};
 

@@ -13,7 +13,7 @@ pub struct Standing<S: Drop> {
 }
 
 impl<S: Drop> Model for Standing<S> {
-    ghost use Rattle.tw_theory.specs.LocalRun.{Moment};
+    ghost use Rattle.tw_theory.specs.Transitions.{Moment};
 
     ghost Value = { Moment S };
 

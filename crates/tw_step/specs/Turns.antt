@@ -4,7 +4,7 @@
 use Rattle.std.specs.Prelude.{ℕ, ◌≡◌, Option, Result, Ok, Err, ⊤}
 use Rattle.tw_step.specs.declared.refused.TurnRefused.{TurnRefused}
 use Rattle.tw_step.specs.declared.refused.TurnRefused.TheVariants.{OutOfMemory, OverLimit}
-use Rattle.tw_theory.specs.LocalRun.{due_of}
+use Rattle.tw_theory.specs.Transitions.{due_of}
 use Rattle.tw_vtime.specs.declared.limits.Limit.{Limit}
 
 abbrev pub IsDueBy : Result (Option ℕ) Limit → ℕ → Type 0

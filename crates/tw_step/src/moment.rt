@@ -2,7 +2,7 @@
 
 ghost use Rattle.std.specs.Prelude.{◌≡◌, IfOk};
 ghost use Rattle.tw_network.specs.Contents.{StartsInTime};
-ghost use Rattle.tw_theory.specs.LocalRun.{start_moment};
+ghost use Rattle.tw_theory.specs.Transitions.{start_moment};
 ghost use Rattle.tw_theory.specs.Standing.{IsStanding};
 
 use std::alloc::{AllocError, Global};
@@ -23,7 +23,7 @@ pub struct Moment<S: Drop> {
 }
 
 impl<S: Drop> Model for Moment<S> {
-    ghost use Rattle.tw_theory.specs.LocalRun.{Moment as MomentOf};
+    ghost use Rattle.tw_theory.specs.Transitions.{Moment as MomentOf};
 
     ghost Value = { MomentOf S };
 

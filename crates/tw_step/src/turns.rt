@@ -3,7 +3,7 @@
 ghost use Rattle.std.specs.Prelude.{◌≡◌, ◌↔◌, ◌<◌, ◌≤◌, [], true, OnOk, IfOk, IfErr, OnErr};
 ghost use Rattle.tw_atomic.specs.Atomic.{CanTurn, turned};
 ghost use Rattle.tw_step.specs.Turns.{IsDueBy, IsRefusedBy};
-ghost use Rattle.tw_theory.specs.LocalRun.{turn, kind_of};
+ghost use Rattle.tw_theory.specs.Transitions.{turn, kind_of};
 ghost use Rattle.tw_vtime.specs.Advance.{advanced};
 ghost use Rattle.tw_vtime.specs.Stamps.{max_microstep, never, phase_of};
 

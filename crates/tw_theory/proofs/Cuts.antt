@@ -7,7 +7,8 @@ use Rattle.tw_msgs.specs.declared.message.Message.{Message}
 use Rattle.tw_msgs.specs.declared.message.Item.{Item}
 use Rattle.tw_theory.specs.Contents.{Process, Cancel, Aggressive, Lazy, before_all, consumed_by, unsent_by, outgoing_undone, owed_undone, back_to_first, steps_before, cut, inputs}
 use Rattle.tw_theory.specs.Laws.{CutLaw}
-use Rattle.tw_theory.specs.LocalRun.{Moment, Step}
+use Rattle.tw_theory.specs.LocalRun.{Step}
+use Rattle.tw_theory.specs.Transitions.{Moment}
 use Rattle.tw_theory.specs.Soundness.{AllBefore}
 use Rattle.tw_theory.proofs.TakingBack.{consumed_by-append}
 use Rattle.tw_theory.proofs.Owing.{undone-append, unsent-append}

@@ -8,7 +8,8 @@ use Rattle.tw_msgs.specs.Bags.{Bag}
 use Rattle.tw_msgs.specs.declared.message.Message.{Message}
 use Rattle.tw_msgs.specs.declared.record_kind.RecordKind.{RecordKind}
 use Rattle.tw_theory.specs.Bundles.{first_stamp, front, behind, Ascending}
-use Rattle.tw_theory.specs.LocalRun.{Moment, Move, Made, next_of, output, moved, if_within, transition, output_made, if_moved, step_at, local_step, due_of, turn, kind_of}
+use Rattle.tw_theory.specs.LocalRun.{Made, next_of, output_made, if_moved, step_at, local_step}
+use Rattle.tw_theory.specs.Transitions.{Moment, Move, output, moved, if_within, transition, due_of, turn, kind_of}
 use Rattle.tw_theory.specs.Network.{Network, model_of}
 use Rattle.tw_vtime.specs.Advance.{advanced}
 use Rattle.tw_vtime.specs.Stamps.{never, tick_of, phase_of, micro_of, max_tick}

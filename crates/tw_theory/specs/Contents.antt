@@ -14,7 +14,8 @@ use Rattle.tw_msgs.specs.declared.message.Sign.{Sign}
 use Rattle.tw_msgs.specs.declared.message.Sign.TheVariants.{Positive, Anti}
 use Rattle.tw_msgs.specs.declared.record.Record.{Record}
 use Rattle.tw_theory.specs.Bundles.{sent_anew, still_owed, overdue, not_overdue, positives, antis}
-use Rattle.tw_theory.specs.LocalRun.{Moment, Step, Made, Leads, next_of}
+use Rattle.tw_theory.specs.LocalRun.{Step, Made, Leads, next_of}
+use Rattle.tw_theory.specs.Transitions.{Moment}
 use Rattle.tw_theory.specs.Network.{Network}
 
 -- How steps taken back are cancelled: the anti-messages of what they sent are made at once, or only where the messages are not sent again

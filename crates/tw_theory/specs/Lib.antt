@@ -12,6 +12,9 @@ pub mod Laws
 pub mod LocalRun
 pub mod Marks
 pub mod Network
+pub mod Outcomes
 pub mod Simulator
 pub mod Soundness
 pub mod Standing
+pub mod Traces
+pub mod Transitions

@@ -1,5 +1,5 @@
 -- Networks of atomic models, and where an output goes (Chow and Zeigler 1994).
---     routes net c port      the places to which component c's output on a port goes
+--     routes net c port      the destinations to which component c's output on a port goes
 --     routed net c s bag      the messages of stamp s that an output bag of component c makes
 --     input tick to port value      a network input as the message that it is
 use Rattle.std.specs.Prelude.{ℕ, ℤ, ◌<◌, ◌≡◌, List, [], ◌∷◌, ◌++◌, length, Bool, ◌&&◌, ◌||◌, ◌==◌, nat_lt, nat_le, if◌then◌else◌, None, slice_index_or}
@@ -13,12 +13,11 @@ use Rattle.tw_vtime.specs.Stamps.{stamp, never, phase_of}
 abbrev pub Coupling : Type 0
 Coupling = ℕ × ℕ × ℕ × ℕ
 
--- a place where a message arrives: a component and a port
-abbrev pub Place : Type 0
-Place = ℕ × ℕ
+-- where a message arrives: a component and a port
+abbrev pub Destination : Type 0
+Destination = ℕ × ℕ
 
--- What each component means, the couplings (a set: none stands twice), what comes from outside, and the greatest microstep.
--- Components are numbered from 0, in the order of the list
+-- What each component means, the couplings, what comes from outside, and the greatest microstep. Components are numbered from 0, in the order of the list; each coupling carries a message of its own
 pub record Network (S : Type 0) : Type 0 where
   pub models : List (Meaning S)
   pub couplings : List Coupling
@@ -47,27 +46,27 @@ model_of net c state = slice_index_or net.models c (absent state)
 -- ---- where an output goes
 
 -- by component and then port
-abbrev pub place_at_or_before : Place → Place → Bool
-place_at_or_before x y = nat_lt x.0 y.0 || (x.0 == y.0) && nat_le x.1 y.1
+abbrev pub destination_at_or_before : Destination → Destination → Bool
+destination_at_or_before x y = nat_lt x.0 y.0 || (x.0 == y.0) && nat_le x.1 y.1
 
-abbrev pub insert_place : Place → List Place → List Place
-insert_place x [] = x ∷ []
-insert_place x (y ∷ ys) = if place_at_or_before x y then x ∷ y ∷ ys else y ∷ insert_place x ys
+abbrev pub insert_destination : Destination → List Destination → List Destination
+insert_destination x [] = x ∷ []
+insert_destination x (y ∷ ys) = if destination_at_or_before x y then x ∷ y ∷ ys else y ∷ insert_destination x ys
 
 -- the destinations of the couplings of this source and port, in order
-abbrev pub places : ℕ → ℕ → List Coupling → List Place
-places c port [] = []
-places c port (k ∷ ks) = if (k.0 == c) && (k.1 == port) then insert_place (k.2, k.3) (places c port ks) else places c port ks
+abbrev pub destinations : ℕ → ℕ → List Coupling → List Destination
+destinations c port [] = []
+destinations c port (k ∷ ks) = if (k.0 == c) && (k.1 == port) then insert_destination (k.2, k.3) (destinations c port ks) else destinations c port ks
 
-abbrev pub routes : {S : Type 0} → Network S → ℕ → ℕ → List Place
-routes net c port = places c port net.couplings
+abbrev pub routes : {S : Type 0} → Network S → ℕ → ℕ → List Destination
+routes net c port = destinations c port net.couplings
 
--- one value to each place
-abbrev pub copies : ℕ → ℤ → List Place → List Message
+-- one value to each destination
+abbrev pub copies : ℕ → ℤ → List Destination → List Message
 copies s v [] = []
-copies s v (place ∷ places) = record { stamp = s; port = place.1; value = v; to = place.0 } ∷ copies s v places
+copies s v (d ∷ ds) = record { stamp = s; port = d.1; value = v; to = d.0 } ∷ copies s v ds
 
--- for each item of the bag in order, and each place to which its port leads in order
+-- for each item of the bag in order, and each destination of its port in order
 abbrev pub routed : {S : Type 0} → Network S → ℕ → ℕ → Bag → List Message
 routed net c s [] = []
 routed net c s (item ∷ items) = copies s item.1 (routes net c item.0) ++ routed net c s items

@@ -14,7 +14,8 @@ use Rattle.tw_theory.specs.Balance.{Balance}
 use Rattle.tw_theory.specs.Bundles.{addressed}
 use Rattle.tw_theory.specs.Contents.{Cancel, Aggressive, Process, inputs, Stands}
 use Rattle.tw_theory.specs.Executive.{World, mail_of, column_of, least_of}
-use Rattle.tw_theory.specs.LocalRun.{Moment, Step, start_moment}
+use Rattle.tw_theory.specs.LocalRun.{Step}
+use Rattle.tw_theory.specs.Transitions.{Moment, start_moment}
 use Rattle.tw_theory.specs.Network.{Network, count_of, Fits}
 use Rattle.tw_theory.specs.Simulator.{sequential, up_to, records_before, moment_at}
 

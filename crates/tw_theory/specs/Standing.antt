@@ -10,7 +10,8 @@ use Rattle.tw_atomic.specs.Atomic.{Meaning, FitsItem}
 use Rattle.tw_msgs.specs.Messages.{Sorted}
 use Rattle.tw_msgs.specs.declared.message.Message.{Message}
 use Rattle.tw_theory.specs.Bundles.{first_stamp}
-use Rattle.tw_theory.specs.LocalRun.{Moment, Step}
+use Rattle.tw_theory.specs.LocalRun.{Step}
+use Rattle.tw_theory.specs.Transitions.{Moment}
 use Rattle.tw_vtime.specs.Stamps.{stamp, never, tick_of, phase_of}
 
 -- a state that waits zero is due in the tick of its last transition; one that waits longer, that many ticks later, at microstep 0.

@@ -8,7 +8,7 @@ ghost use Rattle.tw_models.specs.Model.{IsModel, model_meaning};
 ghost use Rattle.tw_network.specs.Contents.{StartsInTime};
 ghost use Rattle.tw_theory.specs.Bundles.{front, items_of, least_stamp, least_owed};
 ghost use Rattle.tw_theory.specs.Contents.{next, steps_before};
-ghost use Rattle.tw_theory.specs.LocalRun.{turn, kind_of, first_due, due_of};
+ghost use Rattle.tw_theory.specs.Transitions.{turn, kind_of, first_due, due_of};
 ghost use Rattle.tw_vtime.specs.Stamps.{never, max_tick, max_microstep, phase_of, tick_of};
 ghost use Rattle.tw_vtime.specs.Advance.{advanced};
 ghost use Rattle.tw_first.specs.Stops.{IsLimit, IsStop};

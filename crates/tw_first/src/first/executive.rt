@@ -6,7 +6,7 @@ ghost use Rattle.tw_first.specs.Cells.{cells_of};
 ghost use Rattle.tw_first.specs.Driving.{IsFirstDue, IsPast};
 ghost use Rattle.tw_first.specs.First.{IsFirst, start};
 ghost use Rattle.tw_first.specs.Refused.{refused_as};
-ghost use Rattle.tw_laws.specs.Traces.{IsTrace, of_component};
+ghost use Rattle.tw_theory.specs.Traces.{IsTrace, of_component};
 ghost use Rattle.tw_models.specs.Model.{IsModel, model_meaning};
 ghost use Rattle.tw_first.specs.declared.first.refused.StartRefused.TheVariants as refused;
 ghost use Rattle.tw_theory.specs.Executive.{least_next, mail_of};

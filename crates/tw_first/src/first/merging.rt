@@ -2,7 +2,7 @@
 
 ghost use Rattle.std.specs.Prelude.{◌≡◌, ℕ, IfOk, map};
 ghost use Rattle.tw_first.specs.Merging.{AreColumns};
-ghost use Rattle.tw_laws.specs.Traces.{IsTrace, of_component};
+ghost use Rattle.tw_theory.specs.Traces.{IsTrace, of_component};
 ghost use Rattle.tw_theory.specs.Executive.{column_of};
 
 use crate::first::component::Component;

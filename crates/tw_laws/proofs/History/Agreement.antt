@@ -6,7 +6,7 @@ use Rattle.tw_msgs.specs.declared.message.Message.{Message}
 use Rattle.tw_msgs.specs.declared.record.Record.{Record}
 use Rattle.tw_theory.specs.Balance.{all_consumed}
 use Rattle.tw_theory.specs.Bundles.{first_stamp}
-use Rattle.tw_theory.specs.LocalRun.{Moment}
+use Rattle.tw_theory.specs.Transitions.{Moment}
 use Rattle.tw_theory.specs.Network.{Network}
 use Rattle.tw_theory.specs.Simulator.{all_sent}
 use Rattle.tw_vtime.specs.Stamps.{never, phase_of}

@@ -1,13 +1,13 @@
 -- The law of committed history: local runs that balance are the rounds.
 use Rattle.std.proofs.Common.{◌≡◌, ℕ, zero, suc, ◌+◌, ◌-◌, ◌<◌, ◌≤◌, ◌⊎◌, ◌==◌, nat_lt, length, List, [], ◌++◌, take, drop, refl, sym, ap, ◌∙◌, subst, inl, inr, ⊎_elim, arith, eq-eqb, ne_eqb, lt-ltb, le-ltb, Option, Some, None, slice_get}
 use Rattle.std.proofs.lemmas.Bool.{cases_eq, cases_lt, cond-true, cond-false}
-use Rattle.tw_laws.specs.History.{count, sum_below, AreInputs, Held, StandsTo, sent_count, IsSettled, IsCommitted}
+use Rattle.tw_laws.specs.History.{count, sum_below, AreInputs, Holdings, StandsTo, sent_count, IsRunTo, IsCommitted}
 use Rattle.tw_msgs.specs.declared.message.Message.{Message}
 use Rattle.tw_msgs.specs.declared.record.Record.{Record}
 use Rattle.tw_theory.specs.Balance.{all_consumed}
 use Rattle.tw_theory.specs.Bundles.{first_stamp}
 use Rattle.tw_theory.specs.Contents.{before_all, steps_before, records_of, sent_by}
-use Rattle.tw_theory.specs.LocalRun.{Moment, output}
+use Rattle.tw_theory.specs.Transitions.{Moment, output}
 use Rattle.tw_theory.specs.Network.{Network}
 use Rattle.tw_theory.specs.Simulator.{Stops, all_sent, Run, rounds, sequential, up_to, records_before, due_from, moment_at}
 use Rattle.tw_vtime.specs.Stamps.{stamp, max_tick, phase_of}
@@ -184,22 +184,22 @@ records_is net until e c s x l =
 
 -- ---- from what is held to the clock
 
-abbrev pub kept : {S : Type 0} → Held S → Kept
+abbrev pub kept : {S : Type 0} → Holdings S → Kept
 kept h = record { line = h.line; column = h.column; history = λ c. records_of (h.history c); inputs = h.inputs; waiting = h.waiting }
 
 -- each line is at or before the extent
-line_within : {S : Type 0} (net : Network S) (until g e : ℕ) (h : Held S) → IsSettled net until g h → Extent net until e → (c : ℕ)
+line_within : {S : Type 0} (net : Network S) (until g e : ℕ) (h : Holdings S) → IsRunTo net until g h → Extent net until e → (c : ℕ)
     → c < length net.models → h.line c ≤ e
 line_within net until g e h settled x c below =
     ⊎_elim (λ q. let l = settled.lines c below in let u = settled.horizon in omega (arith, q, l, u)) (λ f. settled.unstopped c f.0 e f.1 below f.2) x.ends
 
 -- what the local run of a component that stands comes to
-pub record Local {S : Type 0} (net : Network S) (until g : ℕ) (h : Held S) (c k : ℕ) (now : Moment S) : Type 0 where
+pub record Local {S : Type 0} (net : Network S) (until g : ℕ) (h : Holdings S) (c k : ℕ) (now : Moment S) : Type 0 where
   pub facts : RunFacts net (h.line c) g (h.history c)
   pub come : Come net c (h.inputs c) ((clock net (h.line c)).place c) (h.line c) k (before_all (drop (steps_before g (h.history c)) (h.history c)) now) (records_of (take (steps_before g (h.history c)) (h.history c)))
 
 -- the simulator's place at its line
-pub line_moment : {S : Type 0} (net : Network S) (until g e : ℕ) (h : Held S) → IsSettled net until g h → until ≤ max_tick → Extent net until e
+pub line_moment : {S : Type 0} (net : Network S) (until g e : ℕ) (h : Holdings S) → IsRunTo net until g h → until ≤ max_tick → Extent net until e
     → (c : ℕ) → c < length net.models → MomentIs net until c (h.line c)
 line_moment net until g e h settled m x c below =
     let within = line_within net until g e h settled x c below in
@@ -207,20 +207,20 @@ line_moment net until g e h settled m x c below =
     moment_is net until c (h.line c) settled.given (omega (arith, within, top)) m (λ d r l n. x.calm d r (omega (arith, n, within)))
 
 -- it stands ahead of any stamp that neither its line nor its inputs are before
-pub ahead_of : {S : Type 0} (net : Network S) (until g : ℕ) (h : Held S) (c t : ℕ) → MomentIs net until c (h.line c) → AreInputs c (h.inputs c)
+pub ahead_of : {S : Type 0} (net : Network S) (until g : ℕ) (h : Holdings S) (c t : ℕ) → MomentIs net until c (h.line c) → AreInputs c (h.inputs c)
     → (stand : StandsTo net until g h c) → t ≤ h.line c → t ≤ first_stamp (h.inputs c) → Ahead c (h.inputs c) t stand.from (h.inputs c)
 ahead_of net until g h c t moment are stand l f =
     let due = moment.due stand.from stand.from_is in
     record { due = omega (arith, due, l); first = f; are = are; same = λ r k. refl }
 
-pub facts_at : {S : Type 0} (net : Network S) (until g e : ℕ) (h : Held S) → IsSettled net until g h → until ≤ max_tick → Extent net until e
+pub facts_at : {S : Type 0} (net : Network S) (until g e : ℕ) (h : Holdings S) → IsRunTo net until g h → until ≤ max_tick → Extent net until e
     → (c t : ℕ) → c < length net.models → t ≤ h.line c → t ≤ first_stamp (h.inputs c) → RunFacts net t g (h.history c)
 facts_at net until g e h settled m x c t below l f =
     let stand = settled.stands c below in
     leads_facts net c (h.inputs c) g (h.history c) t stand.from (h.inputs c) stand.now stand.pending
     (ahead_of net until g h c t (line_moment net until g e h settled m x c below) (settled.inputs c below) stand l f) stand.runs
 
-pub local_of : {S : Type 0} (net : Network S) (until g e : ℕ) (h : Held S) → IsSettled net until g h → until ≤ max_tick → Extent net until e
+pub local_of : {S : Type 0} (net : Network S) (until g e : ℕ) (h : Holdings S) → IsRunTo net until g h → until ≤ max_tick → Extent net until e
     → (c k : ℕ) → c < length net.models → h.line c ≤ first_stamp (h.inputs c) → h.line c + k ≡ g → (stand : StandsTo net until g h c)
     → Local net until g h c k stand.now
 unfolding alone
@@ -239,7 +239,7 @@ local_of net until g e h settled m x c k below free at stand =
       come = ends.come;
     }
 
-pub made_count : {S : Type 0} (net : Network S) (h : Held S) (x : Message)
+pub made_count : {S : Type 0} (net : Network S) (h : Holdings S) (x : Message)
     → ((c : ℕ) → c < length net.models → sent_by (h.history c) ≡ all_sent net (records_of (h.history c))) → (n : ℕ) → n ≤ length net.models
     → count x (sent_below net (made (kept h)) n) ≡ sum_below (λ c. count x (all_sent net (h.column c)) + count x (sent_by (h.history c))) n
 unfolding sent_below sum_below
@@ -252,7 +252,7 @@ made_count net h x sent (suc n) l =
     let d = ap (count x) (sent n (omega (arith, l))) in
     omega (arith, ih, a, b, d)
 
-pub ready : {S : Type 0} (net : Network S) (until g e : ℕ) (h : Held S) → IsSettled net until g h → until ≤ max_tick → Extent net until e
+pub ready : {S : Type 0} (net : Network S) (until g e : ℕ) (h : Holdings S) → IsRunTo net until g h → until ≤ max_tick → Extent net until e
     → Ready net g (kept h)
 ready {S} net until g e h settled m x = record {
   lines = settled.lines;
@@ -307,7 +307,7 @@ ready {S} net until g e h settled m x = record {
 
 -- ---- the law
 
-pub committed_history : {S : Type 0} (net : Network S) (until g : ℕ) (h : Held S) → until ≤ max_tick → IsSettled net until g h
+pub committed_history : {S : Type 0} (net : Network S) (until g : ℕ) (h : Holdings S) → until ≤ max_tick → IsRunTo net until g h
     → IsCommitted net until g h
 unfolding NoLimit
 committed_history {S} net until g h m settled =

@@ -6,7 +6,7 @@ use Rattle.tw_msgs.specs.Bags.{Bag}
 use Rattle.tw_msgs.specs.declared.message.Message.{Message}
 use Rattle.tw_msgs.specs.declared.record.Record.{Record}
 use Rattle.tw_theory.specs.Bundles.{addressed}
-use Rattle.tw_theory.specs.LocalRun.{Moment, output}
+use Rattle.tw_theory.specs.Transitions.{Moment, output}
 use Rattle.tw_theory.specs.Network.{Network, routed, copies, routes}
 use Rattle.tw_theory.specs.Simulator.{outputs, sent_in, all_sent, with_stamp, past_stamp}
 use Rattle.tw_laws.proofs.History.Clock.{arrived, AllFrom, AllBefore}

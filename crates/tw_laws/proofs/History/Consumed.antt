@@ -7,7 +7,7 @@ use Rattle.tw_msgs.specs.Bags.{Bag}
 use Rattle.tw_msgs.specs.declared.message.Message.{Message}
 use Rattle.tw_theory.specs.Balance.{consumed_in, all_consumed}
 use Rattle.tw_theory.specs.Bundles.{items_of}
-use Rattle.tw_theory.specs.LocalRun.{Moment, moved, if_within, transition, turn, due_of, kind_of}
+use Rattle.tw_theory.specs.Transitions.{Moment, moved, if_within, transition, turn, due_of, kind_of}
 use Rattle.tw_theory.specs.Network.{Network, model_of}
 use Rattle.tw_theory.specs.Simulator.{turn_of_result, take_turn}
 use Rattle.tw_vtime.specs.Stamps.{phase_of, tick_of}

@@ -1,13 +1,14 @@
 -- The fault that the processes show is the simulator's.
 use Rattle.std.proofs.Common.{◌≡◌, ℕ, suc, ◌+◌, ◌-◌, ◌<◌, ◌≤◌, ◌⊎◌, ◌==◌, nat_le, false, length, List, [], ◌∷◌, drop, sym, ap, ◌∙◌, subst, ⊎_elim, arith, ne_eqb, Some, Result, Ok, Err}
 use Rattle.std.proofs.lemmas.Bool.{cases_lt, cases_order, cond-false, eqb-false, lt-leb}
-use Rattle.tw_laws.specs.History.{count, Held, StandsTo, sent_count, IsSettled, IsFaulting}
+use Rattle.tw_laws.specs.History.{count, Holdings, StandsTo, sent_count, IsRunTo, IsFaulting}
 use Rattle.tw_msgs.specs.Bags.{sorted_bag}
 use Rattle.tw_msgs.specs.declared.message.Message.{Message}
 use Rattle.tw_theory.specs.Balance.{all_consumed}
 use Rattle.tw_theory.specs.Bundles.{items_of, front}
 use Rattle.tw_theory.specs.Contents.{before_all, steps_before, records_of, sent_by}
-use Rattle.tw_theory.specs.LocalRun.{Moment, Step, Move, OverLimit, transition, transition_made, if_moved, next_of, step_at, local_step, Leads}
+use Rattle.tw_theory.specs.LocalRun.{Step, OverLimit, transition_made, if_moved, next_of, step_at, local_step, Leads}
+use Rattle.tw_theory.specs.Transitions.{Moment, Move, transition}
 use Rattle.tw_theory.specs.Network.{Network}
 use Rattle.tw_theory.specs.Simulator.{RoundTurn, Stays, Moves, Stops, turn_of_result, all_sent, sequential}
 use Rattle.tw_vtime.specs.Stamps.{never, stamp, max_tick, phase_of}
@@ -125,7 +126,7 @@ record AtG {S : Type 0} (net : Network S) (g : ℕ) (heard : List Message) (c : 
   rest : RunRest net c heard g steps now' pending'
   step : clock_step net c g ≡ act net c g (bag_of c g heard) (before_all (drop (steps_before g steps) steps) now')
 
-at_g : {S : Type 0} (net : Network S) (until g e : ℕ) (h : Held S) → (m : until ≤ max_tick) → (settled : IsSettled net until g h)
+at_g : {S : Type 0} (net : Network S) (until g e : ℕ) (h : Holdings S) → (m : until ≤ max_tick) → (settled : IsRunTo net until g h)
     → (x : Extent net until e) → Follows net g (kept h)
     → ((y : Message) → y.to < length net.models → y.stamp ≡ g → sent_count net h y + count y (h.waiting y.to) ≡ count y (all_consumed (h.column y.to)) + count y (h.inputs y.to))
     → ((y : Message) → y.to < length net.models → y.stamp ≡ g → (count y (h.waiting y.to) ≡ 0) ⊎ (count y (h.inputs y.to) ≡ 0)) → (c : ℕ)
@@ -169,7 +170,7 @@ at_g {S} net until g e h m settled x follows balance apart c p = record { rest =
     step : clock_step net c g ≡ act net c g (bag_of c g (h.inputs c)) (before_all (drop (steps_before g (h.history c)) (h.history c)) (settled.stands c p).now)
     step = ap (λ b. act_if net c g b ((clock net g).place c)) bag ∙ ap (act_if net c g (bag_of c g (h.inputs c))) place
 
-pub fault_law : {S : Type 0} (net : Network S) (until g : ℕ) (h : Held S) → until ≤ max_tick → (settled : IsSettled net until g h)
+pub fault_law : {S : Type 0} (net : Network S) (until g : ℕ) (h : Holdings S) → until ≤ max_tick → (settled : IsRunTo net until g h)
     → (c : ℕ) (limit : Limit) → IsFaulting net until g h settled c limit → (sequential net until).fault ≡ Some (c, g, limit)
 unfolding NoLimit
 fault_law {S} net until g h m settled c limit is =

@@ -11,7 +11,8 @@ use Rattle.tw_msgs.specs.declared.message.Message.{Message}
 use Rattle.tw_msgs.specs.declared.record.Record.{Record}
 use Rattle.tw_theory.specs.Bundles.{items_of, first_stamp, front, behind}
 use Rattle.tw_theory.specs.Contents.{before_all, steps_before, records_of, sent_by}
-use Rattle.tw_theory.specs.LocalRun.{Moment, Step, Made, Move, NothingDue, output, output_made, moved, if_within, if_moved, transition, transition_made, turn, next_of, step_at, local_step, Leads, NoStep, due_of, kind_of}
+use Rattle.tw_theory.specs.LocalRun.{Step, Made, NothingDue, output_made, if_moved, transition_made, next_of, step_at, local_step, Leads, NoStep}
+use Rattle.tw_theory.specs.Transitions.{Moment, Move, output, moved, if_within, transition, turn, due_of, kind_of}
 use Rattle.tw_theory.specs.Network.{Network, model_of}
 use Rattle.tw_theory.specs.Simulator.{Stays, Moves, turn_of_result, take_turn, sent_in, all_sent}
 use Rattle.tw_vtime.specs.Advance.{advanced, next_microstep, later_tick}

@@ -5,7 +5,7 @@ use Rattle.tw_msgs.specs.Bags.{Bag, sorted_bag}
 use Rattle.tw_msgs.specs.declared.message.Message.{Message}
 use Rattle.tw_msgs.specs.declared.record.Record.{Record}
 use Rattle.tw_theory.specs.Bundles.{items_of, addressed}
-use Rattle.tw_theory.specs.LocalRun.{Moment, Move, output, transition}
+use Rattle.tw_theory.specs.Transitions.{Moment, Move, output, transition}
 use Rattle.tw_theory.specs.Network.{Network}
 use Rattle.tw_theory.specs.Simulator.{RoundTurn, Stays, Moves, Stops, turn_of_result, take_turn, after_output, outputs, turns, turn_records, turned_moments, first_stop, all_sent, with_stamp}
 use Rattle.tw_vtime.specs.Stamps.{never, phase_of}

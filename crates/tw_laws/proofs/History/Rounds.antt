@@ -5,10 +5,10 @@ use Rattle.std.specs.Option.{option_map}
 use Rattle.std.proofs.lemmas.Option.{slice_get_past}
 use Rattle.tw_atomic.specs.Atomic.{Meaning}
 use Rattle.tw_laws.specs.History.{count, AllPhaseOne}
-use Rattle.tw_laws.specs.Traces.{IsTrace}
+use Rattle.tw_theory.specs.Traces.{IsTrace}
 use Rattle.tw_msgs.specs.declared.message.Message.{Message}
 use Rattle.tw_msgs.specs.declared.record.Record.{Record}
-use Rattle.tw_theory.specs.LocalRun.{Moment, first_due, start_moment}
+use Rattle.tw_theory.specs.Transitions.{Moment, first_due, start_moment}
 use Rattle.tw_theory.specs.Network.{Network}
 use Rattle.tw_theory.specs.Simulator.{RoundTurn, Stays, Stops, start_moments, take_turn, after_output, Configuration, least_due, least_input, round_time, outputs, turns, turn_records, turned_moments, first_stop, all_sent, with_stamp, past_stamp, Run, round_end, round, rounds_from, rounds}
 use Rattle.tw_vtime.specs.Stamps.{never, phase_of}

@@ -5,7 +5,7 @@ use Rattle.std.proofs.lemmas.List.{length-map}
 use Rattle.std.proofs.lemmas.Option.{same_Some, get_or_from_slice_get}
 use Rattle.tw_network.specs.Contents.{StartsInTime, network_of}
 use Rattle.tw_seq.specs.Invariant.{IsStanding}
-use Rattle.tw_theory.specs.LocalRun.{Moment, start_moment}
+use Rattle.tw_theory.specs.Transitions.{Moment, start_moment}
 use Rattle.tw_theory.specs.Network.{Fits}
 use Rattle.tw_theory.specs.Bundles.{Ascending}
 use Rattle.tw_theory.proofs.Elements.{each-sorted, each_weaker}

@@ -1,7 +1,7 @@
 -- The components so far stand at the start.
 use Rattle.std.proofs.Common.{◌≡◌, ℕ, take, map, length, Some, slice_get}
 use Rattle.tw_seq.specs.Invariant.{IsStanding}
-use Rattle.tw_theory.specs.LocalRun.{Moment, start_moment}
+use Rattle.tw_theory.specs.Transitions.{Moment, start_moment}
 use Rattle.tw_seq.proofs.rounds.start.Given as goal
 
 abbrev pub invariant-loop-component : goal.invariant-loop-component

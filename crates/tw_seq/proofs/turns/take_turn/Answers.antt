@@ -7,7 +7,7 @@ use Rattle.tw_msgs.specs.Bags.{sorted_bag}
 use Rattle.tw_network.specs.Contents.{network_of}
 use Rattle.tw_seq.specs.Invariant.{IsStanding, IsTied}
 use Rattle.tw_seq.specs.Turning.{kind_and_turn}
-use Rattle.tw_theory.specs.LocalRun.{Moment, due_of}
+use Rattle.tw_theory.specs.Transitions.{Moment, due_of}
 use Rattle.tw_theory.specs.Simulator.{take_turn, after_output}
 use Rattle.tw_vtime.specs.Advance.{advanced}
 use Rattle.tw_vtime.specs.Stamps.{never, tick_of}

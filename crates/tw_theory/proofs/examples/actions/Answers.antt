@@ -2,7 +2,8 @@
 use Rattle.std.proofs.Common.{refl}
 use Rattle.tw_theory.specs.Contents.{back_to_first}
 use Rattle.tw_theory.specs.Executive.{act}
-use Rattle.tw_theory.specs.LocalRun.{output, moved, transition, step_at, local_step}
+use Rattle.tw_theory.specs.LocalRun.{step_at, local_step}
+use Rattle.tw_theory.specs.Transitions.{output, moved, transition}
 use Rattle.tw_theory.specs.Marks.{rewind}
 use Rattle.tw_theory.proofs.examples.actions.Goals as goal
 

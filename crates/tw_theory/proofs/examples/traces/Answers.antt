@@ -1,6 +1,6 @@
 -- Each trace, by computing the rounds.
 use Rattle.std.proofs.Common.{refl}
-use Rattle.tw_theory.specs.LocalRun.{output, moved, transition}
+use Rattle.tw_theory.specs.Transitions.{output, moved, transition}
 use Rattle.tw_theory.specs.Simulator.{sequential, rounds, round}
 use Rattle.tw_theory.proofs.examples.traces.Goals as goal
 

@@ -9,7 +9,8 @@ use Rattle.tw_first.specs.Stops.{IsLimit, IsStop}
 use Rattle.tw_models.specs.Model.{IsModel, model_meaning}
 use Rattle.tw_theory.specs.Bundles.{front, behind, items_of}
 use Rattle.tw_theory.specs.Contents.{next}
-use Rattle.tw_theory.specs.LocalRun.{turn, local_step}
+use Rattle.tw_theory.specs.LocalRun.{local_step}
+use Rattle.tw_theory.specs.Transitions.{turn}
 use Rattle.tw_theory.proofs.Steps.{front-behind}
 use Rattle.tw_vtime.specs.Advance.{advanced}
 use Rattle.tw_vtime.specs.Stamps.{tick_of}

@@ -8,7 +8,7 @@ pub mod OutputLemmas
 pub mod Places
 pub mod Reaching
 pub mod RoundLemmas
-pub mod StandingLemmas
+pub mod Between
 pub mod StartLemmas
 pub mod SweepLemmas
 pub mod Sweeping

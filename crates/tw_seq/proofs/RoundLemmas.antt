@@ -14,7 +14,7 @@ use Rattle.tw_msgs.specs.declared.record.Record.{Record}
 use Rattle.tw_network.specs.Contents.{Contents, network_of, IsCoupling}
 use Rattle.tw_seq.specs.Agenda.{IsOn, IsDueAt, IsAgenda}
 use Rattle.tw_seq.specs.Dealing.{dealt, Carried}
-use Rattle.tw_seq.specs.Invariant.{IsTied, IsNextMicrostep, IsStanding, AllStand, IsToCome, IsUnderway}
+use Rattle.tw_seq.specs.Invariant.{AllStand, IsToCome, IsUnderway}
 use Rattle.tw_seq.specs.Turning.{turns_with}
 use Rattle.tw_seq.specs.Waking.{WakesAll}
 use Rattle.tw_theory.specs.Bundles.{items_of, addressed}
@@ -28,7 +28,7 @@ use Rattle.tw_seq.proofs.CarriedLemmas.{each-filter, sent_carried, none_fits, de
 use Rattle.tw_seq.proofs.DealingLemmas.{dealt-append}
 use Rattle.tw_seq.proofs.OutputLemmas.{output_is}
 use Rattle.tw_seq.proofs.Places.{each_of_all}
-use Rattle.tw_seq.proofs.StandingLemmas.{tied_even}
+use Rattle.tw_seq.proofs.Between.{between_at}
 use Rattle.tw_seq.proofs.TimeLemmas.{due_least}
 use Rattle.tw_theory.proofs.Elements.{each_weaker}
 
@@ -87,19 +87,6 @@ past_to_come n t (m ∷ ms) even h =
     cond_both (nat_lt (t + 1) m.stamp) (m ∷ past_stamp (t + 1) ms) (past_stamp (t + 1) ms) (Each (IsToCome n (t + 2)))
     (λ e. (later_input n t m even (ltb-true (t + 1) m.stamp e) h.0, rest)) (λ e. rest)
 
--- up to a later time at which nothing is due before
-tied_at : (s t last due : ℕ) (ta : Option ℕ) → s ≤ t → IsTied s ta last due → IsTied t ta last due
-tied_at s t last due None l h = h
-tied_at s t last due (Some a) l (inl h) = inl (h.0, go h.1)
-  where
-    go : IsNextMicrostep s last due → IsNextMicrostep t last due
-    go (inl e) = inl e
-    go (inr r) = let b = r.2 in inr (r.0, r.1, omega (arith, b, l))
-tied_at s t last due (Some a) l (inr h) = inr h
-
-pub standing_at : {S : Type 0} (valid : S → Type 0) (model : Meaning S) (s t : ℕ) (now : Moment S) → s ≤ t → t ≤ now.due → IsStanding valid model s now → IsStanding valid model t now
-standing_at valid model s t now l m h = record { valid = h.valid; even = h.even; tied = tied_at s t now.last now.due (model.ta now.state) l h.tied; from = m }
-
 inputs_at : (n s t : ℕ) (ms : List Message) → s ≤ t → t ≤ least_input ms → phase_of t ≡ 0 → Each (IsToCome n s) ms → Each (IsToCome n t) ms
 inputs_at n s t [] l m even h = tt
 inputs_at n s t (x ∷ ms) l m even h =
@@ -113,7 +100,7 @@ underway_at valid meaning contents s t run l m even h =
       even = even;
       moments = record {
         size = h.moments.size;
-        each = λ c model now found e. let d = due_least run.at.moments c now e in standing_at (valid model) (meaning model) s t now l (omega (arith, d, due)) (h.moments.each c model now found e);
+        each = λ c model now found e. let d = due_least run.at.moments c now e in between_at (valid model) (meaning model) s t now l (omega (arith, d, due)) (h.moments.each c model now found e);
       };
       inputs = inputs_at (length contents.models) s t run.at.inputs l (omega (arith, m)) even h.inputs;
       order = h.order;
@@ -150,7 +137,7 @@ next_round valid meaning contents s run l h =
     (due_time s run.at.moments l (λ i now e.
     let found = model_there contents.models run.at.moments i now h.moments.size e in
     let at = h.moments.each i found.0 now found.1 e in
-    (at.from, tied_even s now.last now.due ((meaning found.0).ta now.state) at.even at.tied)))
+    (at.stands.from, at.due_even)))
     (input_time (length contents.models) s run.at.inputs l h.inputs)
 
 -- ---- the agenda
@@ -159,7 +146,7 @@ next_round valid meaning contents s run l h =
 pub not_before : {M S : Type 0} (valid : M → S → Type 0) (meaning : M → Meaning S) (models : List M) (t : ℕ) (moments : List (Moment S)) (s c : ℕ) → AllStand valid meaning models t moments → IsDueAt moments c s → t ≤ s
 not_before valid meaning models t moments s c h at =
     let model = model_there models moments c at.0 h.size at.1 in
-    let from = (h.each c model.0 at.0 model.1 at.1).from in
+    let from = (h.each c model.0 at.0 model.1 at.1).stands.from in
     let due = at.2 in
     omega (arith, from, due)
 
@@ -224,7 +211,7 @@ bags_fit {M} {S} valid meaning contents t at run for_outputs inputs room first b
     let stands = under.moments.each c found.0 now found.1 e in
     let z : 0 + c ≡ c = omega arith in
     let bag = output_is meaning contents c t found.0 now (sorted_bag ((meaning found.0).out now.state)) found.1 refl in
-    let out : FitsBag (sorted_bag ((meaning found.0).out now.state)) = sorted_bag-FitsBag ((meaning found.0).out now.state) (FitsOutput-bag ((meaning found.0).out now.state) (fits found.0 now.state stands.valid)) in
+    let out : FitsBag (sorted_bag ((meaning found.0).out now.state)) = sorted_bag-FitsBag ((meaning found.0).out now.state) (FitsOutput-bag ((meaning found.0).out now.state) (fits found.0 now.state stands.stands.valid)) in
     subst (λ d. FitsBag (output net d now t).entry.bag) (sym z) (subst (λ r. FitsBag r.bag) bag out)) in
     let given : Each Carried (with_stamp at inputs) =
     each-filter Carried (λ x. x.stamp == at) inputs (subst (Each Carried) (sym i) (each_weaker (IsToCome (length contents.models) t) Carried (λ x p. p.carried) run.at.inputs under.inputs)) in

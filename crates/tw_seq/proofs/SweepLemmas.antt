@@ -8,7 +8,7 @@ use Rattle.tw_atomic.specs.Atomic.{Meaning}
 use Rattle.tw_msgs.specs.Bags.{Bag, sorted_bag}
 use Rattle.tw_msgs.specs.declared.record.Record.{Record}
 use Rattle.tw_network.specs.Contents.{Contents, network_of}
-use Rattle.tw_seq.specs.Invariant.{IsStanding, AllStand}
+use Rattle.tw_seq.specs.Invariant.{IsBetween, AllStand}
 use Rattle.tw_seq.specs.Turning.{seen, CanGoOn, kind_and_turn, turns_with}
 use Rattle.tw_seq.specs.Waking.{HasTurn, IsInTurn}
 use Rattle.tw_seq.specs.declared.turns.Taken.{Taken}
@@ -20,7 +20,7 @@ use Rattle.tw_vtime.specs.declared.limits.Limit.{Limit}
 use Rattle.tw_theory.proofs.Elements.{get_of_set}
 use Rattle.tw_vtime.specs.Stamps.{max_tick, tick_of, phase_of}
 use Rattle.tw_seq.proofs.Places.{drop_next}
-use Rattle.tw_seq.proofs.StandingLemmas.{stays_standing}
+use Rattle.tw_seq.proofs.Between.{stays_between}
 use Rattle.tw_seq.proofs.Sweeping.{along, at_place, onward, onward_within, onward_next, none_between, none_after}
 use Rattle.tw_seq.proofs.TurnLemmas.{stays_turn}
 
@@ -126,7 +126,7 @@ pub record Swept {M S : Type 0} (valid : M → S → Type 0) (meaning : M → Me
   pub stop : first_stop i (turns_with (network_of meaning contents) t i (drop i old) (drop i bags0)) ≡ first_stop 0 (turns_with (network_of meaning contents) t 0 old bags0)
   pub recorded : records ++ turn_records (turns_with (network_of meaning contents) t i (drop i old) (drop i bags0)) ≡ start ++ turn_records (turns_with (network_of meaning contents) t 0 old bags0)
   pub moved : take i moments ++ turned_moments (drop i old) (turns_with (network_of meaning contents) t i (drop i old) (drop i bags0)) ≡ turned_moments old (turns_with (network_of meaning contents) t 0 old bags0)
-  pub standing : (d : ℕ) (model : M) (now : Moment S) → d < i → slice_get contents.models d ≡ Some model → slice_get moments d ≡ Some now → IsStanding (valid model) (meaning model) (t + 2) now
+  pub standing : (d : ℕ) (model : M) (now : Moment S) → d < i → slice_get contents.models d ≡ Some model → slice_get moments d ≡ Some now → IsBetween (valid model) (meaning model) (t + 2) now
 
 module _ {M S : Type 0} (valid : M → S → Type 0) (meaning : M → Meaning S) (contents : Contents M) (t : ℕ) (old : List (Moment S)) (bags0 : List Bag) (start : List Record)
     (i : ℕ) (moments : List (Moment S)) (bags : List Bag) (records : List Record) (swept : Swept valid meaning contents t old bags0 start i moments bags records)
@@ -135,11 +135,11 @@ module _ {M S : Type 0} (valid : M → S → Type 0) (meaning : M → Meaning S)
   pub swept_turn : (d : Moment S) (b : Bag) (what : Taken) (new : Moment S) →
       seen what new ≡ take_turn (network_of meaning contents) i (after_output (network_of meaning contents) i (slice_index_or moments i d) t) (t + 1) ((slice_index_or moments i d).due == t) (sorted_bag (slice_index_or bags i b)) →
       CanGoOn what → (what ≡ taken.Stays → new ≡ slice_index_or moments i d) →
-      ((model : M) → slice_get contents.models i ≡ Some model → IsStanding (valid model) (meaning model) (t + 2) new) →
+      ((model : M) → slice_get contents.models i ≡ Some model → IsBetween (valid model) (meaning model) (t + 2) new) →
       Swept valid meaning contents t old bags0 start (i + 1) (slice_set moments i new) (slice_set bags i []) (records ++ entries what)
   swept_turn d b what new turn on kept stands =
       let net = network_of meaning contents in
-      let P : ℕ → Moment S → Type 0 = λ k now. (model : M) → slice_get contents.models k ≡ Some model → IsStanding (valid model) (meaning model) (t + 2) now in
+      let P : ℕ → Moment S → Type 0 = λ k now. (model : M) → slice_get contents.models k ≡ Some model → IsBetween (valid model) (meaning model) (t + 2) now in
       let all = standing_next P i moments new stands (λ k now q e model found. swept.standing k model now q found e) in
       record {
         later = later_set moments old i new d swept.later l l0;
@@ -164,8 +164,8 @@ module _ {M S : Type 0} (valid : M → S → Type 0) (meaning : M → Meaning S)
       let waits : ((slice_index_or moments i now.0).due == t) ≡ false = ap (λ x. x.due == t) here ∙ ne_eqb now.0.due t idle in
       let turn : Stays ≡ take_turn net i (after_output net i (slice_index_or moments i now.0) t) (t + 1) ((slice_index_or moments i now.0).due == t) (sorted_bag (slice_index_or bags i [])) =
       sym (stays_turn net i (t + 1) (after_output net i (slice_index_or moments i now.0) t) ((slice_index_or moments i now.0).due == t) (sorted_bag (slice_index_or bags i [])) (λ k. kind_and_turn (waits k) (sorted_bag (empty k)))) in
-      let stands : (model : M) → slice_get contents.models i ≡ Some model → IsStanding (valid model) (meaning model) (t + 2) (slice_index_or moments i now.0) =
-      λ model found. subst (IsStanding (valid model) (meaning model) (t + 2)) (sym here) (stays_standing (valid model) (meaning model) t now.0 (stand.each i model now.0 found now.1) idle even small) in
+      let stands : (model : M) → slice_get contents.models i ≡ Some model → IsBetween (valid model) (meaning model) (t + 2) (slice_index_or moments i now.0) =
+      λ model found. subst (IsBetween (valid model) (meaning model) (t + 2)) (sym here) (stays_between (valid model) (meaning model) t now.0 (stand.each i model now.0 found now.1) idle even small) in
       let after = swept_turn now.0 [] taken.Stays (slice_index_or moments i now.0) turn tt (λ e. refl) stands in
       let same_moments : slice_set moments i (slice_index_or moments i now.0) ≡ moments = set-get_or moments i now.0 in
       let same_bags : slice_set bags i [] ≡ bags = ap (slice_set bags i) (sym empty) ∙ set-get_or bags i [] in

@@ -10,7 +10,7 @@ use Rattle.tw_msgs.specs.Bags.{Bag}
 use Rattle.tw_msgs.specs.declared.record_kind.RecordKind.{RecordKind}
 use Rattle.tw_msgs.specs.declared.record_kind.RecordKind.TheVariants as kinds
 use Rattle.tw_network.specs.Contents.{Contents, network_of}
-use Rattle.tw_seq.specs.Invariant.{IsStanding}
+use Rattle.tw_seq.specs.Invariant.{IsBetween}
 use Rattle.tw_seq.specs.Turning.{kind_and_turn}
 use Rattle.tw_theory.specs.Transitions.{Moment, Move, turn, kind_of, due_of, moved, if_within, output, transition}
 use Rattle.tw_theory.specs.Network.{Network, model_of}
@@ -19,13 +19,21 @@ use Rattle.tw_vtime.specs.Advance.{advanced}
 use Rattle.tw_vtime.specs.Stamps.{max_tick, tick_of, phase_of}
 use Rattle.tw_vtime.specs.declared.limits.Limit.{Limit}
 use Rattle.tw_seq.proofs.OutputLemmas.{model_is}
-use Rattle.tw_seq.proofs.StandingLemmas.{tied_even}
 
 pub stays_turn : {S : Type 0} (net : Network S) (c s : ℕ) (at : Moment S) (imminent : Bool) (bag : Bag) → kind_and_turn imminent bag ≡ None → take_turn net c at s imminent bag ≡ Stays
 stays_turn net c s at true [] e = absurd (cc e)
 stays_turn net c s at true (x ∷ xs) e = absurd (cc e)
 stays_turn net c s at false [] e = refl
 stays_turn net c s at false (x ∷ xs) e = absurd (cc e)
+
+pub turns_which : (imminent : Bool) (bag : Bag) → (imminent ≡ false → bag ≢ []) → kind_and_turn imminent bag ≡ Some (turn imminent bag, kind_of (turn imminent bag))
+turns_which true [] some = refl
+turns_which true (x ∷ xs) some = refl
+turns_which false [] some = absurd (some refl refl)
+turns_which false (x ∷ xs) some = refl
+
+pub stays_which : (imminent : Bool) (bag : Bag) → imminent ≡ false → bag ≡ [] → kind_and_turn imminent bag ≡ None
+stays_which imminent bag idle none = λ i. kind_and_turn (idle i) (none i)
 
 pub stays_idle : (imminent : Bool) (bag : Bag) → kind_and_turn imminent bag ≡ None → imminent ≡ false
 stays_idle true [] e = absurd (cc e)
@@ -64,7 +72,7 @@ unfolding transition
 by_parts net c s at bag = refl
 
 module _ {M S : Type 0} (valid : S → Type 0) (meaning : M → Meaning S) (contents : Contents M) (c t : ℕ) (model : M) (now : Moment S) (bag : Bag)
-    (found : slice_get contents.models c ≡ Some model) (at : IsStanding valid (meaning model) t now) (even : phase_of t ≡ 0) (small : tick_of t < max_tick) where
+    (found : slice_get contents.models c ≡ Some model) (at : IsBetween valid (meaning model) t now) (even : phase_of t ≡ 0) (small : tick_of t < max_tick) where
   after_due : (b : Bool) → (now.due == t) ≡ b → transition (network_of meaning contents) c (after_output (network_of meaning contents) c now t) (t + 1) bag ≡ transition_parts (network_of meaning contents) c (t + 1) now.state (tick_of (t + 1) - tick_of now.last) bag (meaning model) b
   after_due true e =
       let net = network_of meaning contents in
@@ -74,7 +82,7 @@ module _ {M S : Type 0} (valid : S → Type 0) (meaning : M → Meaning S) (cont
       ∙ (λ i. transition_parts net c (t + 1) now.state (tick_of (t + 1) - tick_of now.last) bag (model_is meaning contents c model now.state found i) (imminent i))
   after_due false e =
       let net = network_of meaning contents in
-      let apart : now.due ≢ t + 1 = ⊎_elim (λ q h. omega (arith, q, h, even)) (λ q h. omega (arith, q, h, small)) (tied_even t now.last now.due ((meaning model).ta now.state) at.even at.tied) in
+      let apart : now.due ≢ t + 1 = ⊎_elim (λ q h. omega (arith, q, h, even)) (λ q h. omega (arith, q, h, small)) at.due_even in
       let waits : (now.due == t + 1) ≡ false = ne_eqb now.due (t + 1) apart in
       ap (λ m. transition net c m (t + 1) bag) (cond-false (now.due == t) (output net c now t).after now e)
       ∙ by_parts net c (t + 1) now bag

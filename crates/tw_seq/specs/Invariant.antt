@@ -1,8 +1,8 @@
 -- What stays true from round to round.
---     IsStanding valid model s now      a component whose next own step is not before s, with a state that fits and due tied to its time advance
+--     IsBetween valid model s now      a component that stands between two rounds, the next of which is not before s
 --     AllStand valid meaning models s moments      each component of the network
 --     IsUnderway valid meaning contents s run      the network, and the inputs to come, in order
-use Rattle.std.specs.Prelude.{◌≡◌, ℕ, ◌+◌, ◌<◌, ◌≤◌, ◌⊎◌, List, length, slice_get, Option, None, Some}
+use Rattle.std.specs.Prelude.{◌≡◌, ℕ, ◌<◌, ◌⊎◌, List, length, slice_get, Some}
 use Rattle.std.specs.List.{AllByRecursion as Each}
 use Rattle.tw_atomic.specs.Atomic.{Meaning}
 use Rattle.tw_msgs.specs.declared.message.Message.{Message}
@@ -11,27 +11,18 @@ use Rattle.tw_seq.specs.Dealing.{Carried}
 use Rattle.tw_theory.specs.Bundles.{Ascending}
 use Rattle.tw_theory.specs.Transitions.{Moment}
 use Rattle.tw_theory.specs.Simulator.{Run}
-use Rattle.tw_vtime.specs.Stamps.{stamp, never, tick_of, phase_of}
+use Rattle.tw_theory.specs.Standing.{IsStanding}
+use Rattle.tw_vtime.specs.Stamps.{never, phase_of}
 
--- with an advance of zero the next own step is in the same tick: the start, or the next microstep
-abbrev pub IsNextMicrostep : ℕ → ℕ → ℕ → Type 0
-IsNextMicrostep s last due = (due ≡ 0) ⊎ ((due ≡ last + 2) × (tick_of due ≡ tick_of last) × (last < s))
-
--- when the next own step is due, for a time advance since the last transition
-abbrev pub IsTied : ℕ → Option ℕ → ℕ → ℕ → Type 0
-IsTied s None last due = due ≡ never
-IsTied s (Some advance) last due =
-    ((advance ≡ 0) × IsNextMicrostep s last due) ⊎ ((0 < advance) × (due ≡ stamp (tick_of last + advance) 0 0))
-
-pub record IsStanding {S : Type 0} (IsValid : S → Type 0) (model : Meaning S) (s : ℕ) (now : Moment S) : Type 0 where
-  pub valid : IsValid now.state
-  pub even : phase_of now.last ≡ 0
-  pub tied : IsTied s (model.ta now.state) now.last now.due
-  pub from : s ≤ now.due
+-- between rounds the last time and the next own step are those of outputs
+pub record IsBetween {S : Type 0} (IsValid : S → Type 0) (model : Meaning S) (s : ℕ) (now : Moment S) : Type 0 where
+  pub stands : IsStanding IsValid model now s
+  pub last_even : phase_of now.last ≡ 0
+  pub due_even : (phase_of now.due ≡ 0) ⊎ (now.due ≡ never)
 
 pub record AllStand {M S : Type 0} (valid : M → S → Type 0) (meaning : M → Meaning S) (models : List M) (s : ℕ) (moments : List (Moment S)) : Type 0 where
   pub size : length moments ≡ length models
-  pub each : (c : ℕ) (model : M) (now : Moment S) → slice_get models c ≡ Some model → slice_get moments c ≡ Some now → IsStanding (valid model) (meaning model) s now
+  pub each : (c : ℕ) (model : M) (now : Moment S) → slice_get models c ≡ Some model → slice_get moments c ≡ Some now → IsBetween (valid model) (meaning model) s now
 
 -- a message to come, for a component below n
 pub record IsToCome (n s : ℕ) (m : Message) : Type 0 where

@@ -16,7 +16,6 @@ mod outputs;
 mod refused;
 mod rounds;
 mod simulator;
-mod standing;
 mod turns;
 
 pub use refused::SeqRefused;

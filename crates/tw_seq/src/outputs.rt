@@ -1,9 +1,8 @@
 //! The outputs of a round.
 
-ghost use Rattle.std.specs.Prelude.{◌≡◌, ◌<◌, ◌++◌, ℕ, OnOk, IfOk, length};
+ghost use Rattle.std.specs.Prelude.{◌≡◌, ◌<◌, ◌++◌, ℕ, OnOk, length};
 ghost use Rattle.std.specs.List.{All, Contains};
 ghost use Rattle.std.specs.List.Sorted.{IsStrictlyIncreasing};
-ghost use Rattle.tw_msgs.specs.Bags.{sorted_bag};
 ghost use Rattle.tw_network.specs.Contents.{network_of};
 ghost use Rattle.tw_seq.specs.Agenda.{IsDueAt};
 ghost use Rattle.tw_seq.specs.Dealing.{dealt};
@@ -13,35 +12,19 @@ ghost use Rattle.tw_theory.specs.Simulator.{outputs, all_sent};
 ghost use Rattle.tw_vtime.specs.Stamps.{max_tick, tick_of, phase_of};
 
 use crate::bags::{Arrivals, route};
-use crate::standing::Standing;
-use arrayvec::ArrayVec;
 use std::alloc::{AllocError, Global};
-use tw_atomic::{Atomic, Outbox};
-use tw_msgs::{Bag, Record, RecordKind, Words};
+use tw_atomic::Atomic;
+use tw_msgs::{Record, RecordKind, Words};
 use tw_network::Network;
+use tw_step::{Moment, output_bag};
 use tw_vtime::Stamp;
-
-/// What a model sends in a state, sorted.
-fn output_bag<M: Atomic>(alloc: Global, model: &M, state: &M::State) -> Result<Bag, AllocError>
-    requires { M.valid model.now state.now }
-    ensures { IfOk result (λ bag. bag ≡ sorted_bag ((M.meaning model.now).out state.now)) }
-{
-    let mut outbox: Outbox = ArrayVec::new();
-    model.output(state, &mut outbox);
-    let mut bag = Bag::new(alloc);
-    for item in outbox.as_slice() {
-        bag.push(*item)?;
-    }
-    bag.sort();
-    Ok(bag)
-}
 
 /// Records the output of each imminent component, and puts what it sends into the bags of the
 /// receivers.
 pub(crate) fn make_outputs<M: Atomic>(
     alloc: Global,
     network: &Network<M>,
-    moments: &[Standing<M::State>],
+    moments: &[Moment<M::State>],
     imminent: &[usize],
     time: Stamp,
     records: &mut Vec<Record>,

@@ -17,34 +17,33 @@ ghost use Rattle.std.specs.Prelude.{
   MatchOption,
 };
 ghost use Rattle.std.specs.List.{AllByRecursion as Each};
-ghost use Rattle.tw_network.specs.Contents.{network_of, StartsInTime};
+ghost use Rattle.tw_network.specs.Contents.{network_of};
 ghost use Rattle.tw_msgs.specs.Messages.{sorted_messages};
 ghost use Rattle.tw_seq.specs.Agenda.{IsAgenda};
 ghost use Rattle.tw_seq.specs.Dealing.{Carried};
 ghost use Rattle.tw_seq.specs.InOrder.{start_in_order};
-ghost use Rattle.tw_seq.specs.Invariant.{IsStanding, IsUnderway};
+ghost use Rattle.tw_seq.specs.Invariant.{IsUnderway};
 ghost use Rattle.tw_theory.specs.Bundles.{Ascending};
-ghost use Rattle.tw_theory.specs.Transitions.{start_moment};
 ghost use Rattle.tw_theory.specs.Simulator.{least_input, round_time, round};
 ghost use Rattle.tw_vtime.specs.Stamps.{max_tick, never, tick_of, phase_of};
 
 use crate::agenda::Agenda;
 use crate::bags::Arrivals;
 use crate::outputs::make_outputs;
-use crate::standing::Standing;
 use crate::turns::make_turns;
 use std::alloc::{AllocError, Global};
 use std::marker::Model;
 use tw_atomic::Atomic;
 use tw_msgs::{Message, Record};
 use tw_network::Network;
+use tw_step::{Moment, start_moment};
 use tw_vtime::{Limit, Stamp};
 
 /// A run between two rounds: where each component stands, the inputs in order, of which those from place
 /// `given` on are to come, and the records so far.
 #[derive(Drop)]
 pub struct Running<S: Drop> {
-    moments: Vec<Standing<S>>,
+    moments: Vec<Moment<S>>,
     inputs: Vec<Message>,
     given: usize,
     records: Vec<Record>,
@@ -110,24 +109,6 @@ fn next_input(inputs: &[Message], given: usize) -> Stamp
     }
 }
 
-/// Where a component stands at the start.
-fn start_standing<M: Atomic>(alloc: Global, model: &M) -> Result<Standing<M::State>, AllocError>
-    requires { StartsInTime (M.meaning model.now) }
-    ensures moment { IfOk result (λ now. now ≡ start_moment (M.meaning model.now)) }
-    ensures standing { IfOk result (IsStanding (M.valid model.now) (M.meaning model.now) 0) }
-{
-    let state = model.start(alloc)?;
-    let due = match model.ta(&state) {
-        None => Stamp::END,
-        Some(wait) => Stamp::new(wait, 0, 0).unwrap(),
-    };
-    Ok(Standing {
-        state,
-        last: Stamp::START,
-        due,
-    })
-}
-
 /// The network inputs as messages, in order.
 fn start_inputs<M: Atomic>(alloc: Global, network: &Network<M>) -> Result<Vec<Message>, AllocError>
     ensures inputs { IfOk result (λ inputs. inputs.items ≡ sorted_messages (network_of M.meaning network.now).inputs) }
@@ -158,7 +139,7 @@ pub(crate) fn start<M: Atomic>(
     network.facts();
     let mut moments = Vec::new(alloc);
     for component in 0..network.len() {
-        moments.push(start_standing(alloc, network.model(component))?)?;
+        moments.push(start_moment(alloc, network.model(component))?)?;
     }
     Ok(Running {
         moments,
@@ -169,7 +150,7 @@ pub(crate) fn start<M: Atomic>(
 }
 
 /// The agenda of components that stand so.
-fn start_agenda<S: Drop>(alloc: Global, moments: &[Standing<S>]) -> Result<Agenda, AllocError>
+fn start_agenda<S: Drop>(alloc: Global, moments: &[Moment<S>]) -> Result<Agenda, AllocError>
     ensures { IfOk result (λ agenda. IsAgenda 0 agenda.steps moments.now) }
 {
     let mut agenda = Agenda::new(alloc);

@@ -1,26 +1,26 @@
 //! The transitions of a round.
 
-ghost use Rattle.std.specs.Prelude.{◌≡◌, ◌==◌, ◌<◌, ◌++◌, ◌+◌, IfOk, length, [], Some, None, slice_get, replicate, MatchOption};
+ghost use Rattle.std.specs.Prelude.{◌≡◌, ◌==◌, ◌<◌, ◌++◌, ◌+◌, IfOk, length, [], Some, None, slice_get, replicate, MatchOption, true, false};
 ghost use Rattle.std.specs.List.{AllByRecursion as Each};
 ghost use Rattle.tw_atomic.specs.Atomic.{FitsBag};
 ghost use Rattle.tw_msgs.specs.Bags.{sorted_bag};
 ghost use Rattle.tw_network.specs.Contents.{network_of};
 ghost use Rattle.tw_seq.specs.Agenda.{IsAgenda};
-ghost use Rattle.tw_seq.specs.Invariant.{AllStand, IsStanding};
-ghost use Rattle.tw_seq.specs.Turning.{seen, CanGoOn, kind_and_turn, turns_with};
+ghost use Rattle.tw_seq.specs.Invariant.{AllStand, IsBetween};
+ghost use Rattle.tw_seq.specs.Turning.{seen, CanGoOn, turns_with};
 ghost use Rattle.tw_seq.specs.Waking.{IsInTurn};
 ghost use Rattle.tw_theory.specs.Simulator.{take_turn, after_output, turn_records, turned_moments, first_stop};
 ghost use Rattle.tw_vtime.specs.Stamps.{max_tick, tick_of, phase_of};
 
 use crate::agenda::Agenda;
 use crate::bags::Arrivals;
-use crate::standing::Standing;
 use std::alloc::{AllocError, Global};
 use std::mem;
-use tw_atomic::{Atomic, Turn};
-use tw_msgs::{Bag, Record, RecordKind, Words};
+use tw_atomic::Atomic;
+use tw_msgs::{Bag, Record};
 use tw_network::Network;
-use tw_vtime::{Limit, Stamp, advance};
+use tw_step::{Moment, TurnRefused, make_turn, turn_of};
+use tw_vtime::{Limit, Stamp};
 
 /// What a component did at the transition of a round.
 #[derive(Drop)]
@@ -33,16 +33,12 @@ pub enum Taken {
     Stops(Limit),
 }
 
-/// The turn of a component that is imminent or not, with what came; none where it stays as it is.
-fn turn_of(imminent: bool, bag: &Bag) -> Option<(Turn, RecordKind)>
-    ensures { result ≡ kind_and_turn imminent bag.now }
+/// Whether a component that is imminent or not, with an empty bag or not, has a turn.
+fn has_turn(imminent: bool, empty: bool) -> bool
+    ensures some { result ≡ true → imminent ≡ false → empty ≡ false }
+    ensures none { result ≡ false → (imminent ≡ false) × (empty ≡ true) }
 {
-    match (imminent, bag.is_empty()) {
-        (true, true) => Some((Turn::Int, RecordKind::Int)),
-        (true, false) => Some((Turn::Con, RecordKind::Con)),
-        (false, false) => Some((Turn::Ext, RecordKind::Ext)),
-        (false, true) => None,
-    }
+    imminent || !empty
 }
 
 /// Makes the transition of a component at a time, if it is imminent or receives something. Without a
@@ -51,46 +47,60 @@ fn take_turn<M: Atomic>(
     alloc: Global,
     network: &Network<M>,
     component: usize,
-    now: &mut Standing<M::State>,
+    now: &mut Moment<M::State>,
     time: Stamp,
     bag: Bag,
 ) -> Result<Taken, AllocError>
     requires component { component < length network.now.models }
     requires time { tick_of time < max_tick }
     requires even { phase_of time ≡ 0 }
-    requires standing { (model : M) → slice_get network.now.models component ≡ Some model → IsStanding (M.valid model) (M.meaning model) time now.old }
+    requires standing { (model : M) → slice_get network.now.models component ≡ Some model → IsBetween (M.valid model) (M.meaning model) time now.old }
     requires fits { FitsBag bag }
     ensures turn { IfOk result (λ taken. seen taken now.new
         ≡ take_turn (network_of M.meaning network.now) component (after_output (network_of M.meaning network.now) component now.old time) (time + 1) (now.old.due == time) (sorted_bag bag)) }
     ensures kept { IfOk result (λ taken. taken ≡ Taken.Stays → now.new ≡ now.old) }
     ensures standing { IfOk result (λ taken. CanGoOn taken →
-        (model : M) → slice_get network.now.models component ≡ Some model → IsStanding (M.valid model) (M.meaning model) (time + 2) now.new) }
+        (model : M) → slice_get network.now.models component ≡ Some model → IsBetween (M.valid model) (M.meaning model) (time + 2) now.new) }
 {
     let mut bag = bag;
     bag.sort();
-    let Some((turn, kind)) = turn_of(now.due == time, &bag) else {
+    let imminent = now.due == time;
+    let empty = bag.is_empty();
+    if !has_turn(imminent, empty) {
         return Ok(Taken::Stays);
-    };
+    }
     network.facts();
     let model = network.model(component);
+    let (turn, kind) = turn_of(imminent, empty);
     let at = time.transition();
     let elapsed = at.tick().saturating_sub(now.last.tick());
-    let _residue = model.forward(alloc, &mut now.state, turn, elapsed, bag.as_slice())?;
-    let due = match advance(at, model.ta(&now.state), network.micro_limit()) {
-        Ok(due) => due.unwrap_or(Stamp::END),
-        Err(limit) => return Ok(Taken::Stops(limit)),
-    };
-    let mut words = Vec::new(alloc);
-    model.words(alloc, &now.state, &mut words)?;
-    now.last = time;
-    now.due = due;
-    Ok(Taken::Moves(Record {
-        component,
-        stamp: at,
-        kind,
-        bag,
-        words: Words::from(words),
-    }))
+    let turned = make_turn(
+        alloc,
+        model,
+        &mut now.state,
+        turn,
+        at,
+        elapsed,
+        bag.as_slice(),
+        network.micro_limit(),
+    );
+    match turned {
+        Ok(turned) => {
+            now.last = time;
+            now.due = turned.due;
+            Ok(Taken::Moves(Record {
+                component,
+                stamp: at,
+                kind,
+                bag,
+                words: turned.words,
+            }))
+        }
+        Err(refused) => match refused {
+            TurnRefused::OverLimit(limit) => Ok(Taken::Stops(limit)),
+            TurnRefused::OutOfMemory => Err(AllocError),
+        },
+    }
 }
 
 /// Makes the transition of each component that is awake, appends their records, and puts their next own
@@ -98,7 +108,7 @@ fn take_turn<M: Atomic>(
 pub(crate) fn make_turns<M: Atomic>(
     alloc: Global,
     network: &Network<M>,
-    moments: &mut [Standing<M::State>],
+    moments: &mut [Moment<M::State>],
     time: Stamp,
     arrivals: &mut Arrivals,
     agenda: &mut Agenda,

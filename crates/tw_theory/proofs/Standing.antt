@@ -83,7 +83,7 @@ due_ext : (ta : Option ℕ) (last due s floor : ℕ) (x : ℕ × ℤ) (xs : Bag)
 due_ext None last due s floor x xs tied soon from less odd = not_nil x xs
 due_ext (Some a) last due s floor x xs tied soon from less odd = (waiting a last due s floor tied soon from less odd, not_nil x xs)
 
-turn_due : (ta : Option ℕ) (last due s floor : ℕ) (b : Bool) (bag : Bag) → (due == s) ≡ b → (b ≡ false → bag ≢ []) → IsTied ta last due → (ta ≡ Some 0 → due ≤ floor) → floor ≤ s → s ≤ due → s < never → phase_of s ≡ 1 → IsDue ta (turn b bag) (tick_of s - tick_of last) bag
+pub turn_due : (ta : Option ℕ) (last due s floor : ℕ) (b : Bool) (bag : Bag) → (due == s) ≡ b → (b ≡ false → bag ≢ []) → IsTied ta last due → (ta ≡ Some 0 → due ≤ floor) → floor ≤ s → s ≤ due → s < never → phase_of s ≡ 1 → IsDue ta (turn b bag) (tick_of s - tick_of last) bag
 turn_due ta last due s floor true [] is some tied soon from le top odd = (tied_now ta last due s tied (eqb-true due s is) top, refl)
 turn_due ta last due s floor true (x ∷ xs) is some tied soon from le top odd = (tied_now ta last due s tied (eqb-true due s is) top, not_nil x xs)
 turn_due ta last due s floor false [] is some tied soon from le top odd = absurd (some refl refl)
@@ -113,7 +113,7 @@ can_turn IsValid m c now floor s pending at from sorted taken is top odd =
 
 -- ---- After a step
 
-tied_output : (ta : Option ℕ) (last s : ℕ) → IsTied ta last s → s < never → phase_of s ≡ 0 → IsTied ta last (s + 1)
+pub tied_output : (ta : Option ℕ) (last s : ℕ) → IsTied ta last s → s < never → phase_of s ≡ 0 → IsTied ta last (s + 1)
 tied_output None last s tied top even = absurd (omega (arith, tied, top))
 tied_output (Some a) last s (inl h) top even = let t = h.1 in inl (h.0, omega (arith, t, even))
 tied_output (Some a) last s (inr h) top even = let t = h.1 in inr (h.0, omega (arith, t, even))

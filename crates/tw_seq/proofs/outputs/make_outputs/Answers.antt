@@ -45,7 +45,7 @@ output_bag-requires g c =
     let l = slice_get_within c.args.moments.now i at.0 at.1 in
     let now = c.index-moments-component.result in
     let standing = c.requires.moments.each i c.model.result.now now c.model.ensures (slice_get_read c.args.moments.now (length c.args.moments.now) i now refl l c.index-moments-component.is) in
-    subst (g.M.Atomic.valid c.model.result.now) (sym (ap (λ m. m.state) c.now.view_is)) standing.valid
+    subst (g.M.Atomic.valid c.model.result.now) (sym (ap (λ m. m.state) c.now.view_is)) standing.stands.valid
 
 pub loop-component-preserved : goal.loop-component-preserved
 loop-component-preserved g c =

@@ -4,18 +4,19 @@ use Rattle.std.specs.List.{AllByRecursion as Each}
 use Rattle.std.proofs.lemmas.List.{length-map}
 use Rattle.std.proofs.lemmas.Option.{same_Some, get_or_from_slice_get}
 use Rattle.tw_network.specs.Contents.{StartsInTime, network_of}
-use Rattle.tw_seq.specs.Invariant.{IsStanding}
+use Rattle.tw_seq.specs.Invariant.{IsBetween}
 use Rattle.tw_theory.specs.Transitions.{Moment, start_moment}
 use Rattle.tw_theory.specs.Network.{Fits}
 use Rattle.tw_theory.specs.Bundles.{Ascending}
 use Rattle.tw_theory.proofs.Elements.{each-sorted, each_weaker}
 use Rattle.tw_theory.proofs.MessageOrder.{sorted_ascending}
 use Rattle.tw_vtime.specs.Stamps.{never}
+use Rattle.tw_seq.proofs.Between.{starts_between}
 use Rattle.tw_seq.proofs.StartLemmas.{mapped_more, mapped_all, map_twice, get_pushed, to_come}
 use Rattle.tw_seq.proofs.rounds.start.Goals as goal
 
-pub start_standing-requires : goal.start_standing-requires
-start_standing-requires g c =
+pub start_moment-requires : goal.start_moment-requires
+start_moment-requires g c =
     let models = c.args.network.now.models in
     let i = c.loop-component.component in
     let model = c.model.result.now in
@@ -32,7 +33,7 @@ loop-component-preserved g c =
     let inv = c.loop-component.invariant in
     let size = inv.size in
     let made = c.loop-component.moments.items in
-    let new = c.in_ok-start_standing.field-0 in
+    let new = c.in_ok-start_moment.field-0 in
     let model = c.model.result.now in
     let test = c.loop-component-test.true in
     let count = c.len-component-end.ensures in
@@ -40,14 +41,14 @@ loop-component-preserved g c =
     let pushed = c.in_ok-push.ensures.items in
     let here = get_or_from_slice_get models i model model c.model.ensures in
     record {
-      moments = pushed ∙ mapped_more f models i model made new inv.moments l (c.in_ok-start_standing.ensures.moment ∙ ap f (sym here));
+      moments = pushed ∙ mapped_more f models i model made new inv.moments l (c.in_ok-start_moment.ensures.moment ∙ ap f (sym here));
       size = ap length pushed ∙ simp length-append (omega (arith, size));
       standing = λ d m now found e. ⊎_elim
           (λ h.
           let n = h.0 in
           let at : d ≡ i = omega (arith, n, size) in
           let same : model ≡ m = same_Some model m (sym c.model.ensures ∙ (λ k. slice_get models (sym at k)) ∙ found) in
-          subst (λ x. IsStanding (g.M.Atomic.valid x) (g.M.Atomic.meaning x) 0 now) same (subst (IsStanding (g.M.Atomic.valid model) (g.M.Atomic.meaning model) 0) h.1 c.in_ok-start_standing.ensures.standing))
+          subst (λ x. IsBetween (g.M.Atomic.valid x) (g.M.Atomic.meaning x) 0 now) same (subst (IsBetween (g.M.Atomic.valid model) (g.M.Atomic.meaning model) 0) h.1 (starts_between (g.M.Atomic.valid model) (g.M.Atomic.meaning model) new c.in_ok-start_moment.ensures.moment c.in_ok-start_moment.ensures.standing)))
           (λ h. inv.standing d m now found h)
           (get_pushed made new now d (ap (λ l. slice_get l d) (sym pushed) ∙ e));
     }

@@ -145,7 +145,7 @@ loop-component-preserved g c =
           let now = slice_index_or moments i d in
           let size'' = c.requires.moments.size in
           let model = at_place contents.models i (omega (arith, l0, size'')) in
-          let later : t + 1 ≤ new.due = (let from = (c.in_ok-take_turn.ensures.standing on model.0 model.1).from in omega (arith, from)) in
+          let later : t + 1 ≤ new.due = (let from = (c.in_ok-take_turn.ensures.standing on model.0 model.1).stands.from in omega (arith, from)) in
           let was : c.now.inside.due ≡ now.due = ap (λ x. x.due) c.now.view_is in
           let is_now : c.now-in-loop-component.inside.due ≡ new.due = ap (λ x. x.due) c.now-in-loop-component.view_is in
           let put : PutsOff c.loop-component.agenda.steps w.put_off.new.self.steps i c.now.inside.due c.now-in-loop-component.inside.due = w.in_ok-put_off-in-Moves.ensures in

@@ -1,123 +1,133 @@
 -- The code's parts are the definition's. The component is seen by its fields, and at last as it was passed.
-use Rattle.std.proofs.Common.{◌≡◌, ◌+◌, ◌-◌, ◌==◌, ◌∙◌, ◌++◌, ap, sym, refl, subst, arith, Some, false, ap₂, ◌≤◌}
+use Rattle.std.proofs.Common.{◌≡◌, ◌+◌, ◌-◌, ◌==◌, ◌∙◌, [], ap, sym, refl, subst, arith, Some, false, Ok, Err, ap₂}
+use Rattle.std.specs.Prelude.{◌≢◌}
 use Rattle.std.proofs.lemmas.Bool.{eq-eqb}
 use Rattle.std.proofs.lemmas.Option.{same_Some}
 use Rattle.tw_atomic.specs.Atomic.{FitsBag, IsSorted, CanTurn, turned}
 use Rattle.tw_msgs.specs.Bags.{sorted_bag}
 use Rattle.tw_network.specs.Contents.{network_of}
-use Rattle.tw_seq.specs.Invariant.{IsStanding, IsTied}
+use Rattle.tw_seq.specs.Invariant.{IsBetween}
 use Rattle.tw_seq.specs.Turning.{kind_and_turn}
-use Rattle.tw_theory.specs.Transitions.{Moment, due_of}
+use Rattle.tw_theory.specs.Transitions.{Moment, kind_of, turn}
 use Rattle.tw_theory.specs.Simulator.{take_turn, after_output}
+use Rattle.tw_step.specs.Turns.{IsRefusedBy}
 use Rattle.tw_vtime.specs.Advance.{advanced}
-use Rattle.tw_vtime.specs.Stamps.{never, tick_of}
+use Rattle.tw_vtime.specs.Stamps.{tick_of}
 use Rattle.tw_seq.proofs.BagLemmas.{sorted_bag-sorted, sorted_bag-FitsBag}
+use Rattle.tw_seq.proofs.Between.{can_turn, stays_between, turned_between}
 use Rattle.tw_seq.proofs.OutputLemmas.{transition_of}
-use Rattle.tw_seq.proofs.StandingLemmas.{can_turn, stays_standing, advanced_tied, due_or_never}
-use Rattle.tw_seq.proofs.TurnLemmas.{stays_turn, stays_idle, stops_turn, moves_turn}
+use Rattle.tw_seq.proofs.TurnLemmas.{stays_turn, stays_which, turns_which, stops_turn, moves_turn}
 use Rattle.tw_seq.proofs.turns.take_turn.Goals as goal
-use Rattle.tw_seq.proofs.turns.take_turn.Goals.{After-as_slice}
+use Rattle.tw_seq.proofs.turns.take_turn.Goals.{After-micro_limit, In-Ok}
 
-pub returns-in_default-clause-standing : goal.returns-in_default-clause-standing
-returns-in_default-clause-standing g c u model found =
+pub returns-then-not-has_turn-clause-standing : goal.returns-then-not-has_turn-clause-standing
+returns-then-not-has_turn-clause-standing g c u model found =
     let t = c.args.time in
     let now = c.args.now.now in
-    let same : c.eq.result ≡ (now.due == t) = c.eq.ensures ∙ ap (λ m. m.due == t) c.now.view_is in
-    let idle : (now.due == t) ≡ false = sym same ∙ stays_idle c.eq.result c.sort.new.self (sym c.in_default.ensures) in
-    stays_standing (g.M.Atomic.valid model) (g.M.Atomic.meaning model) t now (c.requires.standing model found) (λ e. let b = eq-eqb now.due t e in cc (sym idle ∙ b)) c.requires.even c.requires.time
+    let none = c.if-not-has_turn.ensures.none refl in
+    let idle : (now.due == t) ≡ false = sym (c.eq-imminent.ensures ∙ ap (λ m. m.due == t) c.now.view_is) ∙ none.0 in
+    stays_between (g.M.Atomic.valid model) (g.M.Atomic.meaning model) t now (c.requires.standing model found) (λ e. let b = eq-eqb now.due t e in cc (sym idle ∙ b)) c.requires.even c.requires.time
 
-pub returns-in_default-clause-turn : goal.returns-in_default-clause-turn
-returns-in_default-clause-turn g c =
+pub returns-then-not-has_turn-clause-turn : goal.returns-then-not-has_turn-clause-turn
+returns-then-not-has_turn-clause-turn g c =
     let net = network_of g.M.Atomic.meaning c.args.network.now in
     let t = c.args.time in
-    let same : c.eq.result ≡ (c.args.now.now.due == t) = c.eq.ensures ∙ ap (λ m. m.due == t) c.now.view_is in
-    sym (stays_turn net c.args.component (t + 1) (after_output net c.args.component c.args.now.now t) (c.args.now.now.due == t) (sorted_bag c.args.bag)
-    ((λ i. kind_and_turn (sym same i) (sym c.sort.ensures.sorted i)) ∙ sym c.in_default.ensures))
+    let now = c.args.now.now in
+    let none = c.if-not-has_turn.ensures.none refl in
+    let idle : (now.due == t) ≡ false = sym (c.eq-imminent.ensures ∙ ap (λ m. m.due == t) c.now.view_is) ∙ none.0 in
+    let nothing : sorted_bag c.args.bag ≡ [] = sym c.sort.ensures.sorted ∙ c.is_empty-empty.ensures.0 none.1 in
+    sym (stays_turn net c.args.component (t + 1) (after_output net c.args.component now t) (now.due == t) (sorted_bag c.args.bag) (stays_which (now.due == t) (sorted_bag c.args.bag) idle nothing))
 
 pub tick-requires-2 : goal.tick-requires-2
 tick-requires-2 g c =
     let at = c.requires.standing c.model-model.result.now c.model-model.ensures in
-    let even = at.even in
+    let last = at.stands.last_is in
     let is = ap (λ m. m.last) c.now.view_is in
-    λ e. omega (arith, even, is, e)
+    λ e. omega (arith, last, is, e)
 
-pub forward-requires : goal.forward-requires
-forward-requires g c =
+-- which turn it is, and how much time has elapsed
+abbrev pub some_turn : (g : _) (c : After-micro_limit g) → (c.now.inside.due == c.args.time) ≡ false → c.sort.new.self ≢ []
+some_turn g c e none =
+    let some = c.if-not-has_turn.ensures.some refl (c.eq-imminent.ensures ∙ e) in
+    cc (sym (c.is_empty-empty.ensures.1 none) ∙ some)
+
+pub make_turn-turned-requires-clause-can_turn : goal.make_turn-turned-requires-clause-can_turn
+make_turn-turned-requires-clause-can_turn g c =
     let valid = g.M.Atomic.valid c.model-model.result.now in
     let meaning = g.M.Atomic.meaning c.model-model.result.now in
     let t = c.args.time in
-    let at = subst (λ m. IsStanding valid meaning t m) (sym c.now.view_is) (c.requires.standing c.model-model.result.now c.model-model.ensures) in
+    let at = subst (λ m. IsBetween valid meaning t m) (sym c.now.view_is) (c.requires.standing c.model-model.result.now c.model-model.ensures) in
     let now : Moment g.row.M-State.Denot = record { state = c.now.inside.state; last = c.now.inside.last; due = c.now.inside.due } in
     let bag = c.sort.new.self in
-    let which : kind_and_turn (now.due == t) bag ≡ Some (c.in-Some.turn, c.in-Some.kind) = ap (λ b. kind_and_turn b bag) (sym c.eq.ensures) ∙ sym c.in-Some.ensures in
-    let tick = c.tick.ensures.tick in
-    let tick' = c.tick-2.ensures.tick in
+    let turn_is : c.turn_of-turn.result.0 ≡ turn (now.due == t) bag = c.turn_of-turn.ensures.turn bag c.is_empty-empty.ensures ∙ ap (λ b. turn b bag) c.eq-imminent.ensures in
     let s = c.transition-at.ensures ∙ transition_of t c.requires.even in
-    let elapsed : c.saturating_sub-elapsed.result ≡ tick_of (t + 1) - tick_of c.now.inside.last = c.saturating_sub-elapsed.ensures ∙ ap₂ (λ a b. a - b) (tick ∙ ap tick_of s) tick' in
+    let elapsed : c.saturating_sub-elapsed.result ≡ tick_of (t + 1) - tick_of c.now.inside.last = c.saturating_sub-elapsed.ensures ∙ ap₂ (λ a b. a - b) (c.tick.ensures.tick ∙ ap tick_of s) c.tick-2.ensures.tick in
     let sorted = subst IsSorted (sym c.sort.ensures.sorted) (sorted_bag-sorted c.args.bag) in
     let fits = subst FitsBag (sym c.sort.ensures.sorted) (sorted_bag-FitsBag c.args.bag c.requires.fits) in
-    subst (λ b. CanTurn valid meaning c.in-Some.turn c.now.inside.state c.saturating_sub-elapsed.result b) (sym c.as_slice.ensures)
-    (can_turn valid meaning t now bag c.in-Some.turn c.in-Some.kind c.saturating_sub-elapsed.result at which elapsed c.requires.even c.requires.time sorted fits)
+    subst (λ (x : Type 0). x) (λ i. CanTurn valid meaning (sym turn_is i) c.now.inside.state (sym elapsed i) (sym c.as_slice.ensures i))
+    (can_turn valid meaning t now bag at (some_turn g c) c.requires.even c.requires.time sorted fits)
 
-pub returns-in-Err-clause-turn : goal.returns-in-Err-clause-turn
-returns-in-Err-clause-turn g c =
+pub returns-in-OverLimit-clause-turn : goal.returns-in-OverLimit-clause-turn
+returns-in-OverLimit-clause-turn g c =
     let valid = g.M.Atomic.valid c.model-model.result.now in
     let mean = g.M.Atomic.meaning in
     let model = c.model-model.result.now in
     let contents = c.args.network.now in
     let t = c.args.time in
-    let at = subst (λ m. IsStanding valid (mean model) t m) (sym c.now.view_is) (c.requires.standing model c.model-model.ensures) in
+    let before = (goal.at.returns-in-OverLimit-clause-turn g c).After-micro_limit in
+    let at = subst (λ m. IsBetween valid (mean model) t m) (sym c.now.view_is) (c.requires.standing model c.model-model.ensures) in
     let now : Moment g.row.M-State.Denot = record { state = c.now.inside.state; last = c.now.inside.last; due = c.now.inside.due } in
     let bag = c.sort.new.self in
-    let which : kind_and_turn (now.due == t) bag ≡ Some (c.in-Some.turn, c.in-Some.kind) = ap (λ b. kind_and_turn b bag) (sym c.eq.ensures) ∙ sym c.in-Some.ensures in
+    let turn_is : c.turn_of-turn.result.0 ≡ turn (now.due == t) bag = c.turn_of-turn.ensures.turn bag c.is_empty-empty.ensures ∙ ap (λ b. turn b bag) c.eq-imminent.ensures in
+    let kind_is : c.turn_of-turn.result.1 ≡ kind_of (turn (now.due == t) bag) = c.turn_of-turn.ensures.kind ∙ ap kind_of turn_is in
+    let which : kind_and_turn (now.due == t) bag ≡ Some (c.turn_of-turn.result.0, c.turn_of-turn.result.1) = turns_which (now.due == t) bag (some_turn g before) ∙ (λ i. Some (sym turn_is i, sym kind_is i)) in
     let s = c.transition-at.ensures ∙ transition_of t c.requires.even in
     let elapsed : c.saturating_sub-elapsed.result ≡ tick_of (t + 1) - tick_of c.now.inside.last = c.saturating_sub-elapsed.ensures ∙ ap₂ (λ a b. a - b) (c.tick.ensures.tick ∙ ap tick_of s) c.tick-2.ensures.tick in
-    let next = c.in_ok-_residue.ensures.state ∙ ap (λ b. turned (mean model) c.in-Some.turn now.state c.saturating_sub-elapsed.result b) c.as_slice.ensures in
-    let stop = c.in-Err.ensures ∙ ap₂ (λ a l. advanced c.transition-at.result a l) c.ta.ensures c.micro_limit.ensures in
+    let next = ap (λ b. turned (mean model) c.turn_of-turn.result.0 now.state c.saturating_sub-elapsed.result b) c.as_slice.ensures in
+    let made = turned (mean model) c.turn_of-turn.result.0 now.state c.saturating_sub-elapsed.result c.as_slice.result.now in
+    let met : advanced c.transition-at.result ((mean model).ta made) c.micro_limit.result ≡ Err c.in-OverLimit.limit = subst (IsRefusedBy (advanced c.transition-at.result ((mean model).ta made) c.micro_limit.result)) c.in-OverLimit.is c.in-Err.ensures.refused in
+    let stop = sym met ∙ ap (λ l. advanced c.transition-at.result ((mean model).ta made) l) c.micro_limit.ensures in
     let net = network_of mean contents in
-    stops_turn valid mean contents c.args.component t model now bag c.model-model.ensures at c.requires.even c.requires.time c.in-Some.turn c.in-Some.kind which c.transition-at.result c.saturating_sub-elapsed.result s elapsed c.forward.new.state next c.in-Err.limit stop
+    stops_turn valid mean contents c.args.component t model now bag c.model-model.ensures at c.requires.even c.requires.time c.turn_of-turn.result.0 c.turn_of-turn.result.1 which c.transition-at.result c.saturating_sub-elapsed.result s elapsed made next c.in-OverLimit.limit stop
     ∙ (λ i. take_turn net c.args.component (after_output net c.args.component (c.now.view_is i) t) (t + 1) ((c.now.view_is i).due == t) (c.sort.ensures.sorted i))
 
-pub returns-clause-turn : goal.returns-clause-turn
-returns-clause-turn g c =
+pub returns-in-Ok-clause-turn : goal.returns-in-Ok-clause-turn
+returns-in-Ok-clause-turn g c =
     let valid = g.M.Atomic.valid c.model-model.result.now in
     let mean = g.M.Atomic.meaning in
     let model = c.model-model.result.now in
     let contents = c.args.network.now in
     let t = c.args.time in
-    let at = subst (λ m. IsStanding valid (mean model) t m) (sym c.now.view_is) (c.requires.standing model c.model-model.ensures) in
+    let before = (goal.at.returns-in-Ok-clause-turn g c).After-micro_limit in
+    let at = subst (λ m. IsBetween valid (mean model) t m) (sym c.now.view_is) (c.requires.standing model c.model-model.ensures) in
     let now : Moment g.row.M-State.Denot = record { state = c.now.inside.state; last = c.now.inside.last; due = c.now.inside.due } in
     let bag = c.sort.new.self in
-    let which : kind_and_turn (now.due == t) bag ≡ Some (c.in-Some.turn, c.in-Some.kind) = ap (λ b. kind_and_turn b bag) (sym c.eq.ensures) ∙ sym c.in-Some.ensures in
+    let turn_is : c.turn_of-turn.result.0 ≡ turn (now.due == t) bag = c.turn_of-turn.ensures.turn bag c.is_empty-empty.ensures ∙ ap (λ b. turn b bag) c.eq-imminent.ensures in
+    let kind_is : c.turn_of-turn.result.1 ≡ kind_of (turn (now.due == t) bag) = c.turn_of-turn.ensures.kind ∙ ap kind_of turn_is in
+    let which : kind_and_turn (now.due == t) bag ≡ Some (c.turn_of-turn.result.0, c.turn_of-turn.result.1) = turns_which (now.due == t) bag (some_turn g before) ∙ (λ i. Some (sym turn_is i, sym kind_is i)) in
     let s = c.transition-at.ensures ∙ transition_of t c.requires.even in
     let elapsed : c.saturating_sub-elapsed.result ≡ tick_of (t + 1) - tick_of c.now.inside.last = c.saturating_sub-elapsed.ensures ∙ ap₂ (λ a b. a - b) (c.tick.ensures.tick ∙ ap tick_of s) c.tick-2.ensures.tick in
-    let next = c.in_ok-_residue.ensures.state ∙ ap (λ b. turned (mean model) c.in-Some.turn now.state c.saturating_sub-elapsed.result b) c.as_slice.ensures in
-    let go = c.in-Ok.ensures ∙ ap₂ (λ a l. advanced c.transition-at.result a l) c.ta.ensures c.micro_limit.ensures in
-    let due = c.unwrap_or-due.ensures ∙ due_or_never c.in-Ok.due never refl in
-    let words = c.from.ensures ∙ c.in_ok-words.ensures.ok ∙ ap (λ ws. ws ++ (mean model).words c.forward.new.state) c.new-words.ensures.items in
+    let next = c.in-Ok.ensures.state ∙ ap (λ b. turned (mean model) c.turn_of-turn.result.0 now.state c.saturating_sub-elapsed.result b) c.as_slice.ensures in
+    let due = c.in-Ok.ensures.due in
+    let go = sym due.1 ∙ ap (λ l. advanced c.transition-at.result ((mean model).ta c.make_turn-turned.new.state) l) c.micro_limit.ensures in
     let net = network_of mean contents in
-    moves_turn valid mean contents c.args.component t model now bag c.model-model.ensures at c.requires.even c.requires.time c.in-Some.turn c.in-Some.kind which c.transition-at.result c.saturating_sub-elapsed.result s elapsed c.forward.new.state next c.in-Ok.due c.unwrap_or-due.result c.from.result go due words
+    moves_turn valid mean contents c.args.component t model now bag c.model-model.ensures at c.requires.even c.requires.time c.turn_of-turn.result.0 c.turn_of-turn.result.1 which c.transition-at.result c.saturating_sub-elapsed.result s elapsed c.make_turn-turned.new.state next due.0 c.in-Ok.turned.due c.in-Ok.turned.words go due.2 c.in-Ok.ensures.words
     ∙ (λ i. take_turn net c.args.component (after_output net c.args.component (c.now.view_is i) t) (t + 1) ((c.now.view_is i).due == t) (c.sort.ensures.sorted i))
 
-pub returns-clause-standing : goal.returns-clause-standing
-returns-clause-standing g c u model found =
+pub returns-in-Ok-clause-standing : goal.returns-in-Ok-clause-standing
+returns-in-Ok-clause-standing g c u model found =
     let model0 = c.model-model.result.now in
     let same : model0 ≡ model = same_Some model0 model (sym c.model-model.ensures ∙ found) in
     let valid = g.M.Atomic.valid model0 in
     let meaning = g.M.Atomic.meaning model0 in
     let t = c.args.time in
     let s = c.transition-at.ensures ∙ transition_of t c.requires.even in
-    let go = c.in-Ok.ensures ∙ (λ i. advanced (s i) (c.ta.ensures i) (c.micro_limit.ensures i)) in
-    let due : due_of c.in-Ok.due ≡ c.unwrap_or-due.result = sym (c.unwrap_or-due.ensures ∙ due_or_never c.in-Ok.due never refl) in
-    let tied = advanced_tied t c.args.network.now.micro_limit (meaning.ta c.forward.new.state) c.in-Ok.due c.requires.even c.requires.time c.facts.ensures.microsteps go in
-    let can = forward-requires g (goal.at.returns-clause-standing g c).After-as_slice in
-    let kept = g.met.M.Atomic.stays_valid model0 c.in-Some.turn c.now.inside.state c.saturating_sub-elapsed.result c.as_slice.result.now can in
-    let next = c.in_ok-_residue.ensures.state in
-    let after : Moment g.row.M-State.Denot = record { state = c.forward.new.state; last = t; due = c.unwrap_or-due.result } in
-    subst (λ m. IsStanding (g.M.Atomic.valid m) (g.M.Atomic.meaning m) (t + 2) after) same
-    (record {
-      valid = subst valid (sym next) kept;
-      even = c.requires.even;
-      tied = subst (λ d. IsTied (t + 2) (meaning.ta c.forward.new.state) t d) due tied.0;
-      from = subst (λ d. t + 2 ≤ d) due tied.1;
-    })
+    let due = c.in-Ok.ensures.due in
+    let state = c.make_turn-turned.new.state in
+    let go : advanced (t + 1) (meaning.ta state) c.args.network.now.micro_limit ≡ Ok due.0 = (λ i. advanced (sym s i) (meaning.ta state) (sym c.micro_limit.ensures i)) ∙ due.1 in
+    let can = make_turn-turned-requires-clause-can_turn g (goal.at.returns-in-Ok-clause-standing g c).After-micro_limit in
+    let kept = subst valid (sym c.in-Ok.ensures.state) (g.met.M.Atomic.stays_valid model0 c.turn_of-turn.result.0 c.now.inside.state c.saturating_sub-elapsed.result c.as_slice.result.now can) in
+    let after : Moment g.row.M-State.Denot = record { state = state; last = t; due = c.in-Ok.turned.due } in
+    subst (λ m. IsBetween (g.M.Atomic.valid m) (g.M.Atomic.meaning m) (t + 2) after) same
+    (subst (λ d. IsBetween valid meaning (t + 2) (record { state = state; last = t; due = d })) (sym due.2)
+    (turned_between valid meaning state t c.args.network.now.micro_limit due.0 kept c.requires.even c.requires.time c.facts.ensures.microsteps go))

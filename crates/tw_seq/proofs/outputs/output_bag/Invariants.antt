@@ -1,6 +1,0 @@
--- The bag holds the items so far.
-use Rattle.std.proofs.Common.{◌≡◌, take}
-use Rattle.tw_seq.proofs.outputs.output_bag.Given as goal
-
-abbrev pub invariant-loop-item : goal.invariant-loop-item
-invariant-loop-item g l = l.bag ≡ take l.item-index l.item-items

@@ -42,6 +42,7 @@ pub mod Outcomes
 -- chains, and when a step can be made
 pub mod Ready
 pub mod Agreeing
+pub mod Installed
 -- the theorem of the whole, and all laws on concrete networks
 pub mod TimeWarp
 pub mod Three

@@ -3,7 +3,7 @@ use Rattle.std.proofs.Common.{◌≡◌, ℕ, zero, suc, ◌≤◌, List, [], �
 use Rattle.std.specs.Prelude.{nat_lt, slice_get, slice_set, ◌≢◌}
 use Rattle.std.proofs.lemmas.Bool.{cond_both, lt-ltb, le-ltb}
 use Rattle.std.proofs.lemmas.Option.{same_Some, none-some}
-use Rattle.tw_laws.specs.Inverse.{IsRestoredBy, RestoredAll, IsBacked, count_all, steps_of}
+use Rattle.tw_laws.specs.Inverse.{IsRestoredBy, RestoredAll, IsOneRestored, count_all, steps_of, stepped, stepped_and_back}
 use Rattle.tw_laws.proofs.Ordered.{OrderedInverse}
 use Rattle.tw_laws.proofs.Ordered.{IsOrdered, AllOrdered}
 use Rattle.tw_msgs.specs.Counting.{total}
@@ -187,14 +187,14 @@ back_is {S} net until w c s p at l =
 
 pub ordered_back : {S : Type 0} (net : Network S) (until : ℕ) (w : World S) (cs : List ℕ) (c : ℕ) (p : Process S) → AllOrdered w.processes → IsOrdered p
     → slice_get w.processes c ≡ Some p → w.gvt ≤ next p
-    → IsBacked w (replay net until w (steps_of cs)) (act net until (replay net until w (steps_of cs)) (Action.Back c (next p))).1 c p (act net until (replay net until w (steps_of cs)) (Action.Back c (next p))).0
+    → IsOneRestored w (stepped net until w cs) (stepped_and_back net until w cs c p) c p
 ordered_back {S} net until w cs c p o mine at l =
     let reached = replay net until w (steps_of cs) in
     let start = all_reached_none w.processes o in
     let h = replay_reached net until w w cs (record { all = start.0; processes = start.1; mail = refl; columns = refl; gvt = refl }) in
     let found = reached_at h.all w.processes reached.processes c p h.processes at in
     let is = back_is net until reached c (next p) found.1 found.2 (omega (arith, h.gvt, l)) in
-    subst (λ (r : Answer × World S). IsBacked w reached r.1 c p r.0) (sym is)
+    subst (λ (r : Answer × World S). IsOneRestored w reached r c p) (sym is)
     (record {
       steps = found.0;
       middle = found.1;
@@ -202,7 +202,7 @@ ordered_back {S} net until w cs c p o mine at l =
       middle_at = found.2;
       restored_at = set_here reached.processes c found.1 (cut (next p) found.1) found.2;
       process = cut_restores p found.1 found.0 mine found.3;
-      answer_is = ap Undone (cut_count p found.1 found.0 mine found.3);
+      answer = ap Undone (cut_count p found.1 found.0 mine found.3);
       others = λ d ne. set_there reached.processes c d (cut (next p) found.1) ne;
       mail = h.mail;
       columns = h.columns;

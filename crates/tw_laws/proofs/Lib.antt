@@ -39,8 +39,10 @@ pub mod Ending
 pub mod Traces
 pub mod Merging
 pub mod Outcomes
--- chains
+-- chains, and when a step can be made
+pub mod Ready
 pub mod Agreeing
+pub mod Installed
 -- the theorem of the whole, and all laws on concrete networks
 pub mod TimeWarp
 pub mod Three

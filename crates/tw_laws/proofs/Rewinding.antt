@@ -3,7 +3,7 @@ use Rattle.std.proofs.Common.{◌≡◌, ℕ, zero, suc, ◌+◌, ◌≤◌, max
 use Rattle.std.specs.Prelude.{slice_get, slice_index_or, ◌==◌, nat_lt, nat_le}
 use Rattle.std.proofs.lemmas.Bool.{cond_both, or_parts, and_cases, lt-ltb, le-ltb, ltb-true, ltb-false, leb-false, leb-true, eqb-true, eq-eqb, cases_lt, not-false}
 use Rattle.std.proofs.lemmas.Option.{same_Some, none-some}
-use Rattle.tw_laws.specs.Inverse.{RestoredAll, steps_of, IsRestored, InverseLaw, BackLaw}
+use Rattle.tw_laws.specs.Inverse.{RestoredAll, steps_of, IsRestored, InverseLaw, BackRestores}
 use Rattle.tw_laws.proofs.Ordered.{IsOrdered, AllOrdered}
 use Rattle.tw_msgs.specs.Counting.{total}
 use Rattle.tw_msgs.specs.declared.message.Item.{Item}
@@ -191,10 +191,10 @@ inverse_law {S} net until w cs ok bound h =
     let free : any_committed after.gvt ss after.processes after.columns ≡ false =
     ap (λ g. any_committed g ss after.processes after.columns) law.5 ∙ none_committed w.gvt w.processes after.processes after.columns (let g = h.gvt_le in omega arith) in
     let is = rewind_is after ss n free in
-    subst (λ (r : Answer × World S). IsRestored w after r.1 r.0) (sym is)
-    (record { made = law.0; processes = law.1; answer_is = ap Undone law.2; mail = law.3; columns = law.4; gvt = law.5 })
+    subst (λ (r : Answer × World S). IsRestored w after r) (sym is)
+    (record { made = law.0; processes = law.1; answer = ap Undone law.2; mail = law.3; columns = law.4; gvt = law.5 })
 
-pub back_law : {S : Type 0} → BackLaw S
-back_law net until w cs c p ok bound h at =
+pub back_restores : {S : Type 0} → BackRestores S
+back_restores net until w cs c p ok bound h at =
     let low = process_from_least w.gvt w.processes c p (let g = h.gvt_le in omega arith) at in
     ordered_back net until w cs c p (world_ordered net until w h) (sound_ordered net until w.gvt c _ _ p (h.each c p at)) at low.0

@@ -4,7 +4,7 @@ use Rattle.std.specs.Prelude.{slice_get, slice_set, ◌==◌, nat_lt, pos, ◌-�
 use Rattle.std.proofs.lemmas.Bool.{ltb-false}
 use Rattle.std.proofs.lemmas.Int.{ints}
 use Rattle.std.proofs.lemmas.Option.{same_Some, none-some}
-use Rattle.tw_laws.specs.Rewinding.{taken_back, all_owed, AllCancel, IsCutAt, IsRewound, RewindingLaw, IsBackedTo, BackingLaw}
+use Rattle.tw_laws.specs.Rewinding.{taken_back, all_owed, AllCancel, IsCutAt, IsRewound, RewindingLaw, IsOneCut, BackCuts}
 use Rattle.tw_msgs.specs.Counting.{total, one_at, when_positive, when_anti, signed_count}
 use Rattle.tw_msgs.specs.declared.message.Message.{Message}
 use Rattle.tw_theory.specs.Balance.{all_outgoing, all_mail, in_transit}
@@ -100,7 +100,7 @@ module _ {S : Type 0} where
       (omega (arith, transit minus w, transit minus w', total-set (λ (x : Process S). total minus x.outgoing) w.processes c p (cut s p) at, cut_anti s p (one_at m) k))
 
   backed_is : (w : World S) (c s n : ℕ) (p : Process S) → slice_get w.processes c ≡ Some p → w.gvt ≤ s → steps_from s p ≡ n
-      → IsBackedTo w c s n (with_process w c (cut s p))
+      → IsOneCut w c s n (with_process w c (cut s p))
   backed_is w c s n p at l e = record {
     from = l;
     old = p;
@@ -132,14 +132,14 @@ module _ {S : Type 0} where
   back_gives w c s p early = cond early (Refused BeforeGvt, w) (Undone (steps_from s p), with_process w c (cut s p))
 
   backed : (w : World S) (c s n : ℕ) (o : Option (Process S)) → slice_get w.processes c ≡ o → (act_back w c s o).0 ≡ Undone n
-      → IsBackedTo w c s n (act_back w c s o).1
+      → IsOneCut w c s n (act_back w c s o).1
   backed w c s n None at e = absurd (let bad : Refused NoSuch ≡ Undone n = e in cc)
   backed w c s n (Some p) at e = go (nat_lt s w.gvt) refl e
     where
-      go : (b : Bool) → nat_lt s w.gvt ≡ b → (back_gives w c s p b).0 ≡ Undone n → IsBackedTo w c s n (back_gives w c s p b).1
+      go : (b : Bool) → nat_lt s w.gvt ≡ b → (back_gives w c s p b).0 ≡ Undone n → IsOneCut w c s n (back_gives w c s p b).1
       go true t k = absurd (let bad : Refused BeforeGvt ≡ Undone n = k in cc)
       go false t k = let same : Undone (steps_from s p) ≡ Undone n = k in backed_is w c s n p at (ltb-false s w.gvt t) (cc same)
 
-  pub backing_law : BackingLaw S
+  pub back_cuts : BackCuts S
   unfolding act
-  backing_law net until w c s n e = backed w c s n (slice_get w.processes c) refl e
+  back_cuts net until w c s n e = backed w c s n (slice_get w.processes c) refl e

@@ -64,7 +64,7 @@ boxes_empty (box ∷ mail) h = ap₂ (λ (b : List Item) r. is_empty b && r) h.0
 
 -- ---- a pass over what is swept
 
-set_same : {X : Type 0} (xs : List X) (c : ℕ) (x : X) → slice_get xs c ≡ Some x → slice_set xs c x ≡ xs
+pub set_same : {X : Type 0} (xs : List X) (c : ℕ) (x : X) → slice_get xs c ≡ Some x → slice_set xs c x ≡ xs
 set_same [] c x e = refl
 set_same (y ∷ xs) zero x e = ap (λ z. z ∷ xs) (sym (same_Some y x e))
 set_same (y ∷ xs) (suc c) x e = ap (λ l. y ∷ l) (set_same xs c x e)

@@ -4,7 +4,7 @@ use Rattle.std.specs.Prelude.{pos}
 use Rattle.tw_laws.specs.Applied.{start, after, posted, drive, driven, driven_trace, DrivenRun, LawsOfThree, stuck}
 use Rattle.tw_theory.specs.Outcomes.{state, Complete, Fault, Going}
 use Rattle.tw_laws.specs.History.{Holdings, IsRunTo, IsCommitted}
-use Rattle.tw_laws.specs.Rewinding.{IsRewound, IsBackedTo}
+use Rattle.tw_laws.specs.Rewinding.{IsRewound, IsOneCut}
 use Rattle.tw_theory.specs.Soundness.{IsSound, new_world}
 use Rattle.tw_theory.specs.Contents.{Cancel, Aggressive, Lazy, Placed}
 use Rattle.tw_theory.specs.ExampleModels.{State}
@@ -22,8 +22,8 @@ use Rattle.tw_laws.proofs.TimeWarp.{time_warp_law}
 use Rattle.tw_laws.proofs.History.Committed.{committed_history}
 use Rattle.tw_laws.proofs.Least.{gvt_law}
 use Rattle.tw_laws.proofs.Lines.{lines_law}
-use Rattle.tw_laws.proofs.Rewinding.{inverse_law, back_law}
-use Rattle.tw_laws.proofs.Rewound.{rewinding_law, backing_law}
+use Rattle.tw_laws.proofs.Rewinding.{inverse_law, back_restores}
+use Rattle.tw_laws.proofs.Rewound.{rewinding_law, back_cuts}
 use Rattle.tw_laws.proofs.Settled.{held_by, settled}
 use Rattle.tw_laws.proofs.SweepEnds.{sweep_ends}
 use Rattle.tw_laws.proofs.Traces.{own_other, trace_law, sequential_trace, rounds_law}
@@ -138,10 +138,10 @@ driven_run cancel =
       all_rounds = rounds_law gen_tally 3 gen_tally_fits (omega arith) done.0;
     }
 
-backed_three : (cancel : Cancel) → IsBackedTo (posted cancel) 0 0 1 (act three 10 (posted cancel) (Back 0 0)).1
+backed_three : (cancel : Cancel) → IsOneCut (posted cancel) 0 0 1 (act three 10 (posted cancel) (Back 0 0)).1
 unfolding act local_step step_at output moved transition
-backed_three Aggressive = backing_law three 10 (posted Aggressive) 0 0 1 refl
-backed_three Lazy = backing_law three 10 (posted Lazy) 0 0 1 refl
+backed_three Aggressive = back_cuts three 10 (posted Aggressive) 0 0 1 refl
+backed_three Lazy = back_cuts three 10 (posted Lazy) 0 0 1 refl
 
 module _ (cancel : Cancel) where
   sound : IsSound three 10 (start cancel)
@@ -159,15 +159,15 @@ module _ (cancel : Cancel) where
   pub laws_of_three : LawsOfThree cancel
   laws_of_three = record {
     network = three_fits;
-    time_warp = λ deeds. time_warp_law three cancel 10 deeds three_fits (omega arith);
+    time_warp = λ commands. time_warp_law three cancel 10 commands three_fits (omega arith);
     sound = sound;
     kept = sound_after;
     settled = settled_after;
     committed = λ actions. committed_law three cancel 10 actions three_fits (omega arith);
     restored = λ cs. inverse_law three 10 (start cancel) cs three_fits (omega arith) sound;
     rewound = rewound_three cancel;
-    backed = λ cs c p at. back_law three 10 (start cancel) cs c p three_fits (omega arith) sound at;
-    backed_to = backed_three cancel;
+    restored_by_back = λ cs c p at. back_restores three 10 (start cancel) cs c p three_fits (omega arith) sound at;
+    cut_back_to = backed_three cancel;
     rises = λ first more. gvt_law.rises_by three 10 (after cancel first) three_fits (omega arith) (sound_after first) more;
     grows = λ first more. gvt_law.grows_by three 10 (after cancel first) more;
     sweeps_end = λ first more progress. sweep_ends three 10 (after cancel first) three_fits (omega arith) (sound_after first) more progress;

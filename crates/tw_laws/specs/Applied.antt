@@ -3,17 +3,17 @@ use Rattle.std.specs.Prelude.{ℕ, ◌<◌, ◌≤◌, ◌≡◌, pos, length, L
 use Rattle.tw_laws.specs.Committed.{HasCommitted, Grow}
 use Rattle.tw_laws.specs.Ending.{HasAll}
 use Rattle.tw_theory.specs.Outcomes.{state, Complete, Fault, Going}
-use Rattle.tw_laws.specs.Headline.{Deed, all_done, IsTimeWarp}
+use Rattle.tw_laws.specs.Headline.{Command, after_commands, IsTimeWarp}
 use Rattle.tw_laws.specs.History.{Holdings, IsRunTo, IsCommitted}
-use Rattle.tw_laws.specs.Inverse.{IsRestored, IsBacked, steps_of}
-use Rattle.tw_laws.specs.Rewinding.{IsRewound, IsBackedTo}
+use Rattle.tw_laws.specs.Inverse.{IsRestored, IsOneRestored, steps_of, stepped_and_rewound, stepped_and_back}
+use Rattle.tw_laws.specs.Rewinding.{IsRewound, IsOneCut}
 use Rattle.tw_laws.specs.Sweeping.{AllProgress}
 use Rattle.tw_theory.specs.Traces.{IsTrace}
 use Rattle.tw_msgs.specs.declared.record.Record.{Record}
 use Rattle.tw_msgs.specs.declared.record_kind.RecordKind.TheVariants.{Out, Int, Ext}
 use Rattle.tw_vtime.specs.Stamps.{stamp}
 use Rattle.tw_vtime.specs.declared.limits.Limit.TheVariants.{Tick}
-use Rattle.tw_theory.specs.Contents.{Process, Cancel, Placed, next}
+use Rattle.tw_theory.specs.Contents.{Process, Cancel, Placed}
 use Rattle.tw_theory.specs.ExampleModels.{State}
 use Rattle.tw_theory.specs.ExampleNetworks.{three, lone, gen_tally}
 use Rattle.tw_theory.specs.ExampleTraces.{out, int, ext, item}
@@ -61,17 +61,17 @@ stuck cancel = replay (lone 1099511627773) 1099511627774 (new_world (lone 109951
 
 pub record LawsOfThree (cancel : Cancel) : Type 0 where
   pub network : IsNetwork three
-  pub time_warp : (deeds : List Deed) → IsTimeWarp three cancel 10 (all_done three 10 (start cancel) deeds)
+  pub time_warp : (commands : List Command) → IsTimeWarp three cancel 10 (after_commands three 10 (start cancel) commands)
   pub sound : IsSound three 10 (start cancel)
   pub kept : (actions : List Action) → IsSound three 10 (after cancel actions)
   -- after any actions, at gvt
   pub settled : (actions : List Action) → (h : Holdings State) × IsRunTo three 10 (up_to 10 (after cancel actions).gvt) h × IsCommitted three 10 (up_to 10 (after cancel actions).gvt) h
   pub committed : (actions : List Action) → HasCommitted three 10 (after cancel actions)
-  pub restored : (cs : List ℕ) → IsRestored (start cancel) (after cancel (steps_of cs)) (rewind (after cancel (steps_of cs)) (marks (start cancel).processes)).1 (rewind (after cancel (steps_of cs)) (marks (start cancel).processes)).0
+  pub restored : (cs : List ℕ) → IsRestored (start cancel) (after cancel (steps_of cs)) (stepped_and_rewound three 10 (start cancel) cs)
   pub rewound : IsRewound (posted cancel) (marks (start cancel).processes) (rewind (posted cancel) (marks (start cancel).processes)).1
-  pub backed : (cs : List ℕ) (c : ℕ) (p : Process State) → slice_get (start cancel).processes c ≡ Some p
-      → IsBacked (start cancel) (after cancel (steps_of cs)) (act three 10 (after cancel (steps_of cs)) (Back c (next p))).1 c p (act three 10 (after cancel (steps_of cs)) (Back c (next p))).0
-  pub backed_to : IsBackedTo (posted cancel) 0 0 1 (act three 10 (posted cancel) (Back 0 0)).1
+  pub restored_by_back : (cs : List ℕ) (c : ℕ) (p : Process State) → slice_get (start cancel).processes c ≡ Some p
+      → IsOneRestored (start cancel) (after cancel (steps_of cs)) (stepped_and_back three 10 (start cancel) cs c p) c p
+  pub cut_back_to : IsOneCut (posted cancel) 0 0 1 (act three 10 (posted cancel) (Back 0 0)).1
   pub rises : (first more : List Action) → (after cancel first).gvt ≤ (replay three 10 (after cancel first) more).gvt
   pub grows : (first more : List Action) → Grow (after cancel first).columns (replay three 10 (after cancel first) more).columns
   pub sweeps_end : (first more : List Action) → AllProgress three 10 (after cancel first) more → length more ≤ work (after cancel first)

@@ -39,38 +39,49 @@ steps_of [] = []
 steps_of (c ∷ cs) = Action.Step c ∷ steps_of cs
 
 -- Steps on any components, which led from w to reached, and a rewind to the marks taken before them restore everything but what is outgoing and owed. The answer is the number of those steps
-pub record IsRestored {S : Type 0} (w reached w' : World S) (answer : Answer) : Type 0 where
+pub record IsRestored {S : Type 0} (w reached : World S) (undone : Answer × World S) : Type 0 where
   pub made : List (List (Step S))
-  pub processes : RestoredAll made w.processes reached.processes w'.processes
-  pub answer_is : answer ≡ Undone (count_all made)
-  pub mail : w'.mail ≡ w.mail
-  pub columns : w'.columns ≡ w.columns
-  pub gvt : w'.gvt ≡ w.gvt
+  pub processes : RestoredAll made w.processes reached.processes undone.1.processes
+  pub answer : undone.0 ≡ Undone (count_all made)
+  pub mail : undone.1.mail ≡ w.mail
+  pub columns : undone.1.columns ≡ w.columns
+  pub gvt : undone.1.gvt ≡ w.gvt
+
+-- w after steps on these components; and then rewound to the marks of w
+abbrev pub stepped : {S : Type 0} → Network S → ℕ → World S → List ℕ → World S
+stepped net until w cs = replay net until w (steps_of cs)
+
+abbrev pub stepped_and_rewound : {S : Type 0} → Network S → ℕ → World S → List ℕ → Answer × World S
+stepped_and_rewound net until w cs = rewind (stepped net until w cs) (marks w.processes)
 
 -- For every sound executive and every list of steps
 abbrev pub InverseLaw : Type 0 → Type 0
 InverseLaw S =
     (net : Network S) (until : ℕ) (w : World S) (cs : List ℕ) → IsNetwork net → until ≤ max_tick → IsSound net until w
-    → IsRestored w (replay net until w (steps_of cs)) (rewind (replay net until w (steps_of cs)) (marks w.processes)).1 (rewind (replay net until w (steps_of cs)) (marks w.processes)).0
+    → IsRestored w (stepped net until w cs) (stepped_and_rewound net until w cs)
 
 -- ---- Back to the mark of one component
 
--- After steps that led from w to reached, w' is what Back to component c's mark makes of it: c's process p is restored from its own steps, whose number is the answer, and all else is as reached
-pub record IsBacked {S : Type 0} (w reached w' : World S) (c : ℕ) (p : Process S) (answer : Answer) : Type 0 where
+-- After steps that led from w to reached, Back to component c's mark restores its process p from its own steps, whose number is the answer, and leaves all else as reached
+pub record IsOneRestored {S : Type 0} (w reached : World S) (undone : Answer × World S) (c : ℕ) (p : Process S) : Type 0 where
   pub steps : List (Step S)
   pub middle : Process S
   pub restored : Process S
   pub middle_at : slice_get reached.processes c ≡ Some middle
-  pub restored_at : slice_get w'.processes c ≡ Some restored
+  pub restored_at : slice_get undone.1.processes c ≡ Some restored
   pub process : IsRestoredBy steps p middle restored
-  pub answer_is : answer ≡ Undone (length steps)
-  pub others : (d : ℕ) → d ≢ c → slice_get w'.processes d ≡ slice_get reached.processes d
-  pub mail : w'.mail ≡ w.mail
-  pub columns : w'.columns ≡ w.columns
-  pub gvt : w'.gvt ≡ w.gvt
+  pub answer : undone.0 ≡ Undone (length steps)
+  pub others : (d : ℕ) → d ≢ c → slice_get undone.1.processes d ≡ slice_get reached.processes d
+  pub mail : undone.1.mail ≡ w.mail
+  pub columns : undone.1.columns ≡ w.columns
+  pub gvt : undone.1.gvt ≡ w.gvt
+
+-- w after steps on these components, and then Back of component c to the mark of its process p in w
+abbrev pub stepped_and_back : {S : Type 0} → Network S → ℕ → World S → List ℕ → ℕ → Process S → Answer × World S
+stepped_and_back net until w cs c p = act net until (stepped net until w cs) (Action.Back c (next p))
 
 -- For every sound executive, every list of steps on any components, and each component
-abbrev pub BackLaw : Type 0 → Type 0
-BackLaw S =
+abbrev pub BackRestores : Type 0 → Type 0
+BackRestores S =
     (net : Network S) (until : ℕ) (w : World S) (cs : List ℕ) (c : ℕ) (p : Process S) → IsNetwork net → until ≤ max_tick → IsSound net until w → slice_get w.processes c ≡ Some p
-    → IsBacked w (replay net until w (steps_of cs)) (act net until (replay net until w (steps_of cs)) (Action.Back c (next p))).1 c p (act net until (replay net until w (steps_of cs)) (Action.Back c (next p))).0
+    → IsOneRestored w (stepped net until w cs) (stepped_and_back net until w cs c p) c p

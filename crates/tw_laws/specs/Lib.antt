@@ -11,5 +11,6 @@ pub mod Inverse
 pub mod Keeping
 pub mod Outcome
 pub mod Rewinding
+pub mod Standing
 pub mod Sweeping
 pub mod Traces

@@ -1,5 +1,5 @@
 -- What the outcome of a run says: it is the sequential simulator's, with its whole trace, or its trace before the fault.
-use Rattle.std.specs.Prelude.{ℕ, ◌≤◌, ◌≡◌, ◌≢◌, List, length, None, Some, slice_get}
+use Rattle.std.specs.Prelude.{ℕ, ◌≤◌, ◌≡◌, ◌≢◌, List, length, Some, slice_get}
 use Rattle.tw_msgs.specs.Counting.{total}
 use Rattle.tw_msgs.specs.declared.record.Record.{Record}
 use Rattle.tw_theory.specs.Contents.{Process}

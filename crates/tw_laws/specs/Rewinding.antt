@@ -51,7 +51,7 @@ RewindingLaw S =
     (w : World S) (ss : List ℕ) (n : ℕ) → (rewind w ss).0 ≡ Undone n → (n ≡ rewound_steps ss w.processes) × IsRewound w ss (rewind w ss).1
 
 -- w' is w with process c cut at s, which was not refused; n steps were taken back
-pub record IsBackedTo {S : Type 0} (w : World S) (c s n : ℕ) (w' : World S) : Type 0 where
+pub record IsOneCut {S : Type 0} (w : World S) (c s n : ℕ) (w' : World S) : Type 0 where
   pub from : w.gvt ≤ s
   pub old : Process S
   pub new : Process S
@@ -69,9 +69,9 @@ pub record IsBackedTo {S : Type 0} (w : World S) (c s n : ℕ) (w' : World S) : 
   pub lazy : old.cancel ≡ Lazy → (in_transit w' ≡ in_transit w)
       × ((m : Message) → total (one_at m) (all_owed w'.processes) ≡ total (one_at m) (all_owed w.processes) + total (one_at m) (sent_by (drop (steps_before s old.history) old.history)))
 
-abbrev pub BackingLaw : Type 0 → Type 0
-BackingLaw S =
-    (net : Network S) (until : ℕ) (w : World S) (c s n : ℕ) → (act net until w (Back c s)).0 ≡ Undone n → IsBackedTo w c s n (act net until w (Back c s)).1
+abbrev pub BackCuts : Type 0 → Type 0
+BackCuts S =
+    (net : Network S) (until : ℕ) (w : World S) (c s n : ℕ) → (act net until w (Back c s)).0 ≡ Undone n → IsOneCut w c s n (act net until w (Back c s)).1
 
 -- ---- since a commitment
 

@@ -1,7 +1,7 @@
 //! Taking back.
 
-ghost use Rattle.tw_laws.specs.Inverse.{InverseLaw, BackLaw};
-ghost use Rattle.tw_laws.specs.Rewinding.{RewindingLaw, RewindAnswersLaw, BackingLaw};
+ghost use Rattle.tw_laws.specs.Inverse.{InverseLaw, BackRestores};
+ghost use Rattle.tw_laws.specs.Rewinding.{RewindingLaw, RewindAnswersLaw, BackCuts};
 
 /// Steps on any components of a sound executive, and a rewind to the marks before them, restore everything but
 /// what is outgoing and owed: each outgoing list is the old one, then each message sent since, once positive and
@@ -22,6 +22,6 @@ pub fn rewinding_law<S>()
 /// steps and no others: its process is restored, with one anti-message for each message that they sent. And Back,
 /// whatever came before it, cuts that process at its stamp and takes out of transit what the cut steps sent.
 pub fn back_law<S>()
-    ensures restores { BackLaw S }
-    ensures takes_back { BackingLaw S }
+    ensures restores { BackRestores S }
+    ensures takes_back { BackCuts S }
 {}

@@ -27,3 +27,4 @@ pub mod endings;
 pub mod headline;
 pub mod inversion;
 pub mod soundness;
+pub mod standing;

@@ -200,7 +200,7 @@ module _ {S : Type 0} (IsValid : S → Type 0) (m : Meaning S) (c : ℕ) (now : 
       → CanTurn IsValid m (turn (now.due == s) (items_of (front s messages))) now.state (tick_of s - tick_of now.last) (items_of (front s messages))
   ready_turn s is top odd = can_turn IsValid m c now ready.floor s messages ready.stands ready.from ready.sorted ready.takes is top odd
 
-  pub ready_output : (s : ℕ) → s ≡ next_of now messages → s < never → phase_of s ≡ 0 → IsReady IsValid m c (record { state = now.state; last = now.last; due = s + 1 }) messages
+  unfoldable pub ready_output : (s : ℕ) → s ≡ next_of now messages → s < never → phase_of s ≡ 0 → IsReady IsValid m c (record { state = now.state; last = now.last; due = s + 1 }) messages
   ready_output s is top even =
       let first = first_odd messages ready.takes in
       let due_is : now.due ≡ s = omega (arith, is, even, first) in
@@ -216,7 +216,7 @@ module _ {S : Type 0} (IsValid : S → Type 0) (m : Meaning S) (c : ℕ) (now : 
       first_odd [] h = refl
       first_odd (x ∷ xs) h = h.0.phase
 
-  pub ready_transition : (s limit : ℕ) (state : S) (due : Option ℕ) → s ≡ next_of now messages → s < never → phase_of s ≡ 1 → limit ≤ max_microstep → IsValid state → advanced s (m.ta state) limit ≡ Ok due
+  unfoldable pub ready_transition : (s limit : ℕ) (state : S) (due : Option ℕ) → s ≡ next_of now messages → s < never → phase_of s ≡ 1 → limit ≤ max_microstep → IsValid state → advanced s (m.ta state) limit ≡ Ok due
       → IsReady IsValid m c (record { state = state; last = s - 1; due = due_of due }) (behind s messages)
   ready_transition s limit state due is top odd small valid adv =
       let parts = front-behind s messages in

@@ -8,9 +8,11 @@ pub mod ExampleNetworks
 pub mod ExampleTraces
 pub mod Exchange
 pub mod Executive
+pub mod Installing
 pub mod Laws
 pub mod LocalRun
 pub mod Marks
+pub mod Memory
 pub mod Network
 pub mod Outcomes
 pub mod Simulator

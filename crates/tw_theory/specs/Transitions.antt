@@ -2,7 +2,7 @@
 --     start_moment model      where a component of this model stands at the start
 --     output net c now s      the output of component c at stamp s
 --     transition net c now s bag      its transition at stamp s with this bag, or the limit that it meets
-use Rattle.std.specs.Prelude.{ℕ, ◌+◌, ◌-◌, List, [], ◌∷◌, Bool, true, false, ◌==◌, Option, None, Some, Result, Ok, Err}
+use Rattle.std.specs.Prelude.{ℕ, ◌+◌, ◌-◌, [], ◌∷◌, Bool, true, false, ◌==◌, Option, None, Some, Result, Ok, Err}
 use Rattle.tw_atomic.specs.Atomic.{Meaning, turned}
 use Rattle.tw_atomic.specs.declared.Turn.{Turn}
 use Rattle.tw_atomic.specs.declared.Turn.TheVariants as turns

@@ -1,0 +1,61 @@
+-- When a component's next step can be made, and that it stays so: what a process needs of its messages before it may ask its model for a turn.
+use Rattle.std.specs.Prelude.{ℕ, ◌+◌, ◌<◌, ◌≤◌, ◌≡◌, ◌-◌, ◌==◌, List, Ok, Some, slice_get}
+use Rattle.std.specs.List.{AllByRecursion as Each}
+use Rattle.tw_atomic.specs.Atomic.{Meaning, CanTurn}
+use Rattle.tw_msgs.specs.Messages.{Sorted, place, without}
+use Rattle.tw_msgs.specs.declared.message.Message.{Message}
+use Rattle.tw_msgs.specs.declared.record.Record.{Record}
+use Rattle.tw_theory.specs.Bundles.{front, items_of}
+use Rattle.tw_theory.specs.Contents.{Process, inputs, cut}
+use Rattle.tw_theory.specs.Executive.{World, mail_of, column_of}
+use Rattle.tw_theory.specs.LocalRun.{Made, Step, Leads, next_of, local_step}
+use Rattle.tw_theory.specs.Network.{Network, model_of}
+use Rattle.tw_theory.specs.Soundness.{IsSound}
+use Rattle.tw_theory.specs.Standing.{IsReady, CanTake, floor_after}
+use Rattle.tw_theory.specs.Transitions.{Moment, start_moment, turn}
+use Rattle.tw_vtime.specs.Stamps.{never, tick_of, phase_of, max_microstep}
+
+-- component c of a network is of this model, and its microsteps are those of stamps
+pub record IsOf {S : Type 0} (model : Meaning S) (net : Network S) (c : ℕ) : Type 0 where
+  pub model_is : (s : S) → model_of net c s ≡ model
+  pub micro_limit : net.micro_limit ≤ max_microstep
+
+-- it is ready, and no step and no message comes before this stamp
+abbrev pub IsReadyFrom : {S : Type 0} → (S → Type 0) → Meaning S → ℕ → Moment S → List Message → ℕ → Type 0
+IsReadyFrom IsValid model c now messages floor = (ready : IsReady IsValid model c now messages) × (ready.floor ≡ floor)
+
+-- of a model whose turns keep its states valid
+pub record StandingLaw {S : Type 0} (IsValid : S → Type 0) (model : Meaning S) : Type 0 where
+  pub start : (c : ℕ) (messages : List Message) → IsValid model.start → Sorted messages → Each (CanTake c) messages → IsReadyFrom IsValid model c (start_moment model) messages 0
+  -- where the next step is a transition before the end, the turn that is due may be made
+  pub turn : (c : ℕ) (now : Moment S) (messages : List Message) → IsReady IsValid model c now messages → (s : ℕ) → s ≡ next_of now messages → s < never → phase_of s ≡ 1
+      → CanTurn IsValid model (turn (now.due == s) (items_of (front s messages))) now.state (tick_of s - tick_of now.last) (items_of (front s messages))
+  -- after its next step, and after any steps of its run, it is ready again
+  pub step : (net : Network S) (c : ℕ) (now : Moment S) (messages : List Message) (made : Made S) → IsOf model net c → IsReady IsValid model c now messages
+      → local_step net c now messages ≡ Ok made → IsReadyFrom IsValid model c made.after made.left (made.step.entry.stamp + 1)
+  pub run : (net : Network S) (c : ℕ) (from : Moment S) (messages : List Message) (steps : List (Step S)) (now : Moment S) (left : List Message) → IsOf model net c
+      → (ready : IsReady IsValid model c from messages) → Leads net c from messages steps now left → IsReadyFrom IsValid model c now left (floor_after ready.floor steps)
+  -- so a process whose run began where it was ready is ready after each cut
+  pub cut : (net : Network S) (c s : ℕ) (from : Moment S) (p : Process S) → IsOf model net c
+      → (ready : IsReady IsValid model c from (inputs p)) → Leads net c from (inputs p) p.history p.now p.pending
+      → IsReadyFrom IsValid model c (cut s p).now (cut s p).pending (floor_after ready.floor (cut s p).history)
+  -- a message that comes, not before the floor, or is withdrawn leaves it ready
+  pub placed : (c : ℕ) (now : Moment S) (messages : List Message) (m : Message) → (ready : IsReady IsValid model c now messages) → CanTake c m → ready.floor ≤ m.stamp
+      → IsReadyFrom IsValid model c now (place m messages) ready.floor
+  pub withdrawn : (c : ℕ) (now : Moment S) (messages : List Message) (m : Message) → (ready : IsReady IsValid model c now messages) → IsReadyFrom IsValid model c now (without m messages) ready.floor
+
+-- ---- what may be received
+
+-- to q, for a transition, not before its commit line and after every record of its column
+pub record MayCome {S : Type 0} (q : ℕ) (p : Process S) (column : List Record) (m : Message) : Type 0 where
+  pub to : m.to ≡ q
+  pub phase : phase_of m.stamp ≡ 1
+  pub before_end : m.stamp < never
+  pub from_line : p.line ≤ m.stamp
+  pub after_column : Each (λ r. r.stamp < m.stamp) column
+
+-- in a sound world every item of a mailbox may be received
+abbrev pub ReceiveLaw : Type 0 → Type 0
+ReceiveLaw S =
+    (net : Network S) (until : ℕ) (w : World S) → IsSound net until w → (q : ℕ) (p : Process S) → slice_get w.processes q ≡ Some p
+    → Each (λ i. MayCome q p (column_of w.columns q) i.message) (mail_of w.mail q)

@@ -1,0 +1,17 @@
+//! When a component's next step can be made, and what it may receive.
+
+ghost use Rattle.tw_laws.specs.Standing.{ReceiveLaw, StandingLaw};
+
+use tw_atomic::Atomic;
+
+/// A component that is ready can make the turn that is due, and stays ready: by each step, by each cut, and by each
+/// message that comes not before its last step, or is withdrawn.
+pub fn standing_law<M: Atomic>()
+    ensures { (model : M) → StandingLaw (M.valid model) (M.meaning model) }
+{}
+
+/// In a sound executive each item of a mailbox is to its component, for a transition, not before its commit line and
+/// after every record that it has committed.
+pub fn receive_law<S>()
+    ensures { ReceiveLaw S }
+{}

@@ -1,0 +1,9 @@
+pub mod Counts
+pub mod Ends
+pub mod NodeMoves
+pub mod Sends
+pub mod Finding
+pub mod Owing
+pub mod Comings
+pub mod Loops
+pub mod Parts

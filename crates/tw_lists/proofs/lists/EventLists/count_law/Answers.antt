@@ -1,0 +1,12 @@
+use Rattle.std.proofs.Common.{◌≡◌, ◌+◌, ◌≤◌, arith, ap, length}
+use Rattle.tw_pool.specs.Lists.{list_at}
+use Rattle.tw_lists.specs.Lists.{node_count}
+use Rattle.tw_lists.specs.Nodes.{spare_of}
+use Rattle.tw_lists.proofs.Counts.{count_is}
+use Rattle.tw_lists.proofs.lists.EventLists.count_law.Goals as goal
+
+pub returns : goal.returns
+returns c =
+    let f = c.self.inside in
+    let count = count_is f.pool.lists f.pool.room (spare_of f.pool.top f.heap (length (list_at f.pool.lists 1))) f.heap.entries c.lists_law.ensures.count c.self.invariant.count in
+    omega (arith, c.lists_law.ensures.limited, count, ap node_count c.self.view_is, ap (λ v. v.room) c.self.view_is)

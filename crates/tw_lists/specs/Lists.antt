@@ -1,0 +1,89 @@
+-- What a contract sees of the five lists of a process, and what the calls do to them.
+use Rattle.std.specs.Prelude.{ℕ, ◌+◌, ◌-◌, List, [], ◌∷◌, ◌++◌, length, take, drop, Option, Some, None}
+use Rattle.tw_msgs.specs.Messages.{place, without}
+use Rattle.tw_msgs.specs.declared.message.Message.{Message}
+use Rattle.tw_msgs.specs.declared.message.Item.{Item}
+use Rattle.tw_theory.specs.Bundles.{front, behind, positive, positives, overdue, not_overdue, antis}
+use Rattle.tw_theory.specs.Contents.{Cancel, sent_out, owed_after, outgoing_undone, owed_undone}
+
+-- the five lists, for how many more items there is room, and for how many more messages to come beside those that were consumed
+pub record Lists : Type 0 where
+  pub pending : List Message
+  pub consumed : List Message
+  pub sent : List Message
+  pub outgoing : List Item
+  pub waiting : List Message
+  pub owed : List Message
+  pub room : ℕ
+  pub spare : ℕ
+
+-- how many nodes they have together
+abbrev pub node_count : Lists → ℕ
+node_count l = length l.pending + length l.consumed + length l.sent + length l.outgoing + length l.waiting + length l.owed
+
+abbrev pub first_of : List Message → Option Message
+first_of [] = None
+first_of (m ∷ ms) = Some m
+
+-- the first pending message is consumed
+abbrev pub consuming : Lists → List Message → Lists
+consuming c [] = c
+consuming c (m ∷ ms) = record c { pending = ms; consumed = c.consumed ++ m ∷ [] }
+
+abbrev pub first_consumed : Lists → Lists
+first_consumed c = consuming c c.pending
+
+-- the pending messages at the front that have this stamp are consumed
+abbrev pub front_consumed : ℕ → Lists → Lists
+front_consumed s c = record c { pending = behind s c.pending; consumed = c.consumed ++ front s c.pending }
+
+-- the last n consumed messages are pending again
+abbrev pub restored : ℕ → Lists → Lists
+restored n c = record c { pending = drop (length c.consumed - n) c.consumed ++ c.pending; consumed = take (length c.consumed - n) c.consumed }
+
+-- the last n sent messages are taken back: by this way of cancelling they are anti-messages in the outgoing list, or owed
+abbrev pub cancelled : Cancel → ℕ → Lists → Lists
+cancelled way n c = record c {
+  sent = take (length c.sent - n) c.sent;
+  outgoing = outgoing_undone way c.outgoing (drop (length c.sent - n) c.sent);
+  owed = owed_undone way c.owed (drop (length c.sent - n) c.sent);
+}
+
+abbrev pub with_room : ℕ → ℕ → Lists → Lists
+with_room room spare c = record c { room = room; spare = spare }
+
+-- a message is sent
+abbrev pub with_sent : Message → Lists → Lists
+with_sent m c = record c { sent = c.sent ++ m ∷ []; outgoing = c.outgoing ++ positive m ∷ [] }
+
+-- all are sent
+abbrev pub with_all_sent : Cancel → List Message → Lists → Lists
+with_all_sent way ms c = record c {
+  sent = c.sent ++ ms;
+  outgoing = c.outgoing ++ positives (sent_out way c.owed ms);
+  owed = owed_after way c.owed ms;
+}
+
+-- an owed message is sent again
+abbrev pub with_sent_again : Message → Lists → Lists
+with_sent_again m c = record c { sent = c.sent ++ m ∷ []; owed = without m c.owed }
+
+-- the owed messages that were sent before s are anti-messages in the outgoing list
+abbrev pub with_overdue_posted : ℕ → Lists → Lists
+with_overdue_posted s c = record c { outgoing = c.outgoing ++ antis (overdue s c.owed); owed = not_overdue s c.owed }
+
+abbrev pub with_pending : Message → Lists → Lists
+with_pending m c = record c { pending = place m c.pending }
+
+abbrev pub without_pending : Message → Lists → Lists
+without_pending m c = record c { pending = without m c.pending }
+
+abbrev pub with_orphan : Message → Lists → Lists
+with_orphan m c = record c { waiting = c.waiting ++ m ∷ [] }
+
+abbrev pub without_orphan : Message → Lists → Lists
+without_orphan m c = record c { waiting = without m c.waiting }
+
+-- the first n consumed and the first k sent messages are gone
+abbrev pub forgotten : ℕ → ℕ → Lists → Lists
+forgotten n k c = record c { consumed = drop n c.consumed; sent = drop k c.sent }

@@ -1,0 +1,98 @@
+-- How the five lists lie in a pool and a heap. No public clause cites this module.
+use Rattle.std.specs.Prelude.{ℤ, ◌≢◌, ◌++◌, take, drop, nat_lt, true, false, ◌≡◌, ℕ, ◌-◌, ◌<◌, ◌≤◌, ◌==◌, nat_le, List, [], ◌∷◌, map, length, Option, Some, None, if◌then◌else◌}
+use Rattle.std.specs.Map.{lookup}
+use Rattle.tw_pool.specs.Lists.{list_at, with_item_last, without}
+use Rattle.tw_heap.specs.declared.entries.Entry.{Entry}
+use Rattle.tw_heap.specs.Entries.{Events, entry_of, message_of}
+use Rattle.tw_msgs.specs.Messages.{same_message}
+use Rattle.tw_msgs.specs.declared.message.Message.{Message}
+use Rattle.tw_msgs.specs.declared.message.Item.{Item}
+use Rattle.tw_theory.specs.Bundles.{antis, front, behind, items_of}
+use Rattle.tw_lists.specs.Lists.{Lists}
+
+abbrev pub Nodes : Type 0
+Nodes = List (ℕ × Item)
+
+abbrev pub item_at : ℕ × Item → Item
+item_at node = node.1
+
+abbrev pub message_at : ℕ × Item → Message
+message_at node = node.1.message
+
+-- for how many messages the heap has room beside n, if no index can be too great for it
+abbrev pub spare_of : ℕ → Events → ℕ → ℕ
+spare_of top heap n = if nat_le top heap.top then heap.room - n else 0
+
+abbrev pub contents : List Nodes → ℕ → ℕ → List Entry → Lists
+contents lists room spare entries = record {
+  pending = map message_of entries;
+  consumed = map message_at (list_at lists 1);
+  sent = map message_at (list_at lists 2);
+  outgoing = map item_at (list_at lists 3);
+  waiting = map message_at (list_at lists 4);
+  owed = map message_at (list_at lists 5);
+  room = room;
+  spare = spare;
+}
+
+-- the event of a node
+abbrev pub event : ℕ → Option Item → Option Entry
+event index None = None
+event index (Some item) = Some (record { key = item.message; index = index })
+
+-- each index is less
+abbrev pub IsBelow : ℕ → Nodes → Type 0
+IsBelow top [] = Unit {0}
+IsBelow top (node ∷ nodes) = (node.0 < top) × IsBelow top nodes
+
+-- what the lists keep
+pub record IsKept (lists : List Nodes) (heap : Events) : Type 0 where
+  -- the heap has exactly the pending nodes, each under its own message
+  pub same : (index : ℕ) → entry_of index heap.entries ≡ event index (lookup (λ k. k == index) (list_at lists 0))
+  pub count : length heap.entries ≡ length (list_at lists 0)
+  -- what was consumed can be pending again without memory
+  pub consumed_below : IsBelow heap.top (list_at lists 1)
+  pub room : length (list_at lists 1) ≤ heap.room
+  -- a message that is owed is kept as its anti-message
+  pub owing : map item_at (list_at lists 5) ≡ antis (map message_at (list_at lists 5))
+  -- and so is a sent one
+  pub antis : map item_at (list_at lists 2) ≡ antis (map message_at (list_at lists 2))
+
+-- the nodes whose message was sent before s, and the others
+abbrev pub overdue_nodes : ℕ → Nodes → Nodes
+overdue_nodes s [] = []
+overdue_nodes s (node ∷ nodes) = if nat_lt (node.1.message.stamp - 1) s then node ∷ overdue_nodes s nodes else overdue_nodes s nodes
+
+abbrev pub not_overdue_nodes : ℕ → Nodes → Nodes
+not_overdue_nodes s [] = []
+not_overdue_nodes s (node ∷ nodes) = if nat_lt (node.1.message.stamp - 1) s then not_overdue_nodes s nodes else node ∷ not_overdue_nodes s nodes
+
+-- the first pending message is of this stamp, and carries this
+abbrev pub IsNext : ℕ → ℕ × ℤ → List Message → Type 0
+IsNext s item [] = ⊥
+IsNext s item (m ∷ ms) = (m.stamp ≡ s) × (m.port ≡ item.0) × (m.value ≡ item.1)
+
+-- the first n messages of stamp s are consumed, and they carry the first n of the bag
+pub record IsPart (s n : ℕ) (bag : List (ℕ × ℤ)) (old new : Lists) : Type 0 where
+  pub enough : n ≤ length (front s old.pending)
+  pub carry : take n (items_of (front s old.pending)) ≡ take n bag
+  pub consumed_is : new.consumed ≡ old.consumed ++ take n (front s old.pending)
+  pub pending_is : new.pending ≡ drop n (front s old.pending) ++ behind s old.pending
+  pub same : new ≡ record old { consumed = new.consumed; pending = new.pending }
+
+-- of the first n owed nodes those overdue are in the outgoing list
+pub record IsSettled (s n : ℕ) (lists now : List Nodes) : Type 0 where
+  pub count : length now ≡ length lists
+  pub owed_is : list_at now 5 ≡ not_overdue_nodes s (take n (list_at lists 5)) ++ drop n (list_at lists 5)
+  pub outgoing_is : list_at now 3 ≡ list_at lists 3 ++ overdue_nodes s (take n (list_at lists 5))
+  pub others : (k : ℕ) → k ≢ 3 → k ≢ 5 → list_at now k ≡ list_at lists k
+
+-- a node is in the outgoing list, if it is overdue
+pub record IsPosted (s index : ℕ) (item : Item) (lists now : List Nodes) : Type 0 where
+  pub due : nat_lt (item.message.stamp - 1) s ≡ true → now ≡ with_item_last (without index lists) 3 (index, item)
+  pub early : nat_lt (item.message.stamp - 1) s ≡ false → now ≡ lists
+
+-- the first index in a list whose message equals m
+abbrev pub index_of : Message → Nodes → Option ℕ
+index_of m [] = None
+index_of m (node ∷ nodes) = if same_message m node.1.message then Some node.0 else index_of m nodes

@@ -1,0 +1,197 @@
+//! Messages consumed and pending again, coming and going.
+
+ghost use Rattle.std.specs.Prelude.{◌≡◌, ◌≢◌, ◌↔◌, ◌+◌, ◌-◌, ◌<◌, ◌≤◌, [], ◌∷◌, ◌++◌, length, drop, true, false, Err, OnOk, OnErr, IfOk, IsOk, IsTrue};
+ghost use Rattle.tw_msgs.specs.Bags.{Bag as BagItems};
+ghost use Rattle.tw_msgs.specs.Messages.{Sorted, has};
+ghost use Rattle.tw_pool.specs.declared.refused.PoolRefused.TheVariants.{Full};
+ghost use Rattle.tw_theory.specs.Bundles.{front, items_of};
+ghost use Rattle.tw_lists.specs.Lists.{first_consumed, front_consumed, restored, with_room, with_pending, without_pending, with_orphan, without_orphan, forgotten, node_count};
+ghost use Rattle.tw_lists.specs.Nodes.{IsNext};
+
+use crate::lists::{CONSUMED, EventLists, OUTGOING, PENDING, SENT, WAITING, signed};
+use crate::searching::find;
+use std::alloc::{AllocError, Global};
+use tw_msgs::{Bag, Message, Sign};
+use tw_pool::PoolRefused;
+use tw_vtime::Stamp;
+
+impl EventLists {
+    // The first pending message becomes the last consumed one.
+    fn consume_first(&mut self)
+        ensures { self.new ≡ first_consumed self.old }
+    {
+        self.pool.lists_law();
+        if let Some(entry) = self.heap.first() {
+            self.heap.entries_law();
+            self.heap.remove(entry.index);
+            self.pool.relink(entry.index, CONSUMED);
+        }
+    }
+
+    // The last consumed message is pending again.
+    fn restore_last(&mut self)
+        requires some { self.old.consumed ≢ [] }
+        requires sorted { Sorted (drop (length self.old.consumed - 1) self.old.consumed ++ self.old.pending) }
+        ensures { self.new ≡ restored 1 self.old }
+    {
+        self.pool.lists_law();
+        self.heap.entries_law();
+        if let Some(index) = self.pool.last(CONSUMED) {
+            let message = self.pool.get(index).message;
+            self.pool.relink(index, PENDING);
+            self.heap.insert(index, message);
+        }
+    }
+
+    /// The last `n` consumed messages are pending again.
+    pub fn restore(&mut self, n: usize)
+        requires n { n ≤ length self.old.consumed }
+        requires sorted { Sorted (drop (length self.old.consumed - n) self.old.consumed ++ self.old.pending) }
+        ensures { self.new ≡ restored n self.old }
+    {
+        for _ in 0..n {
+            self.restore_last();
+        }
+    }
+
+    /// All pending messages of the first stamp become consumed, if it is this one. Answers their bag.
+    pub fn consume_bag(&mut self, alloc: Global, stamp: Stamp) -> Result<Bag, AllocError>
+        ensures bag { IfOk result (λ bag. bag ≡ items_of (front stamp self.old.pending)) }
+        ensures ok { OnOk result (self.new ≡ front_consumed stamp self.old) }
+        ensures err { OnErr result (self.new ≡ self.old) }
+    {
+        self.order_law();
+        let mut bag = Bag::new(alloc);
+        while let Some(message) = self.first() {
+            if message.stamp != stamp {
+                break;
+            }
+            if let Err(error) = bag.push((message.port, message.value)) {
+                self.restore(bag.len());
+                return Err(error.into());
+            }
+            self.consume_first();
+        }
+        Ok(bag)
+    }
+
+    /// All pending messages of this stamp become consumed, if they are the first and carry exactly this bag, in its order; else
+    /// nothing changes. It takes no memory.
+    pub fn consume_equal(&mut self, stamp: Stamp, bag: &[(u8, i64)]) -> bool
+        ensures yes { IsTrue result → (items_of (front stamp self.old.pending) ≡ bag.now) × (self.new ≡ front_consumed stamp self.old) }
+        ensures no { result ≡ false → (items_of (front stamp self.old.pending) ≢ bag.now) × (self.new ≡ self.old) }
+    {
+        self.order_law();
+        let mut taken = 0;
+        for item in bag {
+            if !self.is_next(stamp, *item) {
+                self.restore(taken);
+                return false;
+            }
+            self.consume_first();
+            taken += 1;
+        }
+        if self.is_at(stamp) {
+            self.restore(taken);
+            return false;
+        }
+        true
+    }
+
+    // Whether the first pending message has this stamp.
+    fn is_at(&self, stamp: Stamp) -> bool
+        ensures yes { IsTrue result → front stamp self.now.pending ≢ [] }
+        ensures no { result ≡ false → front stamp self.now.pending ≡ [] }
+    {
+        match self.first() {
+            Some(message) => message.stamp == stamp,
+            None => false,
+        }
+    }
+
+    // Whether the first pending message has this stamp, port and value.
+    fn is_next(&self, stamp: Stamp, item: (u8, i64)) -> bool
+        ensures yes { IsTrue result → IsNext stamp item self.now.pending }
+        ensures no { result ≡ false → (rest : BagItems) → items_of (front stamp self.now.pending) ≢ item ∷ rest }
+    {
+        match self.first() {
+            Some(message) => message.stamp == stamp && (message.port, message.value) == item,
+            None => false,
+        }
+    }
+
+    /// One more message is pending. It takes no memory: `reserve_pending` has made room.
+    pub fn put_reserved(&mut self, message: &Message)
+        requires room { 1 ≤ self.old.room }
+        requires spare { 1 ≤ self.old.spare }
+        ensures { self.new ≡ with_room self.new.room self.new.spare (with_pending message.now self.old) }
+    {
+        self.pool.lists_law();
+        self.heap.entries_law();
+        if let Ok(index) = self
+            .pool
+            .push_back(PENDING, signed(Sign::Positive, message))
+        {
+            self.pool.lists_law();
+            self.heap.insert(index, *message);
+        }
+    }
+
+    /// An equal pending message goes, or the answer is that there is none.
+    pub fn withdraw(&mut self, message: &Message) -> bool
+        ensures answer { result ≡ has message.now self.old.pending }
+        ensures contents { self.new ≡ with_room self.new.room self.new.spare (without_pending message.now self.old) }
+    {
+        self.pool.lists_law();
+        self.heap.entries_law();
+        let Some(index) = find(&self.pool, PENDING, message) else {
+            return false;
+        };
+        self.heap.remove(index);
+        self.pool.take(index);
+        true
+    }
+
+    /// Whether an equal message was consumed.
+    pub fn has_consumed(&self, message: &Message) -> bool
+        ensures { result ≡ has message.now self.now.consumed }
+    {
+        find(&self.pool, CONSUMED, message).is_some()
+    }
+
+    /// The first equal message that waits goes, or the answer is that there is none.
+    pub fn clear_orphan(&mut self, message: &Message) -> bool
+        ensures answer { result ≡ has message.now self.old.waiting }
+        ensures contents { self.new ≡ with_room self.new.room self.new.spare (without_orphan message.now self.old) }
+    {
+        self.pool.lists_law();
+        let Some(index) = find(&self.pool, WAITING, message) else {
+            return false;
+        };
+        self.pool.take(index);
+        true
+    }
+
+    /// One more message waits.
+    pub fn note_orphan(&mut self, message: &Message) -> Result<(), PoolRefused>
+        ensures ok { OnOk result (self.new ≡ with_room self.new.room self.new.spare (with_orphan message.now self.old)) }
+        ensures err { OnErr result (self.new ≡ with_room self.new.room self.new.spare self.old) }
+    {
+        self.pool.lists_law();
+        match self.pool.push_back(WAITING, signed(Sign::Anti, message)) {
+            Ok(_index) => Ok(()),
+            Err((_, refused)) => Err(refused),
+        }
+    }
+
+    /// The first `consumed` consumed and the first `sent` sent messages are dropped.
+    pub fn forget(&mut self, consumed: usize, sent: usize)
+        requires consumed { consumed ≤ length self.old.consumed }
+        requires sent { sent ≤ length self.old.sent }
+        ensures { self.new ≡ with_room self.new.room self.new.spare (forgotten consumed sent self.old) }
+    {
+        self.pool.lists_law();
+        self.pool.cut_front(CONSUMED, consumed);
+        self.pool.cut_front(SENT, sent);
+    }
+}

@@ -1,0 +1,83 @@
+//! Messages taken back: as anti-messages, or owed, and what is owed for too long.
+
+ghost use Rattle.std.specs.Prelude.{Some, ◌≡◌, ℕ, ◌≤◌, length};
+ghost use Rattle.tw_pool.specs.Lists.{list_at, item_of, IsLive};
+ghost use Rattle.tw_theory.specs.Contents.{Aggressive, Lazy};
+ghost use Rattle.tw_lists.specs.Ways.{way_of};
+ghost use Rattle.tw_lists.specs.Lists.{cancelled, with_overdue_posted};
+ghost use Rattle.tw_lists.specs.Nodes.{IsSettled, IsPosted};
+
+use crate::cancel::Cancel;
+use crate::lists::{EventLists, OUTGOING, OWED, SENT};
+use tw_msgs::Item;
+use tw_pool::Pool;
+use tw_vtime::Stamp;
+
+impl EventLists {
+    /// The last `n` sent messages are taken back: they go to the outgoing list as anti-messages, or are owed. It takes no memory.
+    pub fn cancel(&mut self, n: usize, way: Cancel)
+        requires { n ≤ length self.old.sent }
+        ensures { self.new ≡ cancelled (way_of way) n self.old }
+    {
+        match way {
+            Cancel::Aggressive => self.unsend(n),
+            Cancel::Lazy => self.owe(n),
+        }
+    }
+
+    // The last `n` sent messages go to the outgoing list, as anti-messages.
+    fn unsend(&mut self, n: usize)
+        requires { n ≤ length self.old.sent }
+        ensures { self.new ≡ cancelled Aggressive n self.old }
+    {
+        self.pool.lists_law();
+        self.pool.relink_last(SENT, n, OUTGOING);
+    }
+
+    // The last `n` sent messages are owed.
+    fn owe(&mut self, n: usize)
+        requires { n ≤ length self.old.sent }
+        ensures { self.new ≡ cancelled Lazy n self.old }
+    {
+        self.pool.lists_law();
+        self.pool.relink_last(SENT, n, OWED);
+    }
+
+    /// The owed messages that were sent before this stamp go to the outgoing list, as anti-messages. It takes no memory.
+    pub fn settle(&mut self, next: Stamp)
+        ensures { self.new ≡ with_overdue_posted next self.old }
+    {
+        self.pool.lists_law();
+        post_overdue(&mut self.pool, next);
+    }
+}
+
+// Each owed node that was sent before the next step goes to the outgoing list.
+fn post_overdue(pool: &mut Pool<Item, 6>, next: Stamp)
+    ensures lists { IsSettled next (length (list_at pool.old.lists 5)) pool.old.lists pool.new.lists }
+    ensures room { pool.new.room ≡ pool.old.room }
+    ensures top { pool.new.top ≡ pool.old.top }
+{
+    pool.lists_law();
+    let mut at = pool.first(OWED);
+    for _ in 0..pool.len(OWED) {
+        if let Some(index) = at {
+            pool.lists_law();
+            at = pool.next(index);
+            post_one(pool, index, next);
+        }
+    }
+}
+
+// An owed node that was sent before the next step goes to the outgoing list.
+fn post_one(pool: &mut Pool<Item, 6>, index: usize, next: Stamp)
+    requires { IsLive index pool.old.lists }
+    ensures lists { (item : Item) → item_of index pool.old.lists ≡ Some item → IsPosted next index item pool.old.lists pool.new.lists }
+    ensures items { (each : ℕ) → item_of each pool.new.lists ≡ item_of each pool.old.lists }
+    ensures room { pool.new.room ≡ pool.old.room }
+    ensures top { pool.new.top ≡ pool.old.top }
+{
+    if pool.get(index).message.stamp.pack().saturating_sub(1) < next.pack() {
+        pool.relink(index, OUTGOING);
+    }
+}

@@ -9,7 +9,7 @@ use Rattle.tw_theory.specs.Network.{Network}
 use Rattle.tw_theory.specs.Simulator.{Run, round, round_time, rounds_from}
 use Rattle.tw_vtime.specs.Stamps.{max_tick, never, stamp, tick_of, phase_of}
 use Rattle.tw_vtime.specs.declared.limits.Limit.{Limit}
-use Rattle.tw_seq.proofs.RoundLemmas.{next_round, underway_at}
+use Rattle.tw_seq.proofs.RoundsKept.{next_round, underway_at}
 
 -- at most `left` rounds more, from a run in which nothing is due before `from`
 pub record Reaching {M S : Type 0} (valid : M → S → Type 0) (meaning : M → Meaning S) (contents : Contents M) (bound : ℕ) (run : Run S) : Type 0 where

@@ -5,7 +5,7 @@ use Rattle.std.proofs.lemmas.List.{length-map}
 use Rattle.tw_network.specs.Contents.{network_of}
 use Rattle.tw_seq.specs.Dealing.{dealt}
 use Rattle.tw_theory.specs.Network.{copies, routed}
-use Rattle.tw_seq.proofs.DealingLemmas.{length-dealt, place_taken, places_all, item_taken, items_all, place_leads}
+use Rattle.tw_seq.proofs.Dealt.{length-dealt, place_taken, places_all, item_taken, items_all, place_leads}
 use Rattle.tw_seq.proofs.bags.route.Goals as goal
 
 pub deliver-requires-clause-to : goal.deliver-requires-clause-to

@@ -7,8 +7,8 @@ use Rattle.tw_network.specs.Contents.{network_of}
 use Rattle.tw_seq.specs.Dealing.{dealt}
 use Rattle.tw_theory.specs.Network.{routed}
 use Rattle.tw_theory.specs.Simulator.{outputs, all_sent}
-use Rattle.tw_seq.proofs.DealingLemmas.{length-dealt}
-use Rattle.tw_seq.proofs.OutputLemmas.{outs_passed, output_recorded, output_sent, records_all, sent_all}
+use Rattle.tw_seq.proofs.Dealt.{length-dealt}
+use Rattle.tw_seq.proofs.RoundOutputs.{outs_passed, output_recorded, output_sent, records_all, sent_all}
 use Rattle.tw_seq.proofs.Sweeping.{onward, onward_more, onward_within, onward_next, none_between, none_after}
 use Rattle.tw_seq.proofs.outputs.make_outputs.Goals as goal
 use Rattle.tw_seq.proofs.outputs.make_outputs.Goals.{After-loop-component}

@@ -12,11 +12,11 @@ use Rattle.tw_seq.specs.Turning.{turns_with}
 use Rattle.tw_theory.specs.Bundles.{Ascending}
 use Rattle.tw_theory.specs.Simulator.{outputs, first_stop, turn_records, turned_moments, past_stamp}
 use Rattle.tw_theory.proofs.Elements.{each_weaker}
-use Rattle.tw_seq.proofs.DealingLemmas.{length-dealt}
-use Rattle.tw_seq.proofs.InputLemmas.{past_ascending}
-use Rattle.tw_seq.proofs.OutputLemmas.{transition_of}
+use Rattle.tw_seq.proofs.Dealt.{length-dealt}
+use Rattle.tw_seq.proofs.InputsGiven.{past_ascending}
+use Rattle.tw_seq.proofs.RoundOutputs.{transition_of}
 use Rattle.tw_seq.proofs.Places.{all_written}
-use Rattle.tw_seq.proofs.RoundLemmas.{all_turns, turns_here, bags_fit, round_goes, round_recorded, round_faults, past_to_come, not_before, agenda_taken, agenda_whole, empty_size, none_reached}
+use Rattle.tw_seq.proofs.RoundsKept.{all_turns, turns_here, bags_fit, round_goes, round_recorded, round_faults, past_to_come, not_before, agenda_taken, agenda_whole, empty_size, none_reached}
 use Rattle.tw_seq.proofs.rounds.make_round.Goals as goal
 use Rattle.tw_seq.proofs.rounds.make_round.Goals.{In_ok-take, After-deref-3, After-deref-4, After-make_turns}
 

@@ -5,9 +5,9 @@ use Rattle.std.proofs.lemmas.Bool.{ltb-true}
 use Rattle.tw_theory.specs.Bundles.{Ascending}
 use Rattle.tw_theory.specs.Simulator.{least_input}
 use Rattle.tw_vtime.specs.Stamps.{never, phase_of}
-use Rattle.tw_seq.proofs.InputLemmas.{least_first}
+use Rattle.tw_seq.proofs.InputsGiven.{least_first}
 use Rattle.tw_seq.proofs.Places.{drop_next}
-use Rattle.tw_seq.proofs.TimeLemmas.{output_before}
+use Rattle.tw_seq.proofs.LeastTimes.{output_before}
 use Rattle.tw_seq.proofs.rounds.next_input.Goals as goal
 
 pub returns-in-Some : goal.returns-in-Some

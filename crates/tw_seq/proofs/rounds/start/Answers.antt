@@ -12,7 +12,7 @@ use Rattle.tw_theory.proofs.Elements.{each-sorted, each_weaker}
 use Rattle.tw_theory.proofs.MessageOrder.{sorted_ascending}
 use Rattle.tw_vtime.specs.Stamps.{never}
 use Rattle.tw_seq.proofs.Between.{starts_between}
-use Rattle.tw_seq.proofs.StartLemmas.{mapped_more, mapped_all, map_twice, get_pushed, to_come}
+use Rattle.tw_seq.proofs.Starts.{mapped_more, mapped_all, map_twice, get_pushed, to_come}
 use Rattle.tw_seq.proofs.rounds.start.Goals as goal
 
 pub start_moment-requires : goal.start_moment-requires

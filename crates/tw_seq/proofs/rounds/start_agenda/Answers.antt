@@ -3,7 +3,7 @@ use Rattle.std.proofs.Common.{◌≡◌, ◌+◌, ◌∷◌, ◌++◌, [], sym, 
 use Rattle.std.proofs.Math.Seq.{take-suc}
 use Rattle.std.proofs.lemmas.List.{take_all, length-take}
 use Rattle.tw_seq.specs.Agenda.{IsAgenda, Puts}
-use Rattle.tw_seq.proofs.AgendaLemmas.{agenda_none, agenda_more}
+use Rattle.tw_seq.proofs.AgendaChanges.{agenda_none, agenda_more}
 use Rattle.tw_seq.proofs.rounds.start_agenda.Goals as goal
 
 pub loop-component-init : goal.loop-component-init

@@ -9,7 +9,7 @@ use Rattle.tw_vtime.specs.Stamps.{stamp}
 use Rattle.tw_msgs.specs.Messages.{sorted_messages}
 use Rattle.tw_msgs.proofs.Messages.{sorted_messages-only, Sorted-from_IsSorted}
 use Rattle.tw_theory.proofs.Elements.{each-append, each-sorted}
-use Rattle.tw_seq.proofs.StartLemmas.{mapped_more, mapped_all, the_ok}
+use Rattle.tw_seq.proofs.Starts.{mapped_more, mapped_all, the_ok}
 use Rattle.tw_seq.proofs.rounds.start_inputs.Goals as goal
 use Rattle.tw_seq.proofs.rounds.start_inputs.Goals.{After-loop-tick}
 

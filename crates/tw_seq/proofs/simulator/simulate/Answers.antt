@@ -8,7 +8,7 @@ use Rattle.tw_theory.specs.Simulator.{round, round_time}
 use Rattle.tw_theory.proofs.Elements.{each_weaker}
 use Rattle.tw_vtime.specs.Stamps.{max_tick, never, stamp, phase_of}
 use Rattle.tw_seq.proofs.InputOrder.{in_order_records, in_order_fault}
-use Rattle.tw_seq.proofs.OutputLemmas.{transition_of}
+use Rattle.tw_seq.proofs.RoundOutputs.{transition_of}
 use Rattle.tw_seq.proofs.Reaching.{reaching_start, reaching_end, next_time, reaching_fault, reaching_on, time_rises}
 use Rattle.tw_seq.proofs.simulator.simulate.Goals as goal
 use Rattle.tw_seq.proofs.simulator.simulate.Goals.{In-Some-2}

@@ -9,10 +9,10 @@ use Rattle.tw_network.specs.Contents.{network_of}
 use Rattle.tw_seq.specs.Agenda.{IsAgenda, PutsOff}
 use Rattle.tw_seq.specs.Turning.{CanGoOn, turns_with}
 use Rattle.tw_theory.specs.Simulator.{take_turn, after_output, turn_records, turned_moments, first_stop}
-use Rattle.tw_seq.proofs.AgendaLemmas.{agenda_put_off}
+use Rattle.tw_seq.proofs.AgendaChanges.{agenda_put_off}
 use Rattle.tw_seq.proofs.Places.{drop_all, each_at, all_written}
 use Rattle.tw_seq.proofs.Sweeping.{onward, onward_more, at_place}
-use Rattle.tw_seq.proofs.SweepLemmas.{entries, same_here, stop_found, Swept, swept_turn, at_turn, at_end, turn_within, listed_as, all_empty}
+use Rattle.tw_seq.proofs.TurnsSwept.{entries, same_here, stop_found, Swept, swept_turn, at_turn, at_end, turn_within, listed_as, all_empty}
 use Rattle.tw_seq.proofs.turns.make_turns.Goals as goal
 use Rattle.tw_seq.proofs.turns.make_turns.Goals.{in-Stays, in-Moves+in_ok-push-in-Moves+in_ok-put_off-in-Moves, After-loop-component, After-replace-bag}
 

@@ -2,7 +2,7 @@
 use Rattle.std.proofs.Common.{◌≡◌, ◌+◌, ◌≤◌, take, length}
 use Rattle.tw_seq.specs.Agenda.{IsAgenda}
 use Rattle.tw_seq.proofs.Sweeping.{onward}
-use Rattle.tw_seq.proofs.SweepLemmas.{Swept}
+use Rattle.tw_seq.proofs.TurnsSwept.{Swept}
 use Rattle.tw_seq.proofs.turns.make_turns.Given as goal
 
 abbrev pub invariant-loop-component : goal.invariant-loop-component

@@ -14,10 +14,10 @@ use Rattle.tw_step.specs.Turns.{IsRefusedBy}
 use Rattle.tw_vtime.specs.Advance.{advanced}
 use Rattle.tw_vtime.specs.Stamps.{tick_of}
 use Rattle.tw_msgs.proofs.Bags.{sorted_bag-sorted}
-use Rattle.tw_seq.proofs.BagLemmas.{sorted_bag-FitsBag}
+use Rattle.tw_seq.proofs.SortedBags.{sorted_bag-FitsBag}
 use Rattle.tw_seq.proofs.Between.{can_turn, stays_between, turned_between}
-use Rattle.tw_seq.proofs.OutputLemmas.{transition_of}
-use Rattle.tw_seq.proofs.TurnLemmas.{stays_turn, stays_which, turns_which, stops_turn, moves_turn}
+use Rattle.tw_seq.proofs.RoundOutputs.{transition_of}
+use Rattle.tw_seq.proofs.TurnsMade.{stays_turn, stays_which, turns_which, stops_turn, moves_turn}
 use Rattle.tw_seq.proofs.turns.take_turn.Goals as goal
 use Rattle.tw_seq.proofs.turns.take_turn.Goals.{After-micro_limit, In-Ok}
 

@@ -1,6 +1,6 @@
 -- The first key of the set is the first step.
 use Rattle.std.proofs.Common.{inr}
-use Rattle.tw_seq.proofs.AgendaLemmas as steps
+use Rattle.tw_seq.proofs.AgendaChanges as steps
 use Rattle.tw_seq.proofs.agenda.Agenda.first_time.Goals as goal
 
 pub returns-in-Some-clause-first : goal.returns-in-Some-clause-first

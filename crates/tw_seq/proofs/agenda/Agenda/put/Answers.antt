@@ -1,7 +1,7 @@
 -- Put into the set where the time is before the end.
 use Rattle.std.proofs.Common.{refl, sym}
-use Rattle.tw_seq.proofs.AgendaLemmas.{puts, puts_none}
-use Rattle.tw_seq.proofs.TimeLemmas.{before_tells, after_tells}
+use Rattle.tw_seq.proofs.AgendaChanges.{puts, puts_none}
+use Rattle.tw_seq.proofs.LeastTimes.{before_tells, after_tells}
 use Rattle.tw_vtime.specs.Stamps.{never}
 use Rattle.tw_seq.proofs.agenda.Agenda.put.Goals as goal
 

@@ -1,6 +1,6 @@
 -- What is taken away, and then what is put.
 use Rattle.std.proofs.lemmas.Result.{on_ok_weaker}
-use Rattle.tw_seq.proofs.AgendaLemmas.{puts_off}
+use Rattle.tw_seq.proofs.AgendaChanges.{puts_off}
 use Rattle.tw_seq.proofs.agenda.Agenda.put_off.Goals as goal
 
 pub returns : goal.returns

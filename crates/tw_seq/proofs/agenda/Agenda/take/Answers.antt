@@ -8,7 +8,7 @@ use Rattle.std.specs.List.Sorted.{IsStrictlyIncreasing}
 use Rattle.std.specs.Ordering.{is_gt}
 use Rattle.std.proofs.lemmas.List.Elements.{All-nil, All-cons, All-append}
 use Rattle.tw_seq.specs.Agenda.{IsOn, step_order}
-use Rattle.tw_seq.proofs.AgendaLemmas.{popped_first, left_other, taken_later, taken_all, rising_push, same_time, other_time, none_left}
+use Rattle.tw_seq.proofs.AgendaChanges.{popped_first, left_other, taken_later, taken_all, rising_push, same_time, other_time, none_left}
 use Rattle.tw_seq.proofs.agenda.Agenda.take.Goals as goal
 use Rattle.tw_seq.proofs.agenda.Agenda.take.Goals.{Then-ne}
 

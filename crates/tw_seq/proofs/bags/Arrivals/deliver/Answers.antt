@@ -6,8 +6,8 @@ use Rattle.std.proofs.lemmas.List.Elements.{All-nil, All-cons, All-append, Conta
 use Rattle.std.proofs.lemmas.Option.{slice_get-get_or}
 use Rattle.tw_seq.specs.Dealing.{dealt}
 use Rattle.tw_seq.specs.Waking.{WakesAll}
-use Rattle.tw_seq.proofs.DealingLemmas.{dealt-one}
-use Rattle.tw_seq.proofs.WakingLemmas.{filled_awake}
+use Rattle.tw_seq.proofs.Dealt.{dealt-one}
+use Rattle.tw_seq.proofs.Woken.{filled_awake}
 use Rattle.tw_seq.proofs.bags.Arrivals.deliver.Goals as goal
 use Rattle.tw_seq.proofs.bags.Arrivals.deliver.Goals.{then-is_empty+in_ok-push, else-is_empty}
 

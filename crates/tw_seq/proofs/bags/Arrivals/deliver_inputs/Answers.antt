@@ -6,8 +6,8 @@ use Rattle.std.proofs.lemmas.List.{get_or_read}
 use Rattle.tw_seq.specs.Dealing.{dealt}
 use Rattle.tw_theory.specs.Bundles.{Ascending, first_stamp}
 use Rattle.tw_theory.specs.Simulator.{with_stamp}
-use Rattle.tw_seq.proofs.DealingLemmas.{dealt-none, length-dealt, input_taken, inputs_all}
-use Rattle.tw_seq.proofs.InputLemmas.{past_taken, later_none, later_all}
+use Rattle.tw_seq.proofs.Dealt.{dealt-none, length-dealt, input_taken, inputs_all}
+use Rattle.tw_seq.proofs.InputsGiven.{past_taken, later_none, later_all}
 use Rattle.tw_seq.proofs.Places.{drop_next}
 use Rattle.tw_seq.proofs.bags.Arrivals.deliver_inputs.Goals as goal
 use Rattle.tw_seq.proofs.bags.Arrivals.deliver_inputs.Goals.{After-index-inputs-next-in-loop-next, Else-eq}

@@ -1,5 +1,5 @@
 -- Sorted, and each once.
-use Rattle.tw_seq.proofs.WakingLemmas.{once_rising, once_more, once_awake}
+use Rattle.tw_seq.proofs.Woken.{once_rising, once_more, once_awake}
 use Rattle.tw_seq.proofs.bags.Arrivals.wake.Goals as goal
 
 pub returns-clause-rising : goal.returns-clause-rising

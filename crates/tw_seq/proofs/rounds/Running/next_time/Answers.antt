@@ -1,8 +1,8 @@
 -- The lesser of the two times.
 use Rattle.std.proofs.Common.{◌≡◌, ◌∙◌, sym, ap, arith, drop}
 use Rattle.tw_theory.specs.Simulator.{least_due, least_input}
-use Rattle.tw_seq.proofs.AgendaLemmas.{agenda_first}
-use Rattle.tw_seq.proofs.TimeLemmas.{before_tells, after_tells}
+use Rattle.tw_seq.proofs.AgendaChanges.{agenda_first}
+use Rattle.tw_seq.proofs.LeastTimes.{before_tells, after_tells}
 use Rattle.tw_seq.proofs.rounds.Running.next_time.Goals as goal
 use Rattle.tw_seq.proofs.rounds.Running.next_time.Goals.{then-lt, else-lt}
 

@@ -22,7 +22,7 @@ use Rattle.tw_vtime.specs.Stamps.{max_tick, tick_of, phase_of}
 use Rattle.tw_seq.proofs.Places.{drop_next}
 use Rattle.tw_seq.proofs.Between.{stays_between}
 use Rattle.tw_seq.proofs.Sweeping.{along, at_place, onward, onward_within, onward_next, none_between, none_after}
-use Rattle.tw_seq.proofs.TurnLemmas.{stays_turn}
+use Rattle.tw_seq.proofs.TurnsMade.{stays_turn}
 
 same_head : {X : Type 0} (x y : X) (xs ys : List X) → x ∷ xs ≡ y ∷ ys → x ≡ y
 same_head x y xs ys e = cc e

@@ -13,7 +13,7 @@ use Rattle.tw_theory.specs.Transitions.{Moment, output}
 use Rattle.tw_theory.specs.Network.{Network, model_of, absent, routed}
 use Rattle.tw_theory.specs.Simulator.{outputs, all_sent, sent_in}
 use Rattle.tw_vtime.specs.Stamps.{stamp, tick_of, micro_of, phase_of}
-use Rattle.tw_seq.proofs.DealingLemmas.{dealt-none, dealt-append}
+use Rattle.tw_seq.proofs.Dealt.{dealt-none, dealt-append}
 use Rattle.tw_seq.proofs.Places.{drop_next, drop_all}
 use Rattle.tw_seq.proofs.Sweeping.{along, at_place}
 

@@ -20,8 +20,8 @@ use Rattle.tw_theory.specs.Transitions.{Moment}
 use Rattle.tw_theory.proofs.Elements.{get_of_set}
 use Rattle.tw_theory.specs.Simulator.{least_due}
 use Rattle.tw_vtime.specs.Stamps.{never}
-use Rattle.tw_seq.proofs.StartLemmas.{get_pushed}
-use Rattle.tw_seq.proofs.TimeLemmas.{due_top, due_least}
+use Rattle.tw_seq.proofs.Starts.{get_pushed}
+use Rattle.tw_seq.proofs.LeastTimes.{due_top, due_least}
 
 eq_tells : (r : Ordering) → is_eq r ≡ true → r ≡ Equal
 eq_tells Less e = absurd (cc e)

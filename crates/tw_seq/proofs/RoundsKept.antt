@@ -23,13 +23,13 @@ use Rattle.tw_theory.specs.Network.{Network}
 use Rattle.tw_theory.specs.Simulator.{RoundTurn, take_turn, after_output, turns, first_stop, turn_records, turned_moments, outputs, all_sent, with_stamp, past_stamp, Run, round, round_end, round_time, least_due, least_input}
 use Rattle.tw_vtime.specs.Stamps.{never, phase_of}
 use Rattle.tw_vtime.specs.declared.limits.Limit.{Limit}
-use Rattle.tw_seq.proofs.BagLemmas.{sorted_bag-FitsBag, FitsOutput-bag}
-use Rattle.tw_seq.proofs.CarriedLemmas.{each-filter, sent_carried, none_fits, dealt_fits}
-use Rattle.tw_seq.proofs.DealingLemmas.{dealt-append}
-use Rattle.tw_seq.proofs.OutputLemmas.{output_is}
+use Rattle.tw_seq.proofs.SortedBags.{sorted_bag-FitsBag, FitsOutput-bag}
+use Rattle.tw_seq.proofs.CarriedFits.{each-filter, sent_carried, none_fits, dealt_fits}
+use Rattle.tw_seq.proofs.Dealt.{dealt-append}
+use Rattle.tw_seq.proofs.RoundOutputs.{output_is}
 use Rattle.tw_seq.proofs.Places.{each_of_all}
 use Rattle.tw_seq.proofs.Between.{between_at}
-use Rattle.tw_seq.proofs.TimeLemmas.{due_least}
+use Rattle.tw_seq.proofs.LeastTimes.{due_least}
 use Rattle.tw_theory.proofs.Elements.{each_weaker}
 
 -- the turns with the bags that messages make

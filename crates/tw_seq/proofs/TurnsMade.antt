@@ -18,7 +18,7 @@ use Rattle.tw_theory.specs.Simulator.{Stays, Moves, Stops, take_turn, after_outp
 use Rattle.tw_vtime.specs.Advance.{advanced}
 use Rattle.tw_vtime.specs.Stamps.{max_tick, tick_of, phase_of}
 use Rattle.tw_vtime.specs.declared.limits.Limit.{Limit}
-use Rattle.tw_seq.proofs.OutputLemmas.{model_is}
+use Rattle.tw_seq.proofs.RoundOutputs.{model_is}
 
 pub stays_turn : {S : Type 0} (net : Network S) (c s : ℕ) (at : Moment S) (imminent : Bool) (bag : Bag) → kind_and_turn imminent bag ≡ None → take_turn net c at s imminent bag ≡ Stays
 stays_turn net c s at true [] e = absurd (cc e)

@@ -1,6 +1,6 @@
 //! The heap of events.
 
-ghost use Rattle.std.specs.Prelude.{◌≡◌, ◌≢◌, ℕ, ◌+◌, ◌<◌, ◌≤◌, [], map, Some, None, IfSome, IsSome, IsOk, OnOk};
+ghost use Rattle.std.specs.Prelude.{◌≡◌, ◌≢◌, ℕ, ◌+◌, ◌<◌, ◌≤◌, [], map, Some, None, IfOk, IfSome, IsSome, IsOk, OnOk};
 ghost use Rattle.tw_msgs.specs.Messages.{Sorted};
 ghost use Rattle.tw_heap.specs.Order.{insert_by};
 ghost use Rattle.tw_heap.specs.Entries.{is_before, message_of, entry_of, without, first_of, IsRising, AreDistinct, AreBelow};
@@ -79,6 +79,17 @@ impl EventHeap {
             self.places.resize(top, 0)?;
         }
         Ok(())
+    }
+
+    /// A heap of the same entries. It is refused for want of memory (refusal 4).
+    pub fn copy(&self) -> Result<Self, AllocError>
+        ensures entries { IfOk result (λ copy. copy.entries ≡ self.now.entries) }
+        ensures top { IfOk result (λ copy. copy.top ≡ self.now.top) }
+    {
+        Ok(EventHeap {
+            entries: self.entries.clone()?,
+            places: self.places.clone()?,
+        })
     }
 
     /// The entry that comes first, in constant time.

@@ -15,7 +15,8 @@ use Rattle.tw_msgs.specs.declared.message.Message.{Message}
 use Rattle.tw_msgs.specs.declared.message.Item.{Item}
 use Rattle.tw_theory.specs.Bundles.{anti, antis}
 use Rattle.tw_lists.specs.Lists.{Lists, with_pending, without_pending, without_orphan, forgotten}
-use Rattle.tw_lists.specs.Nodes.{Nodes, contents, spare_of, event, message_at, item_at, IsBelow, IsKept, index_of}
+use Rattle.tw_lists.specs.Nodes.{contents, spare_of, IsBelow, IsKept, index_of}
+use Rattle.tw_lists.specs.Lists.{Nodes, event, message_at, item_at}
 use Rattle.tw_lists.proofs.NodeMoves.{below_more}
 use Rattle.tw_lists.proofs.Sends.{map-drop}
 use Rattle.tw_lists.proofs.Counts.{insert-length, without-length}

@@ -7,7 +7,8 @@ use Rattle.tw_heap.specs.declared.entries.Entry.{Entry}
 use Rattle.tw_heap.specs.Order.{insert_by}
 use Rattle.tw_heap.specs.Entries.{Events, is_before, entry_of, without, message_of}
 use Rattle.tw_lists.specs.Lists.{node_count}
-use Rattle.tw_lists.specs.Nodes.{Nodes, contents, message_at, item_at}
+use Rattle.tw_lists.specs.Nodes.{contents}
+use Rattle.tw_lists.specs.Lists.{Nodes, message_at, item_at}
 
 pub insert-length : (e : Entry) (es : List Entry) → length (insert_by is_before e es) ≡ length es + 1
 insert-length e [] = refl

@@ -10,7 +10,8 @@ use Rattle.tw_msgs.specs.Messages.{same_message, has, without}
 use Rattle.tw_msgs.specs.declared.message.Message.{Message}
 use Rattle.tw_msgs.specs.declared.message.Item.{Item}
 use Rattle.tw_msgs.proofs.Messages.{same_message_is, same_message_from}
-use Rattle.tw_lists.specs.Nodes.{Nodes, message_at, index_of, event}
+use Rattle.tw_lists.specs.Nodes.{index_of}
+use Rattle.tw_lists.specs.Lists.{Nodes, message_at, event}
 use Rattle.tw_lists.proofs.NodeMoves.{node_of}
 
 pub record FindStep (lists : List Nodes) (number k index : ℕ) : Type 0 where

@@ -7,3 +7,4 @@ pub mod Owing
 pub mod Comings
 pub mod Loops
 pub mod Parts
+pub mod Walks

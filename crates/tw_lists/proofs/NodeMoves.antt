@@ -16,7 +16,8 @@ use Rattle.tw_msgs.specs.declared.message.Message.{Message}
 use Rattle.tw_msgs.specs.declared.message.Item.{Item}
 use Rattle.tw_theory.specs.Bundles.{antis}
 use Rattle.tw_lists.specs.Lists.{Lists, first_consumed, restored}
-use Rattle.tw_lists.specs.Nodes.{Nodes, contents, spare_of, event, message_at, item_at, IsBelow, IsKept}
+use Rattle.tw_lists.specs.Nodes.{contents, spare_of, IsBelow, IsKept}
+use Rattle.tw_lists.specs.Lists.{Nodes, event, message_at, item_at}
 use Rattle.tw_lists.proofs.Counts.{insert-length}
 use Rattle.tw_lists.proofs.Ends.{LastOff, last_off}
 

@@ -16,7 +16,8 @@ use Rattle.tw_theory.specs.Bundles.{anti, positive, positives, antis, sent_anew,
 use Rattle.tw_theory.specs.Contents.{Cancel, Aggressive, Lazy, sent_out, owed_after}
 use Rattle.tw_theory.proofs.Owing.{anew-append, still-append, out-append, after-append}
 use Rattle.tw_lists.specs.Lists.{Lists, with_sent_again, with_overdue_posted, with_all_sent}
-use Rattle.tw_lists.specs.Nodes.{Nodes, contents, spare_of, message_at, item_at, IsKept, index_of, overdue_nodes, not_overdue_nodes, IsSettled, IsPosted}
+use Rattle.tw_lists.specs.Nodes.{contents, spare_of, IsKept, index_of, overdue_nodes, not_overdue_nodes, IsSettled, IsPosted}
+use Rattle.tw_lists.specs.Lists.{Nodes, message_at, item_at}
 use Rattle.tw_lists.proofs.Finding.{found_at}
 use Rattle.tw_lists.proofs.Sends.{Changed, changed_kept, changed_contents, antis-append}
 

@@ -8,7 +8,8 @@ use Rattle.tw_msgs.specs.declared.message.Item.{Item}
 use Rattle.tw_theory.specs.Bundles.{anti, positive, antis}
 use Rattle.tw_theory.specs.Contents.{Cancel, Aggressive, Lazy}
 use Rattle.tw_lists.specs.Lists.{Lists, cancelled, with_sent}
-use Rattle.tw_lists.specs.Nodes.{Nodes, contents, spare_of, message_at, item_at, IsKept}
+use Rattle.tw_lists.specs.Nodes.{contents, spare_of, IsKept}
+use Rattle.tw_lists.specs.Lists.{Nodes, message_at, item_at}
 
 pub map-take : {A B : Type 0} (f : A → B) (n : ℕ) (xs : List A) → map f (take n xs) ≡ take n (map f xs)
 map-take f zero xs = refl

@@ -1,5 +1,8 @@
 -- What a contract sees of the five lists of a process, and what the calls do to them.
-use Rattle.std.specs.Prelude.{ℕ, ◌+◌, ◌-◌, List, [], ◌∷◌, ◌++◌, length, take, drop, Option, Some, None}
+use Rattle.std.specs.Prelude.{ℕ, ◌+◌, ◌-◌, List, [], ◌∷◌, ◌++◌, length, take, drop, Option, Some, None, ◌≡◌, ◌==◌}
+use Rattle.std.specs.Map.{lookup}
+use Rattle.tw_heap.specs.declared.entries.Entry.{Entry}
+use Rattle.tw_heap.specs.Entries.{entry_of}
 use Rattle.tw_msgs.specs.Messages.{place, without}
 use Rattle.tw_msgs.specs.declared.message.Message.{Message}
 use Rattle.tw_msgs.specs.declared.message.Item.{Item}
@@ -84,6 +87,29 @@ with_orphan m c = record c { waiting = c.waiting ++ m ∷ [] }
 abbrev pub without_orphan : Message → Lists → Lists
 without_orphan m c = record c { waiting = without m c.waiting }
 
+abbrev pub without_outgoing : Lists → Lists
+without_outgoing c = record c { outgoing = [] }
+
 -- the first n consumed and the first k sent messages are gone
 abbrev pub forgotten : ℕ → ℕ → Lists → Lists
 forgotten n k c = record c { consumed = drop n c.consumed; sent = drop k c.sent }
+
+-- ---- Nodes of the pool and entries of the heap, as they are lent
+
+abbrev pub Nodes : Type 0
+Nodes = List (ℕ × Item)
+
+abbrev pub item_at : ℕ × Item → Item
+item_at node = node.1
+
+abbrev pub message_at : ℕ × Item → Message
+message_at node = node.1.message
+
+-- the entry of a node
+abbrev pub event : ℕ → Option Item → Option Entry
+event index None = None
+event index (Some item) = Some (record { key = item.message; index = index })
+
+-- under each index both have nothing, or a node and its entry
+abbrev pub AreSame : Nodes → List Entry → Type 0
+AreSame nodes entries = (index : ℕ) → entry_of index entries ≡ event index (lookup (λ k. k == index) nodes)

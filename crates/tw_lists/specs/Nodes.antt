@@ -8,16 +8,7 @@ use Rattle.tw_msgs.specs.Messages.{same_message}
 use Rattle.tw_msgs.specs.declared.message.Message.{Message}
 use Rattle.tw_msgs.specs.declared.message.Item.{Item}
 use Rattle.tw_theory.specs.Bundles.{antis, front, behind, items_of}
-use Rattle.tw_lists.specs.Lists.{Lists}
-
-abbrev pub Nodes : Type 0
-Nodes = List (ℕ × Item)
-
-abbrev pub item_at : ℕ × Item → Item
-item_at node = node.1
-
-abbrev pub message_at : ℕ × Item → Message
-message_at node = node.1.message
+use Rattle.tw_lists.specs.Lists.{Lists, Nodes, item_at, message_at, AreSame}
 
 -- for how many messages the heap has room beside n, if no index can be too great for it
 abbrev pub spare_of : ℕ → Events → ℕ → ℕ
@@ -35,11 +26,6 @@ contents lists room spare entries = record {
   spare = spare;
 }
 
--- the event of a node
-abbrev pub event : ℕ → Option Item → Option Entry
-event index None = None
-event index (Some item) = Some (record { key = item.message; index = index })
-
 -- each index is less
 abbrev pub IsBelow : ℕ → Nodes → Type 0
 IsBelow top [] = Unit {0}
@@ -48,7 +34,7 @@ IsBelow top (node ∷ nodes) = (node.0 < top) × IsBelow top nodes
 -- what the lists keep
 pub record IsKept (lists : List Nodes) (heap : Events) : Type 0 where
   -- the heap has exactly the pending nodes, each under its own message
-  pub same : (index : ℕ) → entry_of index heap.entries ≡ event index (lookup (λ k. k == index) (list_at lists 0))
+  pub same : AreSame (list_at lists 0) heap.entries
   pub count : length heap.entries ≡ length (list_at lists 0)
   -- what was consumed can be pending again without memory
   pub consumed_below : IsBelow heap.top (list_at lists 1)

@@ -10,7 +10,8 @@
 //!
 //! | File | Calls |
 //! |---|---|
-//! | `lists` | making, laws, room, readers |
+//! | `lists` | making, laws, room |
+//! | `reading` | lengths, copies in order, least stamps, the pool and the heap |
 //! | `moves` | messages consumed and pending again, coming and going |
 //! | `sending` | messages sent, or sent again where an equal one is owed |
 //! | `settling` | messages taken back: as anti-messages, or owed, and what is owed for too long |
@@ -23,6 +24,7 @@
 mod cancel;
 mod lists;
 mod moves;
+mod reading;
 mod searching;
 mod sending;
 mod settling;

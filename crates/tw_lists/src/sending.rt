@@ -8,7 +8,7 @@ ghost use Rattle.tw_theory.specs.Bundles.{sent_anew};
 ghost use Rattle.tw_theory.specs.Contents.{Aggressive, Lazy, sent_out};
 ghost use Rattle.tw_lists.specs.Ways.{way_of};
 ghost use Rattle.tw_lists.specs.Lists.{with_room, with_sent, with_all_sent, with_sent_again};
-ghost use Rattle.tw_lists.specs.Nodes.{message_at};
+ghost use Rattle.tw_lists.specs.Lists.{message_at};
 
 use crate::cancel::Cancel;
 use crate::lists::{EventLists, OUTGOING, OWED, SENT, signed};

@@ -2,7 +2,7 @@ use Rattle.std.proofs.Common.{◌≡◌, ◌+◌, ◌++◌, ◌∷◌, [], nat_l
 use Rattle.std.proofs.lemmas.List.{take_more}
 use Rattle.tw_pool.specs.Lists.{list_at}
 use Rattle.tw_theory.specs.Bundles.{sent_anew}
-use Rattle.tw_lists.specs.Nodes.{message_at}
+use Rattle.tw_lists.specs.Lists.{message_at}
 use Rattle.tw_lists.proofs.Owing.{fresh_more}
 use Rattle.tw_lists.proofs.sending.fresh_count.Goals as goal
 

@@ -1,7 +1,7 @@
 use Rattle.std.proofs.Common.{◌≡◌, ◌≤◌, take, map, length}
 use Rattle.tw_pool.specs.Lists.{list_at}
 use Rattle.tw_theory.specs.Bundles.{sent_anew}
-use Rattle.tw_lists.specs.Nodes.{message_at}
+use Rattle.tw_lists.specs.Lists.{message_at}
 use Rattle.tw_lists.proofs.sending.fresh_count.Given as goal
 
 abbrev pub invariant-loop-number : goal.invariant-loop-number

@@ -1,7 +1,7 @@
 use Rattle.std.proofs.Common.{◌≡◌, ◌+◌, ◌≤◌, drop, map, IfSome}
 use Rattle.tw_msgs.specs.Counting.{total, one_at}
 use Rattle.tw_pool.specs.Lists.{list_at, first_of, IsLive}
-use Rattle.tw_lists.specs.Nodes.{message_at}
+use Rattle.tw_lists.specs.Lists.{message_at}
 use Rattle.tw_lists.proofs.sending.owed_count.Given as goal
 
 abbrev pub invariant-loop : goal.invariant-loop

@@ -2,7 +2,8 @@ use Rattle.std.proofs.Common.{◌≡◌, ◌≤◌, ap, sym, subst, ◌∙◌, l
 use Rattle.std.proofs.lemmas.List.{length-map}
 use Rattle.tw_pool.specs.Lists.{list_at, without_first}
 use Rattle.tw_lists.specs.Lists.{with_room, forgotten}
-use Rattle.tw_lists.specs.Nodes.{spare_of, message_at}
+use Rattle.tw_lists.specs.Nodes.{spare_of}
+use Rattle.tw_lists.specs.Lists.{message_at}
 use Rattle.tw_lists.proofs.Comings.{Forgotten, forgotten_kept, sent_there}
 use Rattle.tw_lists.proofs.lists.EventLists.forget.Goals.{After-cut_front-2}
 use Rattle.tw_lists.proofs.lists.EventLists.forget.Goals as goal

@@ -3,7 +3,8 @@ use Rattle.tw_msgs.specs.Messages.{Sorted}
 use Rattle.tw_pool.specs.Lists.{list_at}
 use Rattle.tw_pool.proofs.IndexLemmas.{last_none}
 use Rattle.tw_lists.specs.Lists.{restored}
-use Rattle.tw_lists.specs.Nodes.{contents, message_at, spare_of}
+use Rattle.tw_lists.specs.Nodes.{contents, spare_of}
+use Rattle.tw_lists.specs.Lists.{message_at}
 use Rattle.tw_lists.proofs.NodeMoves.{restoring, restored_kept, Restoring, Restored}
 use Rattle.tw_lists.proofs.lists.EventLists.restore_last.Goals.{After-get, After-insert}
 use Rattle.tw_lists.proofs.lists.EventLists.restore_last.Goals as goal

@@ -1,0 +1,75 @@
+-- A list of nodes read one after another.
+use Rattle.std.proofs.Common.{◌≡◌, ℕ, suc, ◌+◌, ◌<◌, ◌≤◌, ◌==◌, Bool, true, false, min, List, [], ◌∷◌, ◌++◌, length, map, drop, Some, cond, refl, sym, ap, ◌∙◌, arith, append_assoc}
+use Rattle.std.specs.Prelude.{nat_lt, take_while}
+use Rattle.std.specs.Ordering.{nat_cmp, is_le, is_lt, ord_min}
+use Rattle.std.specs.declared.cmp.Ordering.TheVariants.{Less, Equal, Greater}
+use Rattle.std.proofs.lemmas.Bool.{lt-ltb, ltb-true, ltb-false, eqb-false}
+use Rattle.std.proofs.lemmas.List.Sums.{take_while-cons}
+use Rattle.tw_heap.specs.declared.entries.Entry.{Entry}
+use Rattle.tw_heap.specs.Entries.{message_of, first_of, without}
+use Rattle.tw_heap.proofs.EntryLemmas.{behind_first, without-first}
+use Rattle.tw_msgs.specs.declared.message.Message.{Message}
+use Rattle.tw_msgs.specs.declared.message.Item.{Item}
+use Rattle.tw_theory.specs.Bundles.{least_owed, least_stamp}
+use Rattle.tw_vtime.specs.Stamps.{never}
+use Rattle.tw_lists.specs.Lists.{Nodes, item_at, message_at}
+
+pub read_more : {B : Type 0} (f : ℕ × Item → B) (l : Nodes) (k : ℕ) (node : ℕ × Item) (behind : Nodes) (xs : List B) (y : B) → y ≡ f node → drop k l ≡ node ∷ behind → drop (k + 1) l ≡ behind → xs ++ map f (drop k l) ≡ map f l
+    → (xs ++ y ∷ []) ++ map f (drop (k + 1) l) ≡ map f l
+read_more f l k node behind xs y is dropped rest all =
+    (λ i. (xs ++ is i ∷ []) ++ map f (rest i))
+    ∙ append_assoc xs (f node ∷ []) (map f behind)
+    ∙ ap (λ r. xs ++ map f r) (sym dropped)
+    ∙ all
+
+pub read_end : {B : Type 0} (f : ℕ × Item → B) (l : Nodes) (k : ℕ) (xs : List B) → drop k l ≡ [] → drop (k + 1) l ≡ [] → xs ++ map f (drop k l) ≡ map f l → xs ++ map f (drop (k + 1) l) ≡ map f l
+read_end f l k xs now later all = ap (λ r. xs ++ map f r) (later ∙ sym now) ∙ all
+
+pub least_top : (is : List Item) → min never (least_stamp is) ≡ least_stamp is
+least_top [] = omega arith
+least_top (i ∷ is) = let rest = least_top is in omega (arith, rest)
+
+pub least_below : (is : List Item) → least_stamp is ≤ never
+least_below is = omega (arith, least_top is)
+
+pub least_more : (l : Nodes) (k : ℕ) (node : ℕ × Item) (behind : Nodes) (least y whole : ℕ) → y ≡ min least node.1.message.stamp → drop k l ≡ node ∷ behind → drop (k + 1) l ≡ behind → min least (least_stamp (map item_at (drop k l))) ≡ whole
+    → min y (least_stamp (map item_at (drop (k + 1) l))) ≡ whole
+least_more l k node behind least y whole is dropped rest all =
+    omega (arith, is, all, ap (λ r. least_stamp (map item_at r)) dropped, ap (λ r. least_stamp (map item_at r)) rest)
+
+pub least_end : (l : Nodes) (k least whole : ℕ) → drop k l ≡ [] → drop (k + 1) l ≡ [] → min least (least_stamp (map item_at (drop k l))) ≡ whole → min least (least_stamp (map item_at (drop (k + 1) l))) ≡ whole
+least_end l k least whole now later all = ap (λ r. min least (least_stamp (map item_at r))) (later ∙ sym now) ∙ all
+
+pub least_owed-is : (l : Nodes) → least_owed (map message_at l) ≡ least_stamp (map item_at l)
+least_owed-is [] = refl
+least_owed-is (node ∷ l) = ap (min node.1.message.stamp) (least_owed-is l)
+
+pub not_le : (m n : ℕ) → is_le (nat_cmp m n) ≡ false → n < m
+not_le m n is = go (nat_lt m n) refl (m == n) refl is
+  where
+    go : (a : Bool) → nat_lt m n ≡ a → (b : Bool) → (m == n) ≡ b → is_le (cond a Less (cond b Equal Greater)) ≡ false → n < m
+    go true l b e h = absurd (cc)
+    go false l true e h = absurd (cc)
+    go false l false e h = omega (arith, ltb-false m n l, eqb-false m n e)
+
+pub ord_min-is : (m n : ℕ) → ord_min nat_cmp m n ≡ min m n
+ord_min-is m n = go (nat_lt n m) refl (n == m) refl
+  where
+    go : (a : Bool) → nat_lt n m ≡ a → (b : Bool) → (n == m) ≡ b → cond (is_lt (cond a Less (cond b Equal Greater))) n m ≡ min m n
+    go true l b e = let k = ltb-true n m l in omega (arith, k)
+    go false l true e = let k = ltb-false n m l in omega (arith, k)
+    go false l false e = let k = ltb-false n m l in omega (arith, k)
+
+pub before_more : (s : ℕ) (e : Entry) (entries later : List Entry) (xs ys whole : List Message) → Some e ≡ first_of entries → e.key.stamp < s → later ≡ without e.index entries → ys ≡ xs ++ e.key ∷ []
+    → xs ++ take_while (λ (m : Message). nat_lt m.stamp s) (map message_of entries) ≡ whole
+    → ys ++ take_while (λ (m : Message). nat_lt m.stamp s) (map message_of later) ≡ whole
+before_more s e entries later xs ys whole first less later_is ys_is all =
+    let b = behind_first entries e first in
+    let rest : later ≡ b.rest = later_is ∙ ap (without e.index) b.split ∙ without-first e b.rest in
+    let t = lt-ltb e.key.stamp s less in
+    (λ i. ys_is i ++ take_while (λ (m : Message). nat_lt m.stamp s) (map message_of (rest i)))
+    ∙ append_assoc xs (e.key ∷ []) (take_while (λ (m : Message). nat_lt m.stamp s) (map message_of b.rest))
+    ∙ sym (ap (λ c. xs ++ cond c (e.key ∷ take_while (λ (m : Message). nat_lt m.stamp s) (map message_of b.rest)) []) t)
+    ∙ sym (ap (λ l. xs ++ l) (take_while-cons (λ (m : Message). nat_lt m.stamp s) e.key (map message_of b.rest)))
+    ∙ ap (λ l. xs ++ take_while (λ (m : Message). nat_lt m.stamp s) (map message_of l)) (sym b.split)
+    ∙ all

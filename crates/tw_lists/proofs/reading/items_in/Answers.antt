@@ -1,0 +1,36 @@
+use Rattle.std.proofs.Common.{◌≡◌, ◌+◌, ◌<◌, ◌++◌, [], ◌∷◌, ℕ, drop, map, Option, Some, None, IfSome, ap, sym, subst, ◌∙◌, arith, refl}
+use Rattle.tw_pool.specs.Lists.{list_at, first_of, IsLive}
+use Rattle.tw_lists.specs.Lists.{item_at}
+use Rattle.tw_lists.proofs.Finding.{FindStep, find_step, ended_first}
+use Rattle.tw_lists.proofs.Owing.{ended_owed}
+use Rattle.tw_lists.proofs.Walks.{read_more, read_end}
+use Rattle.tw_lists.proofs.reading.items_in.Goals.{in-Some+in_ok-push, in_default}
+use Rattle.tw_lists.proofs.reading.items_in.Goals as goal
+
+same_item : {T : Type 0} (x y : T) (o : Option T) → o ≡ Some x → o ≡ Some y → y ≡ x
+same_item x y o is also = let both = sym is ∙ also in cc
+
+pub loop-preserved : goal.loop-preserved
+loop-preserved c =
+    let lists = c.args.pool.now.lists in
+    let l = list_at lists c.args.list in
+    let k = c.loop.counter in
+    elim c.match-at.branch [
+      | in-Some+in_ok-push w ↦
+          let at = find_step lists c.args.list k w.in-Some.index c.lists_law.ensures.distinct (omega (arith, c.requires, c.lists_law.ensures.count)) (sym w.in-Some.is ∙ c.loop.invariant.at_is) in
+          let item = same_item at.item w.get.result.now _ at.got w.get.ensures in
+          record {
+            at_is = w.at-is ∙ w.next-at.ensures.value ∙ at.next;
+            all = ap (λ v. v ++ map item_at (drop (k + 1) l)) (ap (λ v. v.items) w.items-is ∙ w.in_ok-push.ensures.items)
+                ∙ read_more item_at l k (w.in-Some.index, at.item) at.behind c.loop.items.items _ (item) at.dropped at.behind_is c.loop.invariant.all;
+            live = subst (λ o. IfSome o (λ index. IsLive index lists)) (sym w.at-is) w.next-at.ensures.live;
+          }
+      | in_default w ↦
+          let none : None ≡ first_of (drop k l) = sym w.in_default.is ∙ c.loop.invariant.at_is in
+          let end = ended_owed l k none in
+          record {
+            at_is = w.at-is ∙ w.in_default.is ∙ ended_first l k none;
+            all = ap (λ v. v.items ++ map item_at (drop (k + 1) l)) w.items-is ∙ read_end item_at l k c.loop.items.items end.now end.later c.loop.invariant.all;
+            live = subst (λ o. IfSome o (λ index. IsLive index lists)) (sym (w.at-is ∙ w.in_default.is)) tt;
+          }
+    ]

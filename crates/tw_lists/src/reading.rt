@@ -1,0 +1,188 @@
+//! What is read of the lists: lengths, copies, least stamps, and the pool and the heap themselves.
+
+ghost use Rattle.std.specs.Prelude.{◌≡◌, ◌<◌, IfOk, length, map, nat_lt, take_while};
+ghost use Rattle.std.specs.Map.{lookup};
+ghost use Rattle.tw_heap.specs.Entries.{message_of};
+ghost use Rattle.tw_pool.specs.Lists.{list_at};
+ghost use Rattle.tw_theory.specs.Bundles.{antis, least_owed, least_stamp};
+ghost use Rattle.tw_lists.specs.Lists.{item_at, message_at, AreSame};
+
+use crate::lists::{EventLists, OUTGOING, OWED, PENDING, WAITING};
+use std::alloc::{AllocError, Global};
+use tw_heap::EventHeap;
+use tw_msgs::{Item, Message};
+use tw_pool::Pool;
+use tw_vtime::Stamp;
+
+impl EventLists {
+    /// How many messages are pending.
+    pub fn pending_len(&self) -> usize
+        ensures { result ≡ length self.now.pending }
+    {
+        self.pool.len(PENDING)
+    }
+
+    /// How many anti-messages wait.
+    pub fn waiting_len(&self) -> usize
+        ensures { result ≡ length self.now.waiting }
+    {
+        self.pool.len(WAITING)
+    }
+
+    /// How many items are outgoing.
+    pub fn outgoing_len(&self) -> usize
+        ensures { result ≡ length self.now.outgoing }
+    {
+        self.pool.len(OUTGOING)
+    }
+
+    /// How many messages are owed.
+    pub fn owed_len(&self) -> usize
+        ensures { result ≡ length self.now.owed }
+    {
+        self.pool.len(OWED)
+    }
+
+    /// The pending messages in order. It is refused for want of memory alone (4), as the copies below.
+    pub fn pending(&self, alloc: Global) -> Result<Vec<Message>, AllocError>
+        ensures { IfOk result (λ messages. messages.items ≡ self.now.pending) }
+    {
+        let mut messages = Vec::new(alloc);
+        let mut rest = self.heap.copy()?;
+        while let Some(entry) = rest.first() {
+            messages.push(entry.key)?;
+            rest.remove(entry.index);
+        }
+        Ok(messages)
+    }
+
+    /// The pending messages at the front that come before a stamp, in order.
+    pub fn pending_before(&self, alloc: Global, stamp: Stamp) -> Result<Vec<Message>, AllocError>
+        ensures { IfOk result (λ messages. messages.items ≡ take_while (λ m. nat_lt m.stamp stamp) self.now.pending) }
+    {
+        let mut messages = Vec::new(alloc);
+        let mut rest = self.heap.copy()?;
+        while let Some(entry) = rest.first() {
+            if stamp <= entry.key.stamp {
+                break;
+            }
+            messages.push(entry.key)?;
+            rest.remove(entry.index);
+        }
+        Ok(messages)
+    }
+
+    /// The outgoing items in order.
+    pub fn outgoing(&self, alloc: Global) -> Result<Vec<Item>, AllocError>
+        ensures { IfOk result (λ items. items.items ≡ self.now.outgoing) }
+    {
+        items_in(alloc, &self.pool, OUTGOING)
+    }
+
+    /// The messages whose anti-messages wait, in order of arrival.
+    pub fn waiting(&self, alloc: Global) -> Result<Vec<Message>, AllocError>
+        ensures { IfOk result (λ messages. messages.items ≡ self.now.waiting) }
+    {
+        messages_in(alloc, &self.pool, WAITING)
+    }
+
+    /// The owed messages in order.
+    pub fn owed(&self, alloc: Global) -> Result<Vec<Message>, AllocError>
+        ensures { IfOk result (λ messages. messages.items ≡ self.now.owed) }
+    {
+        messages_in(alloc, &self.pool, OWED)
+    }
+
+    /// The least stamp of the outgoing items, or the end.
+    pub fn least_outgoing(&self) -> Stamp
+        ensures { result ≡ least_stamp self.now.outgoing }
+    {
+        least_in(&self.pool, OUTGOING)
+    }
+
+    /// The least stamp of the owed messages, or the end.
+    pub fn least_owed(&self) -> Stamp
+        ensures { result ≡ least_owed self.now.owed }
+    {
+        least_in(&self.pool, OWED)
+    }
+
+    /// The pool: lists of pending (in any order), consumed, sent, outgoing, waiting and owed messages, numbered from 0.
+    /// A sent and an owed message is there as its anti-message.
+    pub fn pool(&self) -> &Pool<Item, 6>
+        ensures consumed { map message_at (list_at result.now.lists 1) ≡ self.now.consumed }
+        ensures sent { map item_at (list_at result.now.lists 2) ≡ antis self.now.sent }
+        ensures outgoing { map item_at (list_at result.now.lists 3) ≡ self.now.outgoing }
+        ensures waiting { map message_at (list_at result.now.lists 4) ≡ self.now.waiting }
+        ensures owed { map item_at (list_at result.now.lists 5) ≡ antis self.now.owed }
+        ensures room { result.now.room ≡ self.now.room }
+    {
+        &self.pool
+    }
+
+    /// The heap of the pending messages.
+    pub fn heap(&self) -> &EventHeap
+        ensures { map message_of result.now.entries ≡ self.now.pending }
+    {
+        &self.heap
+    }
+
+    /// The pool and the heap: the heap's entries are exactly the nodes of list 0, each under its own message.
+    pub fn nodes(&self) -> (&Pool<Item, 6>, &EventHeap)
+        ensures same { AreSame (list_at result.0.now.lists 0) result.1.now.entries }
+        ensures count { length result.1.now.entries ≡ length (list_at result.0.now.lists 0) }
+    {
+        (&self.pool, &self.heap)
+    }
+}
+
+// The items of a list, in order.
+fn items_in(alloc: Global, pool: &Pool<Item, 6>, list: usize) -> Result<Vec<Item>, AllocError>
+    requires { list < 6 }
+    ensures { IfOk result (λ items. items.items ≡ map item_at (list_at pool.now.lists list)) }
+{
+    pool.lists_law();
+    let mut items = Vec::new(alloc);
+    let mut at = pool.first(list);
+    for _ in 0..pool.len(list) {
+        if let Some(index) = at {
+            items.push(*pool.get(index))?;
+            at = pool.next(index);
+        }
+    }
+    Ok(items)
+}
+
+// The messages of a list, in order.
+fn messages_in(alloc: Global, pool: &Pool<Item, 6>, list: usize) -> Result<Vec<Message>, AllocError>
+    requires { list < 6 }
+    ensures { IfOk result (λ messages. messages.items ≡ map message_at (list_at pool.now.lists list)) }
+{
+    pool.lists_law();
+    let mut messages = Vec::new(alloc);
+    let mut at = pool.first(list);
+    for _ in 0..pool.len(list) {
+        if let Some(index) = at {
+            messages.push(pool.get(index).message)?;
+            at = pool.next(index);
+        }
+    }
+    Ok(messages)
+}
+
+// The least stamp of a list, or the end.
+fn least_in(pool: &Pool<Item, 6>, list: usize) -> Stamp
+    requires { list < 6 }
+    ensures { result ≡ least_stamp (map item_at (list_at pool.now.lists list)) }
+{
+    pool.lists_law();
+    let mut least = Stamp::END;
+    let mut at = pool.first(list);
+    for _ in 0..pool.len(list) {
+        if let Some(index) = at {
+            least = least.min(pool.get(index).message.stamp);
+            at = pool.next(index);
+        }
+    }
+    least
+}

@@ -84,6 +84,9 @@ with_orphan m c = record c { waiting = c.waiting ++ m ∷ [] }
 abbrev pub without_orphan : Message → Lists → Lists
 without_orphan m c = record c { waiting = without m c.waiting }
 
+abbrev pub without_outgoing : Lists → Lists
+without_outgoing c = record c { outgoing = [] }
+
 -- the first n consumed and the first k sent messages are gone
 abbrev pub forgotten : ℕ → ℕ → Lists → Lists
 forgotten n k c = record c { consumed = drop n c.consumed; sent = drop k c.sent }

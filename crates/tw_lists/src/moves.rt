@@ -5,14 +5,14 @@ ghost use Rattle.tw_msgs.specs.Bags.{Bag as BagItems};
 ghost use Rattle.tw_msgs.specs.Messages.{Sorted, has};
 ghost use Rattle.tw_pool.specs.declared.refused.PoolRefused.TheVariants.{Full};
 ghost use Rattle.tw_theory.specs.Bundles.{front, items_of};
-ghost use Rattle.tw_lists.specs.Lists.{first_consumed, front_consumed, restored, with_room, with_pending, without_pending, with_orphan, without_orphan, forgotten, node_count};
+ghost use Rattle.tw_lists.specs.Lists.{first_consumed, front_consumed, restored, with_room, with_pending, without_pending, with_orphan, without_orphan, forgotten, node_count, without_outgoing};
 ghost use Rattle.tw_lists.specs.Nodes.{IsNext};
 
 use crate::lists::{CONSUMED, EventLists, OUTGOING, PENDING, SENT, WAITING, signed};
 use crate::searching::find;
 use std::alloc::{AllocError, Global};
 use tw_msgs::{Bag, Message, Sign};
-use tw_pool::PoolRefused;
+use tw_pool::{LIVE_LIMIT, PoolRefused};
 use tw_vtime::Stamp;
 
 impl EventLists {
@@ -174,8 +174,9 @@ impl EventLists {
 
     /// One more message waits.
     pub fn note_orphan(&mut self, message: &Message) -> Result<(), PoolRefused>
-        ensures ok { OnOk result (self.new ≡ with_room self.new.room self.new.spare (with_orphan message.now self.old)) }
-        ensures err { OnErr result (self.new ≡ with_room self.new.room self.new.spare self.old) }
+        ensures noted { OnOk result (self.new ≡ with_room self.new.room self.new.spare (with_orphan message.now self.old)) }
+        ensures stays { OnErr result (self.new ≡ with_room self.new.room self.new.spare self.old) }
+        ensures limit { LIVE_LIMIT < node_count self.old + 1 ↔ result ≡ Err Full }
     {
         self.pool.lists_law();
         match self.pool.push_back(WAITING, signed(Sign::Anti, message)) {
@@ -193,5 +194,14 @@ impl EventLists {
         self.pool.lists_law();
         self.pool.cut_front(CONSUMED, consumed);
         self.pool.cut_front(SENT, sent);
+    }
+
+    /// The outgoing items are dropped.
+    pub fn clear_outgoing(&mut self)
+        ensures { self.new ≡ with_room self.new.room self.new.spare (without_outgoing self.old) }
+    {
+        self.pool.lists_law();
+        let count = self.pool.len(OUTGOING);
+        self.pool.cut_front(OUTGOING, count);
     }
 }

@@ -1,0 +1,15 @@
+use Rattle.std.proofs.Common.{◌≡◌, ◌≤◌, ◌++◌, ◌∷◌, [], ap, sym, subst, ◌∙◌}
+use Rattle.std.specs.Arc.{arc_value}
+use Rattle.tw_msgs.specs.Messages.{has, without}
+use Rattle.tw_theory.specs.Contents.{consumed_by}
+use Rattle.tw_theory.specs.Standing.{floor_after}
+use Rattle.tw_lists.specs.Lists.{with_room, with_pending, without_pending, without_orphan, with_orphan}
+use Rattle.tw_process.proofs.Histories.{consumed_by_shown}
+use Rattle.tw_process.proofs.process.Process.has_consumed.Goals as goal
+
+pub returns : goal.returns
+returns g c =
+    let inside = c.self.inside in
+    c.has_consumed.ensures
+    ∙ ap (has c.args.message.now) (sym (consumed_by_shown inside.history.items inside.lists.consumed inside.lists.sent c.self.invariant.by.consumed_is))
+    ∙ ap (λ p. has c.args.message.now (consumed_by p.process.history)) c.self.view_is

@@ -1,0 +1,110 @@
+-- How a process lies in its entries and its six lists, and what it keeps. No public clause cites this module.
+--     shown entries consumed sent      the steps of the entries: each has its part of what was consumed and sent
+--     seen network c now line way floor entries lists      what contracts see
+--     LinkBy, Linked      what the residues say of the states between the steps
+--     Stood IsValid model floor steps      the component stood before each step, and the steps rise from floor on
+--     IsKeptBy, IsKept      what a process of a model keeps; that it keeps it for the model of its component
+use Rattle.std.specs.Prelude.{◌≡◌, ℕ, ◌+◌, ◌-◌, ◌<◌, ◌≤◌, min, List, [], ◌∷◌, ◌++◌, length, take, drop, Option, Some, None, slice_get}
+use Rattle.std.specs.List.{AllByRecursion as Each}
+use Rattle.tw_atomic.specs.Atomic.{Bag, Meaning, turned, CanTurn}
+use Rattle.tw_atomic.specs.declared.Turn.{Turn}
+use Rattle.tw_msgs.specs.Messages.{Sorted}
+use Rattle.tw_msgs.specs.declared.message.Message.{Message}
+use Rattle.tw_network.specs.Contents.{Contents}
+use Rattle.tw_theory.specs.Bundles.{first_stamp}
+use Rattle.tw_theory.specs.Contents.{Cancel}
+use Rattle.tw_theory.specs.LocalRun.{Moment, Step}
+use Rattle.tw_vtime.specs.Stamps.{tick_of, never}
+use Rattle.tw_process.specs.declared.entry.Entry.{Entry}
+use Rattle.tw_lists.specs.Lists.{Lists}
+use Rattle.tw_process.specs.Process.{Held}
+use Rattle.tw_theory.specs.Standing.{IsStanding, floor_after, CanTake}
+
+-- it stood before each of these steps, which rise from floor on; each consumed messages of its own stamp
+abbrev pub Stood : {S : Type 0} → (S → Type 0) → Meaning S → ℕ → List (Step S) → Type 0
+Stood valid m floor [] = Unit {0}
+Stood valid m floor (step ∷ steps) =
+    IsStanding valid m step.before floor
+    × (floor ≤ step.entry.stamp)
+    × Each (λ x. x.stamp ≡ step.entry.stamp) step.consumed
+    × Stood valid m (step.entry.stamp + 1) steps
+
+module _ {S R : Type 0} where
+  abbrev pub before_of : Entry S R → Moment S
+  before_of e = record { state = e.before.value; last = e.last; due = e.due }
+
+  -- an entry, with what it consumed and sent
+  abbrev pub step_of : Entry S R → List Message → List Message → Step S
+  step_of e consumed sent = record { entry = e.done; before = before_of e; consumed = consumed; sent = sent }
+
+  -- the entries in turn have their parts of what was consumed and sent
+  abbrev pub shown : List (Entry S R) → List Message → List Message → List (Step S)
+  shown [] consumed sent = []
+  shown (e ∷ es) consumed sent = step_of e (take e.consumed consumed) (take e.sent sent) ∷ shown es (drop e.consumed consumed) (drop e.sent sent)
+
+  -- a process, with this history and these lists
+  abbrev pub seen : {M : Type 0} → Contents M → ℕ → Moment S → ℕ → Cancel → ℕ → List (Entry S R) → Lists → Held M S
+  seen network c now line way floor history lists = record {
+    network = network;
+    component = c;
+    process = record {
+      now = now;
+      pending = lists.pending;
+      history = shown history lists.consumed lists.sent;
+      waiting = lists.waiting;
+      outgoing = lists.outgoing;
+      owed = lists.owed;
+      line = line;
+      cancel = way;
+    };
+    floor = floor;
+    spare = min lists.room lists.spare;
+  }
+
+  abbrev pub total_consumed : List (Entry S R) → ℕ
+  total_consumed [] = 0
+  total_consumed (e ∷ es) = e.consumed + total_consumed es
+
+  abbrev pub total_sent : List (Entry S R) → ℕ
+  total_sent [] = 0
+  total_sent (e ∷ es) = e.sent + total_sent es
+
+  abbrev pub elapsed_of : Entry S R → ℕ
+  elapsed_of e = tick_of e.done.stamp - tick_of e.last
+
+  -- what a step's residue says of the states on both sides
+  abbrev pub LinkBy : (S → Type 0) → Meaning S → (Turn → S → ℕ → Bag → R) → Option (Turn × R) → Entry S R → S → Type 0
+  LinkBy valid m residue_of None e after = after ≡ e.before.value
+  LinkBy valid m residue_of (Some made) e after =
+      (e.done.stamp < never)
+      × (e.last < never)
+      × CanTurn valid m made.0 e.before.value (elapsed_of e) e.done.bag
+      × (after ≡ turned m made.0 e.before.value (elapsed_of e) e.done.bag)
+      × (made.1 ≡ residue_of made.0 e.before.value (elapsed_of e) e.done.bag)
+
+  -- the state before the first of these entries, if it is this one after them
+  abbrev pub state_before : List (Entry S R) → S → S
+  state_before [] now = now
+  state_before (e ∷ es) now = e.before.value
+
+  -- each entry leads to the next one
+  abbrev pub Linked : (S → Type 0) → Meaning S → (Turn → S → ℕ → Bag → R) → List (Entry S R) → S → Type 0
+  Linked valid m residue_of [] now = Unit {0}
+  Linked valid m residue_of (e ∷ es) now = LinkBy valid m residue_of e.residue e (state_before es now) × Linked valid m residue_of es now
+
+  -- what a process of this model keeps
+  pub record IsKeptBy (valid : S → Type 0) (m : Meaning S) (residue_of : Turn → S → ℕ → Bag → R) (c : ℕ) (now : Moment S) (floor : ℕ) (history : List (Entry S R)) (lists : Lists) : Type 0 where
+    pub linked : Linked valid m residue_of history now.state
+    pub consumed_is : total_consumed history ≡ length lists.consumed
+    pub sent_is : total_sent history ≡ length lists.sent
+    pub sorted : Sorted (lists.consumed ++ lists.pending)
+    pub fit : Each (CanTake c) (lists.consumed ++ lists.pending)
+    pub stood : Stood valid m floor (shown history lists.consumed lists.sent)
+    pub standing : IsStanding valid m now (floor_after floor (shown history lists.consumed lists.sent))
+    pub from : floor_after floor (shown history lists.consumed lists.sent) ≤ first_stamp lists.pending
+
+  -- what a process keeps
+  pub record IsKept {M : Type 0} (valid : M → S → Type 0) (meaning : M → Meaning S) (residue_of : M → Turn → S → ℕ → Bag → R) (network : Contents M) (c : ℕ) (now : Moment S) (floor : ℕ) (history : List (Entry S R)) (lists : Lists) : Type 0 where
+    pub model : M
+    pub there : slice_get network.models c ≡ Some model
+    pub by : IsKeptBy (valid model) (meaning model) (residue_of model) c now floor history lists

@@ -1,0 +1,3 @@
+pub mod Process
+pub mod Refusals
+pub mod History

@@ -1,0 +1,32 @@
+//! One reversible process: the steps of a component, made one after another and taken back the last first.
+//!
+//! A [`Process`] holds a component's state, the messages that are to come in order, and every step that is not
+//! committed, with what takes it back: the residue of its transition, the inputs that it consumed and the messages
+//! that it sent (Jefferson 1985). Its lists are those of tw_lists; the network is shared.
+//!
+//! Contracts see the contents of the theory ([`Process`] as `Held` of `specs/Process`), and each call does on them
+//! what the theory's function of that name does. Both ways of cancelling ([`Cancel`]) stand behind each call.
+//!
+//! | File | Calls |
+//! |---|---|
+//! | `process` | making, readers |
+//! | `stepping` | `step`: the next step, or why it is not made ([`StepRefused`]) |
+//! | `undoing` | `undo_last` |
+//! | `receiving` | messages and anti-messages that come and go |
+//! | `posting` | what goes out, and what is owed |
+//! | `committing` | the oldest step leaves the history |
+#![tactic(auto)]
+
+mod committing;
+mod entry;
+mod posting;
+pub mod process;
+mod receiving;
+mod refused;
+mod starting;
+mod stepping;
+mod undoing;
+
+pub use process::Process;
+pub use refused::StepRefused;
+pub use tw_lists::Cancel;

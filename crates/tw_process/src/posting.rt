@@ -1,0 +1,31 @@
+//! What goes out, and what is owed.
+
+ghost use Rattle.std.specs.Prelude.{◌≡◌, length};
+ghost use Rattle.tw_process.specs.Process.{with_posted, with_settled, with_spare};
+
+use crate::process::Process;
+use tw_atomic::Atomic;
+use tw_lists::Cancel;
+
+impl<M: Atomic> Process<M> {
+    /// The owed messages that an output before the next step sent go to the outgoing list, as anti-messages: the
+    /// component has passed them by without sending them again. It takes no memory.
+    pub fn settle(&mut self)
+        ensures { self.new ≡ with_settled self.old }
+    {
+        match self.cancel {
+            Cancel::Aggressive => {}
+            Cancel::Lazy => {
+                let next = self.next();
+                self.lists.settle(next);
+            }
+        }
+    }
+
+    /// Nothing is outgoing any more: all has been posted. It takes no memory.
+    pub fn clear_outgoing(&mut self)
+        ensures { self.new ≡ with_spare self.new.spare (with_posted self.old) }
+    {
+        self.lists.clear_outgoing();
+    }
+}

@@ -1,0 +1,127 @@
+//! A process, how it begins, and what is read of it.
+
+ghost use Rattle.std.specs.Prelude.{◌≡◌, ◌+◌, ◌<◌, length, IfOk, IfSome};
+ghost use Rattle.std.specs.Arc.{arc_value};
+ghost use Rattle.tw_lists.specs.Ways.{way_of};
+ghost use Rattle.tw_process.specs.Process.{IsNew, last_stamp_of};
+ghost use Rattle.tw_theory.specs.Contents.{next, Aggressive};
+ghost use Rattle.tw_theory.specs.Soundness.{AllBefore};
+
+use crate::entry::Entry;
+use crate::starting::start_lists;
+use std::alloc::{AllocError, Global};
+use std::collections::VecDeque;
+use std::marker::Model;
+use std::sync::Arc;
+use tw_atomic::Atomic;
+use tw_lists::{Cancel, EventLists};
+use tw_network::Network;
+use tw_step::Moment;
+use tw_step::moment::start_moment;
+use tw_vtime::Stamp;
+
+/// A process of one component of a network.
+#[derive(Drop)]
+pub struct Process<M: Atomic> {
+    pub(crate) network: Arc<Network<M>>,
+    pub(crate) component: usize,
+    pub(crate) state: M::State,
+    pub(crate) last: Stamp,
+    pub(crate) due: Stamp,
+    pub(crate) line: Stamp,
+    pub(crate) cancel: Cancel,
+    // One past the packed stamp of the last step that was committed.
+    pub(crate) floor: u64,
+    // The steps that are not committed, the oldest first.
+    pub(crate) history: VecDeque<Entry<M::State, M::Residue>>,
+    pub(crate) lists: EventLists,
+}
+
+impl<M: Atomic> Model for Process<M> {
+    ghost use Rattle.std.specs.Arc.{arc_value};
+    ghost use Rattle.tw_lists.specs.Ways.{way_of};
+    ghost use Rattle.tw_process.specs.Process.{Held};
+    ghost use Rattle.tw_process.specs.History.{seen, IsKept};
+
+    ghost Value = { Held M M.State };
+
+    ghost view = { λ p. seen (arc_value p.network) p.component
+        (record { state = p.state; last = p.last; due = p.due })
+        p.line (way_of p.cancel) p.floor p.history.items p.lists };
+
+    ghost invariant = { λ p. IsKept M.valid M.meaning M.residue_of (arc_value p.network) p.component
+        (record { state = p.state; last = p.last; due = p.due })
+        p.floor p.history.items p.lists };
+}
+
+impl<M: Atomic> Process<M> {
+    /// A process of this component at its start, with its network inputs pending. Steps that are taken back are
+    /// cancelled aggressively. It is refused for want of memory alone (4).
+    pub fn new(
+        alloc: Global,
+        network: Arc<Network<M>>,
+        component: usize,
+    ) -> Result<Self, AllocError>
+        requires { component < length (arc_value network).models }
+        ensures { IfOk result (IsNew M.meaning (arc_value network) Aggressive component) }
+    {
+        Process::with_cancel(alloc, network, component, Cancel::Aggressive)
+    }
+
+    /// A process as [`new`](Process::new) makes it, for either way of cancelling.
+    pub fn with_cancel(
+        alloc: Global,
+        network: Arc<Network<M>>,
+        component: usize,
+        cancel: Cancel,
+    ) -> Result<Self, AllocError>
+        requires { component < length (arc_value network).models }
+        ensures { IfOk result (IsNew M.meaning (arc_value network) (way_of cancel) component) }
+    {
+        let shared = &*network;
+        shared.facts();
+        let Moment { state, last, due } = start_moment(alloc, shared.model(component))?;
+        let lists = start_lists(alloc, shared, component)?;
+        Ok(Process {
+            network,
+            component,
+            state,
+            last,
+            due,
+            line: Stamp::START,
+            cancel,
+            floor: 0,
+            history: VecDeque::new(alloc),
+            lists,
+        })
+    }
+
+    /// The stamp of the next step, or the end: the lesser of `due` and the least pending stamp.
+    pub fn next(&self) -> Stamp
+        ensures { result ≡ next self.now.process }
+    {
+        let first = match self.lists.first() {
+            Some(message) => message.stamp,
+            None => Stamp::END,
+        };
+        self.due.min(first)
+    }
+
+    /// How many steps are not committed.
+    pub fn history_len(&self) -> usize
+        ensures { result ≡ length self.now.process.history }
+    {
+        self.history.len()
+    }
+
+    /// The stamp of the last step that is not committed; the others are before it.
+    pub fn last_stamp(&self) -> Option<Stamp>
+        ensures value { result ≡ last_stamp_of self.now.process.history }
+        ensures latest { IfSome result (λ last. AllBefore (last + 1) self.now.process.history) }
+    {
+        match self.history.back() {
+            Some(entry) => Some(entry.done.stamp),
+            None => None,
+        }
+    }
+}

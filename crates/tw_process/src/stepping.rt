@@ -1,0 +1,135 @@
+//! The next step of a process.
+
+ghost use Rattle.std.specs.Prelude.{◌≡◌, ◌<◌, IfErr, IfOk, OnErr, OnOk};
+ghost use Rattle.tw_process.specs.Process.{IsStepped, IsStop, with_spare};
+ghost use Rattle.tw_theory.specs.Contents.{next};
+ghost use Rattle.tw_vtime.specs.Stamps.{never, phase_of};
+
+use crate::entry::Entry;
+use crate::process::Process;
+use crate::refused::StepRefused;
+use std::alloc::Global;
+use std::snapshot::Snapshot;
+use tw_atomic::Atomic;
+use tw_msgs::{Record, RecordKind, Words};
+use tw_step::{Turned, make_turn, output_bag, routed, turn_of};
+use tw_vtime::Stamp;
+
+impl<M: Atomic> Process<M> {
+    /// Makes the next step, and answers its stamp and kind: the output of a time, or its transition.
+    ///
+    /// Where it is refused, the process is as it was: no step is due (16), the next own step would pass a limit (2, 3),
+    /// the lists would have too many nodes (12), or memory was refused (4). The last can come in place of 2, 3 and 12,
+    /// never of 16.
+    pub fn step(&mut self, alloc: Global) -> Result<(Stamp, RecordKind), StepRefused>
+        ensures stepped { IfOk result (λ done. IsStepped M.meaning self.old self.new done.0 done.1) }
+        ensures stays { OnErr result (self.new ≡ with_spare self.new.spare self.old) }
+        ensures stop { IfErr result (IsStop M.meaning self.old) }
+    {
+        let stamp = self.next();
+        if stamp.is_end() {
+            return Err(StepRefused::NothingDue);
+        }
+        if stamp.phase() == 0 {
+            self.make_output(alloc, stamp)?;
+            return Ok((stamp, RecordKind::Out));
+        }
+        let kind = self.make_transition(alloc, stamp)?;
+        Ok((stamp, kind))
+    }
+
+    /// Makes the output of this stamp.
+    fn make_output(&mut self, alloc: Global, stamp: Stamp) -> Result<(), StepRefused>
+        requires is_next { stamp ≡ next self.old.process }
+        requires is_due { stamp < never }
+        requires is_output { phase_of stamp ≡ 0 }
+        ensures stepped { OnOk result (IsStepped M.meaning self.old self.new stamp RecordKind.Out) }
+        ensures stays { OnErr result (self.new ≡ with_spare self.new.spare self.old) }
+        ensures stop { IfErr result (IsStop M.meaning self.old) }
+    {
+        let network = &*self.network;
+        let bag = output_bag(alloc, network.model(self.component), &self.state)?;
+        let sent = routed(alloc, network, self.component, stamp.transition(), &bag)?;
+        let fresh = self.lists.fresh_count(&sent, self.cancel);
+        self.lists.reserve(2 * fresh)?;
+        self.history.reserve(1)?;
+        self.lists.send_all(&sent, self.cancel);
+        self.history.push_back_reserved(Entry {
+            done: Record {
+                component: self.component,
+                stamp,
+                kind: RecordKind::Out,
+                bag,
+                words: Words::from(Vec::new(alloc)),
+            },
+            last: self.last,
+            due: self.due,
+            consumed: 0,
+            sent: sent.len(),
+            residue: None,
+            before: Snapshot::of(&self.state),
+        });
+        self.due = stamp.transition();
+        Ok(())
+    }
+
+    /// Makes the transition of this stamp.
+    fn make_transition(&mut self, alloc: Global, stamp: Stamp) -> Result<RecordKind, StepRefused>
+        requires is_next { stamp ≡ next self.old.process }
+        requires is_due { stamp < never }
+        requires is_transition { phase_of stamp ≡ 1 }
+        ensures stepped { IfOk result (λ kind. IsStepped M.meaning self.old self.new stamp kind) }
+        ensures stays { OnErr result (self.new ≡ with_spare self.new.spare self.old) }
+        ensures stop { IfErr result (IsStop M.meaning self.old) }
+    {
+        self.history.reserve(1)?;
+        let bag = self.lists.consume_bag(alloc, stamp)?;
+        let network = &*self.network;
+        network.facts();
+        let model = network.model(self.component);
+        let (turn, kind) = turn_of(self.due == stamp, bag.is_empty());
+        let elapsed = stamp.tick().saturating_sub(self.last.tick());
+        let before = Snapshot::of(&self.state);
+        let limit = network.micro_limit();
+        let made = match make_turn(
+            alloc,
+            model,
+            &mut self.state,
+            turn,
+            stamp,
+            elapsed,
+            bag.as_slice(),
+            limit,
+        ) {
+            Ok(made) => made,
+            Err(refused) => {
+                self.lists.restore(bag.len());
+                return Err(refused.into());
+            }
+        };
+        let Turned {
+            residue,
+            words,
+            due,
+        } = made;
+        let consumed = bag.len();
+        self.history.push_back_reserved(Entry {
+            done: Record {
+                component: self.component,
+                stamp,
+                kind,
+                bag,
+                words,
+            },
+            last: self.last,
+            due: self.due,
+            consumed,
+            sent: 0,
+            residue: Some((turn, residue)),
+            before,
+        });
+        self.last = stamp.output();
+        self.due = due;
+        Ok(kind)
+    }
+}

@@ -3,27 +3,10 @@
 --     turned m turn s elapsed bag      the state after a turn
 --     CanTurn valid m turn s elapsed bag      the turn may be made from this state
 use Rattle.std.specs.Int.{w64}
-use Rattle.std.specs.Prelude.{◌≡◌, ◌≢◌, ℕ, ℤ, ◌<◌, List, [], ◌∷◌, Option, Some, None, Bool, true, ◌&&◌, ◌||◌, ◌==◌, nat_lt, int_le, ⊤, FitsSigned}
+use Rattle.std.specs.Prelude.{◌≡◌, ◌≢◌, ℕ, ℤ, ◌<◌, List, [], ◌∷◌, Option, Some, None, ⊤, FitsSigned}
 use Rattle.tw_atomic.specs.declared.Turn.{Turn}
 use Rattle.tw_atomic.specs.declared.Turn.TheVariants.{Int, Ext, Con}
-
--- what comes or goes at one time: items of (port, value)
-abbrev pub Bag : Type 0
-Bag = List (ℕ × ℤ)
-
--- whether one item may stand before another: by port, then value; equal items may stand in either order
-abbrev pub in_order : ℕ × ℤ → ℕ × ℤ → Bool
-in_order one other = nat_lt one.0 other.0 || (one.0 == other.0) && int_le one.1 other.1
-
--- an item that may stand before the first of a bag
-abbrev pub IsBeforeFirst : ℕ × ℤ → Bag → Type 0
-IsBeforeFirst item [] = ⊤
-IsBeforeFirst item (first ∷ items) = in_order item first ≡ true
-
--- a bag sorted by port, then value
-abbrev pub IsSorted : Bag → Type 0
-IsSorted [] = ⊤
-IsSorted (item ∷ items) = IsBeforeFirst item items × IsSorted items
+pub use Rattle.tw_msgs.specs.Bags.{Bag, IsSorted}
 
 -- an item that fits: its port is a number of 8 bits, its value one of 64 bits with sign
 abbrev pub FitsItem : ℕ × ℤ → Type 0

@@ -1,5 +1,6 @@
 //! A model that sends its value each period.
-ghost use Rattle.std.specs.Prelude.{refl, ◌≡◌, ◌≤◌, ◌↔◌, IsOk, IfOk, IfErr};
+ghost use Rattle.std.specs.Prelude.{refl, ◌≡◌, ◌≤◌, ◌↔◌, Ok, IsOk, IfOk, IfErr};
+ghost use Rattle.tw_atomic.specs.Atomic.{CanTurn, turned};
 ghost use Rattle.tw_models.specs.declared.bad_model.BadModel.TheVariants.{BadTick};
 
 use crate::bad_model::BadModel;
@@ -66,7 +67,10 @@ impl Atomic for Gen {
 
     ghost undone = { λ m turn s elapsed bag residue. gen_undone turn s elapsed };
 
-    fn start(&self, alloc: Global) -> Result<GenState, AllocError> {
+    fn start(&self, alloc: Global) -> Result<GenState, AllocError>
+        ensures start { result ≡ Ok (gen_meaning self.now).start }
+        ensures valid_state { IfOk result (IsGen self.now) }
+    {
         let _ = alloc;
         Ok(GenState {
             count: 0,
@@ -90,7 +94,11 @@ impl Atomic for Gen {
         turn: Turn,
         elapsed: u64,
         bag: &[(u8, i64)],
-    ) -> Result<(), AllocError> {
+    ) -> Result<(), AllocError>
+        requires { CanTurn (IsGen self.now) (gen_meaning self.now) turn state.old elapsed bag.now }
+        ensures state { state.new ≡ turned (gen_meaning self.now) turn state.old elapsed bag.now }
+        ensures residue { result ≡ Ok tt }
+    {
         let _ = alloc;
         let _ = bag;
         match turn {
@@ -130,7 +138,9 @@ impl Atomic for Gen {
         one == other
     }
 
-    fn copy(&self, alloc: Global, state: &GenState) -> Result<GenState, AllocError> {
+    fn copy(&self, alloc: Global, state: &GenState) -> Result<GenState, AllocError>
+        ensures { result ≡ Ok state.now }
+    {
         let _ = alloc;
         Ok(*state)
     }

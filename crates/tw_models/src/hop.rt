@@ -1,5 +1,6 @@
 //! A model that draws its ports, values and waiting times by a linear congruential generator.
-ghost use Rattle.std.specs.Prelude.{refl, ◌≡◌, ◌≤◌, ◌<◌, ◌↔◌, IsOk, IfOk, IsErrOf, ◌⊎◌};
+ghost use Rattle.std.specs.Prelude.{refl, ◌≡◌, ◌≤◌, ◌<◌, ◌↔◌, Ok, IsOk, IfOk, IsErrOf, ◌⊎◌};
+ghost use Rattle.tw_atomic.specs.Atomic.{CanTurn, turned};
 ghost use Rattle.tw_models.specs.Hop.{lcg, lcg_back, wait, drawn_item, stirred, stirred_all, unstirred, unstirred_all};
 ghost use Rattle.tw_models.specs.declared.bad_model.BadModel.TheVariants.{BadPort, BadTick};
 
@@ -161,7 +162,10 @@ impl Atomic for Hop {
 
     ghost undone = { λ m turn s elapsed bag residue. hop_undone turn s elapsed bag };
 
-    fn start(&self, alloc: Global) -> Result<HopState, AllocError> {
+    fn start(&self, alloc: Global) -> Result<HopState, AllocError>
+        ensures start { result ≡ Ok (hop_meaning self.now).start }
+        ensures valid_state { IfOk result (IsHop self.now) }
+    {
         let _ = alloc;
         Ok(HopState {
             x: self.seed,
@@ -184,7 +188,11 @@ impl Atomic for Hop {
         turn: Turn,
         elapsed: u64,
         bag: &[(u8, i64)],
-    ) -> Result<(), AllocError> {
+    ) -> Result<(), AllocError>
+        requires { CanTurn (IsHop self.now) (hop_meaning self.now) turn state.old elapsed bag.now }
+        ensures state { state.new ≡ turned (hop_meaning self.now) turn state.old elapsed bag.now }
+        ensures residue { result ≡ Ok tt }
+    {
         let _ = alloc;
         match turn {
             Turn::Int => {
@@ -237,7 +245,9 @@ impl Atomic for Hop {
         one == other
     }
 
-    fn copy(&self, alloc: Global, state: &HopState) -> Result<HopState, AllocError> {
+    fn copy(&self, alloc: Global, state: &HopState) -> Result<HopState, AllocError>
+        ensures { result ≡ Ok state.now }
+    {
         let _ = alloc;
         Ok(*state)
     }

@@ -1,5 +1,6 @@
 //! The five models as one type.
 ghost use Rattle.std.specs.Prelude.{◌≡◌, ◌≤◌, ◌<◌, ◌↔◌, ◌⊎◌, Ok, IsOk, IfOk, IfErr, IsErrOf};
+ghost use Rattle.tw_atomic.specs.Atomic.{CanTurn, turned};
 ghost use Rattle.tw_models.specs.declared.bad_model.BadModel.TheVariants.{BadPort, BadTick};
 
 use crate::bad_model::BadModel;
@@ -116,7 +117,10 @@ impl Atomic for Model {
 
     ghost undone = { model_undone };
 
-    fn start(&self, alloc: Global) -> Result<State, AllocError> {
+    fn start(&self, alloc: Global) -> Result<State, AllocError>
+        ensures start { result ≡ Ok (model_meaning self.now).start }
+        ensures valid_state { IfOk result (IsModel self.now) }
+    {
         Ok(match self {
             Model::Gen(model) => State::OfGen(model.start(alloc)?),
             Model::Tally => State::OfTally(Tally.start(alloc)?),
@@ -155,7 +159,11 @@ impl Atomic for Model {
         turn: Turn,
         elapsed: u64,
         bag: &[(u8, i64)],
-    ) -> Result<Residue, AllocError> {
+    ) -> Result<Residue, AllocError>
+        requires { CanTurn (IsModel self.now) (model_meaning self.now) turn state.old elapsed bag.now }
+        ensures state { state.new ≡ turned (model_meaning self.now) turn state.old elapsed bag.now }
+        ensures residue { result ≡ Ok (model_residue self.now turn state.old bag.now) }
+    {
         match (self, state) {
             (Model::Gen(model), State::OfGen(state)) => {
                 model.forward(alloc, state, turn, elapsed, bag)?;
@@ -231,7 +239,9 @@ impl Atomic for Model {
         }
     }
 
-    fn copy(&self, alloc: Global, state: &State) -> Result<State, AllocError> {
+    fn copy(&self, alloc: Global, state: &State) -> Result<State, AllocError>
+        ensures { result ≡ Ok state.now }
+    {
         let _ = alloc;
         Ok(match state {
             State::OfGen(state) => State::OfGen(*state),

@@ -1,5 +1,6 @@
 //! A model that works on the first of its jobs, and sends it when its service is over.
-ghost use Rattle.std.specs.Prelude.{refl, ◌≡◌, ◌-◌, ◌≤◌, ◌↔◌, IsOk, IfOk, IfErr, IsTrue, length, min, take};
+ghost use Rattle.std.specs.Prelude.{refl, ◌≡◌, ◌-◌, ◌≤◌, ◌↔◌, Ok, IsOk, IfOk, IfErr, IsTrue, length, min, take};
+ghost use Rattle.tw_atomic.specs.Atomic.{CanTurn, turned};
 ghost use Rattle.tw_models.specs.Left.{IsWithin};
 ghost use Rattle.tw_models.specs.Intake.{dropped_before};
 ghost use Rattle.tw_models.specs.Queue.{first_job, later_jobs, left_with, with_first, queue_out, queue_int, queue_ext};
@@ -168,7 +169,10 @@ impl Atomic for Queue {
 
     ghost undone = { λ m turn s elapsed bag residue. queue_undone turn s elapsed bag residue };
 
-    fn start(&self, alloc: Global) -> Result<QueueState, AllocError> {
+    fn start(&self, alloc: Global) -> Result<QueueState, AllocError>
+        ensures start { result ≡ Ok (queue_meaning self.now).start }
+        ensures valid_state { IfOk result (IsQueue self.now) }
+    {
         let _ = alloc;
         let _ = &self.service;
         Ok(QueueState {
@@ -195,7 +199,11 @@ impl Atomic for Queue {
         turn: Turn,
         elapsed: u64,
         bag: &[(u8, i64)],
-    ) -> Result<QueueResidue, AllocError> {
+    ) -> Result<QueueResidue, AllocError>
+        requires { CanTurn (IsQueue self.now) (queue_meaning self.now) turn state.old elapsed bag.now }
+        ensures state { state.new ≡ turned (queue_meaning self.now) turn state.old elapsed bag.now }
+        ensures residue { result ≡ Ok (queue_residue turn state.old bag.now) }
+    {
         let _ = alloc;
         let mut residue = QueueResidue {
             accepted: 0,
@@ -251,7 +259,9 @@ impl Atomic for Queue {
         one.is_same(other)
     }
 
-    fn copy(&self, alloc: Global, state: &QueueState) -> Result<QueueState, AllocError> {
+    fn copy(&self, alloc: Global, state: &QueueState) -> Result<QueueState, AllocError>
+        ensures { result ≡ Ok state.now }
+    {
         let _ = alloc;
         Ok(state.copied())
     }

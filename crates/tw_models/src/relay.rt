@@ -1,5 +1,6 @@
 //! A model that holds what comes, and sends it all after its delay.
-ghost use Rattle.std.specs.Prelude.{refl, ◌≡◌, ◌-◌, ◌≤◌, ◌↔◌, IsOk, IfOk, IfErr, IsTrue, length, min};
+ghost use Rattle.std.specs.Prelude.{refl, ◌≡◌, ◌-◌, ◌≤◌, ◌↔◌, Ok, IsOk, IfOk, IfErr, IsTrue, length, min};
+ghost use Rattle.tw_atomic.specs.Atomic.{CanTurn, turned};
 ghost use Rattle.tw_models.specs.Left.{IsWithin};
 ghost use Rattle.tw_models.specs.Relay.{relay_int, relay_ext};
 ghost use Rattle.tw_models.specs.declared.bad_model.BadModel.TheVariants.{BadTick};
@@ -128,7 +129,10 @@ impl Atomic for Relay {
 
     ghost undone = { λ m turn s elapsed bag residue. relay_undone turn s elapsed bag residue };
 
-    fn start(&self, alloc: Global) -> Result<RelayState, AllocError> {
+    fn start(&self, alloc: Global) -> Result<RelayState, AllocError>
+        ensures start { result ≡ Ok (relay_meaning self.now).start }
+        ensures valid_state { IfOk result (IsRelay self.now) }
+    {
         let _ = alloc;
         let _ = &self.delay;
         Ok(RelayState {
@@ -155,7 +159,11 @@ impl Atomic for Relay {
         turn: Turn,
         elapsed: u64,
         bag: &[(u8, i64)],
-    ) -> Result<RelayResidue, AllocError> {
+    ) -> Result<RelayResidue, AllocError>
+        requires { CanTurn (IsRelay self.now) (relay_meaning self.now) turn state.old elapsed bag.now }
+        ensures state { state.new ≡ turned (relay_meaning self.now) turn state.old elapsed bag.now }
+        ensures residue { result ≡ Ok (relay_residue turn state.old bag.now) }
+    {
         let _ = alloc;
         let mut residue = RelayResidue {
             accepted: 0,
@@ -214,7 +222,9 @@ impl Atomic for Relay {
         one.is_same(other)
     }
 
-    fn copy(&self, alloc: Global, state: &RelayState) -> Result<RelayState, AllocError> {
+    fn copy(&self, alloc: Global, state: &RelayState) -> Result<RelayState, AllocError>
+        ensures { result ≡ Ok state.now }
+    {
         let _ = alloc;
         Ok(state.copied())
     }

@@ -1,5 +1,6 @@
 //! A model that counts and adds what comes, and never sends.
-ghost use Rattle.std.specs.Prelude.{refl, ◌≡◌};
+ghost use Rattle.std.specs.Prelude.{refl, ◌≡◌, Ok, IfOk};
+ghost use Rattle.tw_atomic.specs.Atomic.{CanTurn, turned};
 ghost use Rattle.tw_models.specs.Tally.{tally_one, tally_all, tally_less, tally_none};
 
 use std::alloc::{AllocError, Global};
@@ -70,7 +71,10 @@ impl Atomic for Tally {
 
     ghost undone = { λ m turn s elapsed bag last. tally_undone turn s bag last };
 
-    fn start(&self, alloc: Global) -> Result<TallyState, AllocError> {
+    fn start(&self, alloc: Global) -> Result<TallyState, AllocError>
+        ensures start { result ≡ Ok tally_meaning.start }
+        ensures valid_state { IfOk result (IsTally) }
+    {
         let _ = alloc;
         Ok(TallyState {
             count: 0,
@@ -96,7 +100,11 @@ impl Atomic for Tally {
         turn: Turn,
         elapsed: u64,
         bag: &[(u8, i64)],
-    ) -> Result<i64, AllocError> {
+    ) -> Result<i64, AllocError>
+        requires { CanTurn IsTally tally_meaning turn state.old elapsed bag.now }
+        ensures state { state.new ≡ turned tally_meaning turn state.old elapsed bag.now }
+        ensures residue { result ≡ Ok state.old.last }
+    {
         let _ = alloc;
         let _ = elapsed;
         let last = state.last;
@@ -139,7 +147,9 @@ impl Atomic for Tally {
         one == other
     }
 
-    fn copy(&self, alloc: Global, state: &TallyState) -> Result<TallyState, AllocError> {
+    fn copy(&self, alloc: Global, state: &TallyState) -> Result<TallyState, AllocError>
+        ensures { result ≡ Ok state.now }
+    {
         let _ = alloc;
         Ok(*state)
     }

@@ -49,6 +49,14 @@ has_of_place m n (x ∷ ms) e = go (at_or_before n x) e (has_of_place m n ms)
     go true h ih = or_cases _ _ h
     go false h ih = ⊎_elim (λ k. inr (or_left _ _ k)) (λ k. ⊎_elim (λ p. inl p) (λ p. inr (or_right _ _ p)) (ih k)) (or_cases _ _ h)
 
+pub without_absent : (m : Message) (ms : List Message) → has m ms ≡ false → without m ms ≡ ms
+without_absent m [] e = refl
+without_absent m (n ∷ ns) e = go (same_message m n) e (without_absent m ns)
+  where
+    go : (b : Bool) → (b || has m ns) ≡ false → (has m ns ≡ false → without m ns ≡ ns) → cond b ns (n ∷ without m ns) ≡ n ∷ ns
+    go true h ih = absurd (true≢false h)
+    go false h ih = ap (λ l. n ∷ l) (ih h)
+
 -- ---- order
 
 skip_first : (m n : Message) (ns : List Message) → at_or_before m n ≡ true → IsBeforeFirst n ns → IsBeforeFirst m ns

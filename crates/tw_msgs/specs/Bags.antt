@@ -1,7 +1,9 @@
 -- Bags: items, each a port and a value, of which equal ones are all kept.
---     sorted_bag bag      the same items by port, then value
+--     by_port x y      whether x stands before y, or is y, by port and then value
+--     IsSorted bag      the bag is in that order
+--     sorted_bag bag      the same items in that order
 --     item_cmp x y      how x stands to y in that order
-use Rattle.std.specs.Prelude.{ℕ, ℤ, List, [], ◌∷◌, Bool, ◌&&◌, ◌||◌, ◌==◌, nat_lt, int_le, if◌then◌else◌}
+use Rattle.std.specs.Prelude.{◌≡◌, ℕ, ℤ, ⊤, true, List, [], ◌∷◌, Bool, ◌&&◌, ◌||◌, ◌==◌, nat_lt, int_le, if◌then◌else◌}
 use Rattle.std.specs.Ordering.{nat_cmp, int_cmp, int_eq, ordering_then}
 use Rattle.std.specs.Cmp.{IsEquivalence, and_equiv, on_equiv, nat_eq_equiv, int_eq_equiv}
 use Rattle.std.specs.Cmp.Lexicographic.{pointwise, lists_equiv}
@@ -13,6 +15,15 @@ Bag = List (ℕ × ℤ)
 -- whether x stands before y, or is y, by port and then value
 abbrev pub by_port : ℕ × ℤ → ℕ × ℤ → Bool
 by_port x y = nat_lt x.0 y.0 || (x.0 == y.0) && int_le x.1 y.1
+
+-- whether an item stands at or before the first of a bag, or the bag is empty
+abbrev pub IsBeforeFirst : ℕ × ℤ → Bag → Type 0
+IsBeforeFirst x [] = ⊤
+IsBeforeFirst x (y ∷ ys) = by_port x y ≡ true
+
+abbrev pub IsSorted : Bag → Type 0
+IsSorted [] = ⊤
+IsSorted (x ∷ xs) = IsBeforeFirst x xs × IsSorted xs
 
 abbrev pub insert_item : ℕ × ℤ → Bag → Bag
 insert_item x [] = x ∷ []

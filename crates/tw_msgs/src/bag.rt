@@ -20,17 +20,17 @@ ghost use Rattle.std.specs.Prelude.{
   length,
 };
 ghost use Rattle.std.specs.Iterator.Adapters.{IterYieldsInOrder};
-ghost use Rattle.std.specs.List.Sorted.{IsPermutation, IsSorted};
+ghost use Rattle.std.specs.List.Sorted.{IsPermutation};
 ghost use Rattle.std.specs.Slice.Iter.{iter_rest};
 ghost use Rattle.std.specs.Cmp.{partial_equiv_from_equiv};
-ghost use Rattle.tw_msgs.specs.Bags.{item_cmp, same_bag, same_bag_equiv, sorted_bag};
+ghost use Rattle.tw_msgs.specs.Bags.{IsSorted, same_bag, same_bag_equiv, sorted_bag};
 
 use smallvec::SmallVec;
 use std::alloc::{AllocError, AllocFailed, Global};
 use std::marker::Model;
 use std::slice;
 
-/// The items of an input or of an output, each a port (0 to 15) and a value; equal items are all kept.
+/// The items of an input or of an output, each a port and a value; equal items are all kept.
 ///
 /// Contracts see a bag as the list of its items. Up to eight items take no memory.
 #[derive(Debug, Drop)]
@@ -104,7 +104,7 @@ impl Bag {
     /// Puts the items in the order of port, then value; equal items are all kept. It takes no memory.
     pub fn sort(&mut self)
         ensures same_items { IsPermutation self.old self.new }
-        ensures in_order { IsSorted item_cmp self.new }
+        ensures in_order { IsSorted self.new }
         ensures sorted { self.new ≡ sorted_bag self.old }
     {
         self.items.as_mut_slice().sort_unstable();

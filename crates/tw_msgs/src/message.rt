@@ -23,7 +23,7 @@ use tw_vtime::Stamp;
 pub struct Message {
     /// When the receiver takes it: a stamp of phase 1.
     pub stamp: Stamp,
-    /// The receiver's port, 0 to 15.
+    /// The receiver's port. A coupling leads to a port 0 to 15; what is no input of a network may name any.
     pub port: u8,
     /// What is sent.
     pub value: i64,

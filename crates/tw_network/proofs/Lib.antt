@@ -3,3 +3,4 @@ pub mod Names
 pub mod RouteOrder
 pub mod RouteParts
 pub mod FirstFault
+pub mod Places

@@ -5,12 +5,12 @@
 --     IsWhole meaning n      what is true of the contents of every network
 use Rattle.std.specs.Prelude.{ℕ, ℤ, ◌≡◌, ◌≢◌, ◌<◌, ◌≤◌, List, length, map, Bool, true, ◌&&◌, ◌||◌, ◌==◌, nat_le, String, string_bytes}
 use Rattle.std.specs.Char.{is_ascii_alphanumeric}
-use Rattle.std.specs.Global.{Global}
+use Rattle.std.specs.Global.{Global, Vec}
 use Rattle.std.specs.List.{All, AllPairs, list_all}
 use Rattle.std.specs.Option.{ForSome}
 use Rattle.tw_atomic.specs.Atomic.{Meaning}
 use Rattle.tw_msgs.specs.declared.message.Message.{Message}
-use Rattle.tw_theory.specs.Network.{Network, Coupling, IsNetwork, input}
+use Rattle.tw_theory.specs.Network.{Network, Coupling, Place, IsNetwork, input}
 use Rattle.tw_vtime.specs.Stamps.{max_tick, max_microstep}
 
 -- what comes from outside: tick, component, port, value
@@ -69,6 +69,10 @@ handed_in components couplings inputs micro_limit = record {
   micro_limit = micro_limit;
 }
 
+-- the contents that are made of these components (name and model), couplings, inputs and greatest microstep
+abbrev pub made_of : {M : Type 0} → Vec (String Global × M) → Vec Coupling → Vec Input → ℕ → Contents M
+made_of components couplings inputs micro_limit = handed_in (named components.items) couplings.items inputs.items micro_limit
+
 -- ---- what is true of every network
 
 -- an ASCII letter or digit, `_` or `-`
@@ -90,6 +94,11 @@ pub record IsCoupling (count : ℕ) (k : Coupling) : Type 0 where
   pub destination : k.2 < count
   pub destination_port : k.3 ≤ 15
   pub apart : k.0 ≢ k.2
+
+-- a port of one of count components
+pub record IsPlace (count : ℕ) (place : Place) : Type 0 where
+  pub known : place.0 < count
+  pub port : place.1 ≤ 15
 
 -- to a component's port, in time
 pub record IsInput (count : ℕ) (i : Input) : Type 0 where

@@ -1,11 +1,14 @@
 -- For what a network is refused, by what is handed in.
 --     first_fault meaning components couplings inputs micro_limit      the first fault, if there is one
-use Rattle.std.specs.Prelude.{ℕ, List, [], ◌∷◌, ◌++◌, length, Bool, true, false, not, ◌&&◌, ◌==◌, nat_le, nat_lt, Option, None, Some}
+--     fault_of meaning components couplings inputs micro_limit      the same, of what the maker is handed
+--     counts_fault components couplings inputs      its first part: too many of anything
+use Rattle.std.specs.Prelude.{ℕ, String, List, [], ◌∷◌, ◌++◌, length, Bool, true, false, not, ◌&&◌, ◌==◌, nat_le, nat_lt, Option, None, Some}
+use Rattle.std.specs.Global.{Global, Vec}
 use Rattle.std.specs.List.{list_any}
 use Rattle.std.specs.Option.{option_or, option_map_or}
 use Rattle.std.specs.Str.{bytes_eq}
 use Rattle.tw_atomic.specs.Atomic.{Meaning}
-use Rattle.tw_network.specs.Contents.{Input, is_name, names_of}
+use Rattle.tw_network.specs.Contents.{Input, is_name, named, names_of}
 use Rattle.tw_network.specs.declared.refused.NetworkRefused.{NetworkRefused}
 use Rattle.tw_network.specs.declared.refused.NetworkRefused.TheVariants.{UnknownComponent, BadPort, SelfCoupling, DuplicateRoute, TooMany, BadTick, BadLimit, BadName, DuplicateName}
 use Rattle.tw_theory.specs.Network.{Coupling}
@@ -93,3 +96,11 @@ first_fault meaning components couplings inputs micro_limit =
     (option_or (components_fault meaning components)
     (option_or (couplings_fault (length components) couplings)
     (inputs_fault (length components) inputs))))
+
+-- ---- of what the maker of a network is handed
+
+abbrev pub counts_fault : {M : Type 0} → Vec (String Global × M) → Vec Coupling → Vec Input → Option NetworkRefused
+counts_fault components couplings inputs = count_fault (length components.items) (length couplings.items) (length inputs.items)
+
+abbrev pub fault_of : {M S : Type 0} → (M → Meaning S) → Vec (String Global × M) → Vec Coupling → Vec Input → ℕ → Option NetworkRefused
+fault_of meaning components couplings inputs micro_limit = first_fault meaning (named components.items) couplings.items inputs.items micro_limit

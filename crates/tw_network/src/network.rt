@@ -1,8 +1,10 @@
 //! The network, its maker and its readers.
 
-ghost use Rattle.std.specs.Prelude.{◌≡◌, ◌≢◌, ◌↔◌, ◌<◌, [], Contains, IsTrue, IfOk, IfErr, IfSome, OnOk, IfNone, None, Some, length, slice_get};
-ghost use Rattle.tw_network.specs.Contents.{named, handed_in, network_of, IsWhole};
-ghost use Rattle.tw_network.specs.Faults.{first_fault};
+ghost use Rattle.std.specs.Prelude.{◌≡◌, ◌≢◌, ◌↔◌, ◌<◌, ◌≤◌, [], Contains, IsTrue, IsErrOf, IfOk, IfErr, IfSome, OnOk, IfNone, None, Some, length, slice_get};
+ghost use Rattle.std.specs.List.{AllByRecursion as Each};
+ghost use Rattle.tw_network.specs.Contents.{made_of, network_of, IsPlace, IsWhole};
+ghost use Rattle.tw_network.specs.Faults.{counts_fault, fault_of, limit_fault};
+ghost use Rattle.tw_network.specs.declared.refused.NetworkRefused.TheVariants.{OutOfMemory, TooMany, BadLimit};
 ghost use Rattle.tw_theory.specs.Network.{routes};
 
 use crate::checks::{check_counts, check_couplings, check_inputs, checked_limit, take_components};
@@ -57,7 +59,8 @@ impl<M: Atomic> Network<M> {
     /// time advance is above the last tick (10); for each coupling in order, an unknown component at either
     /// end (5), a port above 15 (6), a component coupled to itself (7), a coupling that stood before (8); for
     /// each input in order, an unknown component (5), a port above 15 (6), a tick above the last one (10).
-    /// Want of memory (4) may come at any point instead. After any of them nothing is left.
+    /// Want of memory (4) may come after the counts and the greatest microstep instead. After any of them nothing
+    /// is left.
     pub fn new(
         alloc: Global,
         components: Vec<(String, M)>,
@@ -65,9 +68,12 @@ impl<M: Atomic> Network<M> {
         inputs: Vec<Input>,
         micro_limit: u64,
     ) -> Result<Network<M>, NetworkRefused>
-        ensures as_handed_in { IfOk result (λ n. n ≡ handed_in (named components.items) couplings.items inputs.items micro_limit) }
-        ensures no_fault { OnOk result (first_fault M.meaning (named components.items) couplings.items inputs.items micro_limit ≡ None) }
-        ensures first_fault { IfErr result (λ e. e ≢ NetworkRefused.OutOfMemory → first_fault M.meaning (named components.items) couplings.items inputs.items micro_limit ≡ Some e) }
+        ensures as_handed_in { IfOk result (λ n. n ≡ made_of components couplings inputs micro_limit) }
+        ensures no_fault { OnOk result (fault_of M.meaning components couplings inputs micro_limit ≡ None) }
+        ensures first_fault { let fault = fault_of M.meaning components couplings inputs micro_limit in
+            IfErr result (λ e. e ≢ OutOfMemory → fault ≡ Some e) }
+        ensures counts { counts_fault components couplings inputs ≡ Some TooMany → IsErrOf result TooMany }
+        ensures limit { counts_fault components couplings inputs ≡ None → limit_fault micro_limit ≡ Some BadLimit → IsErrOf result BadLimit }
     {
         check_counts(components.len(), couplings.len(), inputs.len())?;
         let micro_limit = checked_limit(micro_limit)?;
@@ -150,7 +156,9 @@ impl<M: Atomic> Network<M> {
     /// a port above 15.
     pub fn routes(&self, component: usize, port: u8) -> &[Place]
         requires { component < length self.now.models }
-        ensures { result.now ≡ routes (network_of M.meaning self.now) component port }
+        ensures routes { result.now ≡ routes (network_of M.meaning self.now) component port }
+        ensures few { length result.now ≤ length self.now.couplings }
+        ensures places { Each (IsPlace (length self.now.models)) result.now }
     {
         let routes = &self.routes;
         if usize::from(port) >= PORTS {

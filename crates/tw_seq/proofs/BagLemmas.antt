@@ -1,18 +1,8 @@
--- A sorted bag is sorted, as models ask it, and its items fit as before.
+-- The items of a sorted bag fit as before.
 use Rattle.std.proofs.Common.{ℕ, ℤ, ◌<◌, [], ◌∷◌, ◌∙◌, arith}
 use Rattle.std.proofs.lemmas.Bool.{cond_both}
-use Rattle.tw_atomic.specs.Atomic.{FitsItem, FitsBag, FitsOutput, IsSorted}
-use Rattle.tw_msgs.specs.Bags.{Bag, by_port, insert_item, sorted_bag, item_cmp}
-use Rattle.tw_msgs.proofs.Bags.{by_port-is, items_rank, sorted_bag-IsSorted}
-use Rattle.tw_msgs.proofs.Sorting.{RisesBy, RisesBy-from_IsSorted}
-
-rises_sorted : (bag : Bag) → RisesBy item_cmp bag → IsSorted bag
-rises_sorted [] h = tt
-rises_sorted (x ∷ []) h = (tt, tt)
-rises_sorted (x ∷ y ∷ ys) h = (by_port-is x y ∙ h.0, rises_sorted (y ∷ ys) h.1)
-
-pub sorted_bag-sorted : (bag : Bag) → IsSorted (sorted_bag bag)
-sorted_bag-sorted bag = rises_sorted (sorted_bag bag) (RisesBy-from_IsSorted items_rank (sorted_bag bag) (sorted_bag-IsSorted bag))
+use Rattle.tw_atomic.specs.Atomic.{FitsItem, FitsBag, FitsOutput}
+use Rattle.tw_msgs.specs.Bags.{Bag, by_port, insert_item, sorted_bag}
 
 insert-FitsBag : (x : ℕ × ℤ) (bag : Bag) → FitsItem x → FitsBag bag → FitsBag (insert_item x bag)
 insert-FitsBag x [] f h = (f, tt)

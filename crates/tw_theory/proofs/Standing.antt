@@ -4,9 +4,9 @@ use Rattle.std.specs.List.{AllByRecursion as Each}
 use Rattle.std.specs.Ordering.{int_eq, is_le, is_eq}
 use Rattle.std.specs.declared.cmp.Ordering.TheVariants.{Less, Equal, Greater}
 use Rattle.std.proofs.lemmas.Bool.{cond-true, cond-false, cond_both, eqb-true, eqb-false, leb-true, eq-eqb, le-ltb, cases_eq}
-use Rattle.tw_atomic.specs.Atomic.{Meaning, IsDue, CanTurn, FitsBag, IsSorted, in_order}
+use Rattle.tw_atomic.specs.Atomic.{Meaning, IsDue, CanTurn, FitsBag}
 use Rattle.tw_atomic.specs.declared.Turn.TheVariants as turns
-use Rattle.tw_msgs.specs.Bags.{Bag}
+use Rattle.tw_msgs.specs.Bags.{Bag, IsSorted, by_port}
 use Rattle.tw_msgs.specs.Messages.{Sorted, at_or_before}
 use Rattle.tw_msgs.specs.declared.message.Message.{Message}
 use Rattle.tw_msgs.proofs.Orders.{int_le-is}
@@ -36,17 +36,18 @@ in_order_from false true true peq v vle not f h = refl
 in_order_from false true false true v vle not f h = f h
 in_order_from false true false false v vle not f h = absurd (cc)
 
-in_order_of : (m n : Message) → m.stamp ≡ n.stamp → at_or_before m n ≡ true → in_order (m.port, m.value) (n.port, n.value) ≡ true
-in_order_of m n same h =
+by_port_of : (m n : Message) → m.stamp ≡ n.stamp → at_or_before m n ≡ true → by_port (m.port, m.value) (n.port, n.value) ≡ true
+by_port_of m n same h =
     in_order_from (nat_lt m.stamp n.stamp) (m.stamp == n.stamp) (nat_lt m.port n.port) (m.port == n.port) (int_lt m.value n.value || int_eq m.value n.value && nat_le m.to n.to) (int_le m.value n.value)
     (le-ltb m.stamp n.stamp (omega (arith, same))) (item_le m.value n.value (nat_le m.to n.to)) h
 
-sorted_items : (s : ℕ) (ms : List Message) → Each (λ x. x.stamp ≡ s) ms → Sorted ms → IsSorted (items_of ms)
+-- messages of one stamp that stand in order make a sorted bag
+pub sorted_items : (s : ℕ) (ms : List Message) → Each (λ x. x.stamp ≡ s) ms → Sorted ms → IsSorted (items_of ms)
 sorted_items s [] at sorted = tt
 sorted_items s (m ∷ []) at sorted = (tt, tt)
-sorted_items s (m ∷ n ∷ ms) at sorted = (in_order_of m n (at.0 ∙ sym at.1.0) sorted.0, sorted_items s (n ∷ ms) at.1 sorted.1)
+sorted_items s (m ∷ n ∷ ms) at sorted = (by_port_of m n (at.0 ∙ sym at.1.0) sorted.0, sorted_items s (n ∷ ms) at.1 sorted.1)
 
-sorted_left : (xs ys : List Message) → Sorted (xs ++ ys) → Sorted xs
+pub sorted_left : (xs ys : List Message) → Sorted (xs ++ ys) → Sorted xs
 sorted_left [] ys h = tt
 sorted_left (x ∷ []) ys h = (tt, tt)
 sorted_left (x ∷ y ∷ xs) ys h = (h.0, sorted_left (y ∷ xs) ys h.1)

@@ -140,6 +140,13 @@ impl Stamp {
         number
     }
 
+    /// What is true of every stamp. It does nothing.
+    pub fn facts(self)
+        ensures { IsStamp self }
+    {
+        let _ = self.number;
+    }
+
     /// The stamp of a number.
     ///
     /// Refused by [`Range`] (1) exactly where no stamp has this number: where its tick part is above

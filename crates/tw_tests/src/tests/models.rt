@@ -1,6 +1,7 @@
 //! The worked examples, by functions that know a model by its trait alone.
 ghost use Rattle.std.specs.Prelude.{◌≡◌, IsTrue};
-ghost use Rattle.tw_atomic.specs.Atomic.{FitsBag, FitsItem, IsBeforeFirst, IsDue, IsSorted, in_order};
+ghost use Rattle.tw_atomic.specs.Atomic.{FitsBag, IsDue};
+ghost use Rattle.tw_msgs.specs.Bags.{IsBeforeFirst, IsSorted, by_port};
 
 use super::lines::{bag_of, counted};
 use std::alloc::{AllocError, Global};
@@ -11,7 +12,7 @@ use tw_vtime::Refusal;
 
 /// Whether one item may stand before another.
 fn is_in_order(one: &(u8, i64), other: &(u8, i64)) -> bool
-    ensures { result ≡ in_order one.now other.now }
+    ensures { result ≡ by_port one.now other.now }
 {
     one.0 < other.0 || one.0 == other.0 && one.1 <= other.1
 }
@@ -26,21 +27,16 @@ fn is_before_first(item: &(u8, i64), items: &[(u8, i64)]) -> bool
     }
 }
 
-/// Whether an item's port is 0 to 15.
-fn fits(item: &(u8, i64)) -> bool
-    ensures { IsTrue result → FitsItem item.now }
-{
-    let _value = item.1;
-    item.0 < 16
-}
-
-/// Whether a slice is a sorted bag with ports 0 to 15.
+/// Whether a slice is a sorted bag.
 fn is_bag(bag: &[(u8, i64)]) -> bool
     ensures { IsTrue result → IsSorted bag.now × FitsBag bag.now }
 {
     match bag.split_first() {
         None => true,
-        Some((item, items)) => fits(item) && is_before_first(item, items) && is_bag(items),
+        Some((item, items)) => {
+            let _item = *item;
+            is_before_first(item, items) && is_bag(items)
+        }
     }
 }
 

@@ -11,7 +11,7 @@ use Rattle.tw_seq.proofs.bags.route.Goals as goal
 pub deliver-requires-clause-to : goal.deliver-requires-clause-to
 deliver-requires-clause-to g c =
     let net = network_of g.M.Atomic.meaning c.args.network.now in
-    let lead = place_leads net c.args.source _ c.loop-to.to-index c.routes-to-items.result.now (0, 0) c.facts.ensures.network c.routes-to-items.ensures c.loop-to-test.true in
+    let lead = place_leads net c.args.source _ c.loop-to.to-index c.routes-to-items.result.now (0, 0) c.facts.ensures.network c.routes-to-items.ensures.routes c.loop-to-test.true in
     let count = length-map c.args.network.now.models g.M.Atomic.meaning in
     let inner = c.loop-to.invariant.size in
     let outer = c.loop-port.invariant.size in
@@ -42,7 +42,7 @@ loop-port-preserved g c =
     let after = places_all c.args.at item.1 c.loop-to.to-index c.routes-to-items.result.now c.loop-to.arrivals.bags.items _ c.loop-to-test.false c.loop-to.invariant.bags in
     record {
       bags = item_taken net c.args.source c.args.at c.loop-port.port-index c.as_slice-port-items.result.now c.loop-port.arrivals.bags.items c.loop-to.arrivals.bags.items _ (0, pos 0) c.loop-port-test.true
-          (after ∙ ap (λ ps. dealt 0 c.loop-port.arrivals.bags.items (copies c.args.at item.1 ps)) c.routes-to-items.ensures)
+          (after ∙ ap (λ ps. dealt 0 c.loop-port.arrivals.bags.items (copies c.args.at item.1 ps)) c.routes-to-items.ensures.routes)
           c.loop-port.invariant.bags;
       size = c.loop-to.invariant.size ∙ c.loop-port.invariant.size;
       awake = c.loop-to.invariant.awake;

@@ -11,7 +11,8 @@ use Rattle.tw_theory.specs.LocalRun.{Moment, due_of}
 use Rattle.tw_theory.specs.Simulator.{take_turn, after_output}
 use Rattle.tw_vtime.specs.Advance.{advanced}
 use Rattle.tw_vtime.specs.Stamps.{never, tick_of}
-use Rattle.tw_seq.proofs.BagLemmas.{sorted_bag-sorted, sorted_bag-FitsBag}
+use Rattle.tw_msgs.proofs.Bags.{sorted_bag-sorted}
+use Rattle.tw_seq.proofs.BagLemmas.{sorted_bag-FitsBag}
 use Rattle.tw_seq.proofs.OutputLemmas.{transition_of}
 use Rattle.tw_seq.proofs.StandingLemmas.{can_turn, stays_standing, advanced_tied, due_or_never}
 use Rattle.tw_seq.proofs.TurnLemmas.{stays_turn, stays_idle, stops_turn, moves_turn}

@@ -116,6 +116,7 @@ impl Mailboxes {
         requires { Each (λ i. i.message.to < length self.old.boxes) items.now }
         ensures ok { OnOk result (self.new ≡ mail (posted self.old.boxes items.now)) }
         ensures err { OnErr result (self.new ≡ mail self.old.boxes) }
+        ensures as_many { length self.new.boxes ≡ length self.old.boxes }
         ensures succeeds { items.now ≡ [] → IsOk result }
     {
         self.taken = None;

@@ -82,3 +82,6 @@ loop-back-preserved c =
     ∙ ap (λ (x : Item). mail (slice_set c.loop-back.self.boxes x.message.to (take (length (mail_of c.loop-back.self.boxes x.message.to) - 1) (mail_of c.loop-back.self.boxes x.message.to)))) (sym c.index-items-place-in-loop-back.is)
     ∙ ap mail (pushed_popped (posted old (take k items)) i.message.to i (known_last c.before) c.loop-back.self.boxes (posted_last c.before))
     ∙ ap (λ n. mail (posted old (take n items))) now
+
+pub returns-clause-as_many : goal.returns-clause-as_many
+returns-clause-as_many c = ap (λ (m : Mail). length m.boxes) c.loop-place.invariant ∙ length-posted c.args.self.now.boxes (take c.loop-place.place c.args.items.now)

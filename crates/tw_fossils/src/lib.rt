@@ -1,0 +1,14 @@
+//! Fossil collection: committed records leave the processes, and become one trace (Jefferson 1985).
+//!
+//! - [`Column`]: the committed records of one component, in order.
+//! - [`merge`]: the records of all columns before a stamp as one trace, by stamp and then component; [`into_trace`] does the same
+//!   with columns that are given up, and copies nothing.
+//!
+//! Each of them but the readers of a column can be refused for want of memory (4), and then leaves what it was given as it was.
+#![tactic(auto)]
+
+mod column;
+mod merging;
+
+pub use column::Column;
+pub use merging::{into_trace, merge};

@@ -39,6 +39,9 @@ pub mod Ending
 pub mod Traces
 pub mod Merging
 pub mod Outcomes
+-- memory, and the board
+pub mod Nodes
+pub mod Replayed
 -- chains, and when a step can be made
 pub mod Ready
 pub mod Agreeing

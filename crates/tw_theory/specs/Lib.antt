@@ -1,4 +1,5 @@
 pub mod Balance
+pub mod Board
 pub mod Bundles
 pub mod Chains
 pub mod Contents

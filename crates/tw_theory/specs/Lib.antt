@@ -4,6 +4,7 @@ pub mod Bundles
 pub mod Chains
 pub mod Contents
 pub mod ExampleActions
+pub mod ExampleChains
 pub mod ExampleModels
 pub mod ExampleNetworks
 pub mod ExampleTraces

@@ -50,3 +50,4 @@ pub mod Installed
 pub mod TimeWarp
 pub mod Three
 pub mod Driven
+pub mod OfRelay

@@ -11,6 +11,7 @@ pub mod History
 pub mod Inverse
 pub mod Keeping
 pub mod Memory
+pub mod OfRelay
 pub mod Outcome
 pub mod Rewinding
 pub mod Standing

@@ -21,7 +21,11 @@ pub record OutcomeLaw (S : Type 0) : Type 0 where
   pub fault : (net : Network S) (until : ℕ) (w : World S) → IsNetwork net → until ≤ max_tick → IsSound net until w
       → (c s : ℕ) (limit : Limit) → state net until w ≡ Fault c s limit → ((d : ℕ) (p : Process S) → slice_get w.processes d ≡ Some p → s ≤ p.line)
       → (trace : List Record) → IsMerged s w trace → IsOutcome net until (Fault c s limit) trace
-  -- where every line is gvt, as after a sweep, the trace of whole columns is enough for either
+  -- the trace of whole columns is enough where the run is complete
+  pub whole : (net : Network S) (until : ℕ) (w : World S) → IsNetwork net → until ≤ max_tick → IsSound net until w
+      → state net until w ≡ Complete → (trace : List Record) → IsTrace trace → ((c : ℕ) → of_component c trace ≡ column_of w.columns c)
+      → IsOutcome net until Complete trace × (length trace ≡ total length w.columns)
+  -- and, whether complete or in a fault, where every line is gvt, as after a sweep
   pub at_gvt : (net : Network S) (until : ℕ) (w : World S) → IsNetwork net → until ≤ max_tick → IsSound net until w
       → ((d : ℕ) (p : Process S) → slice_get w.processes d ≡ Some p → p.line ≡ w.gvt) → (trace : List Record) → IsTrace trace → ((c : ℕ) → of_component c trace ≡ column_of w.columns c)
       → state net until w ≢ Going → IsOutcome net until (state net until w) trace × (length trace ≡ total length w.columns)

@@ -1,7 +1,7 @@
 -- What actions do to the nodes that a process holds.
-use Rattle.std.proofs.Common.{◌≡◌, ℕ, ◌+◌, ◌≤◌, List, [], ◌∷◌, ◌++◌, length, length-append, take, drop, take-append-drop, Option, Some, None, Result, Ok, Err, refl, sym, ap, ◌∙◌, subst, arith, slice_get}
+use Rattle.std.proofs.Common.{◌≡◌, ℕ, ◌+◌, ◌≤◌, List, [], ◌∷◌, ◌++◌, length, length-append, take, drop, take-append-drop, Option, Some, None, Result, Ok, Err, refl, sym, ap, ◌∙◌, subst, arith, slice_get, ⊎_elim}
 use Rattle.std.specs.Prelude.{◌==◌, nat_lt, slice_set}
-use Rattle.std.proofs.lemmas.Bool.{cond_both}
+use Rattle.std.proofs.lemmas.Bool.{cond_both, cases_lt}
 use Rattle.std.proofs.lemmas.List.{length-map}
 use Rattle.tw_laws.specs.Memory.{MemoryLaw}
 use Rattle.tw_msgs.specs.Messages.{has, place, without, at_or_before, same_message}
@@ -13,7 +13,7 @@ use Rattle.tw_theory.specs.Bundles.{positive, positives, anti, antis, overdue}
 use Rattle.tw_theory.specs.Contents.{Process, consumed_by, next, sent_by, sent_out, owed_after, unsent_by, Cancel, Aggressive, Lazy, with_step, settled_as, settle, back_to_first, steps_before, steps_from, cut, with_outgoing, Received, receive, receive_signed, harvested}
 use Rattle.tw_theory.specs.Executive.{World, Action, Step, Post, Deliver, Back, Raise, Harvest, Answer, act, act_step, if_made, act_post, act_deliver, act_back, act_harvest, mail_of}
 use Rattle.tw_theory.specs.LocalRun.{Made, NoStep, local_step}
-use Rattle.tw_theory.specs.Memory.{live, need_of_step, need_of_received, need_if_made, need_if_there, need, component_of}
+use Rattle.tw_theory.specs.Memory.{max_nodes, live, need_of_step, need_of_received, need_if_made, need_if_there, need, component_of}
 use Rattle.tw_theory.specs.Network.{Network}
 use Rattle.tw_theory.proofs.Cuts.{inputs_of_cut}
 use Rattle.tw_theory.proofs.Owing.{length-undone, length-unsent, length-overdue, total-out}
@@ -170,5 +170,8 @@ memory_law = record {
   cut = cut_live;
   settle = settle_live;
   harvest = harvest_live;
-  act = λ net until w action c p q of at is. act_live net until w c p at action q of is;
+  takes = λ net until w action c p q of at is. act_live net until w c p at action q of is;
+  within = λ net until w action c p q of at is room.
+  let more = act_live net until w c p at action q of is in
+  ⊎_elim (λ over. absurd (room (record { component = c; of = of; process = p; at = at; passes = over }))) (λ le. omega (arith, more, le)) (cases_lt max_nodes (live p + need net w p action));
 }

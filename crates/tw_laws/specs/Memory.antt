@@ -5,7 +5,7 @@ use Rattle.tw_msgs.specs.declared.message.Item.{Item}
 use Rattle.tw_theory.specs.Contents.{Process, Cancel, with_step, cut, settle, receive, harvested}
 use Rattle.tw_theory.specs.Executive.{World, Action, act}
 use Rattle.tw_theory.specs.LocalRun.{Made, local_step}
-use Rattle.tw_theory.specs.Memory.{live, need_of_step, need_of_received, need, component_of, TakesMemory, one_if_taken, IsReplayed}
+use Rattle.tw_theory.specs.Memory.{max_nodes, live, need_of_step, need_of_received, need, component_of, WantsNodes, TakesMemory, one_if_taken, IsReplayed}
 use Rattle.tw_theory.specs.Network.{Network, IsNetwork}
 use Rattle.tw_theory.specs.Soundness.{IsSound, new_world}
 use Rattle.tw_vtime.specs.Stamps.{max_tick}
@@ -18,8 +18,11 @@ pub record MemoryLaw (S : Type 0) : Type 0 where
   pub settle : (p : Process S) → live (settle p) ≡ live p
   pub harvest : (g : ℕ) (p : Process S) → live (harvested g p) ≤ live p
   -- so each action takes at most what it needs
-  pub act : (net : Network S) (until : ℕ) (w : World S) (action : Action) (c : ℕ) (p q : Process S) → component_of action ≡ Some c → slice_get w.processes c ≡ Some p
+  pub takes : (net : Network S) (until : ℕ) (w : World S) (action : Action) (c : ℕ) (p q : Process S) → component_of action ≡ Some c → slice_get w.processes c ≡ Some p
       → slice_get (act net until w action).1.processes c ≡ Some q → live q ≤ live p + need net w p action
+  -- and where none is wanting, its process stays within the greatest number
+  pub within : (net : Network S) (until : ℕ) (w : World S) (action : Action) (c : ℕ) (p q : Process S) → component_of action ≡ Some c → slice_get w.processes c ≡ Some p
+      → slice_get (act net until w action).1.processes c ≡ Some q → (WantsNodes net w action → ⊥) → live q ≤ max_nodes
 
 -- ---- lists of actions of which some are left undone
 

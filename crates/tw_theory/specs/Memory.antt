@@ -1,7 +1,7 @@
 -- The nodes that a process holds and that an action needs; and what comes of a list of actions where memory or nodes may be wanting.
 --     live p      how many messages stand in the lists of p, each in a node of its own
 --     need net w p action      how many more its process must have room for before the action is taken
---     IsFull net w action      it would pass the greatest number of nodes
+--     WantsNodes net w action      its process would pass the greatest number of nodes
 --     IsReplayed net until w actions n w'      w' comes of these actions, of which some may be left undone; n were not refused
 use Rattle.std.specs.Prelude.{ℕ, ◌+◌, ◌*◌, ◌<◌, ◌≡◌, ◌⊎◌, List, [], ◌∷◌, length, Option, Some, None, Result, Ok, Err, slice_get, ⊤}
 use Rattle.tw_msgs.specs.Counting.{total}
@@ -55,7 +55,8 @@ component_of (Back c s) = Some c
 component_of Raise = None
 component_of (Harvest c) = Some c
 
-pub record IsFull {S : Type 0} (net : Network S) (w : World S) (action : Action) : Type 0 where
+-- its process would hold more than the greatest number of nodes
+pub record WantsNodes {S : Type 0} (net : Network S) (w : World S) (action : Action) : Type 0 where
   pub component : ℕ
   pub of : component_of action ≡ Some component
   pub process : Process S

@@ -15,7 +15,7 @@ pub mod ActionsKeep
 pub mod Acting
 -- local runs that balance are the sequential run; so a harvest keeps an executive sound too
 pub mod History
-pub mod Settled
+pub mod AtGvt
 pub mod Harvesting
 pub mod Lines
 pub mod Growing

@@ -3,12 +3,12 @@ use Rattle.std.proofs.Common.{◌≡◌, ℕ, ◌+◌, ◌≤◌, List, [], ◌�
 use Rattle.std.specs.Prelude.{◌==◌, nat_lt, slice_set}
 use Rattle.std.proofs.lemmas.Bool.{cond_both, cases_lt}
 use Rattle.std.proofs.lemmas.List.{length-map}
-use Rattle.tw_laws.specs.Memory.{MemoryLaw}
 use Rattle.tw_msgs.specs.Messages.{has, place, without, at_or_before, same_message}
 use Rattle.tw_msgs.specs.declared.message.Item.{Item}
 use Rattle.tw_msgs.specs.declared.message.Message.{Message}
 use Rattle.tw_msgs.specs.declared.message.Sign.{Sign}
 use Rattle.tw_msgs.specs.declared.message.Sign.TheVariants.{Positive, Anti}
+use Rattle.tw_vtime.specs.Stamps.{stamp}
 use Rattle.tw_theory.specs.Bundles.{positive, positives, anti, antis, overdue}
 use Rattle.tw_theory.specs.Contents.{Process, consumed_by, next, sent_by, sent_out, owed_after, unsent_by, Cancel, Aggressive, Lazy, with_step, settled_as, settle, back_to_first, steps_before, steps_from, cut, with_outgoing, Received, receive, receive_signed, harvested}
 use Rattle.tw_theory.specs.Executive.{World, Action, Step, Post, Deliver, Back, Raise, Harvest, Answer, act, act_step, if_made, act_post, act_deliver, act_back, act_harvest, mail_of}
@@ -19,7 +19,7 @@ use Rattle.tw_theory.proofs.Cuts.{inputs_of_cut}
 use Rattle.tw_theory.proofs.Owing.{length-undone, length-unsent, length-overdue, total-out}
 use Rattle.tw_theory.proofs.Steps.{local_step_follows}
 use Rattle.tw_theory.proofs.TakingBack.{sent_by-append, consumed_by-append}
-use Rattle.tw_vtime.specs.Stamps.{stamp}
+use Rattle.tw_laws.specs.Memory.{MemoryLaw}
 use Rattle.tw_laws.proofs.Inverse.{set_here}
 use Rattle.tw_laws.proofs.Sweeping.{one_each}
 

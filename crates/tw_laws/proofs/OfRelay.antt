@@ -2,10 +2,6 @@
 use Rattle.std.proofs.Common.{◌+◌, ◌≡◌, [], ◌∷◌, ◌++◌, Some, refl, sym, ◌∙◌, subst, arith, inl}
 use Rattle.std.specs.Prelude.{slice_get, pos}
 use Rattle.std.specs.List.{AllByRecursion as Each}
-use Rattle.tw_laws.specs.Applied.{driven}
-use Rattle.tw_laws.specs.Chains.{IsStepped}
-use Rattle.tw_laws.specs.OfRelay.{AnyState, received, LawsOfRelay}
-use Rattle.tw_laws.specs.Standing.{IsReadyFrom, MayCome}
 use Rattle.tw_vtime.specs.Stamps.{stamp}
 use Rattle.tw_theory.specs.Board.{numbers_of, posted_after, AtMost}
 use Rattle.tw_theory.specs.Bundles.{positive}
@@ -23,6 +19,10 @@ use Rattle.tw_theory.specs.Soundness.{IsSound, new_world}
 use Rattle.tw_theory.specs.Standing.{CanTake}
 use Rattle.tw_theory.specs.Transitions.{start_moment, output, moved, transition}
 use Rattle.tw_theory.proofs.RelayChain.{chain_of_relay}
+use Rattle.tw_laws.specs.Applied.{driven}
+use Rattle.tw_laws.specs.Chains.{IsStepped}
+use Rattle.tw_laws.specs.OfRelay.{AnyState, received, LawsOfRelay}
+use Rattle.tw_laws.specs.Standing.{IsReadyFrom, MayCome}
 use Rattle.tw_laws.proofs.Acting.{start_law}
 use Rattle.tw_laws.proofs.Agreeing.{chain_law}
 use Rattle.tw_laws.proofs.Harvesting.{replay_sound}

@@ -1,14 +1,14 @@
 -- Lists of actions of which some are left undone, and the board.
 use Rattle.std.proofs.Common.{◌≡◌, ℕ, ◌+◌, ◌≤◌, inl, inr, List, [], ◌∷◌, ◌++◌, refl, sym, ap, ◌∙◌, subst, arith, ⊎_elim, max}
-use Rattle.tw_laws.specs.Board.{BoardLaw}
-use Rattle.tw_laws.specs.Committed.{HasCommitted, Grow}
-use Rattle.tw_laws.specs.Memory.{ReplayLaw}
 use Rattle.tw_msgs.specs.Counting.{total}
 use Rattle.tw_theory.specs.Board.{Numbers, AtMost, posted_after, IsBoard}
 use Rattle.tw_theory.specs.Executive.{World, Action, act, replay, answers}
 use Rattle.tw_theory.specs.Memory.{TakesMemory, TakenOf, one_if_taken}
 use Rattle.tw_theory.specs.Network.{Network}
 use Rattle.tw_theory.specs.Soundness.{IsSound}
+use Rattle.tw_laws.specs.Board.{BoardLaw}
+use Rattle.tw_laws.specs.Committed.{HasCommitted, Grow}
+use Rattle.tw_laws.specs.Memory.{ReplayLaw}
 use Rattle.tw_laws.proofs.Growing.{replay_grows, count_grows}
 use Rattle.tw_laws.proofs.Harvesting.{replay_sound, committed_law}
 use Rattle.tw_laws.proofs.Lines.{gvt_rises_by}

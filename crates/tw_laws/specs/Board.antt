@@ -1,10 +1,10 @@
 -- What the board shows is so: no more than was committed, and it never falls.
 use Rattle.std.specs.Prelude.{ℕ, ◌≤◌, ◌≡◌, List}
+use Rattle.tw_vtime.specs.Stamps.{max_tick}
 use Rattle.tw_theory.specs.Board.{Numbers, numbers_of, AtMost, posted_after, nothing_posted, IsBoard, IsSeen, IsMet}
 use Rattle.tw_theory.specs.Executive.{World, Action, replay}
 use Rattle.tw_theory.specs.Network.{Network, IsNetwork}
 use Rattle.tw_theory.specs.Soundness.{IsSound}
-use Rattle.tw_vtime.specs.Stamps.{max_tick}
 
 pub record BoardLaw (S : Type 0) : Type 0 where
   -- what an executive's numbers are is no less after any actions

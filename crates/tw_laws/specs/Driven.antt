@@ -1,9 +1,5 @@
 -- Sweeps and outcomes on concrete networks: what a sweep is as a list, and two runs driven to their end.
 use Rattle.std.specs.Prelude.{ℕ, ◌≡◌, List, [], ◌∷◌, ◌++◌, true, false}
-use Rattle.tw_laws.specs.Applied.{after, stuck, driven_trace}
-use Rattle.tw_theory.specs.Outcomes.{state, Complete, Fault}
-use Rattle.tw_laws.specs.Exchange.{IsAfterSweep}
-use Rattle.tw_theory.specs.Outcomes.{IsOutcome}
 use Rattle.tw_msgs.specs.declared.record.Record.{Record}
 use Rattle.tw_vtime.specs.Stamps.{stamp}
 use Rattle.tw_vtime.specs.declared.limits.Limit.TheVariants.{Tick}
@@ -14,7 +10,10 @@ use Rattle.tw_theory.specs.ExampleTraces.{out, item}
 use Rattle.tw_theory.specs.Exchange.{sweep, IsDrawn}
 use Rattle.tw_theory.specs.Executive.{World, Action, Step, Post, Deliver, Raise, Harvest, Posted, Delivered, Raised, Harvested, replay, answers}
 use Rattle.tw_theory.specs.Network.{Network}
+use Rattle.tw_theory.specs.Outcomes.{state, Complete, Fault, IsOutcome}
 use Rattle.tw_theory.specs.Soundness.{new_world}
+use Rattle.tw_laws.specs.Applied.{after, stuck, driven_trace}
+use Rattle.tw_laws.specs.Exchange.{IsAfterSweep}
 
 abbrev pub swept : Network State → ℕ → World State → World State
 swept net until w = replay net until w (sweep net until w)

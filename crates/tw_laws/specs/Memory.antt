@@ -1,14 +1,14 @@
 -- What actions do to the nodes that a process holds; and lists of actions of which some may be left undone.
 use Rattle.std.specs.Prelude.{ℕ, ◌+◌, ◌≤◌, ◌≡◌, List, [], ◌∷◌, ◌++◌, Ok, Some, slice_get}
-use Rattle.tw_laws.specs.Committed.{HasCommitted, Grow}
 use Rattle.tw_msgs.specs.declared.message.Item.{Item}
+use Rattle.tw_vtime.specs.Stamps.{max_tick}
 use Rattle.tw_theory.specs.Contents.{Process, Cancel, with_step, cut, settle, receive, harvested}
 use Rattle.tw_theory.specs.Executive.{World, Action, act}
 use Rattle.tw_theory.specs.LocalRun.{Made, local_step}
 use Rattle.tw_theory.specs.Memory.{max_nodes, live, need_of_step, need_of_received, need, component_of, WantsNodes, TakesMemory, one_if_taken, IsReplayed}
 use Rattle.tw_theory.specs.Network.{Network, IsNetwork}
 use Rattle.tw_theory.specs.Soundness.{IsSound, new_world}
-use Rattle.tw_vtime.specs.Stamps.{max_tick}
+use Rattle.tw_laws.specs.Committed.{HasCommitted, Grow}
 
 pub record MemoryLaw (S : Type 0) : Type 0 where
   -- a step takes just the nodes that it needs, a receipt at most; steps taken back, and messages owed that become anti-messages, take none; a harvest gives nodes back

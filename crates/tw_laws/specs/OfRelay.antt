@@ -1,9 +1,6 @@
 -- The laws of steps, chains, memory and the board applied to a relay between a generator and a tally, and to a driven run.
 use Rattle.std.specs.Prelude.{pos, ◌+◌, ◌≡◌, List, [], ◌∷◌, ◌++◌, ⊤}
 use Rattle.std.specs.List.{AllByRecursion as Each}
-use Rattle.tw_laws.specs.Applied.{driven}
-use Rattle.tw_laws.specs.Chains.{IsStepped, steps_of_one}
-use Rattle.tw_laws.specs.Standing.{StandingLaw, IsReadyFrom, MayCome}
 use Rattle.tw_msgs.specs.declared.record_kind.RecordKind.TheVariants.{Out, Ext}
 use Rattle.tw_vtime.specs.Stamps.{stamp}
 use Rattle.tw_theory.specs.Board.{numbers_of, posted_after}
@@ -20,6 +17,9 @@ use Rattle.tw_theory.specs.Memory.{IsReplayed, live, need}
 use Rattle.tw_theory.specs.Network.{input}
 use Rattle.tw_theory.specs.Soundness.{IsSound, new_world}
 use Rattle.tw_theory.specs.Transitions.{start_moment}
+use Rattle.tw_laws.specs.Applied.{driven}
+use Rattle.tw_laws.specs.Chains.{IsStepped, steps_of_one}
+use Rattle.tw_laws.specs.Standing.{StandingLaw, IsReadyFrom, MayCome}
 
 -- its states are all valid
 abbrev pub AnyState : State → Type 0

@@ -2,6 +2,8 @@
 use Rattle.std.specs.Prelude.{ℕ, ◌≤◌, ◌≡◌, ◌≢◌, List, length, Some, slice_get}
 use Rattle.tw_msgs.specs.Counting.{total}
 use Rattle.tw_msgs.specs.declared.record.Record.{Record}
+use Rattle.tw_vtime.specs.Stamps.{stamp, max_tick}
+use Rattle.tw_vtime.specs.declared.limits.Limit.{Limit}
 use Rattle.tw_theory.specs.Contents.{Process}
 use Rattle.tw_theory.specs.Executive.{World, column_of}
 use Rattle.tw_theory.specs.Network.{Network, IsNetwork}
@@ -9,8 +11,6 @@ use Rattle.tw_theory.specs.Outcomes.{Complete, Fault, Going, state, IsOutcome}
 use Rattle.tw_theory.specs.Simulator.{sequential, up_to}
 use Rattle.tw_theory.specs.Soundness.{IsSound}
 use Rattle.tw_theory.specs.Traces.{IsTrace, IsMerged, of_component, before}
-use Rattle.tw_vtime.specs.Stamps.{stamp, max_tick}
-use Rattle.tw_vtime.specs.declared.limits.Limit.{Limit}
 
 pub record OutcomeLaw (S : Type 0) : Type 0 where
   -- with a fault the simulator has recorded nothing at it or after

@@ -1,14 +1,13 @@
 -- The chain's steps, and what is made of it, by computing them.
-use Rattle.std.proofs.Common.{refl, sym, ap, ◌≡◌, Some, arith, inr}
+use Rattle.std.proofs.Common.{refl, sym, ap, ◌≡◌, Some, arith, inr, subst}
 use Rattle.std.specs.Prelude.{slice_get, ◌++◌, [], ◌∷◌, pos}
-use Rattle.std.proofs.Common.{subst}
 use Rattle.tw_vtime.specs.Stamps.{stamp}
 use Rattle.tw_theory.specs.Contents.{back_to_first}
 use Rattle.tw_theory.specs.ExampleChains.{ChainOfRelay, eight, holding, from_start, step, relayed, relay_after, generates}
 use Rattle.tw_theory.specs.ExampleModels.{State, relay}
 use Rattle.tw_theory.specs.ExampleTraces.{ext, int, item}
-use Rattle.tw_theory.specs.Installing.{IsFresh}
 use Rattle.tw_theory.specs.Executive.{act, Step as StepAction, Deliver}
+use Rattle.tw_theory.specs.Installing.{IsFresh}
 use Rattle.tw_theory.specs.LocalRun.{Step, step_at, local_step}
 use Rattle.tw_theory.specs.Transitions.{start_moment, output, moved, transition}
 

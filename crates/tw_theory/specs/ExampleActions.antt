@@ -1,7 +1,7 @@
 -- What the executive answers to lists of actions on the example networks, computed by hand, and what its processes hold then.
 use Rattle.std.specs.Prelude.{ℕ, pos, ◌≡◌, List, [], ◌∷◌, ◌++◌, Some, None, slice_get}
-use Rattle.tw_msgs.specs.declared.message.Message.{Message}
 use Rattle.tw_msgs.specs.declared.message.Item.{Item}
+use Rattle.tw_msgs.specs.declared.message.Message.{Message}
 use Rattle.tw_msgs.specs.declared.record_kind.RecordKind.TheVariants.{Out, Int, Ext, Con}
 use Rattle.tw_vtime.specs.Stamps.{stamp, never}
 use Rattle.tw_vtime.specs.declared.limits.Limit.TheVariants.{Microstep}

@@ -3,9 +3,9 @@ use Rattle.std.proofs.Common.{refl}
 use Rattle.tw_theory.specs.Contents.{back_to_first}
 use Rattle.tw_theory.specs.Executive.{act}
 use Rattle.tw_theory.specs.LocalRun.{step_at, local_step}
-use Rattle.tw_theory.specs.Transitions.{output, moved, transition}
 use Rattle.tw_theory.specs.Marks.{rewind}
 use Rattle.tw_theory.specs.Outcomes.{state}
+use Rattle.tw_theory.specs.Transitions.{output, moved, transition}
 use Rattle.tw_theory.proofs.examples.actions.Goals as goal
 
 pub returns-clause-straggler_of_three : goal.returns-clause-straggler_of_three

@@ -12,7 +12,7 @@ use Rattle.tw_theory.specs.Simulator.{Run, sequential, records_before}
 use Rattle.tw_vtime.specs.Stamps.{stamp, max_tick}
 use Rattle.tw_laws.proofs.History.Clock.{bag_of, sent_in_all, clock, act_if, place_after, record_after}
 use Rattle.tw_laws.proofs.History.Rounds.{Reached, Running, Faulted, rounds_reach}
-use Rattle.tw_laws.proofs.Settled.{all_phase_one}
+use Rattle.tw_laws.proofs.AtGvt.{all_phase_one}
 
 none_clocked : {S : Type 0} (net : Network S) (c : ℕ) → slice_get net.models c ≡ None → (s : ℕ)
     → ((clock net s).place c ≡ None) × ((clock net s).records c ≡ [])

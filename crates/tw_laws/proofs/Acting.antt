@@ -1,17 +1,17 @@
 -- Every action but a harvest keeps an executive sound.
 use Rattle.std.proofs.Common.{ℕ, ◌≤◌, List, refl, arith}
 use Rattle.std.specs.Prelude.{slice_get}
-use Rattle.tw_laws.specs.Keeping.{StartLaw}
-use Rattle.tw_laws.proofs.ActionsKeep.{ActLaw}
 use Rattle.tw_msgs.specs.declared.message.Item.{Item}
 use Rattle.tw_msgs.specs.declared.record.Record.{Record}
 use Rattle.tw_theory.specs.Contents.{Process}
 use Rattle.tw_theory.specs.Executive.{World, Step, Post, Deliver, Back, Raise, Harvest, act, mail_of, least_of}
 use Rattle.tw_theory.specs.Network.{Network}
 use Rattle.tw_theory.specs.Soundness.{IsSoundProcess, IsSound}
+use Rattle.tw_laws.specs.Keeping.{StartLaw}
+use Rattle.tw_laws.proofs.ActionsKeep.{ActLaw}
+use Rattle.tw_laws.proofs.Delivering.{deliver_sound, back_sound}
 use Rattle.tw_laws.proofs.Starting.{start_sound}
 use Rattle.tw_laws.proofs.Stepping.{step_sound, post_sound}
-use Rattle.tw_laws.proofs.Delivering.{deliver_sound, back_sound}
 
 raised_process : {S : Type 0} (net : Network S) (until g g' c : ℕ) (column : List Record) (mail : List Item) (p : Process S) → g ≤ g'
     → IsSoundProcess net until g c column mail p → IsSoundProcess net until g' c column mail p

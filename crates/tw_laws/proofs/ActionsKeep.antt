@@ -1,9 +1,9 @@
 -- What is kept by one action, and by every action but a harvest.
 use Rattle.std.specs.Prelude.{ℕ, ◌≤◌, ⊤}
+use Rattle.tw_vtime.specs.Stamps.{max_tick}
 use Rattle.tw_theory.specs.Executive.{World, Action, Step, Post, Deliver, Back, Raise, Harvest, act}
 use Rattle.tw_theory.specs.Network.{Network, IsNetwork}
 use Rattle.tw_theory.specs.Soundness.{IsSound}
-use Rattle.tw_vtime.specs.Stamps.{max_tick}
 
 abbrev pub IsNoHarvest : Action → Type 0
 IsNoHarvest (Step c) = ⊤

@@ -1,6 +1,6 @@
 -- The steps of a chain are the next steps of its component.
-use Rattle.tw_laws.specs.Chains.{ChainLaw}
 use Rattle.tw_theory.proofs.Agreeing.{same_step, leads_more}
+use Rattle.tw_laws.specs.Chains.{ChainLaw}
 
 pub chain_law : {S : Type 0} → ChainLaw S
 chain_law = record {

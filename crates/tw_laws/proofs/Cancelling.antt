@@ -3,12 +3,13 @@ use Rattle.std.proofs.Common.{◌≡◌, ℕ, zero, suc, ◌-◌, ◌≤◌, min
 use Rattle.std.specs.Prelude.{slice_get, slice_set, nat_lt, ◌==◌}
 use Rattle.std.specs.List.{AllByRecursion as Each}
 use Rattle.std.proofs.lemmas.Bool.{cond_both}
-use Rattle.tw_laws.specs.Cancelling.{CancelStays, least_own, IsSwept, SweptLeast}
+use Rattle.tw_atomic.specs.Atomic.{Meaning}
 use Rattle.tw_msgs.specs.Messages.{has}
 use Rattle.tw_msgs.specs.declared.message.Item.{Item}
 use Rattle.tw_msgs.specs.declared.message.Message.{Message}
 use Rattle.tw_msgs.specs.declared.message.Sign.{Sign}
 use Rattle.tw_msgs.specs.declared.message.Sign.TheVariants.{Positive, Anti}
+use Rattle.tw_vtime.specs.Stamps.{stamp, never}
 use Rattle.tw_theory.specs.Bundles.{least_stamp, least_owed}
 use Rattle.tw_theory.specs.Contents.{Process, Cancel, Aggressive, Lazy, next, owed_after, owed_undone, unsent_by, consumed_by, steps_from, with_step, with_outgoing, settled_as, settle, back_to_first, cut, harvested, Received, receive, receive_signed}
 use Rattle.tw_theory.specs.Executive.{World, Answer, Action, Post, Deliver, Back, Raise, Harvest, act, act_step, act_post, act_deliver, act_back, act_harvest, if_made, mail_of, least_next, least_mail}
@@ -16,9 +17,8 @@ use Rattle.tw_theory.specs.LocalRun.{Made, NoStep}
 use Rattle.tw_theory.specs.Marks.{rewind, rewound, any_committed}
 use Rattle.tw_theory.specs.Network.{Network}
 use Rattle.tw_theory.specs.Soundness.{Cancels, new_processes}
-use Rattle.tw_vtime.specs.Stamps.{stamp, never}
 use Rattle.tw_theory.proofs.Elements.{each-get}
-use Rattle.tw_atomic.specs.Atomic.{Meaning}
+use Rattle.tw_laws.specs.Cancelling.{CancelStays, least_own, IsSwept, SweptLeast}
 
 pub each-set : {X : Type 0} (P : X → Type 0) (xs : List X) (c : ℕ) (y : X) → P y → Each P xs → Each P (slice_set xs c y)
 each-set P [] c y p h = tt

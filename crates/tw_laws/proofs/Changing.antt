@@ -7,16 +7,16 @@ use Rattle.tw_msgs.specs.Counting.{total, when_positive, when_anti}
 use Rattle.tw_msgs.specs.declared.message.Item.{Item}
 use Rattle.tw_msgs.specs.declared.message.Message.{Message}
 use Rattle.tw_msgs.specs.declared.record.Record.{Record}
+use Rattle.tw_vtime.specs.Stamps.{never}
 use Rattle.tw_theory.specs.Balance.{issued, held}
 use Rattle.tw_theory.specs.Bundles.{least_stamp, least_owed}
 use Rattle.tw_theory.specs.Contents.{Process, Cancel, next}
 use Rattle.tw_theory.specs.Executive.{World, mail_of, least_next, least_mail, with_process, with_mail}
 use Rattle.tw_theory.specs.Network.{Network}
 use Rattle.tw_theory.specs.Soundness.{IsFor, IsSoundProcess, Cancels, IsSound}
-use Rattle.tw_vtime.specs.Stamps.{never}
-use Rattle.tw_laws.proofs.Cancelling.{each-set}
 use Rattle.tw_theory.proofs.Elements.{get_of_set, each-get}
 use Rattle.tw_theory.proofs.Totals.{total-set}
+use Rattle.tw_laws.proofs.Cancelling.{each-set}
 
 pub each_from_least : (g : ℕ) (items : List Item) → g ≤ least_stamp items → Each (λ i. g ≤ i.message.stamp) items
 each_from_least g [] l = tt

@@ -3,11 +3,11 @@ use Rattle.std.proofs.Common.{◌≡◌, ℕ, zero, suc, ◌≤◌, ◌<◌, Lis
 use Rattle.std.specs.Prelude.{slice_get, ◌==◌, ◌≢◌, nat_lt, nat_le}
 use Rattle.std.proofs.lemmas.Bool.{and_parts, or_cases, or_left, or_right, leb-true, le-leb, ltb-true, lt-ltb, eq-eqb, ne_eqb, cases_Bool}
 use Rattle.std.proofs.lemmas.Option.{same_Some, none-some}
-use Rattle.tw_laws.specs.Rewinding.{IsCommittedSince, RewindAnswers, RewindAnswersLaw}
 use Rattle.tw_msgs.specs.declared.record.Record.{Record}
 use Rattle.tw_theory.specs.Contents.{Process, records_of}
 use Rattle.tw_theory.specs.Executive.{World, Answer, Undone, Refused, NoSuch, Committed, column_of}
 use Rattle.tw_theory.specs.Marks.{any_between, any_committed, rewound, rewound_steps, rewind}
+use Rattle.tw_laws.specs.Rewinding.{IsCommittedSince, RewindAnswers, RewindAnswersLaw}
 
 -- ---- a record between two stamps
 

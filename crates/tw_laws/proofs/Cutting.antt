@@ -9,24 +9,24 @@ use Rattle.tw_msgs.specs.Messages.{has, Sorted}
 use Rattle.tw_msgs.specs.declared.message.Item.{Item}
 use Rattle.tw_msgs.specs.declared.message.Message.{Message}
 use Rattle.tw_msgs.specs.declared.record.Record.{Record}
+use Rattle.tw_msgs.proofs.Totals.{total-append}
+use Rattle.tw_vtime.specs.Stamps.{stamp, never, max_tick, phase_of}
 use Rattle.tw_theory.specs.Balance.{issued, held}
 use Rattle.tw_theory.specs.Bundles.{least_stamp, least_owed, Ascending}
 use Rattle.tw_theory.specs.Contents.{Process, next, inputs, consumed_by, sent_by, unsent_by, before_all, back_to_first, steps_before, steps_from, cut}
 use Rattle.tw_theory.specs.LocalRun.{Step, next_of, Leads}
-use Rattle.tw_theory.specs.Transitions.{Moment}
 use Rattle.tw_theory.specs.Network.{Network, Fits, IsNetwork}
 use Rattle.tw_theory.specs.Soundness.{AllBefore, IsFor, IsSoundProcess}
-use Rattle.tw_vtime.specs.Stamps.{stamp, never, max_tick, phase_of}
+use Rattle.tw_theory.specs.Transitions.{Moment}
 use Rattle.tw_theory.proofs.Elements.{each_parts, each_weaker}
 use Rattle.tw_theory.proofs.Owing.{each-undone, each-unsent, anti-undone, positive-undone, total-unsent, each_from_owed, owed_from_each}
 use Rattle.tw_theory.proofs.Steps.{local_step_follows}
 use Rattle.tw_theory.proofs.TakingBack.{consumed_by-append, sent_by-append}
+use Rattle.tw_laws.proofs.Changing.{each_from_least, least_from_each}
 use Rattle.tw_laws.proofs.Inverse.{NotBefore}
 use Rattle.tw_laws.proofs.Runs.{leads_split, in_order, step_in_order}
 use Rattle.tw_laws.proofs.Sends.{IsSentAt, local_step_sends}
-use Rattle.tw_laws.proofs.Changing.{each_from_least, least_from_each}
 use Rattle.tw_laws.proofs.Stepping.{all_odd, inputs_ascending}
-use Rattle.tw_msgs.proofs.Totals.{total-append}
 
 -- ---- the steps before a stamp
 

@@ -12,6 +12,10 @@ use Rattle.tw_msgs.specs.declared.message.Message.{Message}
 use Rattle.tw_msgs.specs.declared.message.Sign.{Sign}
 use Rattle.tw_msgs.specs.declared.message.Sign.TheVariants.{Positive, Anti}
 use Rattle.tw_msgs.specs.declared.record.Record.{Record}
+use Rattle.tw_msgs.proofs.MessageLists.{has-append, has_of_place, has_of_without, total-place, total-without, without-Sorted}
+use Rattle.tw_msgs.proofs.Messages.{place-Sorted, same_message_is}
+use Rattle.tw_msgs.proofs.Totals.{total-append}
+use Rattle.tw_vtime.specs.Stamps.{never, max_tick}
 use Rattle.tw_theory.specs.Balance.{issued, held}
 use Rattle.tw_theory.specs.Bundles.{least_stamp, least_owed, first_stamp, Ascending}
 use Rattle.tw_theory.specs.Contents.{Process, next, inputs, consumed_by, steps_from, cut, placed, removed, with_waiting, with_pending, Received, receive_message, receive_anti, receive_signed, receive, steps_before}
@@ -19,18 +23,14 @@ use Rattle.tw_theory.specs.Executive.{World, Answer, act_deliver, act_back, mail
 use Rattle.tw_theory.specs.LocalRun.{Step}
 use Rattle.tw_theory.specs.Network.{Network, IsNetwork}
 use Rattle.tw_theory.specs.Soundness.{AllBefore, IsFor, IsSoundProcess, IsSound}
-use Rattle.tw_vtime.specs.Stamps.{never, max_tick}
 use Rattle.tw_theory.proofs.Elements.{each-append, each_parts, each_weaker, each-place, each-without, each-remove, each-get}
-use Rattle.tw_theory.proofs.Totals.{total-set, total-remove}
 use Rattle.tw_theory.proofs.MessageOrder.{first_of_place, first_of_without, sorted_join, sorted_right}
-use Rattle.tw_laws.proofs.Runs.{leads_other, in_order}
+use Rattle.tw_theory.proofs.Totals.{total-set, total-remove}
 use Rattle.tw_laws.proofs.Cancelling.{received, undone}
 use Rattle.tw_laws.proofs.Changing.{each_from_least, least_from_each, least_mail_top, box_from_least, least_mail-set, process_from_least, replaced_sound}
-use Rattle.tw_laws.proofs.Stepping.{all_odd, inputs_ascending, get_box}
 use Rattle.tw_laws.proofs.Cutting.{IsCutOf, cut_sound, none_from, leads_consumes}
-use Rattle.tw_msgs.proofs.Totals.{total-append}
-use Rattle.tw_msgs.proofs.MessageLists.{has-append, has_of_place, has_of_without, total-place, total-without, without-Sorted}
-use Rattle.tw_msgs.proofs.Messages.{place-Sorted, same_message_is}
+use Rattle.tw_laws.proofs.Runs.{leads_other, in_order}
+use Rattle.tw_laws.proofs.Stepping.{all_odd, inputs_ascending, get_box}
 
 before_weaker : {S : Type 0} (s t : ℕ) (steps : List (Step S)) → ((k : ℕ) → k < s → k < t) → AllBefore s steps → AllBefore t steps
 before_weaker s t [] f h = tt

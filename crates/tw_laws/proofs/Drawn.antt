@@ -3,10 +3,10 @@ use Rattle.std.proofs.Common.{◌≡◌, ℕ, zero, suc, ◌+◌, ◌<◌, ◌�
 use Rattle.std.specs.Prelude.{nat_le, slice_get}
 use Rattle.std.proofs.lemmas.Bool.{cond_both, leb-false, cases_lt, cases_eq}
 use Rattle.std.proofs.lemmas.Option.{same_Some, none-some, slice_get_within}
-use Rattle.tw_laws.specs.Exchange.{DrawLaw}
+use Rattle.tw_vtime.specs.Stamps.{stamp, never, max_tick, tick_of}
 use Rattle.tw_theory.specs.Contents.{Process, next}
 use Rattle.tw_theory.specs.Exchange.{MayDraw, IsDrawn, bound_of}
-use Rattle.tw_vtime.specs.Stamps.{stamp, never, max_tick, tick_of}
+use Rattle.tw_laws.specs.Exchange.{DrawLaw}
 
 -- the bound of the window alone
 abbrev window_of : ℕ → ℕ → ℕ

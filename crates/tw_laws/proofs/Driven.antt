@@ -4,24 +4,23 @@ use Rattle.std.specs.Prelude.{slice_get, ◌≢◌, ◌==◌}
 use Rattle.std.specs.List.{AllByRecursion as Each}
 use Rattle.std.proofs.lemmas.Option.{same_Some, none-some}
 use Rattle.std.proofs.lemmas.Bool.{cond-false, ne_eqb, cases_lt}
-use Rattle.tw_laws.specs.Applied.{stuck}
-use Rattle.tw_laws.specs.Driven.{swept, ahead, posts_of_three, end_of_three, made, driven, ended, driven_trace, last_output, Driven}
-use Rattle.tw_theory.specs.Outcomes.{RunState, state, Complete, Fault, Going}
-use Rattle.tw_laws.specs.Exchange.{IsAfterSweep}
-use Rattle.tw_theory.specs.Outcomes.{IsOutcome}
-use Rattle.tw_theory.specs.Traces.{of_component}
 use Rattle.tw_msgs.specs.declared.record.Record.{Record}
-use Rattle.tw_theory.specs.Contents.{Process, Cancel, Aggressive, Lazy, next, back_to_first}
+use Rattle.tw_vtime.specs.Stamps.{stamp, max_tick}
+use Rattle.tw_vtime.specs.declared.limits.Limit.TheVariants.{Tick}
+use Rattle.tw_theory.specs.Contents.{Process, Cancel, Aggressive, Lazy, Placed, Straggler, Annihilated, next, back_to_first}
 use Rattle.tw_theory.specs.ExampleModels.{State}
 use Rattle.tw_theory.specs.ExampleNetworks.{three, gen_tally, lone}
 use Rattle.tw_theory.specs.Exchange.{sweep, MayDraw, IsDrawn}
-use Rattle.tw_theory.specs.Executive.{World, Action, Step, Deliver, act, replay, column_of}
+use Rattle.tw_theory.specs.Executive.{World, Action, Step, Deliver, Posted, Delivered, Raised, Harvested, act, replay, answers, column_of}
 use Rattle.tw_theory.specs.LocalRun.{step_at, local_step}
-use Rattle.tw_theory.specs.Transitions.{output, moved, transition}
 use Rattle.tw_theory.specs.Network.{Network, IsNetwork}
+use Rattle.tw_theory.specs.Outcomes.{RunState, state, Complete, Fault, Going, IsOutcome}
 use Rattle.tw_theory.specs.Soundness.{IsSound, new_world}
-use Rattle.tw_vtime.specs.Stamps.{stamp, max_tick}
-use Rattle.tw_vtime.specs.declared.limits.Limit.TheVariants.{Tick}
+use Rattle.tw_theory.specs.Traces.{of_component}
+use Rattle.tw_theory.specs.Transitions.{output, moved, transition}
+use Rattle.tw_laws.specs.Applied.{stuck, driven_trace}
+use Rattle.tw_laws.specs.Driven.{swept, ahead, posts_of_three, end_of_three, made, driven, ended, last_output, Driven}
+use Rattle.tw_laws.specs.Exchange.{IsAfterSweep}
 use Rattle.tw_laws.proofs.Acting.{start_law}
 use Rattle.tw_laws.proofs.Harvesting.{replay_sound}
 use Rattle.tw_laws.proofs.Outcomes.{outcome_law}
@@ -45,6 +44,12 @@ after_sweep net until w ok bound h = sweep_law.after net until w ok bound h
 two_passes : sweep three 10 (ahead Aggressive) ≡ posts_of_three ++ Deliver 1 0 ∷ Deliver 2 0 ∷ posts_of_three ++ Deliver 2 0 ∷ end_of_three
 unfolding act local_step step_at output moved transition back_to_first
 two_passes = refl
+
+aggressive_answers : answers three 10 (ahead Aggressive) (sweep three 10 (ahead Aggressive))
+    ≡ Posted 1 ∷ Posted 1 ∷ Posted 0 ∷ Delivered (Straggler 3) ∷ Delivered Placed ∷ Posted 0 ∷ Posted 1 ∷ Posted 0 ∷ Delivered (Annihilated 0)
+    ∷ Raised (stamp 2 0 1) ∷ Harvested 1 ∷ Harvested 0 ∷ Harvested 0 ∷ []
+unfolding act local_step step_at output moved transition back_to_first
+aggressive_answers = refl
 
 one_pass : sweep three 10 (ahead Lazy) ≡ posts_of_three ++ Deliver 1 0 ∷ Deliver 2 0 ∷ end_of_three
 unfolding act local_step step_at output moved transition back_to_first
@@ -168,6 +173,7 @@ second Lazy = second_of_three 10 (stamp 2 0 1) 5 _ _ _ (omega arith, omega arith
 pub driven_runs : Driven
 driven_runs = record {
   aggressive = two_passes;
+  aggressive_answers = aggressive_answers;
   lazy = one_pass;
   after = λ cancel. after_sweep three 10 (ahead cancel) three_fits (omega arith) (ahead_sound cancel);
   gvt = gvt_is;

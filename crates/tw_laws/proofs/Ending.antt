@@ -4,29 +4,29 @@ use Rattle.std.specs.Prelude.{slice_get, filter, ◌==◌, nat_lt, ◌≢◌}
 use Rattle.std.specs.List.{AllByRecursion as Each}
 use Rattle.std.proofs.lemmas.Bool.{and_parts, eq-eqb, eqb-true, ne_eqb, leb-true, le-leb, ltb-true, lt-ltb, cond_both, cases_Bool}
 use Rattle.std.proofs.lemmas.Option.{same_Some, none-some}
-use Rattle.tw_laws.specs.Ending.{ShowsFault, AllPast, HasAll, EndingLaw, StateLaw}
-use Rattle.tw_theory.specs.Outcomes.{RunState, Complete, Fault, Going, none_at, all_quiet, limit_of, fault_at, first_fault, all_past, state}
 use Rattle.tw_msgs.specs.declared.message.Item.{Item}
 use Rattle.tw_msgs.specs.declared.message.Message.{Message}
+use Rattle.tw_vtime.specs.Stamps.{stamp, max_tick, phase_of}
+use Rattle.tw_vtime.specs.declared.limits.Limit.{Limit}
 use Rattle.tw_theory.specs.Contents.{Process, next}
 use Rattle.tw_theory.specs.Exchange.{is_empty, all_empty}
 use Rattle.tw_theory.specs.Executive.{World}
 use Rattle.tw_theory.specs.LocalRun.{Made, NothingDue, OverLimit, local_step, NoStep}
 use Rattle.tw_theory.specs.Network.{Network, IsNetwork}
+use Rattle.tw_theory.specs.Outcomes.{RunState, Complete, Fault, Going, none_at, all_quiet, limit_of, fault_at, first_fault, all_past, state}
 use Rattle.tw_theory.specs.Simulator.{sequential, up_to}
 use Rattle.tw_theory.specs.Soundness.{IsSound}
-use Rattle.tw_vtime.specs.Stamps.{stamp, max_tick, phase_of}
-use Rattle.tw_vtime.specs.declared.limits.Limit.{Limit}
-use Rattle.tw_laws.proofs.History.Faults.{fault_law}
+use Rattle.tw_laws.specs.Ending.{ShowsFault, AllPast, HasAll, EndingLaw, StateLaw}
 use Rattle.tw_laws.proofs.History.Committed.{fault_stamp}
-use Rattle.tw_laws.proofs.Settled.{held_by, settled, faulting, all_phase_one, process_at}
+use Rattle.tw_laws.proofs.History.Faults.{fault_law}
+use Rattle.tw_laws.proofs.AtGvt.{held_by, run_to, faulting, all_phase_one, process_at}
 
 module _ {S : Type 0} (net : Network S) (until : ℕ) (ok : IsNetwork net) (bound : until ≤ max_tick) (w : World S) (h : IsSound net until w) where
   fault_shown : (c : ℕ) (limit : Limit) → ShowsFault net until w c limit → (sequential net until).fault ≡ Some (c, w.gvt, limit)
   fault_shown c limit shows =
       let before = shows.before in
       let same : up_to until w.gvt ≡ w.gvt = omega arith in
-      fault_law net until (up_to until w.gvt) (held_by until w) bound (settled net until ok w h) c limit (faulting net until ok w h c limit shows)
+      fault_law net until (up_to until w.gvt) (held_by until w) bound (run_to net until ok w h) c limit (faulting net until ok w h c limit shows)
       ∙ ap (λ (g : ℕ). Some (c, g, limit)) same
 
   no_fault : ((c : ℕ) (p : Process S) → slice_get w.processes c ≡ Some p → stamp until 0 0 ≤ p.line) → (f : Option (ℕ × ℕ × Limit))

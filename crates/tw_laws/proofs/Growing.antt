@@ -2,17 +2,17 @@
 use Rattle.std.proofs.Common.{◌≡◌, ℕ, zero, suc, ◌≤◌, List, [], ◌∷◌, ◌++◌, length, not, Option, Some, None, Result, Ok, Err, refl, sym, ap, ◌∙◌, arith, append_assoc, append-nil, length-append}
 use Rattle.std.specs.Prelude.{slice_get, slice_set, nat_lt, ◌==◌}
 use Rattle.std.proofs.lemmas.Bool.{cond_both}
-use Rattle.tw_laws.specs.Committed.{Grow}
-use Rattle.tw_laws.specs.Keeping.{RefusedLaw}
 use Rattle.tw_msgs.specs.Counting.{total}
 use Rattle.tw_msgs.specs.declared.message.Item.{Item}
 use Rattle.tw_msgs.specs.declared.record.Record.{Record}
+use Rattle.tw_vtime.specs.Stamps.{stamp}
 use Rattle.tw_theory.specs.Contents.{Process, next, steps_from, receive, settle}
 use Rattle.tw_theory.specs.Executive.{World, Action, Post, Deliver, Back, Raise, Harvest, Answer, Stepped, Posted, Delivered, Undone, Raised, Harvested, Refusal, Refused, act, replay, act_step, act_post, act_deliver, act_back, act_harvest, if_made, mail_of, column_of}
 use Rattle.tw_theory.specs.LocalRun.{Made, NoStep, local_step}
 use Rattle.tw_theory.specs.Marks.{rewind, any_committed}
 use Rattle.tw_theory.specs.Network.{Network}
-use Rattle.tw_vtime.specs.Stamps.{stamp}
+use Rattle.tw_laws.specs.Committed.{Grow}
+use Rattle.tw_laws.specs.Keeping.{RefusedLaw}
 
 grow_none : (xs : List (List Record)) → Grow xs xs
 grow_none [] = tt

@@ -5,12 +5,12 @@ use Rattle.std.specs.List.{AllByRecursion as Each}
 use Rattle.std.proofs.lemmas.Option.{slice_get-get_or, slice_get_within}
 use Rattle.std.proofs.lemmas.Bool.{lt-ltb, le-ltb, cases_lt, or_right}
 use Rattle.std.proofs.lemmas.List.{get_or-set_same, get_or-set_other}
-use Rattle.tw_laws.specs.Committed.{CommittedLaw}
-use Rattle.tw_laws.proofs.ActionsKeep.{ActsSoundly}
-use Rattle.tw_laws.specs.History.{CommittedHistory}
 use Rattle.tw_msgs.specs.Counting.{total}
 use Rattle.tw_msgs.specs.Messages.{has, Sorted}
 use Rattle.tw_msgs.specs.declared.record.Record.{Record}
+use Rattle.tw_msgs.proofs.MessageLists.{has-append}
+use Rattle.tw_msgs.proofs.Totals.{total-append}
+use Rattle.tw_vtime.specs.Stamps.{stamp, max_tick}
 use Rattle.tw_theory.specs.Balance.{issued, held, all_consumed, consumed_in}
 use Rattle.tw_theory.specs.Contents.{Process, inputs, consumed_by, sent_by, before_all, steps_before, harvested, records_of}
 use Rattle.tw_theory.specs.Executive.{World, Action, Post, Deliver, Back, Raise, Harvest, act, replay, act_harvest, mail_of}
@@ -18,22 +18,22 @@ use Rattle.tw_theory.specs.LocalRun.{Step, Leads}
 use Rattle.tw_theory.specs.Network.{Network, IsNetwork}
 use Rattle.tw_theory.specs.Simulator.{sequential, rounds, due_from, up_to, records_before, moment_at, all_sent, sent_in}
 use Rattle.tw_theory.specs.Soundness.{AllBefore, IsFor, IsSoundProcess, Cancels, IsSound, new_world}
-use Rattle.tw_vtime.specs.Stamps.{stamp, max_tick}
-use Rattle.tw_laws.proofs.History.Committed.{committed_history}
-use Rattle.tw_laws.proofs.Starting.{start_sound}
 use Rattle.tw_theory.proofs.Elements.{each_parts, each_weaker, each-get, get_of_set}
-use Rattle.tw_theory.proofs.Totals.{total-set}
 use Rattle.tw_theory.proofs.MessageOrder.{sorted_right}
 use Rattle.tw_theory.proofs.TakingBack.{consumed_by-append, sent_by-append}
-use Rattle.tw_laws.proofs.Runs.{leads_split}
+use Rattle.tw_theory.proofs.Totals.{total-set}
+use Rattle.tw_laws.specs.Committed.{CommittedLaw}
+use Rattle.tw_laws.specs.History.{CommittedHistory}
+use Rattle.tw_laws.proofs.Acting.{act_law}
+use Rattle.tw_laws.proofs.ActionsKeep.{ActsSoundly}
 use Rattle.tw_laws.proofs.Cancelling.{each-set}
 use Rattle.tw_laws.proofs.Changing.{process_from_least, least_next-set}
 use Rattle.tw_laws.proofs.Cutting.{all_before_parts}
+use Rattle.tw_laws.proofs.History.Committed.{committed_history}
 use Rattle.tw_laws.proofs.Recorded.{leads_recorded}
-use Rattle.tw_laws.proofs.Settled.{held_by, history_of, settled, stands_at, stands_at-now}
-use Rattle.tw_laws.proofs.Acting.{act_law}
-use Rattle.tw_msgs.proofs.Totals.{total-append}
-use Rattle.tw_msgs.proofs.MessageLists.{has-append}
+use Rattle.tw_laws.proofs.Runs.{leads_split}
+use Rattle.tw_laws.proofs.AtGvt.{held_by, history_of, run_to, stands_at, stands_at-now}
+use Rattle.tw_laws.proofs.Starting.{start_sound}
 
 steps_before_end : {S : Type 0} (g end : ℕ) (steps : List (Step S)) → AllBefore end steps → steps_before (min g end) steps ≡ steps_before g steps
 steps_before_end g end [] h = refl
@@ -64,7 +64,7 @@ module _ {S : Type 0} (law : CommittedHistory S) (net : Network S) (until : ℕ)
       let s = h.each c p at in
       let near : c < length net.models = let l = slice_get_within w.processes c p at in omega (arith, h.processes) in
       let near_columns : c < length w.columns = omega (arith, h.columns) in
-      let done = law net until (up_to until w.gvt) (held_by until w) bound (settled net until ok w h) in
+      let done = law net until (up_to until w.gvt) (held_by until w) bound (run_to net until ok w h) in
       let place : steps_before (up_to until w.gvt) p.history ≡ n = steps_before_end w.gvt (stamp until 0 0) p.history s.within in
       let idem : up_to until (up_to until w.gvt) ≡ up_to until w.gvt = omega arith in
       let records : new ≡ records_before net until c w.gvt =

@@ -6,6 +6,7 @@ use Rattle.std.proofs.lemmas.Bool.{cond-true, cond-false, cond_both, eqb-true, e
 use Rattle.std.proofs.lemmas.List.{take-append-drop, set-set, append-nil}
 use Rattle.tw_atomic.specs.Atomic.{Meaning}
 use Rattle.tw_msgs.specs.declared.message.Message.{Message}
+use Rattle.tw_vtime.specs.Stamps.{stamp, phase_of}
 use Rattle.tw_theory.specs.Bundles.{first_stamp, front, behind, items_of, messages_for}
 use Rattle.tw_theory.specs.Chains.{Start, SoloRun, IsSoloRun, IsHome, Agrees, alone, own_step, own_steps, sent_in, made_anew, taken_at, left_at}
 use Rattle.tw_theory.specs.Contents.{Process, next, with_step, before_all, consumed_by}
@@ -18,7 +19,6 @@ use Rattle.tw_theory.specs.Transitions.{Moment}
 use Rattle.tw_theory.proofs.Agreeing.{step_taken, same_step, agrees_more, front_more}
 use Rattle.tw_theory.proofs.Elements.{each_parts}
 use Rattle.tw_theory.proofs.Steps.{front-behind}
-use Rattle.tw_vtime.specs.Stamps.{stamp, phase_of}
 use Rattle.tw_laws.specs.Chains.{steps_of_one, answers_of, IsStepped, InstallLaw}
 use Rattle.tw_laws.proofs.Cutting.{all_before_parts}
 use Rattle.tw_laws.proofs.Inverse.{set_here}

@@ -3,10 +3,9 @@ use Rattle.std.proofs.Common.{◌≡◌, ℕ, zero, suc, ◌≤◌, List, [], �
 use Rattle.std.specs.Prelude.{nat_lt, slice_get, slice_set, ◌≢◌}
 use Rattle.std.proofs.lemmas.Bool.{cond_both, lt-ltb, le-ltb}
 use Rattle.std.proofs.lemmas.Option.{same_Some, none-some}
-use Rattle.tw_laws.specs.Inverse.{IsRestoredBy, RestoredAll, IsOneRestored, count_all, steps_of, stepped, stepped_and_back}
-use Rattle.tw_laws.proofs.Ordered.{OrderedInverse}
-use Rattle.tw_laws.proofs.Ordered.{IsOrdered, AllOrdered}
 use Rattle.tw_msgs.specs.Counting.{total}
+use Rattle.tw_msgs.proofs.Totals.{total-append}
+use Rattle.tw_vtime.specs.Stamps.{stamp}
 use Rattle.tw_theory.specs.Bundles.{Ascending, first_stamp, positives, sent_anew, still_owed}
 use Rattle.tw_theory.specs.Contents.{Process, next, Lazy, with_step, with_lists, back_to_first, cut, steps_before, steps_from, sent_by, unsent_by}
 use Rattle.tw_theory.specs.Executive.{World, Action, Answer, Undone, Refused, BeforeGvt, act, act_step, act_back, if_made, replay, with_process}
@@ -14,11 +13,11 @@ use Rattle.tw_theory.specs.LocalRun.{Step, Made, local_step, NoStep}
 use Rattle.tw_theory.specs.Marks.{marks, rewound, rewound_steps}
 use Rattle.tw_theory.specs.Network.{Network}
 use Rattle.tw_theory.specs.Soundness.{AllBefore}
-use Rattle.tw_vtime.specs.Stamps.{stamp}
 use Rattle.tw_theory.proofs.Owing.{total-anew, total-unsent}
 use Rattle.tw_theory.proofs.Steps.{local_step_follows}
 use Rattle.tw_theory.proofs.TakingBack.{IsAfter, is_after_none, is_after_more, restored_as, back_to_before}
-use Rattle.tw_msgs.proofs.Totals.{total-append}
+use Rattle.tw_laws.specs.Inverse.{IsRestoredBy, RestoredAll, IsOneRestored, count_all, steps_of, stepped, stepped_and_back}
+use Rattle.tw_laws.proofs.Ordered.{OrderedInverse, IsOrdered, AllOrdered}
 
 -- the first of these steps, if there is one, does not stand before s
 abbrev pub NotBefore : {S : Type 0} → ℕ → List (Step S) → Type 0

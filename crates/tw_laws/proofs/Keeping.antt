@@ -1,6 +1,6 @@
 -- What each action keeps, one by one.
-use Rattle.tw_laws.specs.Keeping.{KeepingLaw}
 use Rattle.tw_theory.specs.Executive.{Step, Post, Deliver, Back, Raise, Harvest}
+use Rattle.tw_laws.specs.Keeping.{KeepingLaw}
 use Rattle.tw_laws.proofs.Harvesting.{acts_soundly, replay_sound}
 use Rattle.tw_laws.proofs.Rewinding.{rewind_keeps}
 

@@ -2,12 +2,12 @@
 use Rattle.std.proofs.Common.{◌≡◌, ℕ, suc, ◌≤◌, List, [], ◌∷◌, Some, refl, arith}
 use Rattle.std.specs.Prelude.{slice_get}
 use Rattle.std.specs.List.{AllByRecursion as Each}
-use Rattle.tw_laws.specs.Committed.{IsAtOrBeforeAll, GvtLaw}
 use Rattle.tw_msgs.specs.declared.message.Item.{Item}
+use Rattle.tw_vtime.specs.Stamps.{never}
 use Rattle.tw_theory.specs.Contents.{Process, next}
 use Rattle.tw_theory.specs.Executive.{World, mail_of, least_next, least_mail, least_of, act}
-use Rattle.tw_vtime.specs.Stamps.{never}
 use Rattle.tw_theory.proofs.Owing.{each_from_owed, owed_from_each}
+use Rattle.tw_laws.specs.Committed.{IsAtOrBeforeAll, GvtLaw}
 use Rattle.tw_laws.proofs.Changing.{each_from_least, least_from_each, box_from_least, process_from_least}
 use Rattle.tw_laws.proofs.Growing.{count_grows, act_grows, replay_grows, rewind_leaves}
 use Rattle.tw_laws.proofs.Lines.{gvt_rises, gvt_rises_by}

@@ -15,7 +15,7 @@ pub mod ActionsKeep
 pub mod Acting
 -- local runs that balance are the sequential run; so a harvest keeps an executive sound too
 pub mod History
-pub mod Settled
+pub mod AtGvt
 pub mod Harvesting
 pub mod Lines
 pub mod Growing
@@ -39,6 +39,9 @@ pub mod Ending
 pub mod Traces
 pub mod Merging
 pub mod Outcomes
+-- memory, and the board
+pub mod Nodes
+pub mod Replayed
 -- chains, and when a step can be made
 pub mod Ready
 pub mod Agreeing
@@ -47,3 +50,4 @@ pub mod Installed
 pub mod TimeWarp
 pub mod Three
 pub mod Driven
+pub mod OfRelay

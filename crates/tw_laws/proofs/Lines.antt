@@ -2,24 +2,24 @@
 use Rattle.std.proofs.Common.{◌≡◌, ℕ, ◌<◌, ◌≤◌, List, [], ◌∷◌, Option, Some, None, Result, Ok, Err, subst, arith, slice_get}
 use Rattle.std.specs.Prelude.{◌==◌, ◌≢◌, nat_lt}
 use Rattle.std.proofs.lemmas.Bool.{eq-eqb, cond_both}
-use Rattle.tw_laws.specs.Committed.{LinesLaw}
 use Rattle.tw_msgs.specs.Bags.{Bag}
 use Rattle.tw_msgs.specs.declared.message.Item.{Item}
+use Rattle.tw_vtime.specs.Stamps.{stamp, max_tick, phase_of}
+use Rattle.tw_vtime.specs.declared.limits.Limit.{Limit}
 use Rattle.tw_theory.specs.Contents.{Process, next}
 use Rattle.tw_theory.specs.Executive.{World, Action, Post, Deliver, Back, Raise, Harvest, Answer, act, replay, act_step, act_post, act_deliver, act_back, act_harvest, if_made, mail_of}
 use Rattle.tw_theory.specs.LocalRun.{Made, NoStep}
-use Rattle.tw_theory.specs.Transitions.{Moment, output}
 use Rattle.tw_theory.specs.Network.{Network, IsNetwork}
 use Rattle.tw_theory.specs.Simulator.{Moves, Stays, sequential}
 use Rattle.tw_theory.specs.Soundness.{new_world, IsSound}
-use Rattle.tw_vtime.specs.Stamps.{stamp, max_tick, phase_of}
-use Rattle.tw_vtime.specs.declared.limits.Limit.{Limit}
-use Rattle.tw_laws.proofs.History.Clock.{NoLimit, act_if, clock_step, clock}
-use Rattle.tw_laws.proofs.History.Clock as clocked
-use Rattle.tw_laws.proofs.History.Committed.{extent}
-use Rattle.tw_laws.proofs.Settled.{all_phase_one}
-use Rattle.tw_laws.proofs.Starting.{start_sound}
+use Rattle.tw_theory.specs.Transitions.{Moment, output}
+use Rattle.tw_laws.specs.Committed.{LinesLaw}
 use Rattle.tw_laws.proofs.Harvesting.{acts_soundly, replay_sound}
+use Rattle.tw_laws.proofs.History.Clock as clocked
+use Rattle.tw_laws.proofs.History.Clock.{NoLimit, act_if, clock_step, clock}
+use Rattle.tw_laws.proofs.History.Committed.{extent}
+use Rattle.tw_laws.proofs.AtGvt.{all_phase_one}
+use Rattle.tw_laws.proofs.Starting.{start_sound}
 
 module _ {S : Type 0} (net : Network S) where
   -- no limit is met at an output stamp

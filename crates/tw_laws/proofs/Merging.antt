@@ -6,19 +6,19 @@ use Rattle.std.specs.Option.{option_map}
 use Rattle.std.proofs.lemmas.Bool.{cond-true, cond-false, cond_both, le-ltb, ltb-true, ltb-false}
 use Rattle.std.proofs.lemmas.List.{get_or_past}
 use Rattle.std.proofs.lemmas.Option.{slice_get_past, slice_get_cases}
-use Rattle.tw_laws.specs.Traces.{MergingLaw}
-use Rattle.tw_theory.specs.Traces.{Precedes, IsTrace, of_component, before}
 use Rattle.tw_msgs.specs.declared.record.Record.{Record}
+use Rattle.tw_vtime.specs.Stamps.{stamp, max_tick}
 use Rattle.tw_theory.specs.Contents.{Process}
 use Rattle.tw_theory.specs.Executive.{World, column_of}
-use Rattle.tw_theory.specs.Transitions.{Moment, start_moment}
 use Rattle.tw_theory.specs.Network.{Network, IsNetwork}
 use Rattle.tw_theory.specs.Simulator.{Run, sequential, up_to}
 use Rattle.tw_theory.specs.Soundness.{IsSound}
-use Rattle.tw_vtime.specs.Stamps.{stamp, max_tick}
+use Rattle.tw_theory.specs.Traces.{Precedes, IsTrace, of_component, before}
+use Rattle.tw_theory.specs.Transitions.{Moment, start_moment}
+use Rattle.tw_laws.specs.Traces.{MergingLaw}
 use Rattle.tw_laws.proofs.History.Clock.{bag_of, sent_in_all, clock, act_if, place_after, record_after}
 use Rattle.tw_laws.proofs.History.Rounds.{Reached, Running, Faulted, rounds_reach}
-use Rattle.tw_laws.proofs.Settled.{all_phase_one}
+use Rattle.tw_laws.proofs.AtGvt.{all_phase_one}
 use Rattle.tw_laws.proofs.Traces.{one_trace, sequential_trace}
 
 -- ---- the records before a stamp

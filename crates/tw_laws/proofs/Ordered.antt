@@ -1,6 +1,5 @@
 -- Processes whose steps and messages are in order, and the inverse law over these alone.
 use Rattle.std.specs.Prelude.{ℕ, ◌≡◌, List, [], ◌∷◌}
-use Rattle.tw_laws.specs.Inverse.{RestoredAll, count_all, steps_of}
 use Rattle.tw_theory.specs.Bundles.{Ascending}
 use Rattle.tw_theory.specs.Contents.{Process, next}
 use Rattle.tw_theory.specs.Executive.{World, replay}
@@ -8,6 +7,7 @@ use Rattle.tw_theory.specs.LocalRun.{Step}
 use Rattle.tw_theory.specs.Marks.{marks, rewound, rewound_steps}
 use Rattle.tw_theory.specs.Network.{Network}
 use Rattle.tw_theory.specs.Soundness.{AllBefore}
+use Rattle.tw_laws.specs.Inverse.{RestoredAll, count_all, steps_of}
 
 -- its steps stand before its next one, and its pending messages are in the order of their stamps
 pub record IsOrdered {S : Type 0} (p : Process S) : Type 0 where

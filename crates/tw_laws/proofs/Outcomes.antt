@@ -5,25 +5,23 @@ use Rattle.std.specs.List.{AllByRecursion as Each}
 use Rattle.std.proofs.lemmas.Bool.{cond-true, cond-false, cond_both, and_parts, ltb-true, lt-ltb, cases_lt, cases_eq, ne_eqb, eq-eqb}
 use Rattle.std.proofs.lemmas.List.{get_or-set_same, get_or-set_other, get_or_past}
 use Rattle.std.proofs.lemmas.Option.{same_Some, none-some, slice_get-get_or, slice_get_cases}
-use Rattle.tw_theory.specs.Outcomes.{RunState, Complete, Fault, Going, state}
-use Rattle.tw_laws.specs.Outcome.{OutcomeLaw}
-use Rattle.tw_theory.specs.Outcomes.{IsOutcome}
-use Rattle.tw_theory.specs.Traces.{IsMerged}
-use Rattle.tw_theory.specs.Traces.{IsTrace, of_component, before}
 use Rattle.tw_msgs.specs.Counting.{total}
 use Rattle.tw_msgs.specs.declared.record.Record.{Record}
+use Rattle.tw_vtime.specs.Stamps.{stamp, max_tick}
+use Rattle.tw_vtime.specs.declared.limits.Limit.{Limit}
 use Rattle.tw_theory.specs.Contents.{Process}
 use Rattle.tw_theory.specs.Executive.{World, column_of}
 use Rattle.tw_theory.specs.Network.{Network, IsNetwork}
+use Rattle.tw_theory.specs.Outcomes.{RunState, Complete, Fault, Going, state, IsOutcome}
 use Rattle.tw_theory.specs.Simulator.{Run, rounds, sequential, up_to, records_before}
 use Rattle.tw_theory.specs.Soundness.{IsSound}
-use Rattle.tw_vtime.specs.Stamps.{stamp, max_tick}
-use Rattle.tw_vtime.specs.declared.limits.Limit.{Limit}
+use Rattle.tw_theory.specs.Traces.{IsMerged, IsTrace, of_component, before}
 use Rattle.tw_theory.proofs.Totals.{total-set}
+use Rattle.tw_laws.specs.Outcome.{OutcomeLaw}
 use Rattle.tw_laws.proofs.Ending.{state_law}
 use Rattle.tw_laws.proofs.History.Rounds.{Reached, Running, Faulted, rounds_reach}
 use Rattle.tw_laws.proofs.Merging.{merging_law}
-use Rattle.tw_laws.proofs.Settled.{all_phase_one}
+use Rattle.tw_laws.proofs.AtGvt.{all_phase_one}
 use Rattle.tw_laws.proofs.Traces.{sequential_trace}
 
 -- where all stand before g
@@ -141,6 +139,8 @@ outcome_law = record {
   before_fault = λ net until ok bound b s limit e. fault_before net until ok bound b s limit e;
   complete = λ net until w ok bound h e trace m. complete net until ok bound w h e trace m;
   fault = λ net until w ok bound h c s limit e lines trace m. fault net until ok bound w h c s limit e lines trace m;
+  whole = λ net until w ok bound h e trace t parts.
+  (complete net until ok bound w h e trace (whole net until ok bound w h (stamp until 0 0) (omega arith) trace t parts), length_parts trace w.columns parts);
   at_gvt = λ net until w ok bound h lines trace t parts ended. at_gvt net until ok bound w h lines trace t parts ended;
   count = λ net until w h g late trace m. count net until w h g late trace m;
 }

@@ -7,13 +7,13 @@ use Rattle.std.proofs.lemmas.List.{length-map, length-append, drop_all, drop-set
 use Rattle.std.proofs.lemmas.Option.{same_Some, none-some}
 use Rattle.tw_msgs.specs.Counting.{total}
 use Rattle.tw_msgs.specs.declared.message.Item.{Item}
+use Rattle.tw_vtime.specs.Stamps.{max_tick}
 use Rattle.tw_theory.specs.Bundles.{anti, antis, overdue}
 use Rattle.tw_theory.specs.Contents.{Process, Cancel, Aggressive, Lazy, next, settled_as, settle, with_outgoing, receive}
-use Rattle.tw_theory.specs.Executive.{World, Action, Post, Deliver, Answer, Refused, Posted, Delivered, act, act_post, act_deliver, mail_of, posted, replay, answers}
 use Rattle.tw_theory.specs.Exchange.{is_empty, all_empty, all_idle, is_swept, work, posts, deliveries, pass, IsTaken}
+use Rattle.tw_theory.specs.Executive.{World, Action, Post, Deliver, Answer, Refused, Posted, Delivered, act, act_post, act_deliver, mail_of, posted, replay, answers}
 use Rattle.tw_theory.specs.Network.{Network, IsNetwork, Fits}
 use Rattle.tw_theory.specs.Soundness.{Cancels, IsSound}
-use Rattle.tw_vtime.specs.Stamps.{max_tick}
 use Rattle.tw_theory.proofs.Elements.{each_weaker}
 use Rattle.tw_laws.proofs.Harvesting.{acts_soundly, replay_sound}
 use Rattle.tw_laws.proofs.Stepping.{total-posted}

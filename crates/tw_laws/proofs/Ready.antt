@@ -4,16 +4,18 @@ use Rattle.std.specs.Prelude.{nat_le, nat_lt, ◌==◌, ◌&&◌, filter, take, 
 use Rattle.std.specs.List.{AllByRecursion as Each}
 use Rattle.std.proofs.lemmas.Bool.{cond-true, cond-false, cond_both, eqb-true, eqb-false, lt-leb, cases_Bool, ltb-true, and_parts}
 use Rattle.std.proofs.lemmas.List.{take-append-drop}
-use Rattle.tw_laws.specs.Standing.{IsOf, IsReadyFrom, StandingLaw, MayCome, ReceiveLaw}
 use Rattle.tw_atomic.specs.Atomic.{Meaning, CanTurn, turned}
 use Rattle.tw_atomic.specs.declared.Turn.{Turn}
 use Rattle.tw_msgs.specs.Bags.{Bag}
 use Rattle.tw_msgs.specs.Messages.{Sorted, place, without}
-use Rattle.tw_msgs.specs.declared.message.Message.{Message}
 use Rattle.tw_msgs.specs.declared.message.Item.{Item}
+use Rattle.tw_msgs.specs.declared.message.Message.{Message}
 use Rattle.tw_msgs.specs.declared.record.Record.{Record}
 use Rattle.tw_msgs.proofs.MessageLists.{without-Sorted}
 use Rattle.tw_msgs.proofs.Messages.{place-Sorted}
+use Rattle.tw_vtime.specs.Advance.{advanced}
+use Rattle.tw_vtime.specs.Stamps.{never, phase_of, tick_of, stamp}
+use Rattle.tw_vtime.specs.declared.limits.Limit.{Limit}
 use Rattle.tw_theory.specs.Bundles.{front, behind, items_of}
 use Rattle.tw_theory.specs.Contents.{Process, inputs, cut, before_all, consumed_by, steps_before, back_to_first}
 use Rattle.tw_theory.specs.Executive.{mail_of, column_of}
@@ -27,9 +29,7 @@ use Rattle.tw_theory.proofs.Elements.{each-place, each-without}
 use Rattle.tw_theory.proofs.MessageOrder.{ascending_of_sorted, first_of_place, first_of_without}
 use Rattle.tw_theory.proofs.Standing.{ready_turn, ready_output, ready_transition}
 use Rattle.tw_theory.proofs.Steps.{local_step_follows}
-use Rattle.tw_vtime.specs.Advance.{advanced}
-use Rattle.tw_vtime.specs.Stamps.{never, phase_of, tick_of, stamp}
-use Rattle.tw_vtime.specs.declared.limits.Limit.{Limit}
+use Rattle.tw_laws.specs.Standing.{IsOf, IsReadyFrom, StandingLaw, MayCome, ReceiveLaw}
 use Rattle.tw_laws.proofs.Changing.{box_from_least, each_from_least}
 use Rattle.tw_laws.proofs.Runs.{leads_split}
 

@@ -6,17 +6,17 @@ use Rattle.std.proofs.lemmas.Result.{IfOk-at_ok}
 use Rattle.tw_msgs.specs.Bags.{Bag}
 use Rattle.tw_msgs.specs.declared.message.Message.{Message}
 use Rattle.tw_msgs.specs.declared.record_kind.RecordKind.TheVariants.{Out, Int, Ext, Con}
+use Rattle.tw_vtime.specs.Stamps.{never, phase_of}
+use Rattle.tw_vtime.specs.declared.limits.Limit.{Limit}
 use Rattle.tw_theory.specs.Balance.{consumed_in, all_consumed}
 use Rattle.tw_theory.specs.Bundles.{front, behind, items_of, messages_for}
 use Rattle.tw_theory.specs.Contents.{records_of, sent_by, consumed_by}
 use Rattle.tw_theory.specs.LocalRun.{Step, Made, next_of, output_made, transition_made, if_moved, step_at, local_step, Leads}
-use Rattle.tw_theory.specs.Transitions.{Moment, Move, turn, output, moved, if_within, transition, kind_of}
 use Rattle.tw_theory.specs.Network.{Network}
 use Rattle.tw_theory.specs.Simulator.{sent_in, all_sent}
-use Rattle.tw_vtime.specs.Stamps.{never, phase_of}
-use Rattle.tw_vtime.specs.declared.limits.Limit.{Limit}
-use Rattle.tw_theory.proofs.Steps.{IfOk-cond, front-behind, front_at, local_step_follows}
+use Rattle.tw_theory.specs.Transitions.{Moment, Move, turn, output, moved, if_within, transition, kind_of}
 use Rattle.tw_theory.proofs.Elements.{each_parts}
+use Rattle.tw_theory.proofs.Steps.{IfOk-cond, front-behind, front_at, local_step_follows}
 
 no_output : {X : Type 0} (b : Bool) (bag : Bag) (x y : X) → elim (kind_of (turn b bag)) [ Out ↦ x | Int ↦ y | Ext ↦ y | Con ↦ y ] ≡ y
 no_output false bag x y = refl

@@ -3,12 +3,11 @@ use Rattle.std.proofs.Common.{◌≡◌, ℕ, zero, suc, ◌+◌, ◌≤◌, max
 use Rattle.std.specs.Prelude.{slice_get, slice_index_or, ◌==◌, nat_lt, nat_le}
 use Rattle.std.proofs.lemmas.Bool.{cond_both, or_parts, and_cases, lt-ltb, le-ltb, ltb-true, ltb-false, leb-false, leb-true, eqb-true, eq-eqb, cases_lt, not-false}
 use Rattle.std.proofs.lemmas.Option.{same_Some, none-some}
-use Rattle.tw_laws.specs.Inverse.{RestoredAll, steps_of, IsRestored, InverseLaw, BackRestores}
-use Rattle.tw_laws.proofs.Ordered.{IsOrdered, AllOrdered}
 use Rattle.tw_msgs.specs.Counting.{total}
 use Rattle.tw_msgs.specs.declared.message.Item.{Item}
 use Rattle.tw_msgs.specs.declared.message.Message.{Message}
 use Rattle.tw_msgs.specs.declared.record.Record.{Record}
+use Rattle.tw_vtime.specs.Stamps.{never, max_tick}
 use Rattle.tw_theory.specs.Balance.{issued, held}
 use Rattle.tw_theory.specs.Bundles.{least_stamp, least_owed}
 use Rattle.tw_theory.specs.Contents.{Process, next, inputs, cut, back_to_first, steps_before, records_of}
@@ -17,13 +16,14 @@ use Rattle.tw_theory.specs.LocalRun.{Step}
 use Rattle.tw_theory.specs.Marks.{marks, rewound_steps, any_between, any_committed, rewound, rewind}
 use Rattle.tw_theory.specs.Network.{Network, IsNetwork}
 use Rattle.tw_theory.specs.Soundness.{IsSoundProcess, IsSound}
-use Rattle.tw_vtime.specs.Stamps.{never, max_tick}
-use Rattle.tw_laws.proofs.Runs.{in_order}
+use Rattle.tw_laws.specs.Inverse.{RestoredAll, steps_of, IsRestored, InverseLaw, BackRestores}
 use Rattle.tw_laws.proofs.Cancelling.{rewound_cancels}
 use Rattle.tw_laws.proofs.Changing.{process_from_least, least_mail_top}
-use Rattle.tw_laws.proofs.Stepping.{all_odd, inputs_ascending}
-use Rattle.tw_laws.proofs.Inverse.{ordered_inverse, ordered_back}
 use Rattle.tw_laws.proofs.Cutting.{IsCutOf, cut_sound}
+use Rattle.tw_laws.proofs.Inverse.{ordered_inverse, ordered_back}
+use Rattle.tw_laws.proofs.Ordered.{IsOrdered, AllOrdered}
+use Rattle.tw_laws.proofs.Runs.{in_order}
+use Rattle.tw_laws.proofs.Stepping.{all_odd, inputs_ascending}
 
 -- ---- a cut before gvt that meets no step before gvt
 

@@ -4,9 +4,9 @@ use Rattle.std.specs.Prelude.{slice_get, slice_set, ◌==◌, nat_lt, pos, ◌-�
 use Rattle.std.proofs.lemmas.Bool.{ltb-false}
 use Rattle.std.proofs.lemmas.Int.{ints}
 use Rattle.std.proofs.lemmas.Option.{same_Some, none-some}
-use Rattle.tw_laws.specs.Rewinding.{taken_back, all_owed, AllCancel, IsCutAt, IsRewound, RewindingLaw, IsOneCut, BackCuts}
 use Rattle.tw_msgs.specs.Counting.{total, one_at, when_positive, when_anti, signed_count}
 use Rattle.tw_msgs.specs.declared.message.Message.{Message}
+use Rattle.tw_msgs.proofs.Totals.{total-append}
 use Rattle.tw_theory.specs.Balance.{all_outgoing, all_mail, in_transit}
 use Rattle.tw_theory.specs.Contents.{Process, Aggressive, sent_by, cut, back_to_first, steps_before, steps_from}
 use Rattle.tw_theory.specs.Executive.{World, Answer, Undone, Refused, NoSuch, Committed, BeforeGvt, act, act_back, with_process}
@@ -14,10 +14,10 @@ use Rattle.tw_theory.specs.Marks.{any_committed, rewound, rewound_steps, rewind}
 use Rattle.tw_theory.proofs.Balancing.{transit}
 use Rattle.tw_theory.proofs.Cuts.{inputs_of_cut}
 use Rattle.tw_theory.proofs.Totals.{total-set}
+use Rattle.tw_laws.specs.Rewinding.{taken_back, all_owed, AllCancel, IsCutAt, IsRewound, RewindingLaw, IsOneCut, BackCuts}
 use Rattle.tw_laws.proofs.Cutting.{kept_before}
 use Rattle.tw_laws.proofs.Inverse.{set_here, set_there}
 use Rattle.tw_laws.proofs.Transit.{rewound_transit, dropped, cut_positive, cut_anti, cut_no_anti, cut_more_owed}
-use Rattle.tw_msgs.proofs.Totals.{total-append}
 
 fewer : (plus minus less plus' minus' : ℕ) → plus' ≡ plus → minus' ≡ minus + less → pos plus' -ℤ pos minus' ≡ (pos plus -ℤ pos minus) -ℤ pos less
 fewer plus minus less plus' minus' p q = omega (arith, ints, p, q)

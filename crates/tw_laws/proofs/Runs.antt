@@ -5,16 +5,16 @@ use Rattle.std.specs.List.{AllByRecursion as Each}
 use Rattle.std.proofs.lemmas.Bool.{ne_eqb}
 use Rattle.std.proofs.lemmas.Result.{IfOk-at_ok}
 use Rattle.tw_msgs.specs.declared.message.Message.{Message}
+use Rattle.tw_vtime.specs.Stamps.{never, phase_of}
+use Rattle.tw_vtime.specs.declared.limits.Limit.{Limit}
 use Rattle.tw_theory.specs.Bundles.{first_stamp, front, behind, items_of, Ascending}
 use Rattle.tw_theory.specs.Contents.{before_all, consumed_by}
 use Rattle.tw_theory.specs.LocalRun.{Step, Made, next_of, output_made, transition_made, if_moved, step_at, local_step, Leads}
-use Rattle.tw_theory.specs.Transitions.{Moment, Move, output, transition}
 use Rattle.tw_theory.specs.Network.{Network}
 use Rattle.tw_theory.specs.Soundness.{AllBefore}
-use Rattle.tw_vtime.specs.Stamps.{never, phase_of}
-use Rattle.tw_vtime.specs.declared.limits.Limit.{Limit}
-use Rattle.tw_theory.proofs.Steps.{Follows, local_step_follows, IfOk-cond}
+use Rattle.tw_theory.specs.Transitions.{Moment, Move, output, transition}
 use Rattle.tw_theory.proofs.Elements.{each_parts}
+use Rattle.tw_theory.proofs.Steps.{Follows, local_step_follows, IfOk-cond}
 
 front_none : (s : ℕ) (ms : List Message) → s < first_stamp ms → front s ms ≡ []
 front_none s [] l = refl

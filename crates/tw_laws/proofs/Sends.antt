@@ -6,14 +6,14 @@ use Rattle.std.proofs.lemmas.Bool.{eqb-true}
 use Rattle.std.proofs.lemmas.Result.{IfOk-at_ok}
 use Rattle.tw_msgs.specs.Bags.{Bag}
 use Rattle.tw_msgs.specs.declared.message.Message.{Message}
-use Rattle.tw_theory.specs.LocalRun.{Made, next_of, transition_made, if_moved, step_at, local_step}
-use Rattle.tw_theory.specs.Transitions.{Moment, Move, output}
-use Rattle.tw_theory.specs.Network.{Network, copies, routed, IsNetwork, routes}
 use Rattle.tw_vtime.specs.Stamps.{never, phase_of}
 use Rattle.tw_vtime.specs.declared.limits.Limit.{Limit}
-use Rattle.tw_theory.proofs.Steps.{IfOk-cond}
+use Rattle.tw_theory.specs.LocalRun.{Made, next_of, transition_made, if_moved, step_at, local_step}
+use Rattle.tw_theory.specs.Network.{Network, copies, routed, IsNetwork, routes}
+use Rattle.tw_theory.specs.Transitions.{Moment, Move, output}
 use Rattle.tw_theory.proofs.Elements.{each-append}
 use Rattle.tw_theory.proofs.Routes.{routes_lead}
+use Rattle.tw_theory.proofs.Steps.{IfOk-cond}
 
 -- a message sent by an output of stamp s
 pub record IsSentAt {S : Type 0} (net : Network S) (s : ℕ) (m : Message) : Type 0 where

@@ -5,22 +5,22 @@ use Rattle.std.specs.List.{AllByRecursion as Each}
 use Rattle.std.proofs.lemmas.Option.{same_Some, none-some}
 use Rattle.std.proofs.lemmas.Bool.{and_right, le-ltb, eqb-true, eqb-false, cond-true, cond-false, cond_both, ne_eqb}
 use Rattle.std.proofs.lemmas.List.{length-replicate}
+use Rattle.tw_atomic.specs.Atomic.{Meaning}
 use Rattle.tw_msgs.specs.Counting.{total, when_positive, when_anti}
 use Rattle.tw_msgs.specs.declared.message.Message.{Message}
 use Rattle.tw_msgs.specs.declared.record.Record.{Record}
+use Rattle.tw_msgs.proofs.MessageLists.{total-sorted_messages}
+use Rattle.tw_msgs.proofs.Messages.{sorted_messages-Sorted}
 use Rattle.tw_theory.specs.Balance.{issued, held, all_consumed}
 use Rattle.tw_theory.specs.Bundles.{addressed}
 use Rattle.tw_theory.specs.Contents.{Process, Cancel}
-use Rattle.tw_theory.specs.Transitions.{Moment, start_moment}
 use Rattle.tw_theory.specs.Network.{Network, Fits, IsNetwork}
 use Rattle.tw_theory.specs.Simulator.{start_moments, sequential, rounds, up_to, moment_at, due_from, all_sent}
 use Rattle.tw_theory.specs.Soundness.{new_process, new_processes, new_world, IsFor, IsSoundProcess, IsSound}
-use Rattle.tw_laws.proofs.Cancelling.{started}
+use Rattle.tw_theory.specs.Transitions.{Moment, start_moment}
 use Rattle.tw_theory.proofs.Elements.{each-sorted}
 use Rattle.tw_theory.proofs.Totals.{total-replicate}
-use Rattle.tw_atomic.specs.Atomic.{Meaning}
-use Rattle.tw_msgs.proofs.MessageLists.{total-sorted_messages}
-use Rattle.tw_msgs.proofs.Messages.{sorted_messages-Sorted}
+use Rattle.tw_laws.proofs.Cancelling.{started}
 
 no_mail : {X : Type 0} (n c : ℕ) → slice_index_or (replicate {A = List X} n []) c [] ≡ []
 no_mail zero c = refl

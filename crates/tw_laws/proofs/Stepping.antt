@@ -9,6 +9,8 @@ use Rattle.tw_msgs.specs.Messages.{has, Sorted}
 use Rattle.tw_msgs.specs.declared.message.Item.{Item}
 use Rattle.tw_msgs.specs.declared.message.Message.{Message}
 use Rattle.tw_msgs.specs.declared.record.Record.{Record}
+use Rattle.tw_msgs.proofs.Totals.{total-append}
+use Rattle.tw_vtime.specs.Stamps.{stamp, never, max_tick, phase_of}
 use Rattle.tw_theory.specs.Balance.{issued, held}
 use Rattle.tw_theory.specs.Bundles.{positives, antis, overdue, first_stamp, least_stamp, least_owed, Ascending}
 use Rattle.tw_theory.specs.Contents.{Process, next, inputs, consumed_by, sent_by, Cancel, Aggressive, Lazy, sent_out, with_step, with_outgoing, settled_as, settle}
@@ -16,18 +18,16 @@ use Rattle.tw_theory.specs.Executive.{World, Answer, act_step, act_post, if_made
 use Rattle.tw_theory.specs.LocalRun.{Step, Made, local_step, Leads, NoStep}
 use Rattle.tw_theory.specs.Network.{Network, Fits, IsNetwork}
 use Rattle.tw_theory.specs.Soundness.{AllBefore, IsFor, IsSoundProcess, IsSound}
-use Rattle.tw_vtime.specs.Stamps.{stamp, never, max_tick, phase_of}
 use Rattle.tw_theory.proofs.Elements.{each-append, each_weaker, each-positives, each-antis}
-use Rattle.tw_theory.proofs.Totals.{positive-positives, anti-positives, positive-antis, anti-antis, total-set}
 use Rattle.tw_theory.proofs.MessageOrder.{ascending_of_sorted}
 use Rattle.tw_theory.proofs.Owing.{total-out, each-out, each-after, each-overdue, total-overdue, each_from_owed, owed_from_each}
 use Rattle.tw_theory.proofs.Steps.{local_step_follows}
 use Rattle.tw_theory.proofs.TakingBack.{consumed_by-append, sent_by-append}
-use Rattle.tw_laws.proofs.Runs.{leads_more, in_order}
-use Rattle.tw_laws.proofs.Sends.{IsSentAt, local_step_sends}
+use Rattle.tw_theory.proofs.Totals.{positive-positives, anti-positives, positive-antis, anti-antis, total-set}
 use Rattle.tw_laws.proofs.Cancelling.{stepped, settled}
 use Rattle.tw_laws.proofs.Changing.{each_from_least, least_from_each, least_mail_top, box_from_least, least_mail-set, process_from_least, replaced_sound}
-use Rattle.tw_msgs.proofs.Totals.{total-append}
+use Rattle.tw_laws.proofs.Runs.{leads_more, in_order}
+use Rattle.tw_laws.proofs.Sends.{IsSentAt, local_step_sends}
 
 before-push : {S : Type 0} (s : ℕ) (steps : List (Step S)) (step : Step S) → AllBefore s steps → step.entry.stamp < s
     → AllBefore s (steps ++ step ∷ [])

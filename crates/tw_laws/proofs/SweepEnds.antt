@@ -1,13 +1,13 @@
 -- Posting and delivering ends.
 use Rattle.std.proofs.Common.{◌≡◌, ℕ, ◌<◌, [], ◌∷◌, length, Option, Some, None, refl, arith}
 use Rattle.std.specs.Prelude.{slice_get}
-use Rattle.tw_laws.specs.Sweeping.{IsProgress, SweepEnds}
 use Rattle.tw_msgs.specs.declared.message.Item.{Item}
 use Rattle.tw_theory.specs.Contents.{Process, Received, settle}
 use Rattle.tw_theory.specs.Exchange.{work}
 use Rattle.tw_theory.specs.Executive.{World, Action, Step, Post, Deliver, Back, Raise, Harvest, Posted, Delivered, mail_of, act, act_post, act_deliver}
 use Rattle.tw_theory.specs.Network.{Network}
 use Rattle.tw_theory.specs.Soundness.{IsSound}
+use Rattle.tw_laws.specs.Sweeping.{IsProgress, SweepEnds}
 use Rattle.tw_laws.proofs.Harvesting.{acts_soundly}
 use Rattle.tw_laws.proofs.Sweeping.{work_falls}
 

@@ -5,7 +5,6 @@ use Rattle.std.specs.List.{AllByRecursion as Each}
 use Rattle.std.proofs.lemmas.Bool.{cond_both}
 use Rattle.std.proofs.lemmas.List.{length-map}
 use Rattle.std.proofs.lemmas.Option.{slice_get_within}
-use Rattle.tw_laws.specs.Sweeping.{WorkFalls}
 use Rattle.tw_msgs.specs.Counting.{total}
 use Rattle.tw_msgs.specs.Messages.{has}
 use Rattle.tw_msgs.specs.declared.message.Item.{Item}
@@ -20,8 +19,9 @@ use Rattle.tw_theory.specs.Network.{Network, Fits}
 use Rattle.tw_theory.specs.Soundness.{IsSound}
 use Rattle.tw_theory.proofs.Elements.{each_weaker, each-append, each-antis}
 use Rattle.tw_theory.proofs.Owing.{length-undone, length-unsent, length-overdue, each-overdue}
-use Rattle.tw_theory.proofs.Totals.{total-set, total-remove}
 use Rattle.tw_theory.proofs.TakingBack.{sent_by-append}
+use Rattle.tw_theory.proofs.Totals.{total-set, total-remove}
+use Rattle.tw_laws.specs.Sweeping.{WorkFalls}
 use Rattle.tw_laws.proofs.Stepping.{get_box, total-posted}
 
 pub one_each : {X : Type 0} (xs : List X) → total (λ x. 1) xs ≡ length xs

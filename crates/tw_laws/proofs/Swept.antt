@@ -5,18 +5,18 @@ use Rattle.std.specs.List.{AllByRecursion as Each}
 use Rattle.std.proofs.lemmas.Bool.{and_parts, ltb-false, le-ltb, cond-true, cond-false}
 use Rattle.std.proofs.lemmas.Option.{same_Some, none-some, slice_get_within}
 use Rattle.std.proofs.lemmas.List.{drop_all, drop-set-lt, get_or-set_same}
-use Rattle.tw_laws.specs.Cancelling.{IsSwept, least_own}
-use Rattle.tw_laws.specs.Exchange.{IsSweptAs, IsPassed, IsAfterSweep, SweepLaw, SweepSteps}
 use Rattle.tw_msgs.specs.declared.message.Item.{Item}
 use Rattle.tw_msgs.specs.declared.message.Message.{Message}
+use Rattle.tw_vtime.specs.Stamps.{max_tick}
 use Rattle.tw_theory.specs.Bundles.{antis, overdue, not_overdue}
 use Rattle.tw_theory.specs.Contents.{Process, Cancel, Aggressive, Lazy, next, settled_as, settle, with_outgoing, with_lists, harvested, steps_before}
-use Rattle.tw_theory.specs.Executive.{World, Action, Deliver, Raise, Raised, Harvest, Harvested, Answer, Refused, with_process, with_mail, posted, act, act_post, act_deliver, act_harvest, mail_of, least_of, replay, answers}
 use Rattle.tw_theory.specs.Exchange.{is_empty, all_empty, all_idle, is_swept, work, posts, deliveries, pass, passes, harvests, sweep, IsTaken}
+use Rattle.tw_theory.specs.Executive.{World, Action, Deliver, Raise, Raised, Harvest, Harvested, Answer, Refused, with_process, with_mail, posted, act, act_post, act_deliver, act_harvest, mail_of, least_of, replay, answers}
 use Rattle.tw_theory.specs.Network.{Network, IsNetwork}
 use Rattle.tw_theory.specs.Soundness.{IsSound}
-use Rattle.tw_vtime.specs.Stamps.{max_tick}
 use Rattle.tw_theory.proofs.Elements.{get_of_set, each-get}
+use Rattle.tw_laws.specs.Cancelling.{IsSwept, least_own}
+use Rattle.tw_laws.specs.Exchange.{IsSweptAs, IsPassed, IsAfterSweep, SweepLaw, SweepSteps}
 use Rattle.tw_laws.proofs.Cancelling.{swept_least}
 use Rattle.tw_laws.proofs.Harvesting.{replay_sound}
 use Rattle.tw_laws.proofs.Passes.{present, replay-append, taken-append, is_pass, no_mail, left_to_do}

@@ -1,11 +1,10 @@
 -- A generator, a relay and a tally in a row.
 use Rattle.std.proofs.Common.{◌<◌, ◌≡◌, ◌∙◌, refl, sym, ap, arith, inl, inr, ℕ, zero, suc, List, [], ◌∷◌, Some}
 use Rattle.std.specs.Prelude.{pos}
-use Rattle.tw_laws.specs.Applied.{start, after, posted, drive, driven, driven_trace, DrivenRun, LawsOfThree, stuck}
-use Rattle.tw_theory.specs.Outcomes.{state, Complete, Fault, Going}
-use Rattle.tw_laws.specs.History.{Holdings, IsRunTo, IsCommitted}
-use Rattle.tw_laws.specs.Rewinding.{IsRewound, IsOneCut}
-use Rattle.tw_theory.specs.Soundness.{IsSound, new_world}
+use Rattle.tw_msgs.specs.declared.record.Record.{Record}
+use Rattle.tw_msgs.specs.declared.record_kind.RecordKind.TheVariants.{Out, Int, Ext}
+use Rattle.tw_vtime.specs.Stamps.{stamp}
+use Rattle.tw_vtime.specs.declared.limits.Limit.TheVariants.{Tick}
 use Rattle.tw_theory.specs.Contents.{Cancel, Aggressive, Lazy, Placed}
 use Rattle.tw_theory.specs.ExampleModels.{State}
 use Rattle.tw_theory.specs.ExampleNetworks.{three, lone, gen_tally}
@@ -13,29 +12,30 @@ use Rattle.tw_theory.specs.ExampleTraces.{out, int, ext, item}
 use Rattle.tw_theory.specs.Exchange.{work}
 use Rattle.tw_theory.specs.Executive.{Action, Step, Deliver, Back, Raise, Answer, Stepped, Posted, Delivered, Raised, Harvested, column_of, act, answers}
 use Rattle.tw_theory.specs.LocalRun.{step_at, local_step}
-use Rattle.tw_theory.specs.Transitions.{output, moved, transition}
 use Rattle.tw_theory.specs.Marks.{marks, rewind}
 use Rattle.tw_theory.specs.Network.{IsNetwork}
+use Rattle.tw_theory.specs.Outcomes.{state, Complete, Fault, Going}
+use Rattle.tw_theory.specs.Simulator.{sequential, up_to}
+use Rattle.tw_theory.specs.Soundness.{IsSound, new_world}
+use Rattle.tw_theory.specs.Traces.{IsTrace, of_component, before}
+use Rattle.tw_theory.specs.Transitions.{output, moved, transition}
+use Rattle.tw_laws.specs.Applied.{start, after, posted, drive, driven, driven_trace, DrivenRun, LawsOfThree, stuck}
+use Rattle.tw_laws.specs.History.{Holdings, IsRunTo, IsCommitted}
+use Rattle.tw_laws.specs.Rewinding.{IsRewound, IsOneCut}
 use Rattle.tw_laws.proofs.Acting.{start_law}
+use Rattle.tw_laws.proofs.Ending.{state_law}
 use Rattle.tw_laws.proofs.Harvesting.{replay_sound, committed_law}
-use Rattle.tw_laws.proofs.TimeWarp.{time_warp_law}
 use Rattle.tw_laws.proofs.History.Committed.{committed_history}
 use Rattle.tw_laws.proofs.Least.{gvt_law}
 use Rattle.tw_laws.proofs.Lines.{lines_law}
-use Rattle.tw_laws.proofs.Rewinding.{inverse_law, back_restores}
-use Rattle.tw_laws.proofs.Rewound.{rewinding_law, back_cuts}
-use Rattle.tw_laws.proofs.Settled.{held_by, settled}
-use Rattle.tw_laws.proofs.SweepEnds.{sweep_ends}
-use Rattle.tw_laws.proofs.Traces.{own_other, trace_law, sequential_trace, rounds_law}
-use Rattle.tw_laws.proofs.Ending.{state_law}
 use Rattle.tw_laws.proofs.Merging.{merging_law}
 use Rattle.tw_laws.proofs.Outcomes.{all_before}
-use Rattle.tw_theory.specs.Traces.{IsTrace, of_component, before}
-use Rattle.tw_msgs.specs.declared.record.Record.{Record}
-use Rattle.tw_msgs.specs.declared.record_kind.RecordKind.TheVariants.{Out, Int, Ext}
-use Rattle.tw_theory.specs.Simulator.{sequential, up_to}
-use Rattle.tw_vtime.specs.Stamps.{stamp}
-use Rattle.tw_vtime.specs.declared.limits.Limit.TheVariants.{Tick}
+use Rattle.tw_laws.proofs.Rewinding.{inverse_law, back_restores}
+use Rattle.tw_laws.proofs.Rewound.{rewinding_law, back_cuts}
+use Rattle.tw_laws.proofs.AtGvt.{held_by, run_to}
+use Rattle.tw_laws.proofs.SweepEnds.{sweep_ends}
+use Rattle.tw_laws.proofs.TimeWarp.{time_warp_law}
+use Rattle.tw_laws.proofs.Traces.{own_other, trace_law, sequential_trace, rounds_law}
 
 pub three_fits : IsNetwork three
 three_fits = record {
@@ -150,10 +150,10 @@ module _ (cancel : Cancel) where
   sound_after : (actions : List Action) → IsSound three 10 (after cancel actions)
   sound_after actions = replay_sound three 10 (start cancel) actions three_fits (omega arith) sound
 
-  settled_after : (actions : List Action) → (h : Holdings State) × IsRunTo three 10 (up_to 10 (after cancel actions).gvt) h × IsCommitted three 10 (up_to 10 (after cancel actions).gvt) h
-  settled_after actions =
+  run_to_gvt : (actions : List Action) → (h : Holdings State) × IsRunTo three 10 (up_to 10 (after cancel actions).gvt) h × IsCommitted three 10 (up_to 10 (after cancel actions).gvt) h
+  run_to_gvt actions =
       let w = after cancel actions in
-      let is = settled three 10 three_fits w (sound_after actions) in
+      let is = run_to three 10 three_fits w (sound_after actions) in
       (held_by 10 w, is, committed_history three 10 (up_to 10 w.gvt) (held_by 10 w) (omega arith) is)
 
   pub laws_of_three : LawsOfThree cancel
@@ -162,7 +162,7 @@ module _ (cancel : Cancel) where
     time_warp = λ commands. time_warp_law three cancel 10 commands three_fits (omega arith);
     sound = sound;
     kept = sound_after;
-    settled = settled_after;
+    run_to = run_to_gvt;
     committed = λ actions. committed_law three cancel 10 actions three_fits (omega arith);
     restored = λ cs. inverse_law three 10 (start cancel) cs three_fits (omega arith) sound;
     rewound = rewound_three cancel;

@@ -1,18 +1,18 @@
 -- The theorem of the whole.
 use Rattle.std.proofs.Common.{ℕ, ◌≤◌, List, [], ◌∷◌, sym, ◌∙◌}
 use Rattle.std.specs.List.{AllByRecursion as Each}
-use Rattle.tw_laws.specs.Headline.{Command, Act, Rewind, after_command, after_commands, IsTimeWarp, TimeWarpLaw}
+use Rattle.tw_vtime.specs.Stamps.{max_tick}
 use Rattle.tw_theory.specs.Contents.{Cancel}
 use Rattle.tw_theory.specs.Executive.{World}
 use Rattle.tw_theory.specs.Network.{Network, IsNetwork}
 use Rattle.tw_theory.specs.Soundness.{Cancels, IsSound, new_world}
-use Rattle.tw_vtime.specs.Stamps.{max_tick}
+use Rattle.tw_laws.specs.Headline.{Command, Act, Rewind, after_command, after_commands, IsTimeWarp, TimeWarpLaw}
 use Rattle.tw_laws.proofs.Cancelling.{cancel_stays}
-use Rattle.tw_laws.proofs.Starting.{start_sound}
+use Rattle.tw_laws.proofs.Committing.{rewind_answers}
 use Rattle.tw_laws.proofs.Harvesting.{acts_soundly}
 use Rattle.tw_laws.proofs.Rewinding.{rewind_keeps, inverse_law, back_restores}
-use Rattle.tw_laws.proofs.Committing.{rewind_answers}
 use Rattle.tw_laws.proofs.Rewound.{rewinding_law, back_cuts}
+use Rattle.tw_laws.proofs.Starting.{start_sound}
 
 module _ {S : Type 0} (net : Network S) (cancel : Cancel) (until : ℕ) (ok : IsNetwork net) (bound : until ≤ max_tick) where
   done_sound : (w : World S) (command : Command) → IsSound net until w → IsSound net until (after_command net until w command)

@@ -3,17 +3,17 @@ use Rattle.std.proofs.Common.{◌≡◌, ℕ, ◌<◌, List, [], ◌∷◌, Bool
 use Rattle.std.specs.Prelude.{◌==◌, ◌≢◌, filter, ◌&&◌, nat_lt, ◌≤◌}
 use Rattle.std.specs.List.{AllByRecursion as Each}
 use Rattle.std.proofs.lemmas.Bool.{cond-true, cond-false, cond_both, eq-eqb, ne_eqb, cases_eq, lt-ltb}
-use Rattle.tw_laws.specs.Traces.{OneTrace, TraceLaw}
-use Rattle.tw_theory.specs.Traces.{Precedes, IsTrace, of_component}
-use Rattle.tw_laws.specs.Committed.{RoundsLaw}
 use Rattle.tw_msgs.specs.declared.record.Record.{Record}
-use Rattle.tw_theory.specs.Network.{Network, IsNetwork}
-use Rattle.tw_theory.specs.Simulator.{Run, rounds, round_time, sequential, up_to, records_before}
 use Rattle.tw_vtime.specs.Stamps.{stamp, max_tick}
 use Rattle.tw_vtime.specs.declared.limits.Limit.{Limit}
+use Rattle.tw_theory.specs.Network.{Network, IsNetwork}
+use Rattle.tw_theory.specs.Simulator.{Run, rounds, round_time, sequential, up_to, records_before}
+use Rattle.tw_theory.specs.Traces.{Precedes, IsTrace, of_component}
 use Rattle.tw_theory.proofs.Elements.{each_weaker}
-use Rattle.tw_laws.proofs.Settled.{all_phase_one}
+use Rattle.tw_laws.specs.Committed.{RoundsLaw}
+use Rattle.tw_laws.specs.Traces.{OneTrace, TraceLaw}
 use Rattle.tw_laws.proofs.History.Rounds.{Reached, Running, Faulted, rounds_reach, time_due}
+use Rattle.tw_laws.proofs.AtGvt.{all_phase_one}
 
 own_here : (x : Record) (xs : List Record) → of_component x.component (x ∷ xs) ≡ x ∷ of_component x.component xs
 own_here x xs = cond-true (x.component == x.component) _ _ (eq-eqb x.component x.component refl)

@@ -1,18 +1,18 @@
 -- What a rewind puts in transit, and what it leaves owed.
 use Rattle.std.proofs.Common.{◌≡◌, ℕ, ◌+◌, List, [], ◌∷◌, ◌++◌, drop, refl, ap, ap₂, ◌∙◌, arith}
-use Rattle.tw_laws.specs.Rewinding.{taken_back, all_owed, AllCancel}
-use Rattle.tw_laws.proofs.TransitWeights.{RewoundTransit}
 use Rattle.tw_msgs.specs.Counting.{total, when_positive, when_anti}
 use Rattle.tw_msgs.specs.declared.message.Item.{Item}
 use Rattle.tw_msgs.specs.declared.message.Message.{Message}
+use Rattle.tw_msgs.proofs.Totals.{total-append}
 use Rattle.tw_theory.specs.Balance.{all_outgoing}
 use Rattle.tw_theory.specs.Bundles.{antis}
 use Rattle.tw_theory.specs.Contents.{Process, Aggressive, Lazy, sent_by, unsent_by, outgoing_undone, owed_undone, back_to_first, steps_before, cut}
 use Rattle.tw_theory.specs.LocalRun.{Step}
 use Rattle.tw_theory.specs.Marks.{rewound}
-use Rattle.tw_theory.proofs.Totals.{anti-antis}
 use Rattle.tw_theory.proofs.Owing.{positive-undone, total-unsent}
-use Rattle.tw_msgs.proofs.Totals.{total-append}
+use Rattle.tw_theory.proofs.Totals.{anti-antis}
+use Rattle.tw_laws.specs.Rewinding.{taken_back, all_owed, AllCancel}
+use Rattle.tw_laws.proofs.TransitWeights.{RewoundTransit}
 
 -- what is outgoing and owed after a cut
 module _ {S : Type 0} (s : ℕ) (p : Process S) where

@@ -1,11 +1,11 @@
 -- What a rewind puts in transit, for any weight of messages.
 use Rattle.std.specs.Prelude.{ℕ, ◌+◌, ◌≡◌, List}
-use Rattle.tw_laws.specs.Rewinding.{taken_back, all_owed, AllCancel}
 use Rattle.tw_msgs.specs.Counting.{total, when_positive, when_anti}
 use Rattle.tw_msgs.specs.declared.message.Message.{Message}
 use Rattle.tw_theory.specs.Balance.{all_outgoing}
 use Rattle.tw_theory.specs.Contents.{Process, Aggressive, Lazy}
 use Rattle.tw_theory.specs.Marks.{rewound}
+use Rattle.tw_laws.specs.Rewinding.{taken_back, all_owed, AllCancel}
 
 -- A rewind puts no positive message in transit. For each message that the steps taken back sent, one anti-message is in transit then (Aggressive), or one message is owed (Lazy)
 pub record RewoundTransit (S : Type 0) : Type 0 where

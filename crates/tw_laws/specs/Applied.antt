@@ -1,14 +1,5 @@
 -- The laws applied to concrete networks, so that none has a premise that nothing meets: generator, relay and tally in a row; a run that is driven to its end; one that a limit stops.
 use Rattle.std.specs.Prelude.{ℕ, ◌<◌, ◌≤◌, ◌≡◌, pos, length, List, [], ◌∷◌, None, Some, slice_get}
-use Rattle.tw_laws.specs.Committed.{HasCommitted, Grow}
-use Rattle.tw_laws.specs.Ending.{HasAll}
-use Rattle.tw_theory.specs.Outcomes.{state, Complete, Fault, Going}
-use Rattle.tw_laws.specs.Headline.{Command, after_commands, IsTimeWarp}
-use Rattle.tw_laws.specs.History.{Holdings, IsRunTo, IsCommitted}
-use Rattle.tw_laws.specs.Inverse.{IsRestored, IsOneRestored, steps_of, stepped_and_rewound, stepped_and_back}
-use Rattle.tw_laws.specs.Rewinding.{IsRewound, IsOneCut}
-use Rattle.tw_laws.specs.Sweeping.{AllProgress}
-use Rattle.tw_theory.specs.Traces.{IsTrace}
 use Rattle.tw_msgs.specs.declared.record.Record.{Record}
 use Rattle.tw_msgs.specs.declared.record_kind.RecordKind.TheVariants.{Out, Int, Ext}
 use Rattle.tw_vtime.specs.Stamps.{stamp}
@@ -21,8 +12,17 @@ use Rattle.tw_theory.specs.Exchange.{work}
 use Rattle.tw_theory.specs.Executive.{World, Action, Step, Post, Deliver, Back, Raise, Harvest, Stepped, Posted, Delivered, Raised, Harvested, act, replay, answers}
 use Rattle.tw_theory.specs.Marks.{marks, rewind}
 use Rattle.tw_theory.specs.Network.{IsNetwork}
+use Rattle.tw_theory.specs.Outcomes.{state, Complete, Fault, Going}
 use Rattle.tw_theory.specs.Simulator.{sequential, round_time, up_to}
 use Rattle.tw_theory.specs.Soundness.{IsSound, new_world}
+use Rattle.tw_theory.specs.Traces.{IsTrace}
+use Rattle.tw_laws.specs.Committed.{HasCommitted, Grow}
+use Rattle.tw_laws.specs.Ending.{HasAll}
+use Rattle.tw_laws.specs.Headline.{Command, after_commands, IsTimeWarp}
+use Rattle.tw_laws.specs.History.{Holdings, IsRunTo, IsCommitted}
+use Rattle.tw_laws.specs.Inverse.{IsRestored, IsOneRestored, steps_of, stepped_and_rewound, stepped_and_back}
+use Rattle.tw_laws.specs.Rewinding.{IsRewound, IsOneCut}
+use Rattle.tw_laws.specs.Sweeping.{AllProgress}
 
 abbrev pub start : Cancel → World State
 start cancel = new_world three cancel
@@ -65,7 +65,7 @@ pub record LawsOfThree (cancel : Cancel) : Type 0 where
   pub sound : IsSound three 10 (start cancel)
   pub kept : (actions : List Action) → IsSound three 10 (after cancel actions)
   -- after any actions, at gvt
-  pub settled : (actions : List Action) → (h : Holdings State) × IsRunTo three 10 (up_to 10 (after cancel actions).gvt) h × IsCommitted three 10 (up_to 10 (after cancel actions).gvt) h
+  pub run_to : (actions : List Action) → (h : Holdings State) × IsRunTo three 10 (up_to 10 (after cancel actions).gvt) h × IsCommitted three 10 (up_to 10 (after cancel actions).gvt) h
   pub committed : (actions : List Action) → HasCommitted three 10 (after cancel actions)
   pub restored : (cs : List ℕ) → IsRestored (start cancel) (after cancel (steps_of cs)) (stepped_and_rewound three 10 (start cancel) cs)
   pub rewound : IsRewound (posted cancel) (marks (start cancel).processes) (rewind (posted cancel) (marks (start cancel).processes)).1

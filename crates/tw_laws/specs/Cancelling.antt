@@ -1,12 +1,12 @@
 -- How an executive cancels stays as it began; and what is owed does not hold gvt back where nothing owed is overdue.
 use Rattle.std.specs.Prelude.{ℕ, ◌-◌, ◌≤◌, ◌≡◌, min, List, [], ◌∷◌}
 use Rattle.std.specs.List.{AllByRecursion as Each}
+use Rattle.tw_vtime.specs.Stamps.{never}
 use Rattle.tw_theory.specs.Contents.{Process, Cancel, next}
 use Rattle.tw_theory.specs.Executive.{World, Action, act, least_of}
 use Rattle.tw_theory.specs.Marks.{rewind}
 use Rattle.tw_theory.specs.Network.{Network}
 use Rattle.tw_theory.specs.Soundness.{Cancels, new_world}
-use Rattle.tw_vtime.specs.Stamps.{never}
 
 pub record CancelStays (S : Type 0) : Type 0 where
   pub start : (net : Network S) (cancel : Cancel) → Each (Cancels cancel) (new_world net cancel).processes

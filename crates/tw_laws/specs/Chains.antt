@@ -3,6 +3,7 @@ use Rattle.std.specs.Prelude.{ℕ, ◌<◌, ◌≤◌, ◌≡◌, List, ◌++◌
 use Rattle.std.specs.List.{AllByRecursion as Each}
 use Rattle.tw_atomic.specs.Atomic.{Meaning}
 use Rattle.tw_msgs.specs.declared.message.Message.{Message}
+use Rattle.tw_vtime.specs.Stamps.{stamp}
 use Rattle.tw_theory.specs.Bundles.{first_stamp}
 use Rattle.tw_theory.specs.Chains.{Start, SoloRun, IsSoloRun, Cause, IsHome, Agrees, alone, own_steps, made_anew}
 use Rattle.tw_theory.specs.Contents.{Process, before_all}
@@ -11,7 +12,6 @@ use Rattle.tw_theory.specs.Installing.{Finished, IsFresh, IsInstalled, TakesFrom
 use Rattle.tw_theory.specs.LocalRun.{Step, Made, Leads, local_step}
 use Rattle.tw_theory.specs.Network.{Network}
 use Rattle.tw_theory.specs.Transitions.{Moment}
-use Rattle.tw_vtime.specs.Stamps.{stamp}
 
 pub record ChainLaw (S : Type 0) : Type 0 where
   -- where a component stands at the start of a chain and has its messages before the bound, the steps of the chain are its next ones

@@ -3,14 +3,14 @@ use Rattle.std.specs.Prelude.{ℕ, ◌≤◌, ◌<◌, ◌≡◌, List, [], ◌�
 use Rattle.std.specs.List.{AllByRecursion as Each}
 use Rattle.tw_msgs.specs.Counting.{total}
 use Rattle.tw_msgs.specs.declared.record.Record.{Record}
+use Rattle.tw_vtime.specs.Stamps.{stamp, never, max_tick}
+use Rattle.tw_vtime.specs.declared.limits.Limit.{Limit}
 use Rattle.tw_theory.specs.Contents.{Process, Cancel, next}
 use Rattle.tw_theory.specs.Executive.{World, Action, Raise, Raised, act, replay, column_of, mail_of, least_of}
 use Rattle.tw_theory.specs.Marks.{rewind}
 use Rattle.tw_theory.specs.Network.{Network, count_of, IsNetwork}
 use Rattle.tw_theory.specs.Simulator.{sequential, round_time, records_before}
 use Rattle.tw_theory.specs.Soundness.{IsSound, new_world}
-use Rattle.tw_vtime.specs.Stamps.{stamp, never, max_tick}
-use Rattle.tw_vtime.specs.declared.limits.Limit.{Limit}
 
 -- There is a process and a column for each component, and what each has committed is what the sequential simulator does up to its commit line
 pub record HasCommitted {S : Type 0} (net : Network S) (until : ℕ) (w : World S) : Type 0 where

@@ -1,20 +1,19 @@
 -- Sweeps and outcomes on concrete networks: what a sweep is as a list, and two runs driven to their end.
-use Rattle.std.specs.Prelude.{ℕ, pos, ◌≡◌, List, [], ◌∷◌, ◌++◌, true, false}
-use Rattle.tw_laws.specs.Applied.{after, stuck}
-use Rattle.tw_theory.specs.Outcomes.{state, Complete, Fault}
-use Rattle.tw_laws.specs.Exchange.{IsAfterSweep}
-use Rattle.tw_theory.specs.Outcomes.{IsOutcome}
+use Rattle.std.specs.Prelude.{ℕ, ◌≡◌, List, [], ◌∷◌, ◌++◌, true, false}
 use Rattle.tw_msgs.specs.declared.record.Record.{Record}
 use Rattle.tw_vtime.specs.Stamps.{stamp}
 use Rattle.tw_vtime.specs.declared.limits.Limit.TheVariants.{Tick}
-use Rattle.tw_theory.specs.Contents.{Cancel, Aggressive, Lazy}
+use Rattle.tw_theory.specs.Contents.{Cancel, Aggressive, Lazy, Placed, Straggler, Annihilated}
 use Rattle.tw_theory.specs.ExampleModels.{State}
 use Rattle.tw_theory.specs.ExampleNetworks.{three, gen_tally, lone}
-use Rattle.tw_theory.specs.ExampleTraces.{out, int, ext, item}
+use Rattle.tw_theory.specs.ExampleTraces.{out, item}
 use Rattle.tw_theory.specs.Exchange.{sweep, IsDrawn}
-use Rattle.tw_theory.specs.Executive.{World, Action, Step, Post, Deliver, Raise, Harvest, replay}
+use Rattle.tw_theory.specs.Executive.{World, Action, Step, Post, Deliver, Raise, Harvest, Posted, Delivered, Raised, Harvested, replay, answers}
 use Rattle.tw_theory.specs.Network.{Network}
+use Rattle.tw_theory.specs.Outcomes.{state, Complete, Fault, IsOutcome}
 use Rattle.tw_theory.specs.Soundness.{new_world}
+use Rattle.tw_laws.specs.Applied.{after, stuck, driven_trace}
+use Rattle.tw_laws.specs.Exchange.{IsAfterSweep}
 
 abbrev pub swept : Network State → ℕ → World State → World State
 swept net until w = replay net until w (sweep net until w)
@@ -36,10 +35,7 @@ made cancel = swept gen_tally 3 (replay gen_tally 3 (new_world gen_tally cancel)
 abbrev pub driven : Cancel → World State
 driven cancel = swept gen_tally 3 (replay gen_tally 3 (made cancel) (Step 1 ∷ []))
 
--- what the simulator records of it, and of a generator that meets the greatest tick
-abbrev pub driven_trace : List Record
-driven_trace = out 2 0 0 (item 5) ∷ int 2 0 0 (pos 1 ∷ []) ∷ ext 2 0 1 (item 5) (pos 1 ∷ pos 5 ∷ pos 5 ∷ []) ∷ []
-
+-- what a generator records that meets the greatest tick
 abbrev pub last_output : List Record
 last_output = out 1099511627773 0 0 (item 1) ∷ []
 
@@ -50,6 +46,9 @@ ended cancel = swept (lone 1099511627773) 1099511627774 (stuck cancel)
 pub record Driven : Type 0 where
   -- the generator's message takes back the relay's steps; their message is cancelled in a second pass
   pub aggressive : sweep three 10 (ahead Aggressive) ≡ posts_of_three ++ Deliver 1 0 ∷ Deliver 2 0 ∷ posts_of_three ++ Deliver 2 0 ∷ end_of_three
+  pub aggressive_answers : answers three 10 (ahead Aggressive) (sweep three 10 (ahead Aggressive))
+      ≡ Posted 1 ∷ Posted 1 ∷ Posted 0 ∷ Delivered (Straggler 3) ∷ Delivered Placed ∷ Posted 0 ∷ Posted 1 ∷ Posted 0 ∷ Delivered (Annihilated 0)
+      ∷ Raised (stamp 2 0 1) ∷ Harvested 1 ∷ Harvested 0 ∷ Harvested 0 ∷ []
   -- or stays owed, since it is not overdue
   pub lazy : sweep three 10 (ahead Lazy) ≡ posts_of_three ++ Deliver 1 0 ∷ Deliver 2 0 ∷ end_of_three
   pub after : (cancel : Cancel) → IsAfterSweep (ahead cancel) (swept three 10 (ahead cancel))

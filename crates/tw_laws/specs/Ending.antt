@@ -1,6 +1,8 @@
 -- How a sound executive shows that the run has ended: all is committed, or the simulator's fault is reached.
 use Rattle.std.specs.Prelude.{ℕ, ◌<◌, ◌≤◌, ◌≡◌, ◌≢◌, ◌↔◌, [], Some, None, Err, slice_get}
 use Rattle.std.specs.List.{AllByRecursion as Each}
+use Rattle.tw_vtime.specs.Stamps.{stamp, phase_of, max_tick}
+use Rattle.tw_vtime.specs.declared.limits.Limit.{Limit}
 use Rattle.tw_theory.specs.Contents.{Process, next}
 use Rattle.tw_theory.specs.Executive.{World, column_of}
 use Rattle.tw_theory.specs.LocalRun.{OverLimit, local_step}
@@ -8,8 +10,6 @@ use Rattle.tw_theory.specs.Network.{Network, IsNetwork}
 use Rattle.tw_theory.specs.Outcomes.{Complete, Fault, state}
 use Rattle.tw_theory.specs.Simulator.{sequential, records_before}
 use Rattle.tw_theory.specs.Soundness.{IsSound}
-use Rattle.tw_vtime.specs.Stamps.{stamp, phase_of, max_tick}
-use Rattle.tw_vtime.specs.declared.limits.Limit.{Limit}
 
 -- Nothing is in transit, no message owed is of stamp gvt, and c is the least component whose next step is at gvt and meets a limit
 pub record ShowsFault {S : Type 0} (net : Network S) (until : ℕ) (w : World S) (c : ℕ) (limit : Limit) : Type 0 where

@@ -1,14 +1,14 @@
 -- What a sweep does: after it nothing is in transit, nothing owed is overdue, and all is committed before the least of all next stamps.
 use Rattle.std.specs.Prelude.{ℕ, suc, Bool, ◌⊎◌, ◌<◌, ◌≤◌, ◌≡◌, List, [], ◌∷◌, ◌++◌, length, drop, true, false, None, Some, slice_get}
 use Rattle.std.specs.List.{AllByRecursion as Each}
-use Rattle.tw_laws.specs.Cancelling.{IsSwept, least_own}
 use Rattle.tw_msgs.specs.declared.message.Item.{Item}
+use Rattle.tw_vtime.specs.Stamps.{max_tick}
 use Rattle.tw_theory.specs.Contents.{Process, next}
 use Rattle.tw_theory.specs.Exchange.{MayDraw, IsDrawn, bound_of, is_swept, work, deliveries, pass, passes, sweep, IsTaken}
 use Rattle.tw_theory.specs.Executive.{World, Action, Deliver, act, replay, answers, mail_of}
 use Rattle.tw_theory.specs.Network.{Network, IsNetwork}
 use Rattle.tw_theory.specs.Soundness.{IsSound}
-use Rattle.tw_vtime.specs.Stamps.{max_tick}
+use Rattle.tw_laws.specs.Cancelling.{IsSwept, least_own}
 
 -- of every sound executive
 abbrev pub OfSound : {S : Type 0} → (Network S → ℕ → World S → Type 0) → Type 0

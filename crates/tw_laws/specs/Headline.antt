@@ -3,15 +3,15 @@
 -- and what each component has committed is what the sequential abstract simulator does up to its commit line.
 use Rattle.std.specs.Prelude.{ℕ, ◌≤◌, ◌≡◌, List, [], ◌∷◌, Some, slice_get}
 use Rattle.std.specs.List.{AllByRecursion as Each}
-use Rattle.tw_laws.specs.Committed.{HasCommitted}
-use Rattle.tw_laws.specs.Inverse.{IsRestored, IsOneRestored, stepped, stepped_and_rewound, stepped_and_back}
-use Rattle.tw_laws.specs.Rewinding.{IsRewound, RewindAnswers, IsOneCut}
+use Rattle.tw_vtime.specs.Stamps.{max_tick}
 use Rattle.tw_theory.specs.Contents.{Process, Cancel}
 use Rattle.tw_theory.specs.Executive.{World, Action, Back, Undone, act}
 use Rattle.tw_theory.specs.Marks.{rewound_steps, rewind}
 use Rattle.tw_theory.specs.Network.{Network, IsNetwork}
 use Rattle.tw_theory.specs.Soundness.{Cancels, new_world}
-use Rattle.tw_vtime.specs.Stamps.{max_tick}
+use Rattle.tw_laws.specs.Committed.{HasCommitted}
+use Rattle.tw_laws.specs.Inverse.{IsRestored, IsOneRestored, stepped, stepped_and_rewound, stepped_and_back}
+use Rattle.tw_laws.specs.Rewinding.{IsRewound, RewindAnswers, IsOneCut}
 
 -- What is done to an executive: any action, or a rewind to any marks
 pub data Command : Type 0 where

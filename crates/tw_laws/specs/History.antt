@@ -5,17 +5,17 @@
 --     IsFaulting net until g h is_run c limit      component c is the least that meets a limit at g, and nothing is in transit at g either
 use Rattle.std.specs.Prelude.{Err, ℕ, zero, suc, ◌+◌, ◌<◌, ◌≤◌, ◌≡◌, ◌⊎◌, List, [], ◌∷◌, ◌++◌, length, take, drop, Some}
 use Rattle.tw_msgs.specs.Counting.{total, one_at}
+use Rattle.tw_msgs.specs.Messages.{IsBeforeFirst}
 use Rattle.tw_msgs.specs.declared.message.Message.{Message}
 use Rattle.tw_msgs.specs.declared.record.Record.{Record}
+use Rattle.tw_vtime.specs.Stamps.{stamp, phase_of, max_tick}
+use Rattle.tw_vtime.specs.declared.limits.Limit.{Limit}
 use Rattle.tw_theory.specs.Balance.{all_consumed}
 use Rattle.tw_theory.specs.Contents.{before_all, steps_before, records_of, sent_by}
 use Rattle.tw_theory.specs.LocalRun.{Step, Leads, next_of, local_step, OverLimit}
-use Rattle.tw_theory.specs.Transitions.{Moment}
 use Rattle.tw_theory.specs.Network.{Network}
 use Rattle.tw_theory.specs.Simulator.{sequential, records_before, moment_at, all_sent}
-use Rattle.tw_vtime.specs.Stamps.{stamp, phase_of, max_tick}
-use Rattle.tw_vtime.specs.declared.limits.Limit.{Limit}
-use Rattle.tw_msgs.specs.Messages.{IsBeforeFirst}
+use Rattle.tw_theory.specs.Transitions.{Moment}
 
 -- how many times a message stands in a list
 abbrev pub count : Message → List Message → ℕ

@@ -2,6 +2,7 @@
 use Rattle.std.specs.Prelude.{ℕ, ◌+◌, ◌≤◌, ◌≡◌, ◌≢◌, List, [], ◌∷◌, ◌++◌, length, Some, slice_get}
 use Rattle.tw_msgs.specs.Counting.{total}
 use Rattle.tw_msgs.specs.declared.message.Message.{Message}
+use Rattle.tw_vtime.specs.Stamps.{max_tick}
 use Rattle.tw_theory.specs.Bundles.{positives, antis, sent_anew}
 use Rattle.tw_theory.specs.Contents.{Process, next, Aggressive, Lazy, with_lists, with_outgoing, sent_by, unsent_by}
 use Rattle.tw_theory.specs.Executive.{Action, World, Answer, Undone, act, replay}
@@ -9,7 +10,6 @@ use Rattle.tw_theory.specs.LocalRun.{Step}
 use Rattle.tw_theory.specs.Marks.{marks, rewind}
 use Rattle.tw_theory.specs.Network.{Network, IsNetwork}
 use Rattle.tw_theory.specs.Soundness.{IsSound}
-use Rattle.tw_vtime.specs.Stamps.{max_tick}
 
 -- r is p after these steps, and q is p after they were made and taken back: all else of it is as it was. Aggressive: the outgoing list is the old one, then each message sent since, once positive and once as an anti-message.
 -- Lazy: the outgoing list is the old one, then each message sent anew, once, positive; what is owed is, in some order, what was owed and each of these once

@@ -1,11 +1,11 @@
 -- The start is sound, and every action keeps an executive sound.
 use Rattle.std.specs.Prelude.{ℕ, ◌≤◌, ◌≡◌, List}
+use Rattle.tw_vtime.specs.Stamps.{max_tick}
 use Rattle.tw_theory.specs.Contents.{Cancel}
 use Rattle.tw_theory.specs.Executive.{World, Action, Step, Post, Deliver, Back, Raise, Harvest, Refusal, Refused, act, replay}
 use Rattle.tw_theory.specs.Marks.{rewind}
 use Rattle.tw_theory.specs.Network.{Network, IsNetwork}
 use Rattle.tw_theory.specs.Soundness.{IsSound, new_world}
-use Rattle.tw_vtime.specs.Stamps.{max_tick}
 
 abbrev pub StartLaw : Type 0 → Type 0
 StartLaw S = (net : Network S) (cancel : Cancel) (until : ℕ) → IsNetwork net → IsSound net until (new_world net cancel)

@@ -1,4 +1,5 @@
 pub mod Applied
+pub mod Board
 pub mod Cancelling
 pub mod Chains
 pub mod Committed
@@ -9,6 +10,8 @@ pub mod Headline
 pub mod History
 pub mod Inverse
 pub mod Keeping
+pub mod Memory
+pub mod OfRelay
 pub mod Outcome
 pub mod Rewinding
 pub mod Standing

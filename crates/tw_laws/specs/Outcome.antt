@@ -2,6 +2,8 @@
 use Rattle.std.specs.Prelude.{ℕ, ◌≤◌, ◌≡◌, ◌≢◌, List, length, Some, slice_get}
 use Rattle.tw_msgs.specs.Counting.{total}
 use Rattle.tw_msgs.specs.declared.record.Record.{Record}
+use Rattle.tw_vtime.specs.Stamps.{stamp, max_tick}
+use Rattle.tw_vtime.specs.declared.limits.Limit.{Limit}
 use Rattle.tw_theory.specs.Contents.{Process}
 use Rattle.tw_theory.specs.Executive.{World, column_of}
 use Rattle.tw_theory.specs.Network.{Network, IsNetwork}
@@ -9,8 +11,6 @@ use Rattle.tw_theory.specs.Outcomes.{Complete, Fault, Going, state, IsOutcome}
 use Rattle.tw_theory.specs.Simulator.{sequential, up_to}
 use Rattle.tw_theory.specs.Soundness.{IsSound}
 use Rattle.tw_theory.specs.Traces.{IsTrace, IsMerged, of_component, before}
-use Rattle.tw_vtime.specs.Stamps.{stamp, max_tick}
-use Rattle.tw_vtime.specs.declared.limits.Limit.{Limit}
 
 pub record OutcomeLaw (S : Type 0) : Type 0 where
   -- with a fault the simulator has recorded nothing at it or after
@@ -21,7 +21,11 @@ pub record OutcomeLaw (S : Type 0) : Type 0 where
   pub fault : (net : Network S) (until : ℕ) (w : World S) → IsNetwork net → until ≤ max_tick → IsSound net until w
       → (c s : ℕ) (limit : Limit) → state net until w ≡ Fault c s limit → ((d : ℕ) (p : Process S) → slice_get w.processes d ≡ Some p → s ≤ p.line)
       → (trace : List Record) → IsMerged s w trace → IsOutcome net until (Fault c s limit) trace
-  -- where every line is gvt, as after a sweep, the trace of whole columns is enough for either
+  -- the trace of whole columns is enough where the run is complete
+  pub whole : (net : Network S) (until : ℕ) (w : World S) → IsNetwork net → until ≤ max_tick → IsSound net until w
+      → state net until w ≡ Complete → (trace : List Record) → IsTrace trace → ((c : ℕ) → of_component c trace ≡ column_of w.columns c)
+      → IsOutcome net until Complete trace × (length trace ≡ total length w.columns)
+  -- and, whether complete or in a fault, where every line is gvt, as after a sweep
   pub at_gvt : (net : Network S) (until : ℕ) (w : World S) → IsNetwork net → until ≤ max_tick → IsSound net until w
       → ((d : ℕ) (p : Process S) → slice_get w.processes d ≡ Some p → p.line ≡ w.gvt) → (trace : List Record) → IsTrace trace → ((c : ℕ) → of_component c trace ≡ column_of w.columns c)
       → state net until w ≢ Going → IsOutcome net until (state net until w) trace × (length trace ≡ total length w.columns)

@@ -5,6 +5,7 @@ use Rattle.tw_atomic.specs.Atomic.{Meaning, CanTurn}
 use Rattle.tw_msgs.specs.Messages.{Sorted, place, without}
 use Rattle.tw_msgs.specs.declared.message.Message.{Message}
 use Rattle.tw_msgs.specs.declared.record.Record.{Record}
+use Rattle.tw_vtime.specs.Stamps.{never, tick_of, phase_of, max_microstep}
 use Rattle.tw_theory.specs.Bundles.{front, items_of}
 use Rattle.tw_theory.specs.Contents.{Process, inputs, cut}
 use Rattle.tw_theory.specs.Executive.{World, mail_of, column_of}
@@ -13,7 +14,6 @@ use Rattle.tw_theory.specs.Network.{Network, model_of}
 use Rattle.tw_theory.specs.Soundness.{IsSound}
 use Rattle.tw_theory.specs.Standing.{IsReady, CanTake, floor_after}
 use Rattle.tw_theory.specs.Transitions.{Moment, start_moment, turn}
-use Rattle.tw_vtime.specs.Stamps.{never, tick_of, phase_of, max_microstep}
 
 -- component c of a network is of this model, and its microsteps are those of stamps
 pub record IsOf {S : Type 0} (model : Meaning S) (net : Network S) (c : ℕ) : Type 0 where

@@ -1,12 +1,12 @@
 -- What is left to post and deliver.
 use Rattle.std.specs.Prelude.{ℕ, ◌+◌, ◌<◌, ◌≤◌, ◌≡◌, List, [], ◌∷◌, length, Some, slice_get}
 use Rattle.tw_msgs.specs.declared.message.Item.{Item}
+use Rattle.tw_vtime.specs.Stamps.{max_tick}
 use Rattle.tw_theory.specs.Contents.{Process, Received, settle}
-use Rattle.tw_theory.specs.Executive.{World, Action, Step, Post, Deliver, Back, Raise, Harvest, Posted, Delivered, act, mail_of}
 use Rattle.tw_theory.specs.Exchange.{work}
+use Rattle.tw_theory.specs.Executive.{World, Action, Step, Post, Deliver, Back, Raise, Harvest, Posted, Delivered, act, mail_of}
 use Rattle.tw_theory.specs.Network.{Network, IsNetwork}
 use Rattle.tw_theory.specs.Soundness.{IsSound}
-use Rattle.tw_vtime.specs.Stamps.{max_tick}
 
 -- each item posted, and each delivery with all that it undoes, lets the work fall
 pub record WorkFalls (S : Type 0) : Type 0 where

@@ -1,13 +1,13 @@
 -- The sequential trace, and the merging of columns.
 use Rattle.std.specs.Prelude.{ℕ, ◌≤◌, ◌≡◌, List, ◌++◌, Some, slice_get}
 use Rattle.tw_msgs.specs.declared.record.Record.{Record}
+use Rattle.tw_vtime.specs.Stamps.{stamp, max_tick}
 use Rattle.tw_theory.specs.Contents.{Process}
 use Rattle.tw_theory.specs.Executive.{World, column_of}
 use Rattle.tw_theory.specs.Network.{Network, IsNetwork}
 use Rattle.tw_theory.specs.Simulator.{sequential, records_before}
 use Rattle.tw_theory.specs.Soundness.{IsSound}
 use Rattle.tw_theory.specs.Traces.{IsTrace, of_component, before}
-use Rattle.tw_vtime.specs.Stamps.{stamp, max_tick}
 
 -- two traces with the same records of each component are one
 abbrev pub OneTrace : Type 0

@@ -20,11 +20,13 @@
 #![tactic(auto)]
 
 pub mod applied;
+pub mod board;
 pub mod cancellation;
 pub mod chains;
 pub mod commitment;
 pub mod endings;
 pub mod headline;
 pub mod inversion;
+pub mod memory;
 pub mod soundness;
 pub mod standing;

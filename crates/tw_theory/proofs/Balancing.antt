@@ -3,13 +3,13 @@ use Rattle.std.proofs.Common.{◌≡◌, ℕ, ◌+◌, List, [], ◌∷◌, refl
 use Rattle.std.specs.Prelude.{pos, ◌+ℤ◌, ◌-ℤ◌}
 use Rattle.std.proofs.lemmas.Int.{ints}
 use Rattle.tw_msgs.specs.Counting.{total, when_positive, when_anti, one_at}
-use Rattle.tw_msgs.specs.declared.message.Message.{Message}
 use Rattle.tw_msgs.specs.declared.message.Item.{Item}
+use Rattle.tw_msgs.specs.declared.message.Message.{Message}
+use Rattle.tw_msgs.proofs.Totals.{total-append}
 use Rattle.tw_theory.specs.Balance.{issued, held, all_outgoing, all_mail, in_transit}
 use Rattle.tw_theory.specs.Contents.{Process, sent_by, inputs}
 use Rattle.tw_theory.specs.Executive.{World}
 use Rattle.tw_theory.specs.Laws.{BalanceLaw}
-use Rattle.tw_msgs.proofs.Totals.{total-append}
 
 pub total-outgoing : {S : Type 0} (weight : Item → ℕ) (ps : List (Process S)) → total weight (all_outgoing ps) ≡ total (λ p. total weight p.outgoing) ps
 total-outgoing weight [] = refl

@@ -1,11 +1,11 @@
 -- Where anti-messages are made at once.
 use Rattle.std.proofs.Common.{◌≡◌, ℕ, ◌≤◌, min, List, [], ◌∷◌, ◌++◌, take, drop, ap, ◌∙◌, arith}
+use Rattle.tw_vtime.specs.Stamps.{never}
 use Rattle.tw_theory.specs.Bundles.{positives, antis, least_stamp, least_owed}
 use Rattle.tw_theory.specs.Contents.{Process, Aggressive, next, with_step, sent_out, owed_after, outgoing_undone, owed_undone, before_all, consumed_by, unsent_by, back_to_first, settled_as}
 use Rattle.tw_theory.specs.Executive.{least_next}
 use Rattle.tw_theory.specs.Laws.{AggressiveLaw}
 use Rattle.tw_theory.specs.LocalRun.{Made}
-use Rattle.tw_vtime.specs.Stamps.{never}
 
 module _ {S : Type 0} where
   step_is : (p : Process S) (made : Made S) → p.cancel ≡ Aggressive

@@ -3,15 +3,15 @@ use Rattle.std.proofs.Common.{◌≡◌, ℕ, zero, suc, ◌<◌, ◌≤◌, min
 use Rattle.std.specs.Prelude.{nat_lt}
 use Rattle.std.proofs.lemmas.Bool.{lt-ltb, le-ltb, ltb-true, ltb-false, cond-true, cond-false}
 use Rattle.std.proofs.lemmas.List.{take-take}
-use Rattle.tw_msgs.specs.declared.message.Message.{Message}
 use Rattle.tw_msgs.specs.declared.message.Item.{Item}
+use Rattle.tw_msgs.specs.declared.message.Message.{Message}
 use Rattle.tw_theory.specs.Contents.{Process, Cancel, Aggressive, Lazy, before_all, consumed_by, unsent_by, outgoing_undone, owed_undone, back_to_first, steps_before, cut, inputs}
 use Rattle.tw_theory.specs.Laws.{CutLaw}
 use Rattle.tw_theory.specs.LocalRun.{Step}
-use Rattle.tw_theory.specs.Transitions.{Moment}
 use Rattle.tw_theory.specs.Soundness.{AllBefore}
-use Rattle.tw_theory.proofs.TakingBack.{consumed_by-append}
+use Rattle.tw_theory.specs.Transitions.{Moment}
 use Rattle.tw_theory.proofs.Owing.{undone-append, unsent-append}
+use Rattle.tw_theory.proofs.TakingBack.{consumed_by-append}
 
 nothing_outgoing : (k : Cancel) (out : List Item) → outgoing_undone k out [] ≡ out
 nothing_outgoing Aggressive out = append-nil out

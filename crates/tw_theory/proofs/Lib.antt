@@ -5,6 +5,7 @@ pub mod Cuts
 pub mod Elements
 pub mod MessageOrder
 pub mod Owing
+pub mod RelayChain
 pub mod Routes
 pub mod Standing
 pub mod Steps

@@ -4,8 +4,8 @@ use Rattle.std.proofs.lemmas.Bool.{and_parts, or_cases, or_parts, eqb-true, ltb-
 use Rattle.std.specs.List.{AllByRecursion as Each}
 use Rattle.tw_msgs.specs.Messages.{same_message, at_or_before, place, without, sorted_messages, IsBeforeFirst, Sorted}
 use Rattle.tw_msgs.specs.declared.message.Message.{Message}
-use Rattle.tw_theory.specs.Bundles.{first_stamp, Ascending}
 use Rattle.tw_vtime.specs.Stamps.{never}
+use Rattle.tw_theory.specs.Bundles.{first_stamp, Ascending}
 
 stamps_rise : (m n : Message) → at_or_before m n ≡ true → m.stamp ≤ n.stamp
 stamps_rise m n e = ⊎_elim (λ l. let k = ltb-true m.stamp n.stamp l in omega arith) (λ h. let k = eqb-true m.stamp n.stamp (and_parts _ _ h).0 in omega arith) (or_cases _ _ e)

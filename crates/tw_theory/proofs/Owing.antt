@@ -7,14 +7,14 @@ use Rattle.tw_msgs.specs.Counting.{when_positive, when_anti, total}
 use Rattle.tw_msgs.specs.Messages.{has, without}
 use Rattle.tw_msgs.specs.declared.message.Item.{Item}
 use Rattle.tw_msgs.specs.declared.message.Message.{Message}
+use Rattle.tw_msgs.proofs.MessageLists.{total-without}
+use Rattle.tw_msgs.proofs.Totals.{total-append}
+use Rattle.tw_vtime.specs.Stamps.{never}
 use Rattle.tw_theory.specs.Bundles.{anti, antis, sent_anew, still_owed, overdue, not_overdue, least_owed}
 use Rattle.tw_theory.specs.Contents.{Cancel, Aggressive, Lazy, sent_out, owed_after, outgoing_undone, owed_undone, sent_by, unsent_by}
 use Rattle.tw_theory.specs.LocalRun.{Step}
-use Rattle.tw_vtime.specs.Stamps.{never}
 use Rattle.tw_theory.proofs.Elements.{each-append, each-antis, each-without}
 use Rattle.tw_theory.proofs.Totals.{positive-antis, anti-antis}
-use Rattle.tw_msgs.proofs.Totals.{total-append}
-use Rattle.tw_msgs.proofs.MessageLists.{total-without}
 
 -- ---- messages sent where some are owed
 

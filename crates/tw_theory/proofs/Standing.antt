@@ -10,15 +10,15 @@ use Rattle.tw_msgs.specs.Bags.{Bag, IsSorted, by_port}
 use Rattle.tw_msgs.specs.Messages.{Sorted, at_or_before}
 use Rattle.tw_msgs.specs.declared.message.Message.{Message}
 use Rattle.tw_msgs.proofs.Orders.{int_le-is}
+use Rattle.tw_vtime.specs.Advance.{advanced, next_microstep, later_tick}
+use Rattle.tw_vtime.specs.Stamps.{max_tick, max_microstep, never, stamp, tick_of, micro_of, phase_of}
 use Rattle.tw_theory.specs.Bundles.{front, behind, items_of, messages_for, first_stamp}
 use Rattle.tw_theory.specs.LocalRun.{next_of}
+use Rattle.tw_theory.specs.Standing.{IsTied, IsStanding, CanTake, IsReady}
 use Rattle.tw_theory.specs.Transitions.{Moment, due_of, turn}
 use Rattle.tw_theory.proofs.Elements.{each_parts}
 use Rattle.tw_theory.proofs.MessageOrder.{ascending_of_sorted, sorted_right}
 use Rattle.tw_theory.proofs.Steps.{front-behind, front_at, behind_strict}
-use Rattle.tw_vtime.specs.Advance.{advanced, next_microstep, later_tick}
-use Rattle.tw_vtime.specs.Stamps.{max_tick, max_microstep, never, stamp, tick_of, micro_of, phase_of}
-use Rattle.tw_theory.specs.Standing.{IsTied, IsStanding, CanTake, IsReady}
 
 -- ---- Bags
 

@@ -4,17 +4,17 @@ use Rattle.std.specs.Prelude.{nat_le, ◌==◌, IfOk, ◌≢◌}
 use Rattle.std.specs.List.{AllByRecursion as Each}
 use Rattle.std.proofs.lemmas.Bool.{cond_both, leb-false, eqb-true, eqb-false}
 use Rattle.std.proofs.lemmas.Result.{IfOk-at_ok}
+use Rattle.tw_atomic.specs.Atomic.{turned}
 use Rattle.tw_msgs.specs.Bags.{Bag}
 use Rattle.tw_msgs.specs.declared.message.Message.{Message}
 use Rattle.tw_msgs.specs.declared.record_kind.RecordKind.{RecordKind}
-use Rattle.tw_theory.specs.Bundles.{first_stamp, front, behind, Ascending}
-use Rattle.tw_theory.specs.LocalRun.{Made, next_of, output_made, if_moved, step_at, local_step}
-use Rattle.tw_theory.specs.Transitions.{Moment, Move, output, moved, if_within, transition, due_of, turn, kind_of}
-use Rattle.tw_theory.specs.Network.{Network, model_of}
 use Rattle.tw_vtime.specs.Advance.{advanced}
 use Rattle.tw_vtime.specs.Stamps.{never, tick_of, phase_of, micro_of, max_tick}
 use Rattle.tw_vtime.specs.declared.limits.Limit.{Limit}
-use Rattle.tw_atomic.specs.Atomic.{turned}
+use Rattle.tw_theory.specs.Bundles.{first_stamp, front, behind, Ascending}
+use Rattle.tw_theory.specs.LocalRun.{Made, next_of, output_made, if_moved, step_at, local_step}
+use Rattle.tw_theory.specs.Network.{Network, model_of}
+use Rattle.tw_theory.specs.Transitions.{Moment, Move, output, moved, if_within, transition, due_of, turn, kind_of}
 
 -- a step made at s, from now, with these messages pending
 pub record Follows {S : Type 0} (now : Moment S) (pending : List Message) (s : ℕ) (made : Made S) : Type 0 where

@@ -7,8 +7,8 @@ use Rattle.tw_theory.specs.Bundles.{positive, positives, antis, sent_anew, still
 use Rattle.tw_theory.specs.Contents.{Process, Cancel, Aggressive, Lazy, with_step, with_lists, with_outgoing, undo_last, back_to_first, before_all, consumed_by, sent_by, unsent_by, sent_out, owed_after, outgoing_undone, owed_undone}
 use Rattle.tw_theory.specs.Laws.{UndoLaw}
 use Rattle.tw_theory.specs.LocalRun.{Step, Made, local_step}
-use Rattle.tw_theory.specs.Transitions.{Moment}
 use Rattle.tw_theory.specs.Network.{Network}
+use Rattle.tw_theory.specs.Transitions.{Moment}
 use Rattle.tw_theory.proofs.Owing.{out-append, after-append}
 use Rattle.tw_theory.proofs.Steps.{Follows, local_step_follows}
 

@@ -3,8 +3,8 @@
 --     BalancesAt net w m      the same for one message, as a signed count
 use Rattle.std.specs.Prelude.{ℕ, ◌+◌, ◌≡◌, List, [], ◌∷◌, ◌++◌, pos, ◌+ℤ◌}
 use Rattle.tw_msgs.specs.Counting.{total, when_positive, when_anti, one_at, signed_count}
-use Rattle.tw_msgs.specs.declared.message.Message.{Message}
 use Rattle.tw_msgs.specs.declared.message.Item.{Item}
+use Rattle.tw_msgs.specs.declared.message.Message.{Message}
 use Rattle.tw_msgs.specs.declared.record.Record.{Record}
 use Rattle.tw_msgs.specs.declared.record_kind.RecordKind.TheVariants.{Out, Int, Ext, Con}
 use Rattle.tw_theory.specs.Bundles.{messages_for}

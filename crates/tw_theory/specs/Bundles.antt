@@ -4,11 +4,11 @@
 --     addressed c ms      the messages to component c
 --     sent_anew owed ms, still_owed owed ms      of messages to be sent those that none owed matches, and what is owed then
 use Rattle.std.specs.Prelude.{ℕ, ◌-◌, ◌≤◌, min, List, [], ◌∷◌, map, ◌==◌, nat_lt, if◌then◌else◌}
-use Rattle.tw_msgs.specs.declared.message.Message.{Message}
-use Rattle.tw_msgs.specs.declared.message.Item.{Item}
-use Rattle.tw_msgs.specs.declared.message.Sign.TheVariants.{Positive, Anti}
 use Rattle.tw_msgs.specs.Bags.{Bag}
 use Rattle.tw_msgs.specs.Messages.{has, without}
+use Rattle.tw_msgs.specs.declared.message.Item.{Item}
+use Rattle.tw_msgs.specs.declared.message.Message.{Message}
+use Rattle.tw_msgs.specs.declared.message.Sign.TheVariants.{Positive, Anti}
 use Rattle.tw_vtime.specs.Stamps.{never}
 
 -- ---- messages in order

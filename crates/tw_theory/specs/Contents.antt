@@ -8,15 +8,15 @@
 --     harvested g p      the steps before g leave the history
 use Rattle.std.specs.Prelude.{ℕ, suc, ◌-◌, List, [], ◌∷◌, ◌++◌, length, take, drop, ◌==◌, nat_lt, if◌then◌else◌}
 use Rattle.tw_msgs.specs.Messages.{place, has, without}
-use Rattle.tw_msgs.specs.declared.message.Message.{Message}
 use Rattle.tw_msgs.specs.declared.message.Item.{Item}
+use Rattle.tw_msgs.specs.declared.message.Message.{Message}
 use Rattle.tw_msgs.specs.declared.message.Sign.{Sign}
 use Rattle.tw_msgs.specs.declared.message.Sign.TheVariants.{Positive, Anti}
 use Rattle.tw_msgs.specs.declared.record.Record.{Record}
 use Rattle.tw_theory.specs.Bundles.{sent_anew, still_owed, overdue, not_overdue, positives, antis}
 use Rattle.tw_theory.specs.LocalRun.{Step, Made, Leads, next_of}
-use Rattle.tw_theory.specs.Transitions.{Moment}
 use Rattle.tw_theory.specs.Network.{Network}
+use Rattle.tw_theory.specs.Transitions.{Moment}
 
 -- How steps taken back are cancelled: the anti-messages of what they sent are made at once, or only where the messages are not sent again
 pub data Cancel : Type 0 where

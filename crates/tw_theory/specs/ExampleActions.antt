@@ -1,17 +1,19 @@
 -- What the executive answers to lists of actions on the example networks, computed by hand, and what its processes hold then.
 use Rattle.std.specs.Prelude.{ℕ, pos, ◌≡◌, List, [], ◌∷◌, ◌++◌, Some, None, slice_get}
-use Rattle.tw_msgs.specs.declared.message.Message.{Message}
 use Rattle.tw_msgs.specs.declared.message.Item.{Item}
+use Rattle.tw_msgs.specs.declared.message.Message.{Message}
 use Rattle.tw_msgs.specs.declared.record_kind.RecordKind.TheVariants.{Out, Int, Ext, Con}
 use Rattle.tw_vtime.specs.Stamps.{stamp, never}
+use Rattle.tw_vtime.specs.declared.limits.Limit.TheVariants.{Microstep}
 use Rattle.tw_theory.specs.Bundles.{positive, anti}
 use Rattle.tw_theory.specs.Contents.{Process, Cancel, Aggressive, Lazy, Placed, Straggler, Annihilated, Waiting}
 use Rattle.tw_theory.specs.ExampleModels.{State}
-use Rattle.tw_theory.specs.ExampleNetworks.{no_components, three, slow_three}
+use Rattle.tw_theory.specs.ExampleNetworks.{no_components, three, slow_three, ring}
 use Rattle.tw_theory.specs.ExampleTraces.{out, int, ext, item}
-use Rattle.tw_theory.specs.Executive.{World, Action, Step, Post, Deliver, Back, Raise, Harvest, Answer, Stepped, Posted, Delivered, Undone, Raised, Harvested, Refused, NoSuch, BeforeGvt, Committed, answers, replay}
+use Rattle.tw_theory.specs.Executive.{World, Action, Step, Post, Deliver, Back, Raise, Harvest, Answer, Stepped, Posted, Delivered, Undone, Raised, Harvested, Refused, NoSuch, BeforeGvt, Committed, OverLimit, answers, replay}
 use Rattle.tw_theory.specs.Marks.{marks, rewind}
 use Rattle.tw_theory.specs.Network.{Network, input}
+use Rattle.tw_theory.specs.Outcomes.{Going, Fault, state}
 use Rattle.tw_theory.specs.Soundness.{new_world}
 
 abbrev pub until : ℕ
@@ -175,3 +177,22 @@ LazyAnti =
     Stepped (stamp 4 0 1) Ext ∷ Stepped (stamp 6 0 0) Out ∷ Stepped (stamp 3 0 0) Out ∷ Posted 1 ∷ Delivered (Straggler 2)
     ∷ Stepped (stamp 3 0 1) Ext ∷ Stepped (stamp 4 0 1) Ext ∷ Stepped (stamp 5 0 0) Out ∷ Stepped (stamp 5 0 1) Int ∷ Raised (stamp 3 0 1) ∷ Posted 4 ∷ Delivered Placed ∷ Delivered (Annihilated 0) ∷ []
     )
+
+-- ---- a limit met at gvt: two relays without delay, whose greatest microstep is 3
+
+abbrev pub to_the_limit : List Action
+to_the_limit =
+    Step 0 ∷ Step 0 ∷ Step 0 ∷ Post 0 ∷ Deliver 1 0 ∷ Step 1 ∷ Step 1 ∷ Step 1 ∷ Post 1 ∷ Deliver 0 0
+    ∷ Step 0 ∷ Step 0 ∷ Step 0 ∷ Post 0 ∷ Deliver 1 0 ∷ []
+
+abbrev pub to_the_limit_answers : List Answer
+to_the_limit_answers =
+    Stepped (stamp 3 0 1) Ext ∷ Stepped (stamp 3 1 0) Out ∷ Stepped (stamp 3 1 1) Int ∷ Posted 1 ∷ Delivered Placed
+    ∷ Stepped (stamp 3 1 1) Ext ∷ Stepped (stamp 3 2 0) Out ∷ Stepped (stamp 3 2 1) Int ∷ Posted 1 ∷ Delivered Placed
+    ∷ Stepped (stamp 3 2 1) Ext ∷ Stepped (stamp 3 3 0) Out ∷ Stepped (stamp 3 3 1) Int ∷ Posted 1 ∷ Delivered Placed ∷ []
+
+pub record FaultAtGvt : Type 0 where
+  -- the step that meets it is refused, again and again, and is the run's fault once gvt has come to it
+  pub answered : Answers ring Aggressive (to_the_limit ++ Step 1 ∷ Raise ∷ Step 1 ∷ []) (to_the_limit_answers ++ Refused (OverLimit Microstep) ∷ Raised (stamp 3 3 1) ∷ Refused (OverLimit Microstep) ∷ [])
+  pub going : state ring until (after ring Aggressive to_the_limit) ≡ Going
+  pub shown : state ring until (after ring Aggressive (to_the_limit ++ Raise ∷ [])) ≡ Fault 1 (stamp 3 3 1) Microstep

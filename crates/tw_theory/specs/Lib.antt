@@ -1,8 +1,10 @@
 pub mod Balance
+pub mod Board
 pub mod Bundles
 pub mod Chains
 pub mod Contents
 pub mod ExampleActions
+pub mod ExampleChains
 pub mod ExampleModels
 pub mod ExampleNetworks
 pub mod ExampleTraces

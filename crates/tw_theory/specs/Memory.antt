@@ -1,11 +1,13 @@
--- The nodes that a process holds, and how many an action needs.
+-- The nodes that a process holds and that an action needs; and what comes of a list of actions where memory or nodes may be wanting.
 --     live p      how many messages stand in the lists of p, each in a node of its own
---     need net until w action      how many more its process must have room for before the action is taken
---     IsFull net until w action      it would pass the greatest number of nodes
-use Rattle.std.specs.Prelude.{ℕ, ◌+◌, ◌*◌, ◌<◌, ◌≡◌, length, Option, Some, None, Result, Ok, Err, slice_get}
+--     need net w p action      how many more its process must have room for before the action is taken
+--     WantsNodes net w action      its process would pass the greatest number of nodes
+--     IsReplayed net until w actions n w'      w' comes of these actions, of which some may be left undone; n were not refused
+use Rattle.std.specs.Prelude.{ℕ, ◌+◌, ◌*◌, ◌<◌, ◌≡◌, ◌⊎◌, List, [], ◌∷◌, length, Option, Some, None, Result, Ok, Err, slice_get, ⊤}
+use Rattle.tw_msgs.specs.Counting.{total}
 use Rattle.tw_msgs.specs.declared.message.Item.{Item}
 use Rattle.tw_theory.specs.Contents.{Process, Received, Placed, Straggler, Annihilated, Waiting, inputs, sent_by, sent_out, receive}
-use Rattle.tw_theory.specs.Executive.{World, Action, Step, Post, Deliver, Back, Raise, Harvest, mail_of}
+use Rattle.tw_theory.specs.Executive.{World, Action, Step, Post, Deliver, Back, Raise, Harvest, Answer, Stepped, Posted, Delivered, Undone, Raised, Harvested, Refused, mail_of, replay, answers}
 use Rattle.tw_theory.specs.LocalRun.{Made, NoStep, local_step}
 use Rattle.tw_theory.specs.Network.{Network}
 
@@ -53,9 +55,45 @@ component_of (Back c s) = Some c
 component_of Raise = None
 component_of (Harvest c) = Some c
 
-pub record IsFull {S : Type 0} (net : Network S) (w : World S) (action : Action) : Type 0 where
+-- its process would hold more than the greatest number of nodes
+pub record WantsNodes {S : Type 0} (net : Network S) (w : World S) (action : Action) : Type 0 where
   pub component : ℕ
   pub of : component_of action ≡ Some component
   pub process : Process S
   pub at : slice_get w.processes component ≡ Some process
   pub passes : max_nodes < live process + need net w process action
+
+-- ---- lists of actions where memory may be wanting
+
+-- an action that takes memory, so that it may be left undone for want of it; Back and Raise take none
+abbrev pub TakesMemory : Action → Type 0
+TakesMemory (Step c) = ⊤
+TakesMemory (Post c) = ⊤
+TakesMemory (Deliver q i) = ⊤
+TakesMemory (Back c s) = ⊥
+TakesMemory Raise = ⊥
+TakesMemory (Harvest c) = ⊤
+
+-- the actions that were taken, in their order; the others take memory
+abbrev pub TakenOf : List Action → List Action → Type 0
+TakenOf [] [] = ⊤
+TakenOf [] (action ∷ actions) = TakesMemory action × TakenOf [] actions
+TakenOf (first ∷ taken) [] = ⊥
+TakenOf (first ∷ taken) (action ∷ actions) = ((first ≡ action) × TakenOf taken actions) ⊎ (TakesMemory action × TakenOf (first ∷ taken) actions)
+
+-- how many answers are no refusals
+abbrev pub one_if_taken : Answer → ℕ
+one_if_taken (Stepped s kind) = 1
+one_if_taken (Posted n) = 1
+one_if_taken (Delivered received) = 1
+one_if_taken (Undone n) = 1
+one_if_taken (Raised gvt) = 1
+one_if_taken (Harvested n) = 1
+one_if_taken (Refused why) = 0
+
+-- w' is what comes of these actions where some may be left undone for want of memory or of nodes, and n counts those that were not refused
+pub record IsReplayed {S : Type 0} (net : Network S) (until : ℕ) (w : World S) (actions : List Action) (n : ℕ) (w' : World S) : Type 0 where
+  pub taken : List Action
+  pub are : TakenOf taken actions
+  pub world : w' ≡ replay net until w taken
+  pub number : n ≡ total one_if_taken (answers net until w taken)

@@ -11,8 +11,8 @@ use Rattle.tw_msgs.specs.declared.record_kind.RecordKind.TheVariants.{Out, Int, 
 use Rattle.tw_vtime.specs.Stamps.{stamp, never}
 use Rattle.tw_vtime.specs.declared.limits.Limit.{Limit}
 use Rattle.tw_theory.specs.Bundles.{items_of, addressed}
-use Rattle.tw_theory.specs.Transitions.{Moment, start_moment, Move, output, transition}
 use Rattle.tw_theory.specs.Network.{Network, routed}
+use Rattle.tw_theory.specs.Transitions.{Moment, start_moment, Move, output, transition}
 
 -- Where the network stands between rounds: each component, and the inputs not yet given
 pub record Configuration (S : Type 0) : Type 0 where

@@ -5,8 +5,8 @@ use Rattle.std.specs.Prelude.{ℕ, suc, ◌<◌, ◌≤◌, ◌≡◌, List, [],
 use Rattle.std.specs.List.{AllByRecursion as Each}
 use Rattle.tw_atomic.specs.Atomic.{Meaning}
 use Rattle.tw_msgs.specs.Messages.{sorted_messages, has, Sorted}
-use Rattle.tw_msgs.specs.declared.message.Message.{Message}
 use Rattle.tw_msgs.specs.declared.message.Item.{Item}
+use Rattle.tw_msgs.specs.declared.message.Message.{Message}
 use Rattle.tw_msgs.specs.declared.record.Record.{Record}
 use Rattle.tw_vtime.specs.Stamps.{stamp}
 use Rattle.tw_vtime.specs.declared.limits.Limit.{Limit}
@@ -15,9 +15,9 @@ use Rattle.tw_theory.specs.Bundles.{addressed}
 use Rattle.tw_theory.specs.Contents.{Cancel, Aggressive, Process, inputs, Stands}
 use Rattle.tw_theory.specs.Executive.{World, mail_of, column_of, least_of}
 use Rattle.tw_theory.specs.LocalRun.{Step}
-use Rattle.tw_theory.specs.Transitions.{Moment, start_moment}
 use Rattle.tw_theory.specs.Network.{Network, count_of, Fits}
 use Rattle.tw_theory.specs.Simulator.{sequential, up_to, records_before, moment_at}
+use Rattle.tw_theory.specs.Transitions.{Moment, start_moment}
 
 -- ---- the start
 

@@ -9,10 +9,10 @@ use Rattle.std.specs.List.{AllByRecursion as Each}
 use Rattle.tw_atomic.specs.Atomic.{Meaning, FitsItem}
 use Rattle.tw_msgs.specs.Messages.{Sorted}
 use Rattle.tw_msgs.specs.declared.message.Message.{Message}
+use Rattle.tw_vtime.specs.Stamps.{stamp, never, tick_of, phase_of}
 use Rattle.tw_theory.specs.Bundles.{first_stamp}
 use Rattle.tw_theory.specs.LocalRun.{Step}
 use Rattle.tw_theory.specs.Transitions.{Moment}
-use Rattle.tw_vtime.specs.Stamps.{stamp, never, tick_of, phase_of}
 
 -- a state that waits zero is due in the tick of its last transition; one that waits longer, that many ticks later, at microstep 0.
 -- Once its output is made, the transition of that time is due instead

@@ -12,6 +12,7 @@ ghost use Rattle.tw_theory.specs.ExampleTraces.{
   LastTick,
   TickFault,
 };
+ghost use Rattle.tw_theory.specs.ExampleChains.{ChainOfRelay};
 ghost use Rattle.tw_theory.specs.ExampleActions.{
   StragglerOfThree,
   AntiFirst,
@@ -22,6 +23,7 @@ ghost use Rattle.tw_theory.specs.ExampleActions.{
   MarkAndRewind,
   LazyMatch,
   LazyAnti,
+  FaultAtGvt,
 };
 
 /// What the sequential simulator records of small networks.
@@ -49,4 +51,10 @@ pub fn actions()
     ensures mark_and_rewind { MarkAndRewind }
     ensures lazy_match { LazyMatch }
     ensures lazy_anti { LazyAnti }
+    ensures fault_at_gvt { FaultAtGvt }
+{}
+
+/// A chain that is worked out from a start, and what is made of it once its process has gone on or a message came.
+pub fn chains()
+    ensures { ChainOfRelay }
 {}

@@ -3,13 +3,13 @@ use Rattle.std.proofs.Common.{◌≡◌, ℕ, ◌+◌, ◌<◌, ◌⊎◌, ◌&&
 use Rattle.std.proofs.lemmas.Bool.{and_from, and_left, and_right, and_parts, or_left, or_right, or_from, cases_Bool, cases_order, cond-true, cond-false}
 use Rattle.std.proofs.lemmas.Bool.Decides.{Decides-int_eq}
 use Rattle.std.proofs.lemmas.Int.{ints}
-use lib.Signed.{◌<ℤ◌, ◌≤ℤ◌}
-use Rattle.tw_laws.specs.History.{count}
 use Rattle.tw_msgs.specs.Bags.{Bag, by_port, insert_item, sorted_bag}
 use Rattle.tw_msgs.specs.Counting.{one_at}
 use Rattle.tw_msgs.specs.declared.message.Message.{Message}
 use Rattle.tw_theory.specs.Bundles.{items_of, messages_for}
+use Rattle.tw_laws.specs.History.{count}
 use Rattle.tw_laws.proofs.History.Clock.{arrived, bag_of}
+use lib.Signed.{◌<ℤ◌, ◌≤ℤ◌}
 
 pub int_tells : (x y : ℤ) → ((int_le x y ≡ true) × (x ≤ℤ y)) ⊎ ((int_le x y ≡ false) × (y <ℤ x))
 int_tells x y = by (int_le x y) refl

@@ -4,11 +4,11 @@ use Rattle.std.specs.Option.{option_map}
 use Rattle.tw_msgs.specs.Bags.{Bag, sorted_bag}
 use Rattle.tw_msgs.specs.declared.message.Message.{Message}
 use Rattle.tw_msgs.specs.declared.record.Record.{Record}
+use Rattle.tw_vtime.specs.Stamps.{phase_of}
 use Rattle.tw_theory.specs.Bundles.{items_of}
-use Rattle.tw_theory.specs.Transitions.{Moment, output, start_moment}
 use Rattle.tw_theory.specs.Network.{Network}
 use Rattle.tw_theory.specs.Simulator.{RoundTurn, Stays, Moves, Stops, take_turn, all_sent}
-use Rattle.tw_vtime.specs.Stamps.{phase_of}
+use Rattle.tw_theory.specs.Transitions.{Moment, output, start_moment}
 
 -- those to component c of stamp s
 unfoldable pub arrived : ℕ → ℕ → List Message → List Message

@@ -1,23 +1,23 @@
 -- The law of committed history: local runs that balance are the rounds.
 use Rattle.std.proofs.Common.{◌≡◌, ℕ, zero, suc, ◌+◌, ◌-◌, ◌<◌, ◌≤◌, ◌⊎◌, ◌==◌, nat_lt, length, List, [], ◌++◌, take, drop, refl, sym, ap, ◌∙◌, subst, inl, inr, ⊎_elim, arith, eq-eqb, ne_eqb, lt-ltb, le-ltb, Option, Some, None, slice_get}
 use Rattle.std.proofs.lemmas.Bool.{cases_eq, cases_lt, cond-true, cond-false}
-use Rattle.tw_laws.specs.History.{count, sum_below, AreInputs, Holdings, StandsTo, sent_count, IsRunTo, IsCommitted}
 use Rattle.tw_msgs.specs.declared.message.Message.{Message}
 use Rattle.tw_msgs.specs.declared.record.Record.{Record}
+use Rattle.tw_vtime.specs.Stamps.{stamp, max_tick, phase_of}
+use Rattle.tw_vtime.specs.declared.limits.Limit.{Limit}
 use Rattle.tw_theory.specs.Balance.{all_consumed}
 use Rattle.tw_theory.specs.Bundles.{first_stamp}
 use Rattle.tw_theory.specs.Contents.{before_all, steps_before, records_of, sent_by}
-use Rattle.tw_theory.specs.Transitions.{Moment, output}
 use Rattle.tw_theory.specs.Network.{Network}
 use Rattle.tw_theory.specs.Simulator.{Stops, all_sent, Run, rounds, sequential, up_to, records_before, due_from, moment_at}
-use Rattle.tw_vtime.specs.Stamps.{stamp, max_tick, phase_of}
-use Rattle.tw_vtime.specs.declared.limits.Limit.{Limit}
+use Rattle.tw_theory.specs.Transitions.{Moment, output}
+use Rattle.tw_laws.specs.History.{count, sum_below, AreInputs, Holdings, StandsTo, sent_count, IsRunTo, IsCommitted}
+use Rattle.tw_laws.proofs.History.Agreement.{made, own_run, Ready, Follows, clocked_law}
 use Rattle.tw_laws.proofs.History.Clock.{NoLimit, sent_below, sent_in_all, clock, clock_step, alone, alone_step, AllFrom, Kept}
+use Rattle.tw_laws.proofs.History.Components.{own, before, before_is, own_before}
 use Rattle.tw_laws.proofs.History.Counts.{count-append, all_sent-append}
 use Rattle.tw_laws.proofs.History.GoingOn.{clock_goes_on, clock_before}
-use Rattle.tw_laws.proofs.History.Agreement.{made, own_run, Ready, Follows, clocked_law}
 use Rattle.tw_laws.proofs.History.LocalRuns.{Ahead, Come, RunFacts, leads_facts, leads_ends, records_split}
-use Rattle.tw_laws.proofs.History.Components.{own, before, before_is, own_before}
 use Rattle.tw_laws.proofs.History.RoundBags.{after_out, even_place}
 use Rattle.tw_laws.proofs.History.Rounds.{Stand, Reached, Running, Faulted, rounds_reach}
 
@@ -190,8 +190,8 @@ kept h = record { line = h.line; column = h.column; history = λ c. records_of (
 -- each line is at or before the extent
 line_within : {S : Type 0} (net : Network S) (until g e : ℕ) (h : Holdings S) → IsRunTo net until g h → Extent net until e → (c : ℕ)
     → c < length net.models → h.line c ≤ e
-line_within net until g e h settled x c below =
-    ⊎_elim (λ q. let l = settled.lines c below in let u = settled.horizon in omega (arith, q, l, u)) (λ f. settled.unstopped c f.0 e f.1 below f.2) x.ends
+line_within net until g e h run_to x c below =
+    ⊎_elim (λ q. let l = run_to.lines c below in let u = run_to.horizon in omega (arith, q, l, u)) (λ f. run_to.unstopped c f.0 e f.1 below f.2) x.ends
 
 -- what the local run of a component that stands comes to
 pub record Local {S : Type 0} (net : Network S) (until g : ℕ) (h : Holdings S) (c k : ℕ) (now : Moment S) : Type 0 where
@@ -201,10 +201,10 @@ pub record Local {S : Type 0} (net : Network S) (until g : ℕ) (h : Holdings S)
 -- the simulator's place at its line
 pub line_moment : {S : Type 0} (net : Network S) (until g e : ℕ) (h : Holdings S) → IsRunTo net until g h → until ≤ max_tick → Extent net until e
     → (c : ℕ) → c < length net.models → MomentIs net until c (h.line c)
-line_moment net until g e h settled m x c below =
-    let within = line_within net until g e h settled x c below in
+line_moment net until g e h run_to m x c below =
+    let within = line_within net until g e h run_to x c below in
     let top = x.within in
-    moment_is net until c (h.line c) settled.given (omega (arith, within, top)) m (λ d r l n. x.calm d r (omega (arith, n, within)))
+    moment_is net until c (h.line c) run_to.given (omega (arith, within, top)) m (λ d r l n. x.calm d r (omega (arith, n, within)))
 
 -- it stands ahead of any stamp that neither its line nor its inputs are before
 pub ahead_of : {S : Type 0} (net : Network S) (until g : ℕ) (h : Holdings S) (c t : ℕ) → MomentIs net until c (h.line c) → AreInputs c (h.inputs c)
@@ -215,20 +215,20 @@ ahead_of net until g h c t moment are stand l f =
 
 pub facts_at : {S : Type 0} (net : Network S) (until g e : ℕ) (h : Holdings S) → IsRunTo net until g h → until ≤ max_tick → Extent net until e
     → (c t : ℕ) → c < length net.models → t ≤ h.line c → t ≤ first_stamp (h.inputs c) → RunFacts net t g (h.history c)
-facts_at net until g e h settled m x c t below l f =
-    let stand = settled.stands c below in
+facts_at net until g e h run_to m x c t below l f =
+    let stand = run_to.stands c below in
     leads_facts net c (h.inputs c) g (h.history c) t stand.from (h.inputs c) stand.now stand.pending
-    (ahead_of net until g h c t (line_moment net until g e h settled m x c below) (settled.inputs c below) stand l f) stand.runs
+    (ahead_of net until g h c t (line_moment net until g e h run_to m x c below) (run_to.inputs c below) stand l f) stand.runs
 
 pub local_of : {S : Type 0} (net : Network S) (until g e : ℕ) (h : Holdings S) → IsRunTo net until g h → until ≤ max_tick → Extent net until e
     → (c k : ℕ) → c < length net.models → h.line c ≤ first_stamp (h.inputs c) → h.line c + k ≡ g → (stand : StandsTo net until g h c)
     → Local net until g h c k stand.now
 unfolding alone
-local_of net until g e h settled m x c k below free at stand =
-    let horizon = settled.horizon in
-    let moment = line_moment net until g e h settled m x c below in
+local_of net until g e h run_to m x c k below free at stand =
+    let horizon = run_to.horizon in
+    let moment = line_moment net until g e h run_to m x c below in
     let place : (clock net (h.line c)).place c ≡ Some stand.from = sym moment.is ∙ stand.from_is in
-    let ahead = ahead_of net until g h c (h.line c) moment (settled.inputs c below) stand (omega arith) free in
+    let ahead = ahead_of net until g h c (h.line c) moment (run_to.inputs c below) stand (omega arith) free in
     let zero_at : h.line c ≡ h.line c + 0 = omega arith in
     let ends =
     leads_ends net c (h.inputs c) ((clock net (h.line c)).place c) (h.line c) k g at (omega (arith, horizon, m)) (h.history c) 0 stand.from (h.inputs c) [] stand.now stand.pending (omega (arith, at))
@@ -254,28 +254,28 @@ made_count net h x sent (suc n) l =
 
 pub ready : {S : Type 0} (net : Network S) (until g e : ℕ) (h : Holdings S) → IsRunTo net until g h → until ≤ max_tick → Extent net until e
     → Ready net g (kept h)
-ready {S} net until g e h settled m x = record {
-  lines = settled.lines;
-  unstopped = λ b c s p q l. x.calm c s (let w = line_within net until g e h settled x b p in omega (arith, l, w));
-  columns = λ c p. settled.columns c p ∙ records_is net until e c (h.line c) x (line_within net until g e h settled x c p);
-  top = (let u = settled.horizon in omega (arith, u, m));
+ready {S} net until g e h run_to m x = record {
+  lines = run_to.lines;
+  unstopped = λ b c s p q l. x.calm c s (let w = line_within net until g e h run_to x b p in omega (arith, l, w));
+  columns = λ c p. run_to.columns c p ∙ records_is net until e c (h.line c) x (line_within net until g e h run_to x c p);
+  top = (let u = run_to.horizon in omega (arith, u, m));
   places = places;
-  inputs = settled.inputs;
-  early = λ c t p l f. (facts_at net until g e h settled m x c t p l f).from;
+  inputs = run_to.inputs;
+  early = λ c t p l f. (facts_at net until g e h run_to m x c t p l f).from;
   histories = histories;
   unlimited = unlimited;
   balance = balance;
-  apart = settled.apart;
+  apart = run_to.apart;
 }
   where
     loc : (c k : ℕ) → (p : c < length net.models) → h.line c ≤ first_stamp (h.inputs c) → h.line c + k ≡ g
-        → Local net until g h c k (settled.stands c p).now
-    loc c k p f at = local_of net until g e h settled m x c k p f at (settled.stands c p)
+        → Local net until g h c k (run_to.stands c p).now
+    loc c k p f at = local_of net until g e h run_to m x c k p f at (run_to.stands c p)
 
     places : (c : ℕ) → c < length net.models → (from : Moment S) × ((clock net (h.line c)).place c ≡ Some from)
     places c p =
-        let moment = line_moment net until g e h settled m x c p in
-        let stand = settled.stands c p in
+        let moment = line_moment net until g e h run_to m x c p in
+        let stand = run_to.stands c p in
         (stand.from, sym moment.is ∙ stand.from_is)
 
     histories : (c k : ℕ) → c < length net.models → h.line c ≤ first_stamp (h.inputs c) → h.line c + k ≡ g
@@ -295,14 +295,14 @@ ready {S} net until g e h settled m x = record {
         (loc c j p f at).come.quiet k (omega (arith, l))
 
     sent : (c : ℕ) → c < length net.models → sent_by (h.history c) ≡ all_sent net (records_of (h.history c))
-    sent c p = (facts_at net until g e h settled m x c 0 p (omega arith) (omega arith)).sent
+    sent c p = (facts_at net until g e h run_to m x c 0 p (omega arith) (omega arith)).sent
 
     balance : (y : Message) → y.to < length net.models → y.stamp < g
         → count y (sent_in_all net (made (kept h))) + count y (h.waiting y.to) ≡ count y (all_consumed (h.column y.to)) + count y (h.inputs y.to)
     balance y p l =
         let a = count-append y net.inputs (sent_below net (made (kept h)) (length net.models)) in
         let b = made_count net h y sent (length net.models) (omega arith) in
-        let d = settled.balance y p l in
+        let d = run_to.balance y p l in
         omega (arith, a, b, d)
 
 -- ---- the law
@@ -310,9 +310,9 @@ ready {S} net until g e h settled m x = record {
 pub committed_history : {S : Type 0} (net : Network S) (until g : ℕ) (h : Holdings S) → until ≤ max_tick → IsRunTo net until g h
     → IsCommitted net until g h
 unfolding NoLimit
-committed_history {S} net until g h m settled =
-    let x = extent net until settled.given m in
-    by x.0 x.1 (clocked_law net g (kept h) (ready net until g x.0 h settled m x.1))
+committed_history {S} net until g h m run_to =
+    let x = extent net until run_to.given m in
+    by x.0 x.1 (clocked_law net g (kept h) (ready net until g x.0 h run_to m x.1))
   where
     by : (e : ℕ) → Extent net until e → Follows net g (kept h) → IsCommitted net until g h
     by e x follows = record { unstopped = unstopped; records = records; moment = moment }
@@ -324,23 +324,23 @@ committed_history {S} net until g h m settled =
             ⊎_elim (λ l. absurd (subst NoLimit f.2 (follows.unstopped b e f.1 (omega (arith, l, at))))) (λ l. l) (cases_lt s g)
 
         reach : g ≤ e
-        reach = ⊎_elim (λ q. let u = settled.horizon in omega (arith, q, u)) (λ f. unstopped f.0 e f.1 f.2) x.ends
+        reach = ⊎_elim (λ q. let u = run_to.horizon in omega (arith, q, u)) (λ f. unstopped f.0 e f.1 f.2) x.ends
 
         records : (c : ℕ) → c < length net.models
             → h.column c ++ records_of (take (steps_before g (h.history c)) (h.history c)) ≡ records_before net until c g
         records c p =
             let k : ℕ = g - h.line c in
-            let at : h.line c + k ≡ g = (let l = settled.lines c p in omega (arith, l)) in
-            let l = local_of net until g e h settled m x c k p (follows.ahead c p) at (settled.stands c p) in
+            let at : h.line c + k ≡ g = (let l = run_to.lines c p in omega (arith, l)) in
+            let l = local_of net until g e h run_to m x c k p (follows.ahead c p) at (run_to.stands c p) in
             ap (λ r. h.column c ++ r) (sym l.come.records) ∙ follows.records c k p at ∙ sym (records_is net until e c g x reach)
 
         moment : (c : ℕ) → c < length net.models → (stand : StandsTo net until g h c)
             → moment_at net until c g ≡ Some (before_all (drop (steps_before g (h.history c)) (h.history c)) stand.now)
         moment c p stand =
             let k : ℕ = g - h.line c in
-            let at : h.line c + k ≡ g = (let l = settled.lines c p in omega (arith, l)) in
-            let l = local_of net until g e h settled m x c k p (follows.ahead c p) at stand in
-            let is = moment_is net until c g settled.given settled.horizon m follows.unstopped in
+            let at : h.line c + k ≡ g = (let l = run_to.lines c p in omega (arith, l)) in
+            let l = local_of net until g e h run_to m x c k p (follows.ahead c p) at stand in
+            let is = moment_is net until c g run_to.given run_to.horizon m follows.unstopped in
             is.is ∙ sym (follows.place c k p at) ∙ l.come.place
 
 -- ---- the fault's stamp

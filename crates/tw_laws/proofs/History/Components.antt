@@ -1,14 +1,14 @@
 -- Sums over components, records of one component, and messages of one stamp.
 use Rattle.std.proofs.Common.{◌≡◌, ℕ, zero, suc, ◌+◌, ◌<◌, ◌&&◌, ◌==◌, nat_lt, filter, List, [], ◌∷◌, ◌++◌, refl, sym, ap, ◌∙◌, ⊎_elim, arith, eq-eqb, eqb-true, lt-ltb, le-ltb, ne_eqb, ℤ}
 use Rattle.std.proofs.lemmas.Bool.{cases_eq, cases_Bool, cond-true, cond-false, cond_both, and_from, and_left, and_right}
-use Rattle.tw_laws.specs.History.{count, sum_below}
 use Rattle.tw_msgs.specs.Bags.{Bag}
 use Rattle.tw_msgs.specs.declared.message.Message.{Message}
 use Rattle.tw_msgs.specs.declared.record.Record.{Record}
 use Rattle.tw_theory.specs.Bundles.{addressed}
-use Rattle.tw_theory.specs.Transitions.{Moment, output}
 use Rattle.tw_theory.specs.Network.{Network, routed, copies, routes}
 use Rattle.tw_theory.specs.Simulator.{outputs, sent_in, all_sent, with_stamp, past_stamp}
+use Rattle.tw_theory.specs.Transitions.{Moment, output}
+use Rattle.tw_laws.specs.History.{count, sum_below}
 use Rattle.tw_laws.proofs.History.Clock.{arrived, AllFrom, AllBefore}
 use Rattle.tw_laws.proofs.History.Counts.{count_skip}
 

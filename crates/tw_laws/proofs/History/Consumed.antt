@@ -2,19 +2,19 @@
 use Rattle.std.proofs.Common.{◌≡◌, ℕ, zero, suc, ◌+◌, ◌-◌, ◌==◌, true, false, [], ◌∷◌, ◌++◌, refl, sym, ap, ◌∙◌, subst, arith, Bool, ne_eqb, Option, Some, None, Result, Ok, Err, append-nil}
 use Rattle.std.proofs.lemmas.Bool.{cond-false}
 use Rattle.tw_atomic.specs.Atomic.{turned}
-use Rattle.tw_laws.specs.History.{count}
 use Rattle.tw_msgs.specs.Bags.{Bag}
 use Rattle.tw_msgs.specs.declared.message.Message.{Message}
-use Rattle.tw_theory.specs.Balance.{consumed_in, all_consumed}
-use Rattle.tw_theory.specs.Bundles.{items_of}
-use Rattle.tw_theory.specs.Transitions.{Moment, moved, if_within, transition, turn, due_of, kind_of}
-use Rattle.tw_theory.specs.Network.{Network, model_of}
-use Rattle.tw_theory.specs.Simulator.{turn_of_result, take_turn}
 use Rattle.tw_vtime.specs.Stamps.{phase_of, tick_of}
 use Rattle.tw_vtime.specs.declared.limits.Limit.{Limit}
+use Rattle.tw_theory.specs.Balance.{consumed_in, all_consumed}
+use Rattle.tw_theory.specs.Bundles.{items_of}
+use Rattle.tw_theory.specs.Network.{Network, model_of}
+use Rattle.tw_theory.specs.Simulator.{turn_of_result, take_turn}
+use Rattle.tw_theory.specs.Transitions.{Moment, moved, if_within, transition, turn, due_of, kind_of}
+use Rattle.tw_laws.specs.History.{count}
+use Rattle.tw_laws.proofs.History.Bags.{item_count, items_count, sorted_count, messages_count}
 use Rattle.tw_laws.proofs.History.Clock.{arrived, bag_of, act, act_if, place_after, record_after, NoLimit, sent_in_all, clock, clock_step}
 use Rattle.tw_laws.proofs.History.Counts.{count-append, consumed_before, consumed_after, all_consumed-append}
-use Rattle.tw_laws.proofs.History.Bags.{item_count, items_count, sorted_count, messages_count}
 use Rattle.tw_laws.proofs.History.GoingOn.{GoesOn, clock_goes_on, clock_before}
 
 moved_consumes : {S : Type 0} (net : Network S) (x : Message) (c s : ℕ) (b : Bool) (bag : Bag) (state : S) (due : ℕ) → x.to ≡ c → x.stamp ≡ s

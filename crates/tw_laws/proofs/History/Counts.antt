@@ -3,7 +3,6 @@ use Rattle.std.proofs.Common.{◌≡◌, ℕ, suc, ◌+◌, ◌<◌, ◌≤◌, 
 use Rattle.std.proofs.lemmas.Bool.{cond-false, cond-true}
 use Rattle.std.proofs.lemmas.Bool.Decides.{Decides-int_eq}
 use Rattle.std.specs.Ordering.{int_eq}
-use Rattle.tw_laws.specs.History.{count}
 use Rattle.tw_msgs.specs.Bags.{Bag}
 use Rattle.tw_msgs.specs.Counting.{one_at}
 use Rattle.tw_msgs.specs.Messages.{same_message}
@@ -15,6 +14,7 @@ use Rattle.tw_theory.specs.Balance.{consumed_in, all_consumed}
 use Rattle.tw_theory.specs.Bundles.{messages_for}
 use Rattle.tw_theory.specs.Network.{Network, routed, copies, routes}
 use Rattle.tw_theory.specs.Simulator.{sent_in, all_sent}
+use Rattle.tw_laws.specs.History.{count}
 use Rattle.tw_laws.proofs.History.Clock.{AllFrom, AllBefore}
 
 pub count-append : (x : Message) (ys zs : List Message) → count x (ys ++ zs) ≡ count x ys + count x zs

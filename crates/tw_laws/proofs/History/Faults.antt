@@ -1,23 +1,23 @@
 -- The fault that the processes show is the simulator's.
 use Rattle.std.proofs.Common.{◌≡◌, ℕ, suc, ◌+◌, ◌-◌, ◌<◌, ◌≤◌, ◌⊎◌, ◌==◌, nat_le, false, length, List, [], ◌∷◌, drop, sym, ap, ◌∙◌, subst, ⊎_elim, arith, ne_eqb, Some, Result, Ok, Err}
 use Rattle.std.proofs.lemmas.Bool.{cases_lt, cases_order, cond-false, eqb-false, lt-leb}
-use Rattle.tw_laws.specs.History.{count, Holdings, StandsTo, sent_count, IsRunTo, IsFaulting}
 use Rattle.tw_msgs.specs.Bags.{sorted_bag}
 use Rattle.tw_msgs.specs.declared.message.Message.{Message}
+use Rattle.tw_vtime.specs.Stamps.{never, stamp, max_tick, phase_of}
+use Rattle.tw_vtime.specs.declared.limits.Limit.{Limit}
 use Rattle.tw_theory.specs.Balance.{all_consumed}
 use Rattle.tw_theory.specs.Bundles.{items_of, front}
 use Rattle.tw_theory.specs.Contents.{before_all, steps_before, records_of, sent_by}
 use Rattle.tw_theory.specs.LocalRun.{Step, OverLimit, transition_made, if_moved, next_of, step_at, local_step, Leads}
-use Rattle.tw_theory.specs.Transitions.{Moment, Move, transition}
 use Rattle.tw_theory.specs.Network.{Network}
 use Rattle.tw_theory.specs.Simulator.{RoundTurn, Stays, Moves, Stops, turn_of_result, all_sent, sequential}
-use Rattle.tw_vtime.specs.Stamps.{never, stamp, max_tick, phase_of}
-use Rattle.tw_vtime.specs.declared.limits.Limit.{Limit}
-use Rattle.tw_laws.proofs.History.Clock.{bag_of, act, act_if, NoLimit, sent_below, sent_in_all, clock, clock_step}
-use Rattle.tw_laws.proofs.History.Counts.{count-append}
+use Rattle.tw_theory.specs.Transitions.{Moment, Move, transition}
+use Rattle.tw_laws.specs.History.{count, Holdings, StandsTo, sent_count, IsRunTo, IsFaulting}
 use Rattle.tw_laws.proofs.History.Agreement.{made, Follows, clocked_law, bag_at}
-use Rattle.tw_laws.proofs.History.LocalRuns.{Ahead, RunRest, leads_rest, leads_later, act_idle, bag_idle, arrived_front, front_sorted, turn_is, front_some, step_taken}
+use Rattle.tw_laws.proofs.History.Clock.{bag_of, act, act_if, NoLimit, sent_below, sent_in_all, clock, clock_step}
 use Rattle.tw_laws.proofs.History.Committed.{Extent, extent, kept, ready, local_of, line_moment, ahead_of, facts_at, made_count}
+use Rattle.tw_laws.proofs.History.Counts.{count-append}
+use Rattle.tw_laws.proofs.History.LocalRuns.{Ahead, RunRest, leads_rest, leads_later, act_idle, bag_idle, arrived_front, front_sorted, turn_is, front_some, step_taken}
 
 -- ---- one component at g
 
@@ -126,35 +126,35 @@ record AtG {S : Type 0} (net : Network S) (g : ℕ) (heard : List Message) (c : 
   rest : RunRest net c heard g steps now' pending'
   step : clock_step net c g ≡ act net c g (bag_of c g heard) (before_all (drop (steps_before g steps) steps) now')
 
-at_g : {S : Type 0} (net : Network S) (until g e : ℕ) (h : Holdings S) → (m : until ≤ max_tick) → (settled : IsRunTo net until g h)
+at_g : {S : Type 0} (net : Network S) (until g e : ℕ) (h : Holdings S) → (m : until ≤ max_tick) → (run_to : IsRunTo net until g h)
     → (x : Extent net until e) → Follows net g (kept h)
     → ((y : Message) → y.to < length net.models → y.stamp ≡ g → sent_count net h y + count y (h.waiting y.to) ≡ count y (all_consumed (h.column y.to)) + count y (h.inputs y.to))
     → ((y : Message) → y.to < length net.models → y.stamp ≡ g → (count y (h.waiting y.to) ≡ 0) ⊎ (count y (h.inputs y.to) ≡ 0)) → (c : ℕ)
-    → (p : c < length net.models) → AtG net g (h.inputs c) c (h.history c) (settled.stands c p).now (settled.stands c p).pending
+    → (p : c < length net.models) → AtG net g (h.inputs c) c (h.history c) (run_to.stands c p).now (run_to.stands c p).pending
 unfolding act_if
-at_g {S} net until g e h m settled x follows balance apart c p = record { rest = rest; step = step }
+at_g {S} net until g e h m run_to x follows balance apart c p = record { rest = rest; step = step }
   where
     stand : StandsTo net until g h c
-    stand = settled.stands c p
+    stand = run_to.stands c p
 
-    rest : RunRest net c (h.inputs c) g (h.history c) (settled.stands c p).now (settled.stands c p).pending
+    rest : RunRest net c (h.inputs c) g (h.history c) (run_to.stands c p).now (run_to.stands c p).pending
     rest =
-        leads_rest net c (h.inputs c) g (h.history c) (h.line c) stand.from (h.inputs c) stand.now stand.pending (settled.lines c p)
-        (ahead_of net until g h c (h.line c) (line_moment net until g e h settled m x c p) (settled.inputs c p) stand (omega arith) (follows.ahead c p)) stand.runs stand.next
+        leads_rest net c (h.inputs c) g (h.history c) (h.line c) stand.from (h.inputs c) stand.now stand.pending (run_to.lines c p)
+        (ahead_of net until g h c (h.line c) (line_moment net until g e h run_to m x c p) (run_to.inputs c p) stand (omega arith) (follows.ahead c p)) stand.runs stand.next
 
     k : ℕ
     k = g - h.line c
 
     reach : h.line c + (g - h.line c) ≡ g
-    reach = let l = settled.lines c p in omega (arith, l)
+    reach = let l = run_to.lines c p in omega (arith, l)
 
-    place : (clock net g).place c ≡ Some (before_all (drop (steps_before g (h.history c)) (h.history c)) (settled.stands c p).now)
+    place : (clock net g).place c ≡ Some (before_all (drop (steps_before g (h.history c)) (h.history c)) (run_to.stands c p).now)
     place =
-        let l = local_of net until g e h settled m x c (g - h.line c) p (follows.ahead c p) reach stand in
+        let l = local_of net until g e h run_to m x c (g - h.line c) p (follows.ahead c p) reach stand in
         sym (follows.place c (g - h.line c) p reach) ∙ l.come.place
 
     sent : (d : ℕ) → d < length net.models → sent_by (h.history d) ≡ all_sent net (records_of (h.history d))
-    sent d q = (facts_at net until g e h settled m x d 0 q (omega arith) (omega arith)).sent
+    sent d q = (facts_at net until g e h run_to m x d 0 q (omega arith) (omega arith)).sent
 
     balance_at : (y : Message) → y.to < length net.models → y.stamp ≡ g
         → count y (sent_in_all net (made (kept h))) + count y (h.waiting y.to) ≡ count y (all_consumed (h.column y.to)) + count y (h.inputs y.to)
@@ -165,17 +165,17 @@ at_g {S} net until g e h m settled x follows balance apart c p = record { rest =
         omega (arith, a, b, d)
 
     bag : bag_of c g (sent_in_all net (clock net g).records) ≡ bag_of c g (h.inputs c)
-    bag = bag_at net g (kept h) (ready net until g e h settled m x) balance_at apart c p
+    bag = bag_at net g (kept h) (ready net until g e h run_to m x) balance_at apart c p
 
-    step : clock_step net c g ≡ act net c g (bag_of c g (h.inputs c)) (before_all (drop (steps_before g (h.history c)) (h.history c)) (settled.stands c p).now)
+    step : clock_step net c g ≡ act net c g (bag_of c g (h.inputs c)) (before_all (drop (steps_before g (h.history c)) (h.history c)) (run_to.stands c p).now)
     step = ap (λ b. act_if net c g b ((clock net g).place c)) bag ∙ ap (act_if net c g (bag_of c g (h.inputs c))) place
 
-pub fault_law : {S : Type 0} (net : Network S) (until g : ℕ) (h : Holdings S) → until ≤ max_tick → (settled : IsRunTo net until g h)
-    → (c : ℕ) (limit : Limit) → IsFaulting net until g h settled c limit → (sequential net until).fault ≡ Some (c, g, limit)
+pub fault_law : {S : Type 0} (net : Network S) (until g : ℕ) (h : Holdings S) → until ≤ max_tick → (run_to : IsRunTo net until g h)
+    → (c : ℕ) (limit : Limit) → IsFaulting net until g h run_to c limit → (sequential net until).fault ≡ Some (c, g, limit)
 unfolding NoLimit
-fault_law {S} net until g h m settled c limit is =
-    let x = extent net until settled.given m in
-    by x.0 x.1 (clocked_law net g (kept h) (ready net until g x.0 h settled m x.1))
+fault_law {S} net until g h m run_to c limit is =
+    let x = extent net until run_to.given m in
+    by x.0 x.1 (clocked_law net g (kept h) (ready net until g x.0 h run_to m x.1))
   where
     top : g < never
     top = let b = is.before in omega (arith, b, m)
@@ -183,13 +183,13 @@ fault_law {S} net until g h m settled c limit is =
     by : (e : ℕ) → Extent net until e → Follows net g (kept h) → (sequential net until).fault ≡ Some (c, g, limit)
     by e x follows = ⊎_elim whole (λ f. found f.0 f.1 f.2) x.ends
       where
-        here : (d : ℕ) → (p : d < length net.models) → AtG net g (h.inputs d) d (h.history d) (settled.stands d p).now (settled.stands d p).pending
-        here d p = at_g net until g e h m settled x follows is.balance is.apart d p
+        here : (d : ℕ) → (p : d < length net.models) → AtG net g (h.inputs d) d (h.history d) (run_to.stands d p).now (run_to.stands d p).pending
+        here d p = at_g net until g e h m run_to x follows is.balance is.apart d p
 
         stops : clock_step net c g ≡ Stops limit
         stops =
             let a = here c is.below in
-            let stand = settled.stands c is.below in
+            let stand = run_to.stands c is.below in
             a.step ∙ meets_stops net c (h.inputs c) g _ _ a.rest.pending stand.now stand.pending limit a.rest.ahead a.rest.leads is.odd top is.meets.at is.meets.meets
 
         not_calm : NoLimit (clock_step net c g) → ⊥
@@ -217,7 +217,7 @@ fault_law {S} net until g h m settled c limit is =
             less : (b : ℕ) → (p : b < length net.models) → (other : Limit) → b < c → clock_step net b g ≡ Stops other → ⊥
             less b p other l its =
                 let a = here b p in
-                let stand = settled.stands b p in
+                let stand = run_to.stands b p in
                 let at = stops_meets net b (h.inputs b) g _ _ a.rest.pending stand.now stand.pending other a.rest.ahead a.rest.leads is.odd top (sym a.step ∙ its) in
                 is.least b p other l (record { at = at.at; meets = at.meets })
 

@@ -6,11 +6,11 @@ use Rattle.tw_msgs.specs.Bags.{Bag}
 use Rattle.tw_msgs.specs.declared.message.Message.{Message}
 use Rattle.tw_msgs.specs.declared.record.Record.{Record}
 use Rattle.tw_msgs.specs.declared.record_kind.RecordKind.{RecordKind}
-use Rattle.tw_theory.specs.Transitions.{Moment, turn, output, moved, if_within, transition, kind_of}
-use Rattle.tw_theory.specs.Network.{Network, model_of}
-use Rattle.tw_theory.specs.Simulator.{RoundTurn, Stays, Moves, Stops, turn_of_result, take_turn}
 use Rattle.tw_vtime.specs.Stamps.{phase_of, tick_of}
 use Rattle.tw_vtime.specs.declared.limits.Limit.{Limit}
+use Rattle.tw_theory.specs.Network.{Network, model_of}
+use Rattle.tw_theory.specs.Simulator.{RoundTurn, Stays, Moves, Stops, turn_of_result, take_turn}
+use Rattle.tw_theory.specs.Transitions.{Moment, turn, output, moved, if_within, transition, kind_of}
 use Rattle.tw_laws.proofs.History.Clock.{record_after, act, act_if, clock, clock_step, alone, alone_step, AllFrom, AllBefore}
 
 pub from-append : (s : ℕ) (xs ys : List Record) → AllFrom s xs → AllFrom s ys → AllFrom s (xs ++ ys)

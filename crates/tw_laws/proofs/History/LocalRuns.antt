@@ -3,25 +3,25 @@ use Rattle.std.proofs.Common.{◌≡◌, ℕ, zero, suc, ◌+◌, ◌-◌, ◌<�
 use Rattle.std.proofs.lemmas.Bool.{eqb-false, and_from, and_right, and_parts, or_cases, cases_Bool, cases_lt, cases_eq, cond-true, cond-false, cond_both, lt-leb}
 use Rattle.std.proofs.lemmas.Bool.Decides.{Decides-int_eq}
 use Rattle.std.proofs.lemmas.Int.{ints}
+use Rattle.std.specs.Prelude.{◌≢◌}
 use Rattle.tw_atomic.specs.Atomic.{turned}
-use Rattle.tw_laws.specs.History.{AreInputs}
 use Rattle.tw_msgs.specs.Bags.{Bag, by_port, sorted_bag, insert_item}
 use Rattle.tw_msgs.specs.Messages.{at_or_before, IsBeforeFirst}
 use Rattle.tw_msgs.specs.declared.message.Message.{Message}
 use Rattle.tw_msgs.specs.declared.record.Record.{Record}
-use Rattle.tw_theory.specs.Bundles.{items_of, first_stamp, front, behind}
-use Rattle.tw_theory.specs.Contents.{before_all, steps_before, records_of, sent_by}
-use Rattle.tw_theory.specs.LocalRun.{Step, Made, NothingDue, output_made, if_moved, transition_made, next_of, step_at, local_step, Leads, NoStep}
-use Rattle.tw_theory.specs.Transitions.{Moment, Move, output, moved, if_within, transition, turn, due_of, kind_of}
-use Rattle.tw_theory.specs.Network.{Network, model_of}
-use Rattle.tw_theory.specs.Simulator.{Stays, Moves, turn_of_result, take_turn, sent_in, all_sent}
 use Rattle.tw_vtime.specs.Advance.{advanced, next_microstep, later_tick}
 use Rattle.tw_vtime.specs.Stamps.{never, stamp, tick_of, micro_of, phase_of, max_tick}
 use Rattle.tw_vtime.specs.declared.limits.Limit.{Limit}
 use Rattle.tw_vtime.specs.declared.limits.Limit.TheVariants.{Microstep, Tick}
-use Rattle.tw_laws.proofs.History.Clock.{arrived, bag_of, act, act_if, place_after, moment_after, record_after, NoLimit, alone, alone_step, AllFrom}
+use Rattle.tw_theory.specs.Bundles.{items_of, first_stamp, front, behind}
+use Rattle.tw_theory.specs.Contents.{before_all, steps_before, records_of, sent_by}
+use Rattle.tw_theory.specs.LocalRun.{Step, Made, NothingDue, output_made, if_moved, transition_made, next_of, step_at, local_step, Leads, NoStep}
+use Rattle.tw_theory.specs.Network.{Network, model_of}
+use Rattle.tw_theory.specs.Simulator.{Stays, Moves, turn_of_result, take_turn, sent_in, all_sent}
+use Rattle.tw_theory.specs.Transitions.{Moment, Move, output, moved, if_within, transition, turn, due_of, kind_of}
+use Rattle.tw_laws.specs.History.{AreInputs}
 use Rattle.tw_laws.proofs.History.Bags.{Past, past, insert_front}
-use Rattle.std.specs.Prelude.{◌≢◌}
+use Rattle.tw_laws.proofs.History.Clock.{arrived, bag_of, act, act_if, place_after, moment_after, record_after, NoLimit, alone, alone_step, AllFrom}
 
 -- ---- messages in order
 

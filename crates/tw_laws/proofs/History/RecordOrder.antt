@@ -2,11 +2,11 @@
 use Rattle.std.proofs.Common.{◌≡◌, ℕ, suc, ◌<◌, ◌≤◌, ◌==◌, List, [], ◌∷◌, ◌++◌, refl, sym, ◌∙◌, arith, inl, inr}
 use Rattle.std.specs.List.{AllByRecursion as Each}
 use Rattle.std.proofs.lemmas.Bool.{cond_both}
-use Rattle.tw_theory.specs.Traces.{Precedes, IsTrace}
 use Rattle.tw_msgs.specs.declared.record.Record.{Record}
-use Rattle.tw_theory.specs.Transitions.{Moment, output}
 use Rattle.tw_theory.specs.Network.{Network}
 use Rattle.tw_theory.specs.Simulator.{RoundTurn, Stays, Moves, Stops, outputs, turn_records}
+use Rattle.tw_theory.specs.Traces.{Precedes, IsTrace}
+use Rattle.tw_theory.specs.Transitions.{Moment, output}
 use Rattle.tw_theory.proofs.Elements.{each-append, each_weaker}
 use Rattle.tw_laws.proofs.History.RoundTurns.{MadeFrom}
 

@@ -1,20 +1,20 @@
 -- One round is two stamps of the clock.
 use Rattle.std.proofs.Common.{◌≡◌, ℕ, zero, suc, ◌+◌, ◌<◌, ◌==◌, length, List, [], ◌∷◌, ◌++◌, refl, sym, ap, ◌∙◌, subst, ⊎_elim, arith, eq-eqb, Option, Some, None, slice_get, if◌then◌else◌}
 use Rattle.std.proofs.lemmas.Bool.{cases_Bool, cond-true, cond-false, cond_both}
-use Rattle.tw_laws.specs.History.{count, sum_below}
 use Rattle.tw_msgs.specs.Bags.{Bag, sorted_bag}
 use Rattle.tw_msgs.specs.declared.message.Message.{Message}
 use Rattle.tw_msgs.specs.declared.record.Record.{Record}
+use Rattle.tw_vtime.specs.Stamps.{phase_of}
 use Rattle.tw_theory.specs.Bundles.{items_of, addressed}
-use Rattle.tw_theory.specs.Transitions.{Moment, output}
 use Rattle.tw_theory.specs.Network.{Network}
 use Rattle.tw_theory.specs.Simulator.{Stays, Moves, after_output, outputs, all_sent, with_stamp}
-use Rattle.tw_vtime.specs.Stamps.{phase_of}
-use Rattle.tw_laws.proofs.History.Clock.{bag_of, act, act_if, place_after, moment_after, record_after, NoLimit, sent_below, sent_in_all, clock, clock_step}
-use Rattle.tw_laws.proofs.History.Counts.{count-append, all_sent-append, sent_early}
+use Rattle.tw_theory.specs.Transitions.{Moment, output}
+use Rattle.tw_laws.specs.History.{count, sum_below}
 use Rattle.tw_laws.proofs.History.Bags.{bag_same}
-use Rattle.tw_laws.proofs.History.GoingOn.{clock_before}
+use Rattle.tw_laws.proofs.History.Clock.{bag_of, act, act_if, place_after, moment_after, record_after, NoLimit, sent_below, sent_in_all, clock, clock_step}
 use Rattle.tw_laws.proofs.History.Components.{sum_same, sum_front, own, own_take, own_skip, at-append, outputs_at, with_stamp_at, addressed_at, count-with_stamp}
+use Rattle.tw_laws.proofs.History.Counts.{count-append, all_sent-append, sent_early}
+use Rattle.tw_laws.proofs.History.GoingOn.{clock_before}
 
 -- ---- outputs
 

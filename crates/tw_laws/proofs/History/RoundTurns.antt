@@ -4,16 +4,16 @@ use Rattle.std.proofs.lemmas.Bool.{cases_Bool, cond-true, cond-false, eqb-false}
 use Rattle.tw_msgs.specs.Bags.{Bag, sorted_bag}
 use Rattle.tw_msgs.specs.declared.message.Message.{Message}
 use Rattle.tw_msgs.specs.declared.record.Record.{Record}
-use Rattle.tw_theory.specs.Bundles.{items_of, addressed}
-use Rattle.tw_theory.specs.Transitions.{Moment, Move, output, transition}
-use Rattle.tw_theory.specs.Network.{Network}
-use Rattle.tw_theory.specs.Simulator.{RoundTurn, Stays, Moves, Stops, turn_of_result, take_turn, after_output, outputs, turns, turn_records, turned_moments, first_stop, all_sent, with_stamp}
 use Rattle.tw_vtime.specs.Stamps.{never, phase_of}
 use Rattle.tw_vtime.specs.declared.limits.Limit.{Limit}
+use Rattle.tw_theory.specs.Bundles.{items_of, addressed}
+use Rattle.tw_theory.specs.Network.{Network}
+use Rattle.tw_theory.specs.Simulator.{RoundTurn, Stays, Moves, Stops, turn_of_result, take_turn, after_output, outputs, turns, turn_records, turned_moments, first_stop, all_sent, with_stamp}
+use Rattle.tw_theory.specs.Transitions.{Moment, Move, output, transition}
 use Rattle.tw_laws.proofs.History.Clock.{bag_of, act, act_if, place_after, moment_after, record_after, NoLimit, sent_in_all, clock, clock_step}
+use Rattle.tw_laws.proofs.History.Components.{own, own_take, own_skip}
 use Rattle.tw_laws.proofs.History.GoingOn.{MadeAt, turn_at}
 use Rattle.tw_laws.proofs.History.LocalRuns.{transition_is}
-use Rattle.tw_laws.proofs.History.Components.{own, own_take, own_skip}
 use Rattle.tw_laws.proofs.History.RoundBags.{after_out, even_place, round_bag}
 
 -- the messages of a round at t

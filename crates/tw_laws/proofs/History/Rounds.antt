@@ -3,24 +3,24 @@ use Rattle.std.proofs.Common.{◌≡◌, ℕ, zero, suc, ◌+◌, ◌-◌, ◌<�
 use Rattle.std.proofs.lemmas.Bool.{cases_eq, cases_lt, cond-true, cond-false}
 use Rattle.std.specs.Option.{option_map}
 use Rattle.std.proofs.lemmas.Option.{slice_get_past}
+use Rattle.std.specs.List.{AllByRecursion as Each}
+use Rattle.std.proofs.lemmas.List.{length-map}
 use Rattle.tw_atomic.specs.Atomic.{Meaning}
-use Rattle.tw_laws.specs.History.{count, AllPhaseOne}
-use Rattle.tw_theory.specs.Traces.{IsTrace}
 use Rattle.tw_msgs.specs.declared.message.Message.{Message}
 use Rattle.tw_msgs.specs.declared.record.Record.{Record}
-use Rattle.tw_theory.specs.Transitions.{Moment, first_due, start_moment}
-use Rattle.tw_theory.specs.Network.{Network}
-use Rattle.tw_theory.specs.Simulator.{RoundTurn, Stays, Stops, start_moments, take_turn, after_output, Configuration, least_due, least_input, round_time, outputs, turns, turn_records, turned_moments, first_stop, all_sent, with_stamp, past_stamp, Run, round_end, round, rounds_from, rounds}
 use Rattle.tw_vtime.specs.Stamps.{never, phase_of}
 use Rattle.tw_vtime.specs.declared.limits.Limit.{Limit}
+use Rattle.tw_theory.specs.Network.{Network}
+use Rattle.tw_theory.specs.Simulator.{RoundTurn, Stays, Stops, start_moments, take_turn, after_output, Configuration, least_due, least_input, round_time, outputs, turns, turn_records, turned_moments, first_stop, all_sent, with_stamp, past_stamp, Run, round_end, round, rounds_from, rounds}
+use Rattle.tw_theory.specs.Traces.{IsTrace}
+use Rattle.tw_theory.specs.Transitions.{Moment, first_due, start_moment}
+use Rattle.tw_theory.proofs.Elements.{each-append, each_weaker}
+use Rattle.tw_laws.specs.History.{count, AllPhaseOne}
 use Rattle.tw_laws.proofs.History.Clock.{place_after, record_after, NoLimit, clock, clock_step}
 use Rattle.tw_laws.proofs.History.Components.{own, own-append, count-past_stamp}
-use Rattle.tw_laws.proofs.History.RoundBags.{out_of, outs_own, after_out, even_record, even_place, even_quiet}
-use Rattle.std.specs.List.{AllByRecursion as Each}
-use Rattle.tw_theory.proofs.Elements.{each-append, each_weaker}
 use Rattle.tw_laws.proofs.History.RecordOrder.{IsAt, outputs_trace, turns_trace, trace-append, each_at}
+use Rattle.tw_laws.proofs.History.RoundBags.{out_of, outs_own, after_out, even_record, even_place, even_quiet}
 use Rattle.tw_laws.proofs.History.RoundTurns.{messages_at, odd_turn, odd_if, turns_own, IsDue, odd_step, turned_one, turned_own, length-turned, odd_place, odd_due, turns_made, record_if, records_own, record_turn, stop_none, no_stop, stop_some}
-use Rattle.std.proofs.lemmas.List.{length-map}
 
 -- inputs after stamp s, of phase 1
 abbrev pub AllAfter : ℕ → List Message → Type 0

@@ -3,8 +3,9 @@ use Rattle.std.proofs.Common.{refl}
 use Rattle.tw_theory.specs.Contents.{back_to_first}
 use Rattle.tw_theory.specs.Executive.{act}
 use Rattle.tw_theory.specs.LocalRun.{step_at, local_step}
-use Rattle.tw_theory.specs.Transitions.{output, moved, transition}
 use Rattle.tw_theory.specs.Marks.{rewind}
+use Rattle.tw_theory.specs.Outcomes.{state}
+use Rattle.tw_theory.specs.Transitions.{output, moved, transition}
 use Rattle.tw_theory.proofs.examples.actions.Goals as goal
 
 pub returns-clause-straggler_of_three : goal.returns-clause-straggler_of_three
@@ -42,3 +43,7 @@ returns-clause-lazy_match c = record { held = refl; answered = refl }
 pub returns-clause-lazy_anti : goal.returns-clause-lazy_anti
 unfolding act local_step step_at output moved transition back_to_first
 returns-clause-lazy_anti c = refl
+
+pub returns-clause-fault_at_gvt : goal.returns-clause-fault_at_gvt
+unfolding act local_step step_at output moved transition back_to_first state
+returns-clause-fault_at_gvt c = record { answered = refl; going = refl; shown = refl }

@@ -1,7 +1,7 @@
 -- Each trace, by computing the rounds.
 use Rattle.std.proofs.Common.{refl}
-use Rattle.tw_theory.specs.Transitions.{output, moved, transition}
 use Rattle.tw_theory.specs.Simulator.{sequential, rounds, round}
+use Rattle.tw_theory.specs.Transitions.{output, moved, transition}
 use Rattle.tw_theory.proofs.examples.traces.Goals as goal
 
 pub returns-clause-gen_tally : goal.returns-clause-gen_tally

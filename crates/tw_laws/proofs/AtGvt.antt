@@ -4,8 +4,6 @@ use Rattle.std.specs.Prelude.{slice_get, slice_index_or, ◌==◌, nat_lt, filte
 use Rattle.std.specs.List.{AllByRecursion as Each}
 use Rattle.std.proofs.lemmas.Option.{get_or_from_slice_get, slice_get_within, same_Some}
 use Rattle.std.proofs.lemmas.Bool.{cond_both, cases_Bool, and_parts, eqb-true, cases_eq}
-use Rattle.tw_laws.specs.Ending.{ShowsFault}
-use Rattle.tw_laws.specs.History.{count, sum_below, AreInputs, AllPhaseOne, Holdings, StandsTo, sent_count, IsRunTo, IsFaulting}
 use Rattle.tw_msgs.specs.Bags.{Bag}
 use Rattle.tw_msgs.specs.Counting.{one_at, total, when_positive, when_anti}
 use Rattle.tw_msgs.specs.Messages.{same_message, has, Sorted}
@@ -16,22 +14,24 @@ use Rattle.tw_msgs.specs.declared.message.Sign.TheVariants.{Positive, Anti}
 use Rattle.tw_msgs.specs.declared.record.Record.{Record}
 use Rattle.tw_msgs.specs.declared.record_kind.RecordKind.{RecordKind}
 use Rattle.tw_msgs.specs.declared.record_kind.RecordKind.TheVariants.{Out, Int, Ext, Con}
+use Rattle.tw_msgs.proofs.Messages.{same_message_is}
+use Rattle.tw_msgs.proofs.Totals.{total-append}
+use Rattle.tw_vtime.specs.Stamps.{phase_of}
+use Rattle.tw_vtime.specs.declared.limits.Limit.{Limit}
 use Rattle.tw_theory.specs.Balance.{issued, held, consumed_in, all_consumed}
 use Rattle.tw_theory.specs.Bundles.{messages_for}
 use Rattle.tw_theory.specs.Contents.{Process, inputs, sent_by}
 use Rattle.tw_theory.specs.Executive.{World, least_mail}
 use Rattle.tw_theory.specs.LocalRun.{Step, Leads, next_of, local_step}
-use Rattle.tw_theory.specs.Transitions.{Moment}
 use Rattle.tw_theory.specs.Network.{Network, Fits, IsNetwork}
 use Rattle.tw_theory.specs.Simulator.{sequential, rounds, due_from, up_to, all_sent}
 use Rattle.tw_theory.specs.Soundness.{IsFor, IsSound}
-use Rattle.tw_vtime.specs.Stamps.{phase_of}
-use Rattle.tw_vtime.specs.declared.limits.Limit.{Limit}
+use Rattle.tw_theory.specs.Transitions.{Moment}
 use Rattle.tw_theory.proofs.Elements.{each_weaker}
 use Rattle.tw_theory.proofs.Owing.{each_from_owed}
+use Rattle.tw_laws.specs.Ending.{ShowsFault}
+use Rattle.tw_laws.specs.History.{count, sum_below, AreInputs, AllPhaseOne, Holdings, StandsTo, sent_count, IsRunTo, IsFaulting}
 use Rattle.tw_laws.proofs.Changing.{each_from_least, process_from_least}
-use Rattle.tw_msgs.proofs.Totals.{total-append}
-use Rattle.tw_msgs.proofs.Messages.{same_message_is}
 
 -- ---- sums over places
 
@@ -284,8 +284,8 @@ module _ {S : Type 0} (net : Network S) (until : ℕ) (ok : IsNetwork net) (w : 
   unfolding stands_at
   stands_at-now c p at = refl
 
-  pub settled : IsRunTo net until (up_to until w.gvt) (held_by until w)
-  settled = record {
+  pub run_to : IsRunTo net until (up_to until w.gvt) (held_by until w)
+  run_to = record {
     horizon = omega arith;
     given = all_phase_one net net.inputs ok.inputs;
     lines = λ c l. let q = process_at c l in let s = (h.each c q.0 q.1).line_le in let e = ap line_of q.1 in omega arith;
@@ -316,14 +316,14 @@ module _ {S : Type 0} (net : Network S) (until : ℕ) (ok : IsNetwork net) (w : 
   }
 
   settled_now : (c : ℕ) (below : c < length net.models) (p : Process S) → slice_get w.processes c ≡ Some p
-      → ((settled.stands c below).now ≡ p.now) × ((settled.stands c below).pending ≡ p.pending)
-  unfolding settled stands_at
+      → ((run_to.stands c below).now ≡ p.now) × ((run_to.stands c below).pending ≡ p.pending)
+  unfolding run_to stands_at
   settled_now c below p at =
       let q = process_at c below in
       let same : q.0 ≡ p = same_Some q.0 p (sym q.1 ∙ at) in
       (ap (λ (x : Process S). x.now) same, ap (λ (x : Process S). x.pending) same)
 
-  pub faulting : (c : ℕ) (limit : Limit) → ShowsFault net until w c limit → IsFaulting net until (up_to until w.gvt) (held_by until w) settled c limit
+  pub faulting : (c : ℕ) (limit : Limit) → ShowsFault net until w c limit → IsFaulting net until (up_to until w.gvt) (held_by until w) run_to c limit
   faulting c limit shows =
       let below : c < length net.models = let l = slice_get_within w.processes c shows.process shows.at in omega (arith, h.processes) in
       let before = shows.before in

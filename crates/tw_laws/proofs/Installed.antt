@@ -110,12 +110,12 @@ module _ {S : Type 0} (net : Network S) (until : ℕ) (model : Meaning S) (start
       record {
         world = ap (λ (r : Answer × World S). replay net until r.1 (steps_of_one start.component (length steps))) one ∙ rest.world ∙ (λ i. record w { processes = set-set w.processes start.component (with_step p made) q i });
         answers = ap (λ (r : Answer × World S). r.0 ∷ Rattle.tw_theory.specs.Executive.answers net until r.1 (steps_of_one start.component (length steps))) one
-        ∙ (λ i. Stepped (entry i).stamp (entry i).kind ∷ rest.answers i);
+            ∙ (λ i. Stepped (entry i).stamp (entry i).kind ∷ rest.answers i);
         now = rest.now;
         history = λ to own_to.
-        rest.history (own.lone_left to) (own.left own_to)
-        ∙ append_assoc p.history (made.step ∷ []) (own_steps net start.component steps)
-        ∙ ap (λ (x : Step S). p.history ++ (x ∷ own_steps net start.component steps)) (own.consumed to own_to ∙ ap (own_step net start.component) leads.2);
+            rest.history (own.lone_left to) (own.left own_to)
+            ∙ append_assoc p.history (made.step ∷ []) (own_steps net start.component steps)
+            ∙ ap (λ (x : Step S). p.history ++ (x ∷ own_steps net start.component steps)) (own.consumed to own_to ∙ ap (own_step net start.component) leads.2);
       }
 
 length_take : {X : Type 0} (n : ℕ) (xs : List X) → n ≤ length xs → length (take n xs) ≡ n
@@ -130,7 +130,7 @@ module _ {S : Type 0} (net : Network S) (until : ℕ) (model : Meaning S) (r : S
   first_steps n =
       let whole = take-append-drop n r.steps in (
         (leads_split (alone model r.start) r.start.component r.start.now r.start.messages (take n r.steps) (drop n r.steps) r.after r.left
-        (subst (λ (steps : List (Step S)). Leads (alone model r.start) r.start.component r.start.now r.start.messages steps r.after r.left) (sym whole) run.leads)).0,
+            (subst (λ (steps : List (Step S)). Leads (alone model r.start) r.start.component r.start.now r.start.messages steps r.after r.left) (sym whole) run.leads)).0,
         (all_before_parts r.start.before (take n r.steps) (drop n r.steps) (subst (AllBefore r.start.before) (sym whole) run.before)).0,
       )
 
@@ -201,6 +201,6 @@ pub install_law : {S : Type 0} → InstallLaw S
 install_law = record {
   steps = λ net until w model r cause p q finished home run bound there is. is_stepped net until model r home run w p q finished.installed bound there is.within is.takes;
   undisturbed = λ net model r n later p q step home run at there late takes is.
-  let fresh = stays_fresh net 0 model r.start home later late 0 n r.steps r.start.now r.start.messages r.after r.left p q step run.leads run.before at there (λ z. at) takes is in
-  subst (λ k. IsFresh r.start k q step) (omega arith) fresh;
+      let fresh = stays_fresh net 0 model r.start home later late 0 n r.steps r.start.now r.start.messages r.after r.left p q step run.leads run.before at there (λ z. at) takes is in
+      subst (λ k. IsFresh r.start k q step) (omega arith) fresh;
 }

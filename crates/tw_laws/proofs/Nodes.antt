@@ -42,8 +42,21 @@ module _ {S : Type 0} (net : Network S) (c : ℕ) where
       let outgoing = length-append p.outgoing (positives out) in
       let owed = total-out (λ m. 1) p.cancel p.owed sent in
       omega (
-        arith, consumed, mine, pending, old, new, all_sent, my_sent, outgoing, length-map out positive, owed,
-        one_each out, one_each p.owed, one_each (owed_after p.cancel p.owed sent), one_each sent,
+        arith,
+        consumed,
+        mine,
+        pending,
+        old,
+        new,
+        all_sent,
+        my_sent,
+        outgoing,
+        length-map out positive,
+        owed,
+        one_each out,
+        one_each p.owed,
+        one_each (owed_after p.cancel p.owed sent),
+        one_each sent,
       )
 
 -- ---- steps taken back, and messages owed
@@ -172,6 +185,6 @@ memory_law = record {
   harvest = harvest_live;
   takes = λ net until w action c p q of at is. act_live net until w c p at action q of is;
   within = λ net until w action c p q of at is room.
-  let more = act_live net until w c p at action q of is in
-  ⊎_elim (λ over. absurd (room (record { component = c; of = of; process = p; at = at; passes = over }))) (λ le. omega (arith, more, le)) (cases_lt max_nodes (live p + need net w p action));
+      let more = act_live net until w c p at action q of is in
+      ⊎_elim (λ over. absurd (room (record { component = c; of = of; process = p; at = at; passes = over }))) (λ le. omega (arith, more, le)) (cases_lt max_nodes (live p + need net w p action));
 }

@@ -140,7 +140,7 @@ outcome_law = record {
   complete = λ net until w ok bound h e trace m. complete net until ok bound w h e trace m;
   fault = λ net until w ok bound h c s limit e lines trace m. fault net until ok bound w h c s limit e lines trace m;
   whole = λ net until w ok bound h e trace t parts.
-  (complete net until ok bound w h e trace (whole net until ok bound w h (stamp until 0 0) (omega arith) trace t parts), length_parts trace w.columns parts);
+      (complete net until ok bound w h e trace (whole net until ok bound w h (stamp until 0 0) (omega arith) trace t parts), length_parts trace w.columns parts);
   at_gvt = λ net until w ok bound h lines trace t parts ended. at_gvt net until ok bound w h lines trace t parts ended;
   count = λ net until w h g late trace m. count net until w h g late trace m;
 }

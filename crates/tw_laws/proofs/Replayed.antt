@@ -48,8 +48,8 @@ replay_law {S} = record {
   };
   left_out = λ net until w actions n w' action h m. record { taken = h.taken; are = left_more h.taken actions action m h.are; world = h.world; number = h.number };
   sound = λ net until w actions n w' ok bound sound h.
-  subst (λ (x : World S). IsSound net until x × (w.gvt ≤ x.gvt) × Grow w.columns x.columns) (sym h.world)
-  (replay_sound net until w h.taken ok bound sound, gvt_rises_by net until w ok bound sound h.taken, replay_grows net until w h.taken);
+      subst (λ (x : World S). IsSound net until x × (w.gvt ≤ x.gvt) × Grow w.columns x.columns) (sym h.world)
+      (replay_sound net until w h.taken ok bound sound, gvt_rises_by net until w ok bound sound h.taken, replay_grows net until w h.taken);
   committed = λ net cancel until actions n w' ok bound h. subst (HasCommitted net until) (sym h.world) (committed_law net cancel until h.taken ok bound);
 }
 

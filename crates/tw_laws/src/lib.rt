@@ -10,7 +10,10 @@
 //! | [`inversion`] | steps and a rewind restore everything, with one anti-message for each message sent |
 //! | [`endings`] | a sweep ends, and what it does; what the state of a run says is so; columns merge to the one sequential trace; the outcome |
 //! | [`cancellation`] | the way of cancelling stays as it began |
-//! | [`chains`] | a chain is what its component does next |
+//! | [`standing`] | when a component's next step can be made, and what it may receive |
+//! | [`chains`] | a chain is what its component does next; installing one is so many steps |
+//! | [`memory`] | how many nodes an action needs; what stays true where actions are left undone |
+//! | [`board`] | what the board shows was committed |
 //! | [`applied`] | all of it on concrete networks |
 //!
 //! The functions do nothing: their contracts are the laws, for states of any type, so for every model. The

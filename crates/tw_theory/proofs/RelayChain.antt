@@ -23,13 +23,21 @@ chain_of_relay = record {
     within = omega arith;
     takes = (
       record { begins = λ z. refl; agrees = record { stamp = refl; bag = λ odd. refl } },
-      (_, refl, (
-        record { begins = λ z. absurd (omega (arith, z)); agrees = record { stamp = refl; bag = λ odd. absurd (omega (arith, odd)) } },
-        (_, refl, (
-          record { begins = λ z. absurd (omega (arith, z)); agrees = record { stamp = refl; bag = λ odd. refl } },
-          (_, refl, refl),
-        )),
-      )),
+      (
+        _,
+        refl,
+        (
+          record { begins = λ z. absurd (omega (arith, z)); agrees = record { stamp = refl; bag = λ odd. absurd (omega (arith, odd)) } },
+          (
+            _,
+            refl,
+            (
+              record { begins = λ z. absurd (omega (arith, z)); agrees = record { stamp = refl; bag = λ odd. refl } },
+              (_, refl, refl),
+            ),
+          ),
+        ),
+      ),
     );
     all = λ e. refl;
     stops = λ step e. absurd (cc e);
@@ -38,34 +46,38 @@ chain_of_relay = record {
     within = omega arith;
     takes = (
       record { begins = λ z. refl; agrees = record { stamp = refl; bag = λ odd. refl } },
-      (_, refl, (
-        record { begins = λ z. absurd (omega (arith, z)); agrees = record { stamp = refl; bag = λ odd. absurd (omega (arith, odd)) } },
-        (_, refl, refl),
-      )),
+      (
+        _,
+        refl,
+        (
+          record { begins = λ z. absurd (omega (arith, z)); agrees = record { stamp = refl; bag = λ odd. absurd (omega (arith, odd)) } },
+          (_, refl, refl),
+        ),
+      ),
     );
     all = λ e. absurd (omega (arith, e));
     stops = λ x e fresh.
-    let same : step (int 6 0 1 (pos 0 ∷ [])) (holding (stamp 4 0 0) (stamp 6 0 1)) [] ≡ x = cc e in
-    let third = subst (λ (y : Step State). IsFresh from_start 2 (relay_after (generates ++ Deliver 1 1 ∷ StepAction 1 ∷ StepAction 1 ∷ [])) y) (sym same) fresh in
-    let bag : (0, pos 5) ∷ [] ≡ [] = third.agrees.bag refl in
-    absurd (cc bag);
+        let same : step (int 6 0 1 (pos 0 ∷ [])) (holding (stamp 4 0 0) (stamp 6 0 1)) [] ≡ x = cc e in
+        let third = subst (λ (y : Step State). IsFresh from_start 2 (relay_after (generates ++ Deliver 1 1 ∷ StepAction 1 ∷ StepAction 1 ∷ [])) y) (sym same) fresh in
+        let bag : (0, pos 5) ∷ [] ≡ [] = third.agrees.bag refl in
+        absurd (cc bag);
   };
   overtaken = record {
     within = omega arith;
     takes = refl;
     all = λ e. absurd (omega (arith, e));
     stops = λ x e fresh.
-    let same : stamp 4 0 1 ≡ x.entry.stamp = first_stamp_is x e in
-    let stamps : stamp 3 0 1 ≡ x.entry.stamp = fresh.agrees.stamp in
-    absurd (omega (arith, same, stamps));
+        let same : stamp 4 0 1 ≡ x.entry.stamp = first_stamp_is x e in
+        let stamps : stamp 3 0 1 ≡ x.entry.stamp = fresh.agrees.stamp in
+        absurd (omega (arith, same, stamps));
   };
   moved = record {
     within = omega arith;
     takes = refl;
     all = λ e. absurd (omega (arith, e));
     stops = λ x e fresh.
-    let same : stamp 4 0 1 ≡ x.entry.stamp = first_stamp_is x e in
-    let stamps : stamp 6 0 0 ≡ x.entry.stamp = fresh.agrees.stamp in
-    absurd (omega (arith, same, stamps));
+        let same : stamp 4 0 1 ≡ x.entry.stamp = first_stamp_is x e in
+        let stamps : stamp 6 0 0 ≡ x.entry.stamp = fresh.agrees.stamp in
+        absurd (omega (arith, same, stamps));
   };
 }

@@ -10,7 +10,8 @@ use Rattle.tw_msgs.specs.declared.message.Message.{Message}
 use Rattle.tw_msgs.specs.declared.record.Record.{Record}
 use Rattle.tw_theory.specs.Bundles.{first_stamp}
 use Rattle.tw_theory.specs.Contents.{Process, steps_before, records_of}
-use Rattle.tw_theory.specs.LocalRun.{Moment, Step}
+use Rattle.tw_theory.specs.LocalRun.{Step}
+use Rattle.tw_theory.specs.Transitions.{Moment}
 use Rattle.tw_theory.proofs.Elements.{each_parts}
 use Rattle.tw_vtime.specs.Stamps.{never}
 use Rattle.tw_process.specs.declared.entry.Entry.{Entry}

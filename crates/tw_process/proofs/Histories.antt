@@ -12,7 +12,8 @@ use Rattle.tw_msgs.specs.declared.message.Message.{Message}
 use Rattle.tw_theory.specs.Bundles.{first_stamp, antis}
 use Rattle.tw_msgs.specs.declared.message.Item.{Item}
 use Rattle.tw_theory.specs.Contents.{Process, Cancel, Aggressive, Lazy, undo_last, cut, steps_before, steps_from, back_to_first, before_all, consumed_by, sent_by, unsent_by, outgoing_undone, owed_undone}
-use Rattle.tw_theory.specs.LocalRun.{Moment, Step}
+use Rattle.tw_theory.specs.LocalRun.{Step}
+use Rattle.tw_theory.specs.Transitions.{Moment}
 use Rattle.std.proofs.lemmas.Bool.{cond-true, cond-false, le-ltb, lt-ltb, ltb-true, ltb-false}
 use Rattle.std.specs.Ordering.{nat_cmp, is_lt}
 use Rattle.std.specs.declared.cmp.Ordering.TheVariants.{Less, Equal, Greater}
@@ -22,7 +23,8 @@ use Rattle.tw_theory.proofs.Elements.{each-append, each_parts}
 use Rattle.tw_process.specs.declared.entry.Entry.{Entry}
 use Rattle.tw_lists.specs.Lists.{Lists, node_count as lists_count, restored, cancelled, with_room}
 use Rattle.tw_process.specs.History.{before_of, step_of, shown, seen, total_consumed, total_sent, LinkBy, state_before, Linked, IsKeptBy, IsKept}
-use Rattle.tw_process.specs.Process.{node_count, with_last_undone, last_stamp_of}
+use Rattle.tw_theory.specs.Memory.{live}
+use Rattle.tw_process.specs.Process.{with_last_undone, last_stamp_of}
 use Rattle.tw_theory.specs.Standing.{IsStanding, floor_after, CanTake}
 use Rattle.tw_process.specs.History.{Stood}
 use Rattle.tw_lists.proofs.Ends.{last_off}
@@ -251,10 +253,10 @@ sent_by_shown (e ∷ es) a c is =
     ∙ take-append-drop e.sent c
 
 -- the lists have as many nodes as the contents say
-pub nodes_shown : {M S R : Type 0} (valid : S → Type 0) (m : Meaning S) (residue_of : Turn → S → ℕ → Bag → R) (network : NetworkContents M) (c : ℕ) (now : Moment S) (line : ℕ) (way : Cancel) (floor : ℕ) (es : List (Entry S R)) (lists : Lists)
-    → IsKeptBy valid m residue_of c now floor es lists → node_count (seen network c now line way floor es lists).process ≡ lists_count lists
-nodes_shown valid m residue_of network c now line way floor es lists kept =
-    omega (arith, ap length (consumed_by_shown es lists.consumed lists.sent kept.consumed_is), ap length (sent_by_shown es lists.consumed lists.sent kept.sent_is))
+pub live_shown : {M S R : Type 0} (valid : S → Type 0) (m : Meaning S) (residue_of : Turn → S → ℕ → Bag → R) (network : NetworkContents M) (c : ℕ) (now : Moment S) (line : ℕ) (way : Cancel) (floor : ℕ) (es : List (Entry S R)) (lists : Lists)
+    → IsKeptBy valid m residue_of c now floor es lists → live (seen network c now line way floor es lists).process ≡ lists_count lists
+live_shown valid m residue_of network c now line way floor es lists kept =
+    omega (arith, ap length (consumed_by_shown es lists.consumed lists.sent kept.consumed_is), ap length (sent_by_shown es lists.consumed lists.sent kept.sent_is), length-append (consumed_by (shown es lists.consumed lists.sent)) lists.pending)
 
 -- ---- The last stamp
 

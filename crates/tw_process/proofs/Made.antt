@@ -16,7 +16,9 @@ use Rattle.tw_msgs.specs.declared.record_kind.RecordKind.TheVariants.{Out}
 use Rattle.tw_network.specs.Contents.{Contents, network_of}
 use Rattle.tw_theory.specs.Bundles.{front, behind, items_of, positives, first_stamp, Ascending}
 use Rattle.tw_theory.specs.Contents.{Cancel, Aggressive, Lazy, with_step, sent_out, owed_after}
-use Rattle.tw_theory.specs.LocalRun.{Moment, Move, Made, Step, NoStep, NothingDue as NothingIsDue, next_of, step_at, local_step, output, output_made, if_moved, if_within, moved, transition, transition_made, turn, kind_of, due_of}
+use Rattle.tw_theory.specs.LocalRun.{Made, Step, NoStep, NothingDue as NothingIsDue, next_of, step_at, local_step, output_made, if_moved, transition_made}
+use Rattle.tw_theory.specs.Transitions.{Moment, Move, output, if_within, moved, transition, turn, kind_of, due_of}
+use Rattle.tw_theory.specs.Installing.{IsFullFor}
 use Rattle.tw_theory.specs.Network.{Network, model_of, routed}
 use Rattle.tw_theory.proofs.Elements.{each_parts}
 use Rattle.tw_theory.proofs.MessageOrder.{ascending_of_sorted, sorted_right}
@@ -32,11 +34,11 @@ use Rattle.tw_process.specs.declared.refused.StepRefused.{StepRefused}
 use Rattle.tw_process.specs.Refusals.{of_pool, of_turn}
 use Rattle.tw_lists.specs.Lists.{Lists, node_count as lists_count, with_room, with_all_sent, front_consumed}
 use Rattle.tw_process.specs.History.{step_of, shown, seen, IsKeptBy, IsKept}
-use Rattle.tw_process.specs.Process.{Held, IsStepped, IsStop, IsTooLarge}
+use Rattle.tw_process.specs.Process.{Held, IsStepped, IsStop}
 use Rattle.tw_theory.specs.Standing.{IsStanding, CanTake, floor_after}
 use Rattle.tw_step.specs.Turns.{IsRefusedBy}
 use Rattle.tw_theory.proofs.Standing.{can_turn, after_output, after_transition}
-use Rattle.tw_process.proofs.Histories.{Grown, grown, nodes_shown}
+use Rattle.tw_process.proofs.Histories.{Grown, grown, live_shown}
 
 module _ {S : Type 0} (net : Network S) (c : ℕ) (now : Moment S) (pending : List Message) (s : ℕ) where
   pub local_output : s ≡ next_of now pending → s < never → phase_of s ≡ 0 → local_step net c now pending ≡ Ok (output_made net c now pending s (output net c now s))
@@ -71,13 +73,13 @@ each_before_end c [] h = tt
 each_before_end c (m ∷ ms) h = (h.0.before_end, each_before_end c ms h.1)
 
 -- what the refusal of the pool says of a step
-stop_as : {M S : Type 0} {meaning : M → Meaning S} (p : Held M S) (e : PoolRefused) → (e ≡ pool_refused.Full → IsTooLarge meaning p) → IsStop meaning p (of_pool e)
-stop_as p pool_refused.OutOfMemory full = tt
-stop_as p pool_refused.Full full = full refl
+stop_as : {M S : Type 0} (meaning : M → Meaning S) (p : Held M S) (e : PoolRefused) → (e ≡ pool_refused.Full → IsFullFor (network_of meaning p.network) p.component p.process) → IsStop meaning p (of_pool e)
+stop_as meaning p pool_refused.OutOfMemory full = tt
+stop_as meaning p pool_refused.Full full = full refl
 
-pub stop_for_pool : {M S T : Type 0} {meaning : M → Meaning S} (p : Held M S) (r : Result T StepRefused) (e : PoolRefused) → IsErrAnd r (λ x. x ≡ of_pool e) → (e ≡ pool_refused.Full → IsTooLarge meaning p) → IfErr r (IsStop meaning p)
-stop_for_pool p (Ok x) e is full = tt
-stop_for_pool {M} {S} {T} {meaning} p (Err x) e is full = subst (λ y. IsStop meaning p y) (sym is) (stop_as p e full)
+pub stop_for_pool : {M S T : Type 0} (meaning : M → Meaning S) (p : Held M S) (r : Result T StepRefused) (e : PoolRefused) → IsErrAnd r (λ x. x ≡ of_pool e) → (e ≡ pool_refused.Full → IsFullFor (network_of meaning p.network) p.component p.process) → IfErr r (IsStop meaning p)
+stop_for_pool meaning p (Ok x) e is full = tt
+stop_for_pool meaning p (Err x) e is full = subst (λ y. IsStop meaning p y) (sym is) (stop_as meaning p e full)
 
 -- nothing is sent
 none_out : (way : Cancel) (owed : List Message) (out : List Item) → out ≡ out ++ positives (sent_out way owed [])
@@ -277,7 +279,7 @@ module _ {M S R : Type 0} (valid : M → S → Type 0) (meaning : M → Meaning 
       → IsKeptBy (valid model) (meaning model) (residue_of model) c now floor es lists
       → s ≡ next_of now lists.pending → s < never → phase_of s ≡ 0 → bag ≡ sorted_bag ((meaning model).out now.state) → ms ≡ routed (network_of meaning network) c (s + 1) bag
       → 1048576 < lists_count lists + 2 * length (sent_out way lists.owed ms)
-      → IsTooLarge meaning (seen network c now line way floor es lists)
+      → IsFullFor (network_of meaning network) c (seen network c now line way floor es lists).process
   unfolding output
   too_large now line way floor es lists s bag ms kept next top even bag_is ms_is full =
       let net = network_of meaning network in
@@ -287,5 +289,5 @@ module _ {M S R : Type 0} (valid : M → S → Type 0) (meaning : M → Meaning 
       record {
         made = output_made net c now lists.pending s (output net c now s);
         is = local_output net c now lists.pending s next top even;
-        full = omega (arith, full, ap (λ l. length (sent_out way lists.owed l)) sends, nodes_shown (valid model) (meaning model) (residue_of model) network c now line way floor es lists kept);
+        passes = omega (arith, full, ap (λ l. length (sent_out way lists.owed l)) sends, live_shown (valid model) (meaning model) (residue_of model) network c now line way floor es lists kept);
       }

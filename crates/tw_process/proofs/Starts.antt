@@ -14,7 +14,7 @@ use Rattle.tw_process.specs.History.{IsKeptBy}
 use Rattle.tw_msgs.specs.declared.message.Message.{Message}
 use Rattle.tw_network.specs.Contents.{Input, message_of, StartsInTime}
 use Rattle.tw_theory.specs.Bundles.{addressed}
-use Rattle.tw_theory.specs.LocalRun.{Moment, start_moment, first_due}
+use Rattle.tw_theory.specs.Transitions.{Moment, start_moment, first_due}
 use Rattle.tw_vtime.specs.Stamps.{stamp, never, max_tick, tick_of, phase_of}
 use Rattle.tw_theory.specs.Standing.{IsTied, IsStanding, CanTake}
 

@@ -13,7 +13,8 @@ use Rattle.tw_msgs.specs.declared.message.Message.{Message}
 use Rattle.tw_network.specs.Contents.{Contents}
 use Rattle.tw_theory.specs.Bundles.{first_stamp}
 use Rattle.tw_theory.specs.Contents.{Cancel}
-use Rattle.tw_theory.specs.LocalRun.{Moment, Step}
+use Rattle.tw_theory.specs.LocalRun.{Step}
+use Rattle.tw_theory.specs.Transitions.{Moment}
 use Rattle.tw_vtime.specs.Stamps.{tick_of, never}
 use Rattle.tw_process.specs.declared.entry.Entry.{Entry}
 use Rattle.tw_lists.specs.Lists.{Lists}

@@ -2,17 +2,19 @@
 --     Held M S      the contents of the theory (`process`), beside the network and the number of the component
 --     next_made meaning p      the component's next step by itself
 --     IsStepped, IsStop      its next step was made; why it was not
---     node_count p, IsFullFor n p      how many nodes it has; n more would be too many
+--     IsFullBy n p      n more nodes would be too many
 --     CanCome p m      a message that can be pending now
 --     with_.., without_..      the same process, changed in one part
-use Rattle.std.specs.Prelude.{◌≡◌, ℕ, ◌+◌, ◌*◌, ◌<◌, ◌≤◌, List, [], ◌∷◌, ◌++◌, length, take, drop, slice_get, Option, None, Some, Ok, Err, Result, ⊤}
+use Rattle.std.specs.Prelude.{◌≡◌, ℕ, ◌+◌, ◌<◌, ◌≤◌, List, [], ◌∷◌, ◌++◌, take, drop, slice_get, Option, None, Some, Ok, Err, Result, ⊤}
 use Rattle.tw_atomic.specs.Atomic.{Meaning}
 use Rattle.tw_msgs.specs.declared.message.Message.{Message}
 use Rattle.tw_msgs.specs.Messages.{without}
 use Rattle.tw_msgs.specs.declared.record.Record.{Record}
 use Rattle.tw_msgs.specs.declared.record_kind.RecordKind.{RecordKind}
 use Rattle.tw_network.specs.Contents.{Contents, network_of}
-use Rattle.tw_theory.specs.Contents.{Process, Cancel, with_step, undo_last, settle, cut, placed, removed, with_waiting, harvested, steps_before, consumed_by, sent_by, sent_out}
+use Rattle.tw_theory.specs.Contents.{Process, Cancel, with_step, undo_last, settle, cut, placed, removed, with_waiting, harvested, steps_before}
+use Rattle.tw_theory.specs.Installing.{IsFullFor}
+use Rattle.tw_theory.specs.Memory.{live, max_nodes}
 use Rattle.tw_theory.specs.Soundness.{new_process}
 use Rattle.tw_theory.specs.LocalRun.{Made, NoStep, NothingDue as nothing_due, OverLimit as over_limit, local_step, Step}
 use Rattle.tw_theory.specs.Standing.{CanTake, floor_after}
@@ -42,28 +44,14 @@ pub record IsStepped {M S : Type 0} (meaning : M → Meaning S) (old new : Held 
   pub stamp_is : stamp ≡ made.step.entry.stamp
   pub kind_is : kind ≡ made.step.entry.kind
 
--- how many nodes its six lists have
-abbrev pub node_count : {S : Type 0} → Process S → ℕ
-node_count p = length p.pending + length (consumed_by p.history) + length (sent_by p.history) + length p.outgoing + length p.waiting + length p.owed
-
--- with n more nodes it would have more than 1,048,576
-abbrev pub IsFullFor : {S : Type 0} → ℕ → Process S → Type 0
-IsFullFor n p = 1048576 < node_count p + n
-
--- how many nodes a step adds: two for each message that no owed one matches
-abbrev pub nodes_of : {S : Type 0} → Process S → Made S → ℕ
-nodes_of p made = 2 * length (sent_out p.cancel p.owed made.step.sent)
-
--- the nodes that the next step adds would be too many
-pub record IsTooLarge {M S : Type 0} (meaning : M → Meaning S) (p : Held M S) : Type 0 where
-  pub made : Made S
-  pub is : next_made meaning p ≡ Ok made
-  pub full : IsFullFor (nodes_of p.process made) p.process
+-- with n more nodes it would pass the greatest number
+abbrev pub IsFullBy : {S : Type 0} → ℕ → Process S → Type 0
+IsFullBy n p = max_nodes < live p + n
 
 -- why the next step was not made; of refused memory nothing is said
 abbrev pub IsStop : {M S : Type 0} → (M → Meaning S) → Held M S → StepRefused → Type 0
 IsStop meaning p OutOfMemory = ⊤
-IsStop meaning p Full = IsTooLarge meaning p
+IsStop meaning p Full = IsFullFor (network_of meaning p.network) p.component p.process
 IsStop meaning p NothingDue = next_made meaning p ≡ Err nothing_due
 IsStop meaning p (OverLimit limit) = next_made meaning p ≡ Err (over_limit limit)
 

@@ -3,7 +3,7 @@
 ghost use Rattle.std.specs.Prelude.{◌≡◌, ◌↔◌, ◌≤◌, Err, IfErr, IsOk, OnErr, OnOk};
 ghost use Rattle.tw_msgs.specs.Messages.{has};
 ghost use Rattle.tw_pool.specs.declared.refused.PoolRefused.TheVariants.{Full};
-ghost use Rattle.tw_process.specs.Process.{CanCome, IsFullFor, with_cleared, with_noted, with_placed, with_removed, with_spare};
+ghost use Rattle.tw_process.specs.Process.{CanCome, IsFullBy, with_cleared, with_noted, with_placed, with_removed, with_spare};
 ghost use Rattle.tw_theory.specs.Contents.{consumed_by};
 
 use crate::process::Process;
@@ -19,7 +19,7 @@ impl<M: Atomic> Process<M> {
         ensures placed { OnOk result (self.new ≡ with_spare self.new.spare (with_placed message self.old)) }
         ensures stays { OnErr result (self.new ≡ with_spare self.new.spare self.old) }
         ensures handed_back { IfErr result (λ refused. refused.0 ≡ message) }
-        ensures limit { IsFullFor 1 self.old.process ↔ result ≡ Err (message, Full) }
+        ensures limit { IsFullBy 1 self.old.process ↔ result ≡ Err (message, Full) }
     {
         match self.reserve() {
             Ok(()) => {
@@ -35,7 +35,7 @@ impl<M: Atomic> Process<M> {
         ensures contents { self.new ≡ with_spare self.new.spare self.old }
         ensures room { OnOk result (1 ≤ self.new.spare) }
         ensures succeeds { 1 ≤ self.old.spare → IsOk result }
-        ensures limit { IsFullFor 1 self.old.process ↔ result ≡ Err Full }
+        ensures limit { IsFullBy 1 self.old.process ↔ result ≡ Err Full }
     {
         self.lists.reserve_pending()
     }
@@ -76,7 +76,7 @@ impl<M: Atomic> Process<M> {
     pub fn note_orphan(&mut self, message: &Message) -> Result<(), PoolRefused>
         ensures noted { OnOk result (self.new ≡ with_spare self.new.spare (with_noted message.now self.old)) }
         ensures stays { OnErr result (self.new ≡ with_spare self.new.spare self.old) }
-        ensures limit { IsFullFor 1 self.old.process ↔ result ≡ Err Full }
+        ensures limit { IsFullBy 1 self.old.process ↔ result ≡ Err Full }
     {
         self.lists.note_orphan(message)
     }

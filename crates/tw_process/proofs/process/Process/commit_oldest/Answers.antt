@@ -1,6 +1,6 @@
 use Rattle.std.proofs.Common.{◌≡◌, ◌≤◌, ◌<◌, ◌+◌, ◌∷◌, ap, sym, subst, ◌∙◌, length, arith, min}
 use Rattle.std.specs.Arc.{arc_value}
-use Rattle.tw_theory.specs.LocalRun.{Moment}
+use Rattle.tw_theory.specs.Transitions.{Moment}
 use Rattle.tw_lists.specs.Ways.{way_of}
 use Rattle.tw_process.specs.History.{seen, shown, IsKeptBy}
 use Rattle.tw_lists.specs.Lists.{with_room, forgotten}

@@ -5,12 +5,13 @@ use Rattle.tw_msgs.specs.Bags.{sorted_bag}
 use Rattle.tw_msgs.specs.declared.record_kind.RecordKind.TheVariants.{Out}
 use Rattle.tw_network.specs.Contents.{network_of}
 use Rattle.tw_theory.specs.Contents.{next, sent_out}
+use Rattle.tw_theory.specs.Installing.{IsFullFor}
 use Rattle.tw_theory.specs.Network.{routed}
-use Rattle.tw_theory.specs.LocalRun.{Moment}
+use Rattle.tw_theory.specs.Transitions.{Moment}
 use Rattle.tw_lists.specs.Ways.{way_of}
 use Rattle.tw_process.specs.History.{seen, IsKept}
 use Rattle.tw_lists.specs.Lists.{with_room, with_all_sent}
-use Rattle.tw_process.specs.Process.{IsStepped, IsTooLarge, with_spare}
+use Rattle.tw_process.specs.Process.{IsStepped, with_spare}
 use Rattle.tw_process.proofs.Histories.{kept_at}
 use Rattle.tw_process.proofs.Receipts.{kept_with, others_kept}
 use Rattle.tw_process.proofs.Outcomes.{on_err_always}
@@ -79,10 +80,10 @@ returns-in_err-reserve-clause-stop g c =
     let kept = kept_at g.M.Atomic.valid g.M.Atomic.meaning g.M.Atomic.residue_of network inside.component now inside.floor inside.history.items inside.lists c.self.invariant model there in
     let at : c.transition.result ≡ c.args.stamp + 1 = omega (arith, c.transition.ensures, c.requires.is_output) in
     let fresh : c.fresh_count-fresh.result ≡ length (sent_out (way_of inside.cancel) inside.lists.owed c.in_ok-sent.sent.items) = c.fresh_count-fresh.ensures.count ∙ ap (λ l. length (sent_out (way_of inside.cancel) inside.lists.owed l)) c.deref.ensures.value in
-    stop_for_pool c.args.self.now c.from_residual-in_err-reserve.result c.in_err-reserve.field-0.0 c.from_residual-in_err-reserve.ensures.1
+    stop_for_pool g.M.Atomic.meaning c.args.self.now c.from_residual-in_err-reserve.result c.in_err-reserve.field-0.0 c.from_residual-in_err-reserve.ensures.1
     (λ full.
     let limit = c.reserve.ensures.limit.1 (c.in_err-reserve.was ∙ ap Err full) in
-    subst (λ old. IsTooLarge g.M.Atomic.meaning old) c.self.view_is
+    subst (λ old. IsFullFor (network_of g.M.Atomic.meaning old.network) old.component old.process) c.self.view_is
     (too_large g.M.Atomic.valid g.M.Atomic.meaning g.M.Atomic.residue_of network inside.component model there now inside.line (way_of inside.cancel) inside.floor inside.history.items inside.lists c.args.stamp c.in_ok-bag.bag c.in_ok-sent.sent.items
     kept (c.requires.is_next ∙ ap (λ p. next p.process) (sym c.self.view_is)) c.requires.is_due c.requires.is_output c.in_ok-bag.ensures
     (c.in_ok-sent.ensures ∙ (λ i. routed (network_of g.M.Atomic.meaning (c.deref-network.ensures i)) inside.component (at i) c.in_ok-bag.bag))

@@ -6,7 +6,7 @@ use Rattle.tw_msgs.specs.Messages.{Sorted}
 use Rattle.tw_network.specs.Contents.{network_of}
 use Rattle.tw_theory.specs.Bundles.{front, items_of}
 use Rattle.tw_theory.specs.Contents.{next}
-use Rattle.tw_theory.specs.LocalRun.{Moment, turn, kind_of}
+use Rattle.tw_theory.specs.Transitions.{Moment, turn, kind_of}
 use Rattle.tw_vtime.specs.Advance.{advanced}
 use Rattle.tw_vtime.specs.Stamps.{tick_of, never, max_microstep}
 use Rattle.tw_lists.specs.Ways.{way_of}

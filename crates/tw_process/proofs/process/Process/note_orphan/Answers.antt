@@ -1,22 +1,22 @@
 use Rattle.std.proofs.Common.{◌≡◌, ◌≤◌, ◌<◌, ◌+◌, ◌++◌, ◌∷◌, [], ap, sym, subst, ◌∙◌}
 use Rattle.std.specs.Arc.{arc_value}
-use Rattle.tw_theory.specs.LocalRun.{Moment}
+use Rattle.tw_theory.specs.Transitions.{Moment}
 use Rattle.tw_lists.specs.Lists.{node_count as lists_count, with_room, with_orphan}
 use Rattle.tw_process.proofs.Outcomes.{either_way}
 use Rattle.tw_process.proofs.Receipts.{kept_with, others_kept}
 use Rattle.tw_lists.specs.Ways.{way_of}
-use Rattle.tw_process.specs.Process.{node_count}
-use Rattle.tw_process.proofs.Histories.{nodes_shown}
+use Rattle.tw_theory.specs.Memory.{live}
+use Rattle.tw_process.proofs.Histories.{live_shown}
 use Rattle.tw_process.proofs.process.Process.note_orphan.Given.{Over}
 use Rattle.tw_process.proofs.process.Process.note_orphan.Goals.{After-note_orphan}
 use Rattle.tw_process.proofs.process.Process.note_orphan.Goals as goal
 
-count : (g : Over) (c : After-note_orphan g) → lists_count c.self.inside.lists ≡ node_count c.args.self.now.process
+count : (g : Over) (c : After-note_orphan g) → lists_count c.self.inside.lists ≡ live c.args.self.now.process
 count g c =
     let inside = c.self.inside in
     let x = c.self.invariant.model in
-    sym (nodes_shown (g.M.Atomic.valid x) (g.M.Atomic.meaning x) (g.M.Atomic.residue_of x) (arc_value inside.network) inside.component (record { state = inside.state; last = inside.last; due = inside.due }) inside.line (way_of inside.cancel) inside.floor inside.history.items inside.lists c.self.invariant.by)
-    ∙ ap (λ p. node_count p.process) c.self.view_is
+    sym (live_shown (g.M.Atomic.valid x) (g.M.Atomic.meaning x) (g.M.Atomic.residue_of x) (arc_value inside.network) inside.component (record { state = inside.state; last = inside.last; due = inside.due }) inside.line (way_of inside.cancel) inside.floor inside.history.items inside.lists c.self.invariant.by)
+    ∙ ap (λ p. live p.process) c.self.view_is
 
 pub returns-clause-limit : goal.returns-clause-limit
 returns-clause-limit g c = rw (count g (goal.at.returns-clause-limit g c).After-note_orphan) at c.note_orphan.ensures.limit

@@ -1,14 +1,14 @@
 use Rattle.std.proofs.Common.{◌≡◌, ◌≤◌, ◌++◌, ◌∷◌, [], ap, sym, subst, ◌∙◌}
 use Rattle.std.specs.Arc.{arc_value}
 use Rattle.tw_msgs.specs.Messages.{has, without}
-use Rattle.tw_theory.specs.LocalRun.{Moment}
+use Rattle.tw_theory.specs.Transitions.{Moment}
 use Rattle.tw_theory.specs.Standing.{floor_after}
 use Rattle.tw_lists.specs.Lists.{with_room, with_pending, without_pending, without_orphan, with_orphan}
 use Rattle.tw_process.proofs.Receipts.{kept_with, others_kept, put_kept, withdrawn_kept}
 use Rattle.tw_lists.specs.Lists.{node_count as lists_count}
 use Rattle.tw_lists.specs.Ways.{way_of}
-use Rattle.tw_process.specs.Process.{node_count}
-use Rattle.tw_process.proofs.Histories.{nodes_shown}
+use Rattle.tw_theory.specs.Memory.{live}
+use Rattle.tw_process.proofs.Histories.{live_shown}
 use Rattle.tw_process.proofs.process.Process.reserve.Given.{Over}
 use Rattle.tw_process.proofs.process.Process.reserve.Goals.{After-reserve_pending}
 use Rattle.tw_process.proofs.process.Process.reserve.Goals as goal
@@ -20,12 +20,12 @@ invariant_of-self g c =
     kept_with g.M.Atomic.valid g.M.Atomic.meaning g.M.Atomic.residue_of (arc_value inside.network) inside.component now inside.floor inside.history.items inside.lists c.reserve_pending.new.self (with_room c.reserve_pending.new.self.room c.reserve_pending.new.self.spare inside.lists) c.self.invariant c.reserve_pending.ensures.contents
     (λ x kept. others_kept (g.M.Atomic.valid x) (g.M.Atomic.meaning x) (g.M.Atomic.residue_of x) inside.component now inside.floor inside.history.items inside.lists kept inside.lists.waiting inside.lists.outgoing inside.lists.owed c.reserve_pending.new.self.room c.reserve_pending.new.self.spare)
 
-count : (g : Over) (c : After-reserve_pending g) → lists_count c.self.inside.lists ≡ node_count c.args.self.now.process
+count : (g : Over) (c : After-reserve_pending g) → lists_count c.self.inside.lists ≡ live c.args.self.now.process
 count g c =
     let inside = c.self.inside in
     let x = c.self.invariant.model in
-    sym (nodes_shown (g.M.Atomic.valid x) (g.M.Atomic.meaning x) (g.M.Atomic.residue_of x) (arc_value inside.network) inside.component (record { state = inside.state; last = inside.last; due = inside.due }) inside.line (way_of inside.cancel) inside.floor inside.history.items inside.lists c.self.invariant.by)
-    ∙ ap (λ p. node_count p.process) c.self.view_is
+    sym (live_shown (g.M.Atomic.valid x) (g.M.Atomic.meaning x) (g.M.Atomic.residue_of x) (arc_value inside.network) inside.component (record { state = inside.state; last = inside.last; due = inside.due }) inside.line (way_of inside.cancel) inside.floor inside.history.items inside.lists c.self.invariant.by)
+    ∙ ap (λ p. live p.process) c.self.view_is
 
 pub returns-clause-limit : goal.returns-clause-limit
 returns-clause-limit g c = rw (count g (goal.at.returns-clause-limit g c).After-reserve_pending) at c.reserve_pending.ensures.limit

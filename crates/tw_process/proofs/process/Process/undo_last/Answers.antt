@@ -3,7 +3,7 @@ use Rattle.std.specs.Arc.{arc_value}
 use Rattle.std.specs.Prelude.{slice_get}
 use Rattle.tw_msgs.specs.Messages.{Sorted}
 use Rattle.std.proofs.lemmas.Option.{slice_get_within}
-use Rattle.tw_theory.specs.LocalRun.{Moment}
+use Rattle.tw_theory.specs.Transitions.{Moment}
 use Rattle.tw_lists.specs.Lists.{restored, cancelled}
 use Rattle.tw_process.specs.Process.{with_last_undone}
 use Rattle.tw_lists.specs.Ways.{way_of}

@@ -3,7 +3,7 @@ use Rattle.std.specs.Arc.{arc_value}
 use Rattle.std.specs.Prelude.{slice_get}
 use Rattle.tw_network.specs.Contents.{network_of}
 use Rattle.tw_theory.specs.Bundles.{addressed}
-use Rattle.tw_theory.specs.LocalRun.{Moment}
+use Rattle.tw_theory.specs.Transitions.{Moment}
 use Rattle.tw_process.specs.History.{IsKeptBy}
 use Rattle.tw_theory.specs.Standing.{IsStanding}
 use Rattle.tw_process.proofs.Starts.{start_kept}

@@ -6,18 +6,16 @@ use Rattle.std.specs.List.Sorted.{IsNonDecreasingBy, IsStableByKey}
 use Rattle.std.specs.Ordering.{is_lt, nat_cmp}
 use Rattle.std.specs.declared.cmp.Ordering.TheVariants.{Less, Equal, Greater}
 use Rattle.std.proofs.lemmas.Bool.{cond-true, cond-false, cond_both, eq-eqb, ne_eqb, eqb-true, and_parts, cases_eq, ltb-true, ltb-false}
-use Rattle.std.proofs.lemmas.List.{take_more, take_all}
+use Rattle.std.proofs.lemmas.List.{take_more}
 use Rattle.std.proofs.lemmas.List.Elements.{filter-append, filter_agree, recursion_from_All}
 use Rattle.tw_fossils.specs.Columns.{IsRising, IsColumn, AreColumns}
 use Rattle.tw_theory.specs.Traces.{Precedes, IsTrace, before, of_component}
 use Rattle.tw_msgs.specs.declared.record.Record.{Record}
-use Rattle.tw_theory.specs.Contents.{Process}
 use Rattle.tw_theory.specs.Executive.{World, column_of}
 use Rattle.tw_theory.specs.Network.{Network, IsNetwork}
 use Rattle.tw_theory.specs.Soundness.{IsSound}
 use Rattle.tw_vtime.specs.Stamps.{max_tick}
 use Rattle.tw_theory.specs.Simulator.{sequential, up_to}
-use Rattle.std.proofs.lemmas.Option.{slice_get-get_or}
 use Rattle.tw_theory.proofs.Elements.{each-append, each_weaker}
 use Rattle.tw_laws.proofs.Traces.{sequential_trace}
 

@@ -1,6 +1,7 @@
 //! Fossil collection: committed records leave the processes, and become one trace (Jefferson 1985).
 //!
 //! - [`Column`]: the committed records of one component, in order.
+//! - [`harvest`]: the records of the steps before a stamp leave a process for its column.
 //! - [`merge`]: the records of all columns before a stamp as one trace, by stamp and then component; [`into_trace`] does the same
 //!   with columns that are given up, and copies nothing.
 //!
@@ -8,7 +9,9 @@
 #![tactic(auto)]
 
 mod column;
+mod fossils;
 mod merging;
 
 pub use column::Column;
+pub use fossils::harvest;
 pub use merging::{into_trace, merge};

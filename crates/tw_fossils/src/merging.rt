@@ -14,11 +14,7 @@ use tw_vtime::Stamp;
 ///
 /// It costs as many steps as there are records, times the logarithm of the number of columns, and is refused for want of memory
 /// alone (4).
-pub fn merge(
-    alloc: Global,
-    columns: &[Column],
-    line: Stamp,
-) -> Result<Vec<Record>, AllocError>
+pub fn merge(alloc: Global, columns: &[Column], line: Stamp) -> Result<Vec<Record>, AllocError>
     requires { AreColumns 0 columns.now }
     ensures trace { IfOk result (λ trace. IsTrace trace.items) }
     ensures records { IfOk result (λ trace. (c : ℕ) → of_component c trace.items ≡ before line (column_of columns.now c)) }

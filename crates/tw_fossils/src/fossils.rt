@@ -1,0 +1,57 @@
+//! Fossil collection, by the calls of a process alone.
+
+ghost use Rattle.std.specs.Prelude.{◌≡◌, ◌≤◌, ◌++◌, IfOk, IsOk, OnOk, OnErr, length, take};
+ghost use Rattle.tw_process.specs.Process.{with_harvested, with_spare, without_first};
+ghost use Rattle.tw_theory.specs.Contents.{steps_before, records_of};
+
+use crate::column::Column;
+use std::alloc::AllocError;
+use tw_atomic::Atomic;
+use tw_msgs::Record;
+use tw_process::Process;
+use tw_vtime::Stamp;
+
+/// Moves the records of the steps strictly before a stamp from a process to the end of its column, frees their nodes, makes the
+/// stamp the commit line, and answers how many records they are.
+///
+/// It is refused for want of memory alone (4), and then process and column are as they were.
+pub fn harvest<M: Atomic>(
+    process: &mut Process<M>,
+    column: &mut Column,
+    line: Stamp,
+) -> Result<u64, AllocError>
+    ensures harvested { OnOk result (process.new ≡ with_spare process.new.spare (with_harvested line process.old)) }
+    ensures column { let steps = process.old.process.history in
+        OnOk result (column.new ≡ column.old ++ records_of (take (steps_before line steps) steps)) }
+    ensures count { IfOk result (λ n. n ≡ steps_before line process.old.process.history) }
+    ensures stays { OnErr result (process.new ≡ process.old) }
+    ensures column_stays { OnErr result (column.new ≡ column.old) }
+    ensures succeeds { steps_before line process.old.process.history ≡ 0 → IsOk result }
+{
+    let count = process.steps_before(line);
+    move_oldest(process, &mut column.records, count)?;
+    process.set_line(line);
+    Ok(count as u64)
+}
+
+// The records of the oldest steps, so many, move to the end of a vector; all room is made first.
+fn move_oldest<M: Atomic>(
+    process: &mut Process<M>,
+    records: &mut Vec<Record>,
+    count: usize,
+) -> Result<(), AllocError>
+    requires { count ≤ length process.old.process.history }
+    ensures process { OnOk result (process.new ≡ with_spare process.new.spare (without_first count process.old)) }
+    ensures records { OnOk result (records.new.items ≡ records.old.items ++ records_of (take count process.old.process.history)) }
+    ensures stays { OnErr result (process.new ≡ process.old) }
+    ensures records_stay { OnErr result (records.new.items ≡ records.old.items) }
+    ensures succeeds { count ≡ 0 → IsOk result }
+{
+    records.reserve(count)?;
+    for _ in 0..count {
+        if let Some(done) = process.commit_oldest() {
+            records.push_reserved(done);
+        }
+    }
+    Ok(())
+}

@@ -1,0 +1,55 @@
+-- What comes of an item, case by case.
+use Rattle.std.proofs.Common.{◌≡◌, ◌≢◌, ℕ, ◌≤◌, ◌==◌, ◌++◌, ◌∷◌, [], Bool, true, false, List, length, ap, ◌∙◌, arith, Result, Ok, Err}
+use Rattle.std.specs.Result.{OnErr}
+use Rattle.std.proofs.lemmas.Bool.{cond-true, cond-false, eq-eqb, ne_eqb}
+use Rattle.tw_msgs.specs.Messages.{has, without}
+use Rattle.tw_msgs.specs.declared.message.Message.{Message}
+use Rattle.tw_theory.specs.Contents.{Process, Placed, Straggler, Annihilated, Waiting, placed, removed, with_waiting, with_pending, receive_message, receive_anti, steps_from, steps_before, cut, back_to_first, consumed_by}
+use Rattle.tw_theory.specs.LocalRun.{Step}
+use Rattle.tw_process.specs.Process.{Held, with_cleared, with_removed}
+use Rattle.tw_msgs.proofs.MessageLists.{without_absent}
+use Rattle.tw_process.proofs.Histories.{nothing_back}
+
+module _ {S : Type 0} (p : Process S) (m : Message) where
+  pub message_waits : has m p.waiting ≡ true → receive_message p m ≡ (Annihilated 0, with_waiting p (without m p.waiting))
+  message_waits is = cond-true (has m p.waiting) _ _ is
+
+  pub message_straggles : has m p.waiting ≡ false → steps_from m.stamp p ≢ 0 → receive_message p m ≡ (Straggler (steps_from m.stamp p), placed (cut m.stamp p) m)
+  message_straggles is some = cond-false (has m p.waiting) _ _ is ∙ cond-false (steps_from m.stamp p == 0) _ _ (ne_eqb (steps_from m.stamp p) 0 some)
+
+  pub message_placed : has m p.waiting ≡ false → steps_from m.stamp p ≡ 0 → receive_message p m ≡ (Placed, placed p m)
+  message_placed is none = cond-false (has m p.waiting) _ _ is ∙ cond-true (steps_from m.stamp p == 0) _ _ (eq-eqb (steps_from m.stamp p) 0 none)
+
+  pub anti_pending : has m p.pending ≡ true → receive_anti p m ≡ (Annihilated 0, removed p m)
+  anti_pending is = cond-true (has m p.pending) _ _ is
+
+  pub anti_consumed : has m p.pending ≡ false → has m (consumed_by p.history) ≡ true → receive_anti p m ≡ (Annihilated (steps_from m.stamp p), removed (cut m.stamp p) m)
+  anti_consumed is there = cond-false (has m p.pending) _ _ is ∙ cond-true (has m (consumed_by p.history)) _ _ there
+
+  pub anti_waits : has m p.pending ≡ false → has m (consumed_by p.history) ≡ false → receive_anti p m ≡ (Waiting, with_waiting p (p.waiting ++ m ∷ []))
+  anti_waits is none = cond-false (has m p.pending) _ _ is ∙ cond-false (has m (consumed_by p.history)) _ _ none
+
+within : {S : Type 0} (s : ℕ) (steps : List (Step S)) → steps_before s steps ≤ length steps
+within s [] = omega arith
+within s (x ∷ steps) = go (Rattle.std.specs.Prelude.nat_lt x.entry.stamp s) (within s steps)
+  where
+    go : (b : Bool) → steps_before s steps ≤ length steps → Rattle.std.specs.Prelude.cond b (Rattle.std.specs.Prelude.suc (steps_before s steps)) 0 ≤ length (x ∷ steps)
+    go true h = omega (arith, h)
+    go false h = omega arith
+
+-- nothing to take back
+pub cut_none : {S : Type 0} (s : ℕ) (p : Process S) → steps_from s p ≡ 0 → cut s p ≡ p
+cut_none s p none =
+    let w = within s p.history in
+    let all : steps_before s p.history ≡ length p.history = omega (arith, none, w) in
+    ap (λ n. back_to_first n p) all ∙ nothing_back p
+
+pub cleared_same : {M S : Type 0} (p : Held M S) (m : Message) → has m p.process.waiting ≡ false → with_cleared m p ≡ p
+cleared_same p m none = ap (λ l. record p { process = with_waiting p.process l }) (without_absent m p.process.waiting none)
+
+pub removed_same : {M S : Type 0} (p : Held M S) (m : Message) → has m p.process.pending ≡ false → with_removed m p ≡ p
+removed_same p m none = ap (λ l. record p { process = with_pending p.process l }) (without_absent m p.process.pending none)
+
+pub on_err_always : {T E : Type 0} (P : Type 0) (r : Result T E) → P → OnErr r P
+on_err_always P (Ok x) h = tt
+on_err_always P (Err e) h = h

@@ -1,0 +1,17 @@
+-- What came of an item.
+use Rattle.std.specs.Prelude.{◌≡◌}
+use Rattle.tw_theory.specs.Contents.{Process, Received as TheoryReceived, Placed as placed_there, Straggler as straggler, Annihilated as annihilated, Waiting as waiting}
+use Rattle.tw_process.specs.Process.{Held}
+use Rattle.tw_rollback.specs.declared.received.Received.{Received}
+use Rattle.tw_rollback.specs.declared.received.Received.TheVariants.{Placed, Straggler, Annihilated, Waiting}
+
+abbrev pub meant : Received → TheoryReceived
+meant Placed = placed_there
+meant (Straggler n) = straggler n
+meant (Annihilated n) = annihilated n
+meant Waiting = waiting
+
+-- this answer, and this process
+pub record IsCame {M S : Type 0} (old new : Held M S) (r : TheoryReceived × Process S) (came : Received) : Type 0 where
+  pub process : new ≡ record old { process = r.1; spare = new.spare }
+  pub answer : meant came ≡ r.0

@@ -1,0 +1,99 @@
+//! Rollback and receipt, by the calls of a process alone.
+
+ghost use Rattle.std.specs.Prelude.{◌≡◌, ◌≤◌, IfOk, IfErr, OnErr};
+ghost use Rattle.tw_process.specs.Process.{with_cut, with_spare};
+ghost use Rattle.tw_rollback.specs.Received.{IsCame};
+ghost use Rattle.tw_theory.specs.Contents.{steps_from, receive, receive_message, receive_anti};
+ghost use Rattle.tw_theory.specs.Standing.{CanTake};
+
+use crate::received::Received;
+use tw_atomic::Atomic;
+use tw_msgs::{Item, Message, Sign};
+use tw_pool::PoolRefused;
+use tw_process::Process;
+use tw_vtime::Stamp;
+
+/// Takes back every step at or after this stamp, the last first, and answers how many. It takes no memory.
+pub fn back_to<M: Atomic>(process: &mut Process<M>, stamp: Stamp) -> u64
+    ensures cut { process.new ≡ with_cut stamp process.old }
+    ensures count { result ≡ steps_from stamp process.old.process }
+{
+    let before = process.history_len();
+    while let Some(last) = process.last_stamp() {
+        if last < stamp {
+            break;
+        }
+        process.undo_last();
+    }
+    (before - process.history_len()) as u64
+}
+
+/// An item comes to this component: a transition's message, or its anti-message, not before a step that was committed.
+///
+/// A message whose anti-message waits takes one such away. Else a message at or before the last step's stamp is a straggler: every
+/// step at or after it is taken back; and the message is pending. An anti-message takes one equal message away, of those that are
+/// pending; or, where a step consumed it, the steps from its stamp on are taken back first. Else it waits for its message.
+///
+/// It is refused for want of memory (4), or where the lists would have more than 1,048,576 nodes (12): then the item is handed
+/// back, and the process is as it was.
+pub fn receive<M: Atomic>(
+    process: &mut Process<M>,
+    item: Item,
+) -> Result<Received, (Item, PoolRefused)>
+    requires fits { CanTake process.old.component item.message }
+    requires after { process.old.floor ≤ item.message.stamp }
+    ensures received { IfOk result (IsCame process.old process.new (receive process.old.process item)) }
+    ensures stays { OnErr result (process.new ≡ with_spare process.new.spare process.old) }
+    ensures handed_back { IfErr result (λ refused. refused.0 ≡ item) }
+{
+    let came = match item.sign {
+        Sign::Positive => receive_message(process, &item.message),
+        Sign::Anti => receive_anti(process, &item.message),
+    };
+    match came {
+        Ok(came) => Ok(came),
+        Err(refused) => Err((item, refused)),
+    }
+}
+
+// A message comes.
+fn receive_message<M: Atomic>(
+    process: &mut Process<M>,
+    message: &Message,
+) -> Result<Received, PoolRefused>
+    requires fits { CanTake process.old.component message.now }
+    requires after { process.old.floor ≤ message.now.stamp }
+    ensures received { IfOk result (IsCame process.old process.new (receive_message process.old.process message.now)) }
+    ensures stays { OnErr result (process.new ≡ with_spare process.new.spare process.old) }
+{
+    if process.clear_orphan(message) {
+        return Ok(Received::Annihilated(0));
+    }
+    process.reserve()?;
+    let overtaken = back_to(process, message.stamp);
+    process.put_reserved(message);
+    if overtaken == 0 {
+        return Ok(Received::Placed);
+    }
+    Ok(Received::Straggler(overtaken))
+}
+
+// An anti-message comes.
+fn receive_anti<M: Atomic>(
+    process: &mut Process<M>,
+    message: &Message,
+) -> Result<Received, PoolRefused>
+    ensures received { IfOk result (IsCame process.old process.new (receive_anti process.old.process message.now)) }
+    ensures stays { OnErr result (process.new ≡ with_spare process.new.spare process.old) }
+{
+    if process.withdraw(message) {
+        return Ok(Received::Annihilated(0));
+    }
+    if process.has_consumed(message) {
+        let undone = back_to(process, message.stamp);
+        process.withdraw(message);
+        return Ok(Received::Annihilated(undone));
+    }
+    process.note_orphan(message)?;
+    Ok(Received::Waiting)
+}

@@ -5,5 +5,6 @@ mod models;
 mod msgs;
 mod networks;
 mod pool;
+mod process;
 mod sequential;
 mod stamps;

@@ -23,13 +23,13 @@ use Rattle.tw_theory.specs.LocalRun.{Step, Made, Leads, next_of, step_at, local_
 use Rattle.tw_theory.specs.Network.{Network, model_of}
 use Rattle.tw_theory.specs.Simulator.{records_before, sequential, up_to}
 use Rattle.tw_theory.specs.Soundness.{IsFor}
-use Rattle.tw_theory.specs.Standing.{IsTied, IsReady, CanTake, floor_after}
+use Rattle.tw_theory.specs.Standing.{IsTied, IsReady, CanTake, floor_after, IsOf, IsReadyFrom}
 use Rattle.tw_theory.specs.Transitions.{Moment, Move, output, if_within, moved, transition, turn, kind_of, due_of, first_due, start_moment}
 use Rattle.tw_theory.proofs.Elements.{each-place, each-without}
 use Rattle.tw_theory.proofs.MessageOrder.{ascending_of_sorted, first_of_place, first_of_without}
 use Rattle.tw_theory.proofs.Standing.{ready_turn, ready_output, ready_transition}
 use Rattle.tw_theory.proofs.Steps.{local_step_follows}
-use Rattle.tw_laws.specs.Standing.{IsOf, IsReadyFrom, StandingLaw, MayCome, ReceiveLaw}
+use Rattle.tw_laws.specs.Standing.{StandingLaw, MayCome, ReceiveLaw}
 use Rattle.tw_laws.proofs.Changing.{box_from_least, each_from_least}
 use Rattle.tw_laws.proofs.Runs.{leads_split}
 

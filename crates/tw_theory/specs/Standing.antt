@@ -4,14 +4,17 @@
 --     CanTake c m      a message that component c can take
 --     IsReady IsValid model c now messages      it stands so, and these messages are to come
 --     floor_after floor steps      one past the last of these steps
+--     IsRunning IsValid model net c floor p      process p of component c began where it was ready, and made its steps by itself
 use Rattle.std.specs.Prelude.{◌≡◌, ℕ, ◌+◌, ◌<◌, ◌≤◌, ◌⊎◌, List, [], ◌∷◌, Option, Some, None}
 use Rattle.std.specs.List.{AllByRecursion as Each}
 use Rattle.tw_atomic.specs.Atomic.{Meaning, FitsItem}
 use Rattle.tw_msgs.specs.Messages.{Sorted}
 use Rattle.tw_msgs.specs.declared.message.Message.{Message}
-use Rattle.tw_vtime.specs.Stamps.{stamp, never, tick_of, phase_of}
+use Rattle.tw_vtime.specs.Stamps.{stamp, never, max_microstep, tick_of, phase_of}
 use Rattle.tw_theory.specs.Bundles.{first_stamp}
+use Rattle.tw_theory.specs.Contents.{Process, inputs, Stands}
 use Rattle.tw_theory.specs.LocalRun.{Step}
+use Rattle.tw_theory.specs.Network.{Network, model_of}
 use Rattle.tw_theory.specs.Transitions.{Moment}
 
 -- a state that waits zero is due in the tick of its last transition; one that waits longer, that many ticks later, at microstep 0.
@@ -47,3 +50,20 @@ pub record IsReady {S : Type 0} (IsValid : S → Type 0) (model : Meaning S) (c 
 abbrev pub floor_after : {S : Type 0} → ℕ → List (Step S) → ℕ
 floor_after floor [] = floor
 floor_after floor (step ∷ steps) = floor_after (step.entry.stamp + 1) steps
+
+-- ---- a process
+
+-- component c of a network is of this model, and its microsteps are those of stamps
+pub record IsOf {S : Type 0} (model : Meaning S) (net : Network S) (c : ℕ) : Type 0 where
+  pub model_is : (s : S) → model_of net c s ≡ model
+  pub micro_limit : net.micro_limit ≤ max_microstep
+
+-- it is ready, and no step and no message comes before this stamp
+abbrev pub IsReadyFrom : {S : Type 0} → (S → Type 0) → Meaning S → ℕ → Moment S → List Message → ℕ → Type 0
+IsReadyFrom IsValid model c now messages floor = (ready : IsReady IsValid model c now messages) × (ready.floor ≡ floor)
+
+-- A process that runs on its own: its uncommitted steps began where it was ready for all its inputs; no step and no message comes before the floor, which is one past its last committed step
+pub record IsRunning {S : Type 0} (IsValid : S → Type 0) (model : Meaning S) (net : Network S) (c floor : ℕ) (p : Process S) : Type 0 where
+  pub from : Moment S
+  pub ready : IsReadyFrom IsValid model c from (inputs p) floor
+  pub runs : Stands net c from p

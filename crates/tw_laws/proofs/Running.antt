@@ -1,5 +1,5 @@
 -- A process whose run began where it was ready stays one, whatever it does.
-use Rattle.std.proofs.Common.{◌≡◌, ℕ, suc, ◌+◌, ◌<◌, ◌≤◌, List, [], ◌∷◌, ◌++◌, Ok, refl, sym, subst, arith, append-nil, append_assoc}
+use Rattle.std.proofs.Common.{◌≡◌, ℕ, suc, ◌∙◌, ◌+◌, ◌<◌, ◌≤◌, List, [], ◌∷◌, ◌++◌, Ok, refl, sym, subst, arith, append-nil, append_assoc}
 use Rattle.std.specs.Prelude.{take, drop, ◌==◌}
 use Rattle.std.specs.List.{AllByRecursion as Each}
 use Rattle.std.proofs.lemmas.Bool.{cond_both, eqb-true}
@@ -7,6 +7,7 @@ use Rattle.std.proofs.lemmas.List.{take-append-drop}
 use Rattle.tw_atomic.specs.Atomic.{Meaning}
 use Rattle.tw_msgs.specs.Messages.{has, place, without, sorted_messages, Sorted}
 use Rattle.tw_msgs.specs.declared.message.Message.{Message}
+use Rattle.tw_msgs.specs.declared.record.Record.{Record}
 use Rattle.tw_msgs.specs.declared.message.Sign.{Sign}
 use Rattle.tw_msgs.specs.declared.message.Sign.TheVariants.{Positive, Anti}
 use Rattle.tw_msgs.proofs.MessageLists.{without-Sorted}
@@ -14,12 +15,12 @@ use Rattle.tw_msgs.proofs.Messages.{place-Sorted, sorted_messages-Sorted}
 use Rattle.tw_vtime.specs.Stamps.{never, phase_of}
 use Rattle.tw_theory.specs.Bundles.{first_stamp, addressed, Ascending}
 use Rattle.tw_theory.specs.Chains.{Start}
-use Rattle.tw_theory.specs.Contents.{Process, Cancel, Aggressive, Lazy, next, inputs, consumed_by, before_all, with_step, with_pending, back_to_first, steps_before, steps_from, cut, placed, removed, Received, receive_signed, settled_as}
+use Rattle.tw_theory.specs.Contents.{Process, Cancel, Aggressive, Lazy, next, inputs, consumed_by, before_all, with_step, with_pending, back_to_first, steps_before, steps_from, cut, placed, removed, Received, receive_signed, settled_as, records_of}
 use Rattle.tw_theory.specs.Installing.{TakesFrom}
 use Rattle.tw_theory.specs.LocalRun.{Step, Made, Leads, local_step}
 use Rattle.tw_theory.specs.Network.{Network}
 use Rattle.tw_theory.specs.Soundness.{AllBefore}
-use Rattle.tw_theory.specs.Standing.{CanTake, IsOf, IsReadyFrom, IsRunning, floor_after}
+use Rattle.tw_theory.specs.Standing.{CanTake, IsOf, IsReadyFrom, IsRunning, floor_after, floor_of, floor_of_records}
 use Rattle.tw_theory.specs.Transitions.{Moment, start_moment}
 use Rattle.tw_theory.proofs.Cuts.{inputs_of_cut}
 use Rattle.tw_theory.proofs.Elements.{each-append, each_parts, each_weaker, each-place, each-without, each-sorted}
@@ -55,6 +56,14 @@ first_of_other s (x ∷ xs) ys zs h f = h
 pub floor_within : {S : Type 0} (floor s : ℕ) (steps : List (Step S)) → floor ≤ s → AllBefore s steps → floor_after floor steps ≤ s
 floor_within floor s [] l h = l
 floor_within floor s (x ∷ steps) l h = floor_within (x.entry.stamp + 1) s steps (let k = h.0 in omega (arith, k)) h.1
+
+floor_of_steps : {S : Type 0} (floor : ℕ) (steps : List (Step S)) → floor_after floor steps ≡ floor_of_records floor (records_of steps)
+floor_of_steps floor [] = refl
+floor_of_steps floor (x ∷ steps) = floor_of_steps (x.entry.stamp + 1) steps
+
+floor_of_more : (floor : ℕ) (xs ys : List Record) → floor_of_records (floor_of_records floor xs) ys ≡ floor_of_records floor (xs ++ ys)
+floor_of_more floor [] ys = refl
+floor_of_more floor (x ∷ xs) ys = floor_of_more (x.stamp + 1) xs ys
 
 module _ {S : Type 0} (IsValid : S → Type 0) (model : Meaning S) (net : Network S) (c floor : ℕ) where
   abbrev Running : Process S → Type 0
@@ -200,4 +209,5 @@ module _ {S : Type 0} (IsValid : S → Type 0) (model : Meaning S) (keeps : Keep
     settle = λ net c floor p h. settled_runs IsValid model net c floor p.cancel p h;
     commit = λ net c floor n p of h. commit_runs net c floor n p of h;
     floor = λ floor s steps l h. floor_within floor s steps l h;
+    column = λ column steps. floor_of_steps (floor_of column) steps ∙ floor_of_more 0 column (records_of steps);
   }

@@ -1,5 +1,5 @@
 -- When a component's next step can be made, and that it stays so: what a process needs of its messages before it may ask its model for a turn.
-use Rattle.std.specs.Prelude.{take, drop, ℕ, ◌+◌, ◌<◌, ◌≤◌, ◌≡◌, ◌-◌, ◌==◌, List, Ok, Some, slice_get}
+use Rattle.std.specs.Prelude.{take, drop, ◌++◌, ℕ, ◌+◌, ◌<◌, ◌≤◌, ◌≡◌, ◌-◌, ◌==◌, List, Ok, Some, slice_get}
 use Rattle.std.specs.List.{AllByRecursion as Each}
 use Rattle.tw_atomic.specs.Atomic.{Meaning, CanTurn}
 use Rattle.tw_msgs.specs.Messages.{Sorted, place, without}
@@ -8,14 +8,14 @@ use Rattle.tw_msgs.specs.declared.message.Message.{Message}
 use Rattle.tw_msgs.specs.declared.record.Record.{Record}
 use Rattle.tw_vtime.specs.Stamps.{never, tick_of, phase_of}
 use Rattle.tw_theory.specs.Bundles.{front, items_of, addressed}
-use Rattle.tw_theory.specs.Contents.{Process, Cancel, inputs, cut, with_step, back_to_first, placed, removed, receive, settle}
+use Rattle.tw_theory.specs.Contents.{Process, Cancel, inputs, cut, with_step, back_to_first, placed, removed, receive, settle, records_of}
 use Rattle.tw_theory.specs.Executive.{World, mail_of, column_of}
 use Rattle.tw_theory.specs.Chains.{Start}
 use Rattle.tw_theory.specs.Installing.{TakesFrom}
 use Rattle.tw_theory.specs.LocalRun.{Made, Step, Leads, next_of, local_step}
 use Rattle.tw_theory.specs.Network.{Network}
 use Rattle.tw_theory.specs.Soundness.{AllBefore, IsSound, new_process}
-use Rattle.tw_theory.specs.Standing.{IsReady, CanTake, IsOf, IsReadyFrom, IsRunning, floor_after}
+use Rattle.tw_theory.specs.Standing.{IsReady, CanTake, IsOf, IsReadyFrom, IsRunning, floor_after, floor_of}
 use Rattle.tw_theory.specs.Transitions.{Moment, start_moment, turn}
 
 -- of a model whose turns keep its states valid
@@ -60,6 +60,8 @@ pub record RunningLaw {S : Type 0} (IsValid : S → Type 0) (model : Meaning S) 
   pub commit : (net : Network S) (c floor n : ℕ) (p : Process S) → IsOf model net c → IsRunning IsValid model net c floor p
       → IsRunning IsValid model net c (floor_after floor (take n p.history)) (record p { history = drop n p.history })
   pub floor : (floor s : ℕ) (steps : List (Step S)) → floor ≤ s → AllBefore s steps → floor_after floor steps ≤ s
+  -- so where it is that of the column, it is that of the column then
+  pub column : (column : List Record) (steps : List (Step S)) → floor_after (floor_of column) steps ≡ floor_of (column ++ records_of steps)
 
 -- ---- what may be received
 
@@ -70,6 +72,7 @@ pub record MayCome {S : Type 0} (q : ℕ) (p : Process S) (column : List Record)
   pub before_end : m.stamp < never
   pub from_line : p.line ≤ m.stamp
   pub after_column : Each (λ r. r.stamp < m.stamp) column
+  pub from_floor : floor_of column ≤ m.stamp
 
 -- in a sound world every item of a mailbox may be received
 abbrev pub ReceiveLaw : Type 0 → Type 0

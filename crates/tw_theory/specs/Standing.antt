@@ -3,13 +3,14 @@
 --     IsStanding IsValid model now floor      its state is valid, its next own step is tied to it, and it is not before floor
 --     CanTake c m      a message that component c can take
 --     IsReady IsValid model c now messages      it stands so, and these messages are to come
---     floor_after floor steps      one past the last of these steps
+--     floor_after floor steps, floor_of column      one past the last of these steps; of a column's records
 --     IsRunning IsValid model net c floor p      process p of component c began where it was ready, and made its steps by itself
 use Rattle.std.specs.Prelude.{◌≡◌, ℕ, ◌+◌, ◌<◌, ◌≤◌, ◌⊎◌, List, [], ◌∷◌, Option, Some, None}
 use Rattle.std.specs.List.{AllByRecursion as Each}
 use Rattle.tw_atomic.specs.Atomic.{Meaning, FitsItem}
 use Rattle.tw_msgs.specs.Messages.{Sorted}
 use Rattle.tw_msgs.specs.declared.message.Message.{Message}
+use Rattle.tw_msgs.specs.declared.record.Record.{Record}
 use Rattle.tw_vtime.specs.Stamps.{stamp, never, max_microstep, tick_of, phase_of}
 use Rattle.tw_theory.specs.Bundles.{first_stamp}
 use Rattle.tw_theory.specs.Contents.{Process, inputs, Stands}
@@ -50,6 +51,14 @@ pub record IsReady {S : Type 0} (IsValid : S → Type 0) (model : Meaning S) (c 
 abbrev pub floor_after : {S : Type 0} → ℕ → List (Step S) → ℕ
 floor_after floor [] = floor
 floor_after floor (step ∷ steps) = floor_after (step.entry.stamp + 1) steps
+
+-- one past the last of these committed records, 0 where there is none
+abbrev pub floor_of_records : ℕ → List Record → ℕ
+floor_of_records floor [] = floor
+floor_of_records floor (r ∷ rs) = floor_of_records (r.stamp + 1) rs
+
+abbrev pub floor_of : List Record → ℕ
+floor_of column = floor_of_records 0 column
 
 -- ---- a process
 

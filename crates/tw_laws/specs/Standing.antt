@@ -56,11 +56,11 @@ pub record RunningLaw {S : Type 0} (IsValid : S → Type 0) (model : Meaning S) 
   pub receive : (net : Network S) (c floor : ℕ) (p : Process S) (item : Item) → IsRunning IsValid model net c floor p → CanTake c item.message → floor ≤ item.message.stamp
       → IsRunning IsValid model net c floor (receive p item).1
   pub settle : (net : Network S) (c floor : ℕ) (p : Process S) → IsRunning IsValid model net c floor p → IsRunning IsValid model net c floor (settle p)
-  -- where its first n steps are committed, the floor is one past them; and it is not past a stamp that all of them are before
+  -- when its first n steps are committed, the floor is one past them
   pub commit : (net : Network S) (c floor n : ℕ) (p : Process S) → IsOf model net c → IsRunning IsValid model net c floor p
       → IsRunning IsValid model net c (floor_after floor (take n p.history)) (record p { history = drop n p.history })
+  -- the floor is not past a stamp that all those steps are before; and where it was its column's, it is that of the column with them
   pub floor : (floor s : ℕ) (steps : List (Step S)) → floor ≤ s → AllBefore s steps → floor_after floor steps ≤ s
-  -- so where it is that of the column, it is that of the column then
   pub column : (column : List Record) (steps : List (Step S)) → floor_after (floor_of column) steps ≡ floor_of (column ++ records_of steps)
 
 -- ---- what may be received

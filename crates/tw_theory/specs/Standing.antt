@@ -52,11 +52,11 @@ abbrev pub floor_after : {S : Type 0} → ℕ → List (Step S) → ℕ
 floor_after floor [] = floor
 floor_after floor (step ∷ steps) = floor_after (step.entry.stamp + 1) steps
 
--- one past the last of these committed records, 0 where there is none
 abbrev pub floor_of_records : ℕ → List Record → ℕ
 floor_of_records floor [] = floor
 floor_of_records floor (r ∷ rs) = floor_of_records (r.stamp + 1) rs
 
+-- one past the last of the committed records, 0 where there is none
 abbrev pub floor_of : List Record → ℕ
 floor_of column = floor_of_records 0 column
 

@@ -32,17 +32,17 @@ use Rattle.tw_laws.proofs.Cutting.{IsCutOf, cut_sound, none_from, leads_consumes
 use Rattle.tw_laws.proofs.Runs.{leads_other, in_order}
 use Rattle.tw_laws.proofs.Stepping.{all_odd, inputs_ascending, get_box}
 
-before_weaker : {S : Type 0} (s t : ℕ) (steps : List (Step S)) → ((k : ℕ) → k < s → k < t) → AllBefore s steps → AllBefore t steps
+pub before_weaker : {S : Type 0} (s t : ℕ) (steps : List (Step S)) → ((k : ℕ) → k < s → k < t) → AllBefore s steps → AllBefore t steps
 before_weaker s t [] f h = tt
 before_weaker s t (x ∷ steps) f h = (f x.entry.stamp h.0, before_weaker s t steps f h.1)
 
-before_both : {S : Type 0} (s t u : ℕ) (steps : List (Step S)) → ((k : ℕ) → k < s → k < t → k < u) → AllBefore s steps → AllBefore t steps
+pub before_both : {S : Type 0} (s t u : ℕ) (steps : List (Step S)) → ((k : ℕ) → k < s → k < t → k < u) → AllBefore s steps → AllBefore t steps
     → AllBefore u steps
 before_both s t u [] f h k = tt
 before_both s t u (x ∷ steps) f h k = (f x.entry.stamp h.0 k.0, before_both s t u steps f h.1 k.1)
 
 -- what steps before s consumed has stamps before s
-consumed_before : {S : Type 0} (s : ℕ) (steps : List (Step S)) → AllBefore s steps
+pub consumed_before : {S : Type 0} (s : ℕ) (steps : List (Step S)) → AllBefore s steps
     → Each (λ step. Each (λ m. m.stamp ≡ step.entry.stamp) step.consumed) steps → Each (λ m. m.stamp < s) (consumed_by steps)
 consumed_before s [] h k = tt
 consumed_before s (x ∷ steps) h k =

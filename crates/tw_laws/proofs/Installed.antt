@@ -8,7 +8,7 @@ use Rattle.tw_atomic.specs.Atomic.{Meaning}
 use Rattle.tw_msgs.specs.declared.message.Message.{Message}
 use Rattle.tw_vtime.specs.Stamps.{stamp, phase_of}
 use Rattle.tw_theory.specs.Bundles.{first_stamp, front, behind, items_of, messages_for}
-use Rattle.tw_theory.specs.Chains.{Start, SoloRun, IsSoloRun, IsHome, Agrees, alone, own_step, own_steps, sent_in, made_anew, taken_at, left_at}
+use Rattle.tw_theory.specs.Chains.{Start, SoloRun, IsSoloRun, IsHome, Agrees, alone, own_step, own_steps, sent_at, made_anew, taken_at, left_at}
 use Rattle.tw_theory.specs.Contents.{Process, next, with_step, before_all, consumed_by}
 use Rattle.tw_theory.specs.Executive.{World, Action, Answer, Stepped, with_process, act, act_step, if_made, replay, answers, Refused, NothingDue}
 use Rattle.tw_theory.specs.Installing.{IsFresh, TakesFrom}
@@ -64,7 +64,7 @@ module _ {S : Type 0} (net : Network S) (until : ℕ) (model : Meaning S) (start
       front_is start.component s messages to ∙ ap (messages_for start.component s) (sym (t.bag one) ∙ sym (agrees.bag one)) ∙ sym (front_is start.component s p.pending own_to) ∙ sym (cond-false (phase_of s == 0) [] (front s p.pending) odd))) in
       record {
         is = is;
-        consumed = λ to own_to. ap (λ (m : Made S). m.step) is ∙ (λ i. record { entry = lone.step.entry; before = lone.step.before; consumed = same to own_to i; sent = sent_in net start.component lone.step.entry });
+        consumed = λ to own_to. ap (λ (m : Made S). m.step) is ∙ (λ i. record { entry = lone.step.entry; before = lone.step.before; consumed = same to own_to i; sent = sent_at net start.component lone.step.entry });
         left = λ own_to. subst (λ (m : Made S). Each (λ m. m.to ≡ start.component) m.left) (sym is) (to_left start.component s p.pending own_to);
         lone_left = λ to. subst (Each (λ m. m.to ≡ start.component)) (sym t.left) (to_left start.component s messages to);
       }

@@ -44,6 +44,7 @@ pub mod Nodes
 pub mod Replayed
 -- chains, and when a step can be made
 pub mod Ready
+pub mod Running
 pub mod Agreeing
 pub mod Installed
 -- the theorem of the whole, and all laws on concrete networks

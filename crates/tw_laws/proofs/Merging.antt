@@ -5,7 +5,7 @@ use Rattle.std.specs.List.{AllByRecursion as Each}
 use Rattle.std.specs.Option.{option_map}
 use Rattle.std.proofs.lemmas.Bool.{cond-true, cond-false, cond_both, le-ltb, ltb-true, ltb-false}
 use Rattle.std.proofs.lemmas.List.{get_or_past}
-use Rattle.std.proofs.lemmas.Option.{slice_get_past, slice_get_cases}
+use Rattle.std.proofs.lemmas.Option.{none-some, same_Some, slice_get_past, slice_get_cases}
 use Rattle.tw_msgs.specs.declared.record.Record.{Record}
 use Rattle.tw_vtime.specs.Stamps.{stamp, max_tick}
 use Rattle.tw_theory.specs.Contents.{Process}
@@ -13,9 +13,9 @@ use Rattle.tw_theory.specs.Executive.{World, column_of}
 use Rattle.tw_theory.specs.Network.{Network, IsNetwork}
 use Rattle.tw_theory.specs.Simulator.{Run, sequential, up_to}
 use Rattle.tw_theory.specs.Soundness.{IsSound}
-use Rattle.tw_theory.specs.Traces.{Precedes, IsTrace, of_component, before}
+use Rattle.tw_theory.specs.Traces.{Precedes, IsTrace, of_component, before, least_line}
 use Rattle.tw_theory.specs.Transitions.{Moment, start_moment}
-use Rattle.tw_laws.specs.Traces.{MergingLaw}
+use Rattle.tw_laws.specs.Traces.{MergingLaw, LeastLineLaw}
 use Rattle.tw_laws.proofs.History.Clock.{bag_of, sent_in_all, clock, act_if, place_after, record_after}
 use Rattle.tw_laws.proofs.History.Rounds.{Reached, Running, Faulted, rounds_reach}
 use Rattle.tw_laws.proofs.AtGvt.{all_phase_one}
@@ -143,3 +143,12 @@ merging_law net until g w ok bound h lines trace is parts =
     let same = merged net until ok bound g w h lines trace is parts in
     let rest = beginning g (sequential net until).records (sequential_trace net until ok bound).0 in
     (same, (rest.0, ap (λ l. l ++ rest.0) same ∙ rest.1))
+
+least_line_le : {S : Type 0} (ps : List (Process S)) (c : ℕ) (p : Process S) → slice_get ps c ≡ Some p → least_line ps ≤ p.line
+least_line_le [] c p at = absurd (none-some p at)
+least_line_le (q ∷ ps) zero p at = let same = ap (λ (x : Process _). x.line) (same_Some q p at) in omega (arith, same)
+least_line_le (q ∷ ps) (suc c) p at = let rest = least_line_le ps c p at in omega (arith, rest)
+
+pub least_line_law : {S : Type 0} → LeastLineLaw S
+least_line_law net until w ok bound h trace merged =
+    merging_law net until (least_line w.processes) w ok bound h (least_line_le w.processes) trace merged.ordered merged.parts

@@ -6,7 +6,7 @@ use Rattle.tw_vtime.specs.Stamps.{stamp}
 use Rattle.tw_theory.specs.Board.{numbers_of, posted_after, AtMost}
 use Rattle.tw_theory.specs.Bundles.{positive}
 use Rattle.tw_theory.specs.Chains.{IsHome, All, own_steps}
-use Rattle.tw_theory.specs.Contents.{Aggressive}
+use Rattle.tw_theory.specs.Contents.{Aggressive, receive}
 use Rattle.tw_theory.specs.ExampleActions.{until, after}
 use Rattle.tw_theory.specs.ExampleChains.{eight, emptied, from_start, relayed, relay_after, generates}
 use Rattle.tw_theory.specs.ExampleModels.{relay}
@@ -15,19 +15,20 @@ use Rattle.tw_theory.specs.Executive.{Step, Deliver, mail_of, column_of, act}
 use Rattle.tw_theory.specs.LocalRun.{Leads, step_at, local_step}
 use Rattle.tw_theory.specs.Memory.{IsReplayed, live, need}
 use Rattle.tw_theory.specs.Network.{IsNetwork, input}
-use Rattle.tw_theory.specs.Soundness.{IsSound, new_world}
-use Rattle.tw_theory.specs.Standing.{CanTake}
+use Rattle.tw_theory.specs.Soundness.{IsSound, new_process, new_world}
+use Rattle.tw_theory.specs.Standing.{CanTake, IsReadyFrom, IsRunning}
 use Rattle.tw_theory.specs.Transitions.{start_moment, output, moved, transition}
 use Rattle.tw_theory.proofs.RelayChain.{chain_of_relay}
 use Rattle.tw_laws.specs.Applied.{driven}
 use Rattle.tw_laws.specs.Chains.{IsStepped}
 use Rattle.tw_laws.specs.OfRelay.{AnyState, received, LawsOfRelay}
-use Rattle.tw_laws.specs.Standing.{IsReadyFrom, MayCome}
+use Rattle.tw_laws.specs.Standing.{MayCome}
 use Rattle.tw_laws.proofs.Acting.{start_law}
 use Rattle.tw_laws.proofs.Agreeing.{chain_law}
 use Rattle.tw_laws.proofs.Harvesting.{replay_sound}
 use Rattle.tw_laws.proofs.Installed.{install_law}
 use Rattle.tw_laws.proofs.Ready.{KeepsValid, standing_law, receive_law}
+use Rattle.tw_laws.proofs.Running.{running_law}
 use Rattle.tw_laws.proofs.Replayed.{replay_law, board_law}
 
 slow_three_fits : IsNetwork slow_three
@@ -61,6 +62,14 @@ ready =
     let law = standing_law AnyState (relay 2) keeps in
     let start = law.start 1 (eight ∷ []) tt (tt, tt) eight_comes in
     law.run slow_three 1 (start_moment (relay 2)) (eight ∷ []) (own_steps slow_three 1 relayed.steps) emptied [] (record { model_is = λ s. refl; micro_limit = omega arith }) start.0 next_steps
+
+five_comes : CanTake 1 (input 6 1 0 (pos 5))
+five_comes = record { to = refl; phase = refl; before_end = omega arith; fits = (omega arith, record { sfits = omega arith }) }
+
+running : IsRunning AnyState (relay 2) slow_three 1 0 (receive (new_process slow_three Aggressive 1 (relay 2)) (positive (input 6 1 0 (pos 5)))).1
+running =
+    let law = running_law AnyState (relay 2) keeps in
+    law.receive slow_three 1 0 (new_process slow_three Aggressive 1 (relay 2)) (positive (input 6 1 0 (pos 5))) (law.start slow_three Aggressive 1 tt eight_comes) five_comes (omega arith)
 
 in_mail : mail_of (after slow_three Aggressive generates).mail 1 ≡ positive (input 3 1 0 (pos 5)) ∷ positive (input 6 1 0 (pos 5)) ∷ []
 unfolding act local_step step_at output moved transition
@@ -115,6 +124,7 @@ laws_of_relay = record {
   answered = stepped.answers;
   standing = standing_law AnyState (relay 2) keeps;
   ready = ready;
+  running = running;
   in_mail = in_mail;
   may_come = may_come;
   lives = lives;

@@ -23,13 +23,13 @@ use Rattle.tw_theory.specs.LocalRun.{Step, Made, Leads, next_of, step_at, local_
 use Rattle.tw_theory.specs.Network.{Network, model_of}
 use Rattle.tw_theory.specs.Simulator.{records_before, sequential, up_to}
 use Rattle.tw_theory.specs.Soundness.{IsFor}
-use Rattle.tw_theory.specs.Standing.{IsTied, IsReady, CanTake, floor_after}
+use Rattle.tw_theory.specs.Standing.{IsTied, IsReady, CanTake, floor_after, IsOf, IsReadyFrom, floor_of, floor_of_records}
 use Rattle.tw_theory.specs.Transitions.{Moment, Move, output, if_within, moved, transition, turn, kind_of, due_of, first_due, start_moment}
 use Rattle.tw_theory.proofs.Elements.{each-place, each-without}
 use Rattle.tw_theory.proofs.MessageOrder.{ascending_of_sorted, first_of_place, first_of_without}
 use Rattle.tw_theory.proofs.Standing.{ready_turn, ready_output, ready_transition}
 use Rattle.tw_theory.proofs.Steps.{local_step_follows}
-use Rattle.tw_laws.specs.Standing.{IsOf, IsReadyFrom, StandingLaw, MayCome, ReceiveLaw}
+use Rattle.tw_laws.specs.Standing.{StandingLaw, MayCome, ReceiveLaw}
 use Rattle.tw_laws.proofs.Changing.{box_from_least, each_from_least}
 use Rattle.tw_laws.proofs.Runs.{leads_split}
 
@@ -219,6 +219,10 @@ records_early c s g (r ∷ rs) l =
     cond_both ((r.component == c) && nat_lt r.stamp s) _ _ (Each (λ r. r.stamp < g)) (λ e. (let k = ltb-true r.stamp s (and_parts (r.component == c) (nat_lt r.stamp s) e).1 in omega arith, records_early c s g rs l))
     (λ e. records_early c s g rs l)
 
+floor_early : (floor s : ℕ) (rs : List Record) → floor ≤ s → Each (λ r. r.stamp < s) rs → floor_of_records floor rs ≤ s
+floor_early floor s [] l h = l
+floor_early floor s (r ∷ rs) l h = floor_early (r.stamp + 1) s rs (let k = h.0 in omega (arith, k)) h.1
+
 module _ {S : Type 0} (net : Network S) (until q line : ℕ) (p : Process S) (column : List Record) (line_is : p.line ≡ line) (column_is : column ≡ records_before net until q line) where
   may_come : (g : ℕ) (items : List Item) → line ≤ g → Each (λ i. g ≤ i.message.stamp) items → Each (λ i. IsFor net q i.message) items → Each (λ i. MayCome q p column i.message) items
   may_come g [] l late for = tt
@@ -228,6 +232,8 @@ module _ {S : Type 0} (net : Network S) (until q line : ℕ) (p : Process S) (co
       phase = for.0.fits.phase;
       before_end = for.0.fits.stamp;
       from_line = let a = late.0 in omega (arith, line_is, l, a);
+      from_floor = subst (λ (x : List Record). floor_of x ≤ i.message.stamp) (sym column_is) (floor_early 0 i.message.stamp (records_before net until q line) (omega arith)
+          (records_early q (up_to until line) i.message.stamp (sequential net until).records (let a = late.0 in omega (arith, l, a))));
       after_column = subst (Each (λ r. r.stamp < i.message.stamp)) (sym column_is) (records_early q (up_to until line) i.message.stamp (sequential net until).records (let a = late.0 in omega (arith, l, a)));
     },
     may_come g items l late.1 for.1,

@@ -6,7 +6,7 @@ use Rattle.tw_vtime.specs.Stamps.{stamp}
 use Rattle.tw_theory.specs.Board.{numbers_of, posted_after}
 use Rattle.tw_theory.specs.Bundles.{positive}
 use Rattle.tw_theory.specs.Chains.{own_steps}
-use Rattle.tw_theory.specs.Contents.{Aggressive}
+use Rattle.tw_theory.specs.Contents.{Aggressive, receive}
 use Rattle.tw_theory.specs.ExampleActions.{until, after}
 use Rattle.tw_theory.specs.ExampleChains.{eight, emptied, relayed, relay_after, generates}
 use Rattle.tw_theory.specs.ExampleModels.{State, relay}
@@ -15,11 +15,12 @@ use Rattle.tw_theory.specs.Executive.{Action, Step, Deliver, Stepped, mail_of, a
 use Rattle.tw_theory.specs.LocalRun.{Leads}
 use Rattle.tw_theory.specs.Memory.{IsReplayed, live, need}
 use Rattle.tw_theory.specs.Network.{input}
-use Rattle.tw_theory.specs.Soundness.{IsSound, new_world}
+use Rattle.tw_theory.specs.Soundness.{IsSound, new_process, new_world}
+use Rattle.tw_theory.specs.Standing.{IsReadyFrom, IsRunning}
 use Rattle.tw_theory.specs.Transitions.{start_moment}
 use Rattle.tw_laws.specs.Applied.{driven}
 use Rattle.tw_laws.specs.Chains.{IsStepped, steps_of_one}
-use Rattle.tw_laws.specs.Standing.{StandingLaw, IsReadyFrom, MayCome}
+use Rattle.tw_laws.specs.Standing.{StandingLaw, MayCome}
 
 -- its states are all valid
 abbrev pub AnyState : State → Type 0
@@ -37,6 +38,8 @@ pub record LawsOfRelay : Type 0 where
   -- it is ready at the start, and so after its chain
   pub standing : StandingLaw AnyState (relay 2)
   pub ready : IsReadyFrom AnyState (relay 2) 1 emptied [] (stamp 6 0 1 + 1)
+  -- and so is a process that began there and has received a message
+  pub running : IsRunning AnyState (relay 2) slow_three 1 0 (receive (new_process slow_three Aggressive 1 (relay 2)) (positive (input 6 1 0 (pos 5)))).1
   -- what lies in its mailbox before the delivery may be received
   pub in_mail : mail_of (after slow_three Aggressive generates).mail 1 ≡ positive (input 3 1 0 (pos 5)) ∷ positive (input 6 1 0 (pos 5)) ∷ []
   pub may_come : Each (λ i. MayCome 1 (relay_after generates) [] i.message) (mail_of (after slow_three Aggressive generates).mail 1)

@@ -7,7 +7,7 @@ use Rattle.tw_theory.specs.Executive.{World, column_of}
 use Rattle.tw_theory.specs.Network.{Network, IsNetwork}
 use Rattle.tw_theory.specs.Simulator.{sequential, records_before}
 use Rattle.tw_theory.specs.Soundness.{IsSound}
-use Rattle.tw_theory.specs.Traces.{IsTrace, of_component, before}
+use Rattle.tw_theory.specs.Traces.{IsTrace, IsMerged, of_component, before, least_line}
 
 -- two traces with the same records of each component are one
 abbrev pub OneTrace : Type 0
@@ -25,3 +25,9 @@ MergingLaw S =
     → ((c : ℕ) (p : Process S) → slice_get w.processes c ≡ Some p → g ≤ p.line)
     → (trace : List Record) → IsTrace trace → ((c : ℕ) → of_component c trace ≡ before g (column_of w.columns c))
     → (trace ≡ before g (sequential net until).records) × ((rest : List Record) × (trace ++ rest ≡ (sequential net until).records))
+
+-- So the columns merged up to the least line are the sequential records before it
+abbrev pub LeastLineLaw : Type 0 → Type 0
+LeastLineLaw S =
+    (net : Network S) (until : ℕ) (w : World S) → IsNetwork net → until ≤ max_tick → IsSound net until w → (trace : List Record) → IsMerged (least_line w.processes) w trace
+    → (trace ≡ before (least_line w.processes) (sequential net until).records) × ((rest : List Record) × (trace ++ rest ≡ (sequential net until).records))

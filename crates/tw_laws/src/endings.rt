@@ -4,7 +4,7 @@ ghost use Rattle.tw_laws.specs.Ending.{EndingLaw, StateLaw};
 ghost use Rattle.tw_laws.specs.Exchange.{SweepLaw, SweepSteps, DrawLaw};
 ghost use Rattle.tw_laws.specs.Outcome.{OutcomeLaw};
 ghost use Rattle.tw_laws.specs.Sweeping.{WorkFalls, SweepEnds};
-ghost use Rattle.tw_laws.specs.Traces.{OneTrace, TraceLaw, MergingLaw};
+ghost use Rattle.tw_laws.specs.Traces.{OneTrace, TraceLaw, MergingLaw, LeastLineLaw};
 
 /// Posting and delivering until nothing is in transit ends: with weight 3 for a message sent in a history, 2 for
 /// an outgoing item and 1 for one in a mailbox, each posted item and each delivery, with all that it undoes, lets
@@ -30,9 +30,11 @@ pub fn trace_law<S>()
     ensures sequential { TraceLaw S }
 {}
 
-/// Merging the columns up to the least line gives a beginning of the sequential trace.
+/// Merging the columns up to a stamp that no line is before, as the least line is, gives a beginning of the
+/// sequential trace.
 pub fn merging_law<S>()
-    ensures { MergingLaw S }
+    ensures merged { MergingLaw S }
+    ensures least { LeastLineLaw S }
 {}
 
 /// A sweep posts and delivers until the executive is swept, then raises global virtual time and commits: no action

@@ -1,6 +1,6 @@
 //! When a component's next step can be made, and what it may receive.
 
-ghost use Rattle.tw_laws.specs.Standing.{ReceiveLaw, StandingLaw};
+ghost use Rattle.tw_laws.specs.Standing.{ReceiveLaw, RunningLaw, StandingLaw};
 
 use tw_atomic::Atomic;
 
@@ -8,6 +8,12 @@ use tw_atomic::Atomic;
 /// message that comes not before its last step, or is withdrawn.
 pub fn standing_law<M: Atomic>()
     ensures { (model : M) → StandingLaw (M.valid model) (M.meaning model) }
+{}
+
+/// Whatever a process does, steps, rollbacks, chains, receipts and commitments, it stays one whose run began where it
+/// was ready: so its next step can always be made.
+pub fn running_law<M: Atomic>()
+    ensures { (model : M) → RunningLaw (M.valid model) (M.meaning model) }
 {}
 
 /// In a sound executive each item of a mailbox is to its component, for a transition, not before its commit line and

@@ -1,6 +1,6 @@
 -- Installing a chain: which of its steps its component's process makes.
 --     IsFresh start n p step      the process p, which has made n steps of a chain from this start, would make this step next
---     Takes net c steps p q      p makes these steps, each of them fresh, and is q then
+--     TakesFrom net start n steps p q      p, which has made n steps of a chain from this start, makes these, each of them fresh, and is q then
 --     IsInstalled net r cause p q finished      what is made of a chain, and why no more
 use Rattle.std.specs.Prelude.{ℕ, ◌+◌, ◌<◌, ◌≤◌, ◌≡◌, List, [], ◌∷◌, length, take, Some, Ok, slice_get}
 use Rattle.tw_theory.specs.Chains.{Start, SoloRun, Cause, Agrees}
@@ -26,7 +26,7 @@ pub record IsFresh {S : Type 0} (start : Start S) (n : ℕ) (p : Process S) (ste
   pub begins : n ≡ 0 → p.now ≡ start.now
   pub agrees : Agrees p.now p.pending step
 
--- n steps of the chain were made before these
+-- n steps of the chain were made before these, each of which is fresh in its turn
 abbrev pub TakesFrom : {S : Type 0} → Network S → Start S → ℕ → List (Step S) → Process S → Process S → Type 0
 TakesFrom net start n [] p q = q ≡ p
 TakesFrom {S} net start n (step ∷ steps) p q =
@@ -45,7 +45,7 @@ StopsAt net r n p step Stale = IsFresh r.start n p step → ⊥
 StopsAt net r n p step OutOfMemory = IsFresh r.start n p step
 StopsAt net r n p step Full = IsFresh r.start n p step × IsFullFor net r.start.component p
 
--- The steps before the first stale or refused one are made, and no others; where that is none, a chain of no steps answers its cause
+-- The steps before the first stale or refused one are made, and no others. Of a chain without steps none is made, and it answers its cause
 pub record IsInstalled {S : Type 0} (net : Network S) (r : SoloRun S) (cause : Cause) (p q : Process S) (finished : Finished) : Type 0 where
   pub within : finished.installed ≤ length r.steps
   pub takes : TakesFrom net r.start 0 (take finished.installed r.steps) p q

@@ -9,7 +9,7 @@ use Rattle.std.proofs.lemmas.Bool.{cond-true, cond-false, cond_both, eq-eqb, ne_
 use Rattle.std.proofs.lemmas.List.{take_more}
 use Rattle.std.proofs.lemmas.List.Elements.{filter-append, filter_agree, recursion_from_All}
 use Rattle.tw_fossils.specs.Columns.{IsRising, IsColumn, AreColumns}
-use Rattle.tw_laws.specs.Traces.{Precedes, IsTrace, before, of_component}
+use Rattle.tw_theory.specs.Traces.{Precedes, IsTrace, before, of_component}
 use Rattle.tw_msgs.specs.declared.record.Record.{Record}
 use Rattle.tw_theory.specs.Executive.{World, column_of}
 use Rattle.tw_theory.specs.Network.{Network, IsNetwork}

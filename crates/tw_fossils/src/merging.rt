@@ -2,7 +2,7 @@
 
 ghost use Rattle.std.specs.Prelude.{◌≡◌, ℕ, IfOk};
 ghost use Rattle.tw_fossils.specs.Columns.{AreColumns};
-ghost use Rattle.tw_laws.specs.Traces.{IsTrace, before, of_component};
+ghost use Rattle.tw_theory.specs.Traces.{IsTrace, before, of_component};
 ghost use Rattle.tw_theory.specs.Executive.{column_of};
 
 use crate::column::Column;

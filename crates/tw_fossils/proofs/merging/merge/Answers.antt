@@ -3,7 +3,7 @@ use Rattle.std.specs.List.Sorted.{IsNonDecreasingBy, IsStableByKey}
 use Rattle.std.specs.Ordering.{nat_cmp}
 use Rattle.std.proofs.lemmas.List.{take_all}
 use Rattle.std.proofs.lemmas.List.Sorted.{IsNonDecreasingBy-from_sort_by_key, answers_always}
-use Rattle.tw_laws.specs.Traces.{before}
+use Rattle.tw_theory.specs.Traces.{before}
 use Rattle.tw_fossils.proofs.Joining.{joined, before_more, sorted_columns}
 use Rattle.tw_fossils.proofs.merging.merge.Goals as goal
 

@@ -1,6 +1,6 @@
 -- The records of the columns so far that are before the line, and of this column those so far.
 use Rattle.std.proofs.Common.{◌≡◌, ◌++◌, take}
-use Rattle.tw_laws.specs.Traces.{before}
+use Rattle.tw_theory.specs.Traces.{before}
 use Rattle.tw_fossils.proofs.Joining.{joined}
 use Rattle.tw_fossils.proofs.merging.merge.Given as goal
 

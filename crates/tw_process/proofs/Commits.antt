@@ -32,11 +32,11 @@ each_drop P zero xs ys h = h
 each_drop P (suc n) [] ys h = h
 each_drop P (suc n) (x ∷ xs) ys h = each_drop P n xs ys h.1
 
-first_at_most : (c : ℕ) (ms : List Message) → Each (CanTake c) ms → first_stamp ms ≤ never
+pub first_at_most : (c : ℕ) (ms : List Message) → Each (CanTake c) ms → first_stamp ms ≤ never
 first_at_most c [] h = omega arith
 first_at_most c (m ∷ ms) h = let l = h.0.before_end in omega (arith, l)
 
-module _ {S R : Type 0} (valid : S → Type 0) (m : Meaning S) (residue_of : Turn → S → ℕ → Bag → R) (c : ℕ) (now : Moment S) (floor : ℕ) (e : Entry S R) (es : List (Entry S R)) (lists : Lists) (kept : IsKeptBy valid m residue_of c now floor (e ∷ es) lists) where
+module _ {S R : Type 0} (valid : S → Type 0) (m : Meaning S) (undone : Turn → S → ℕ → Bag → R → S) (c : ℕ) (now : Moment S) (floor : ℕ) (e : Entry S R) (es : List (Entry S R)) (lists : Lists) (kept : IsKeptBy valid m undone c now floor (e ∷ es) lists) where
   pub consumed_in : e.consumed ≤ length lists.consumed
   consumed_in = omega (arith, kept.consumed_is)
 
@@ -50,7 +50,7 @@ module _ {S R : Type 0} (valid : S → Type 0) (m : Meaning S) (residue_of : Tur
       let top = first_at_most c lists.pending (each_parts (CanTake c) lists.consumed lists.pending kept.fit).1 in
       omega (arith, grows, kept.from, top)
 
-  pub committed : (room spare : ℕ) → IsKeptBy valid m residue_of c now (e.done.stamp + 1) es (with_room room spare (forgotten e.consumed e.sent lists))
+  pub committed : (room spare : ℕ) → IsKeptBy valid m undone c now (e.done.stamp + 1) es (with_room room spare (forgotten e.consumed e.sent lists))
   committed room spare = record {
     linked = kept.linked.1;
     consumed_is = omega (arith, kept.consumed_is, length-drop e.consumed lists.consumed);

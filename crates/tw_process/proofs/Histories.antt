@@ -142,23 +142,23 @@ module _ {S R : Type 0} where
   state_last [] e now = refl
   state_last (x ∷ es) e now = refl
 
-  module _ (valid : S → Type 0) (m : Meaning S) (residue_of : Turn → S → ℕ → Bag → R) where
-    pub linked_last : (es : List (Entry S R)) (e : Entry S R) (now : S) → Linked valid m residue_of (es ++ e ∷ []) now → LinkBy valid m residue_of e.residue e now × Linked valid m residue_of es e.before.value
+  module _ (valid : S → Type 0) (m : Meaning S) (undone : Turn → S → ℕ → Bag → R → S) where
+    pub linked_last : (es : List (Entry S R)) (e : Entry S R) (now : S) → Linked undone (es ++ e ∷ []) now → LinkBy undone e.residue e now × Linked undone es e.before.value
     linked_last [] e now linked = (linked.0, tt)
     linked_last (x ∷ es) e now linked =
         let rest = linked_last es e now linked.1 in
-        (rest.0, (subst (λ s. LinkBy valid m residue_of x.residue x s) (state_last es e now) linked.0, rest.1))
+        (rest.0, (subst (λ s. LinkBy undone x.residue x s) (state_last es e now) linked.0, rest.1))
 
-    pub record Undone {M : Type 0} (network : NetworkContents M) (c : ℕ) (now : Moment S) (line : ℕ) (way : Cancel) (floor : ℕ) (es : List (Entry S R)) (e : Entry S R) (lists : Lists) : Type 0 where
-      pub link : LinkBy valid m residue_of e.residue e now.state
+    pub record TakenBack {M : Type 0} (network : NetworkContents M) (c : ℕ) (now : Moment S) (line : ℕ) (way : Cancel) (floor : ℕ) (es : List (Entry S R)) (e : Entry S R) (lists : Lists) : Type 0 where
+      pub link : LinkBy undone e.residue e now.state
       pub consumed_in : e.consumed ≤ length lists.consumed
       pub sent_in : e.sent ≤ length lists.sent
       pub sorted : Sorted (drop (length lists.consumed - e.consumed) lists.consumed ++ lists.pending)
-      pub kept : IsKeptBy valid m residue_of c (before_of e) floor es (cancelled way e.sent (restored e.consumed lists))
+      pub kept : IsKeptBy valid m undone c (before_of e) floor es (cancelled way e.sent (restored e.consumed lists))
       pub seen_is : seen network c (before_of e) line way floor es (cancelled way e.sent (restored e.consumed lists)) ≡ with_last_undone (seen network c now line way floor (es ++ e ∷ []) lists)
 
-    pub undone : {M : Type 0} (network : NetworkContents M) (c : ℕ) (now : Moment S) (line : ℕ) (way : Cancel) (floor : ℕ) (es : List (Entry S R)) (e : Entry S R) (lists : Lists) → IsKeptBy valid m residue_of c now floor (es ++ e ∷ []) lists → Undone network c now line way floor es e lists
-    undone {M} network c now line way floor es e lists kept =
+    pub taken_back : {M : Type 0} (network : NetworkContents M) (c : ℕ) (now : Moment S) (line : ℕ) (way : Cancel) (floor : ℕ) (es : List (Entry S R)) (e : Entry S R) (lists : Lists) → IsKeptBy valid m undone c now floor (es ++ e ∷ []) lists → TakenBack network c now line way floor es e lists
+    taken_back {M} network c now line way floor es e lists kept =
         let links = linked_last es e now.state kept.linked in
         let consumed : total_consumed es + e.consumed ≡ length lists.consumed = sym (consumed_last es e) ∙ kept.consumed_is in
         let sent : total_sent es + e.sent ≡ length lists.sent = sym (sent_last es e) ∙ kept.sent_is in
@@ -196,17 +196,17 @@ module _ {S R : Type 0} where
               (undone_is (seen network c now line way floor (es ++ e ∷ []) lists).process (shown es a x) (step_of e b d) history));
         }
 
-    linked_more : (es : List (Entry S R)) (e : Entry S R) (now : S) → Linked valid m residue_of es e.before.value → LinkBy valid m residue_of e.residue e now → Linked valid m residue_of (es ++ e ∷ []) now
+    linked_more : (es : List (Entry S R)) (e : Entry S R) (now : S) → Linked undone es e.before.value → LinkBy undone e.residue e now → Linked undone (es ++ e ∷ []) now
     linked_more [] e now linked link = (link, tt)
     linked_more (x ∷ es) e now linked link =
-        (subst (λ s. LinkBy valid m residue_of x.residue x s) (sym (state_last es e now)) linked.0, linked_more es e now linked.1 link)
+        (subst (λ s. LinkBy undone x.residue x s) (sym (state_last es e now)) linked.0, linked_more es e now linked.1 link)
 
     -- one more step stands in the history
     pub record Grown (c : ℕ) (now : Moment S) (floor : ℕ) (es : List (Entry S R)) (e : Entry S R) (old lists : Lists) (b d : List Message) : Type 0 where
-      pub kept : IsKeptBy valid m residue_of c now floor (es ++ e ∷ []) lists
+      pub kept : IsKeptBy valid m undone c now floor (es ++ e ∷ []) lists
       pub history : shown (es ++ e ∷ []) lists.consumed lists.sent ≡ shown es old.consumed old.sent ++ step_of e b d ∷ []
 
-    pub grown : (c : ℕ) (before now : Moment S) (floor : ℕ) (es : List (Entry S R)) (e : Entry S R) (old lists : Lists) (b d : List Message) → IsKeptBy valid m residue_of c before floor es old → before_of e ≡ before → LinkBy valid m residue_of e.residue e now.state
+    pub grown : (c : ℕ) (before now : Moment S) (floor : ℕ) (es : List (Entry S R)) (e : Entry S R) (old lists : Lists) (b d : List Message) → IsKeptBy valid m undone c before floor es old → before_of e ≡ before → LinkBy undone e.residue e now.state
         → lists.consumed ≡ old.consumed ++ b → lists.sent ≡ old.sent ++ d → length b ≡ e.consumed → length d ≡ e.sent → b ++ lists.pending ≡ old.pending
         → floor_after floor (shown es old.consumed old.sent) ≤ e.done.stamp → Each (λ x. x.stamp ≡ e.done.stamp) b → IsStanding valid m now (e.done.stamp + 1) → e.done.stamp + 1 ≤ first_stamp lists.pending
         → Grown c now floor es e old lists b d
@@ -218,7 +218,7 @@ module _ {S R : Type 0} where
         let later : floor_after floor (shown (es ++ e ∷ []) lists.consumed lists.sent) ≡ e.done.stamp + 1 = ap (floor_after floor) history ∙ floor_last floor (shown es old.consumed old.sent) (step_of e b d) in
         record {
           kept = record {
-            linked = linked_more es e now.state (subst (λ s. Linked valid m residue_of es s) (sym (ap (λ (x : Moment S). x.state) before_is)) kept.linked) link;
+            linked = linked_more es e now.state (subst (λ s. Linked undone es s) (sym (ap (λ (x : Moment S). x.state) before_is)) kept.linked) link;
             consumed_is = consumed_last es e ∙ (let n = length-append old.consumed b in let l = ap length consumed in omega (arith, n, l, b_is, kept.consumed_is));
             sent_is = sent_last es e ∙ (let n = length-append old.sent d in let l = ap length sent in omega (arith, n, l, d_is, kept.sent_is));
             sorted = subst (λ l. Sorted l) (sym all) kept.sorted;
@@ -231,10 +231,10 @@ module _ {S R : Type 0} where
         }
 
 -- what a process keeps, for its model as it was found
-pub kept_at : {M S R : Type 0} (valid : M → S → Type 0) (meaning : M → Meaning S) (residue_of : M → Turn → S → ℕ → Bag → R) (network : NetworkContents M) (c : ℕ) (now : Moment S) (floor : ℕ) (es : List (Entry S R)) (lists : Lists) → IsKept valid meaning residue_of network c now floor es lists
-    → (m : M) → slice_get network.models c ≡ Some m → IsKeptBy (valid m) (meaning m) (residue_of m) c now floor es lists
-kept_at valid meaning residue_of network c now floor es lists kept m is =
-    subst (λ x. IsKeptBy (valid x) (meaning x) (residue_of x) c now floor es lists) (same_Some kept.model m (sym kept.there ∙ is)) kept.by
+pub kept_at : {M S R : Type 0} (valid : M → S → Type 0) (meaning : M → Meaning S) (undone : M → Turn → S → ℕ → Bag → R → S) (network : NetworkContents M) (c : ℕ) (now : Moment S) (floor : ℕ) (es : List (Entry S R)) (lists : Lists) → IsKept valid meaning undone network c now floor es lists
+    → (m : M) → slice_get network.models c ≡ Some m → IsKeptBy (valid m) (meaning m) (undone m) c now floor es lists
+kept_at valid meaning undone network c now floor es lists kept m is =
+    subst (λ x. IsKeptBy (valid x) (meaning x) (undone x) c now floor es lists) (same_Some kept.model m (sym kept.there ∙ is)) kept.by
 
 -- ---- How many nodes there are
 
@@ -253,9 +253,9 @@ sent_by_shown (e ∷ es) a c is =
     ∙ take-append-drop e.sent c
 
 -- the lists have as many nodes as the contents say
-pub live_shown : {M S R : Type 0} (valid : S → Type 0) (m : Meaning S) (residue_of : Turn → S → ℕ → Bag → R) (network : NetworkContents M) (c : ℕ) (now : Moment S) (line : ℕ) (way : Cancel) (floor : ℕ) (es : List (Entry S R)) (lists : Lists)
-    → IsKeptBy valid m residue_of c now floor es lists → live (seen network c now line way floor es lists).process ≡ lists_count lists
-live_shown valid m residue_of network c now line way floor es lists kept =
+pub live_shown : {M S R : Type 0} (valid : S → Type 0) (m : Meaning S) (undone : Turn → S → ℕ → Bag → R → S) (network : NetworkContents M) (c : ℕ) (now : Moment S) (line : ℕ) (way : Cancel) (floor : ℕ) (es : List (Entry S R)) (lists : Lists)
+    → IsKeptBy valid m undone c now floor es lists → live (seen network c now line way floor es lists).process ≡ lists_count lists
+live_shown valid m undone network c now line way floor es lists kept =
     omega (arith, ap length (consumed_by_shown es lists.consumed lists.sent kept.consumed_is), ap length (sent_by_shown es lists.consumed lists.sent kept.sent_is), length-append (consumed_by (shown es lists.consumed lists.sent)) lists.pending)
 
 -- ---- The last stamp

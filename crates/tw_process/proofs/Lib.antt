@@ -4,3 +4,4 @@ pub mod Receipts
 pub mod Commits
 pub mod Starts
 pub mod Outcomes
+pub mod Copies

@@ -90,9 +90,9 @@ none_after : (way : Cancel) (owed : List Message) → owed ≡ owed_after way ow
 none_after Aggressive owed = refl
 none_after Lazy owed = refl
 
-module _ {M S R : Type 0} (valid : M → S → Type 0) (meaning : M → Meaning S) (residue_of : M → Turn → S → ℕ → Bag → R) (network : Contents M) (c : ℕ) (model : M) (there : slice_get network.models c ≡ Some model) where
+module _ {M S R : Type 0} (valid : M → S → Type 0) (meaning : M → Meaning S) (undone : M → Turn → S → ℕ → Bag → R → S) (network : Contents M) (c : ℕ) (model : M) (there : slice_get network.models c ≡ Some model) where
   pub record Stepped (before now : Moment S) (line : ℕ) (way : Cancel) (floor : ℕ) (es items : List (Entry S R)) (old new : Lists) (s : ℕ) (kind : RecordKind) : Type 0 where
-    pub kept : IsKept valid meaning residue_of network c now floor items new
+    pub kept : IsKept valid meaning undone network c now floor items new
     pub stepped : IsStepped meaning (seen network c before line way floor es old) (seen network c now line way floor items new) s kind
 
   shape : ℕ → Cancel → ℕ → ℕ → Moment S → List Message → List (Step S) → List Message → List Item → List Message → Held M S
@@ -108,7 +108,7 @@ module _ {M S R : Type 0} (valid : M → S → Type 0) (meaning : M → Meaning 
   output_entry s last due count bag words snap = record { done = record { component = c; stamp = s; kind = Out; bag = bag; words = words }; last = last; due = due; consumed = 0; sent = count; residue = None; before = snap }
 
   pub output_stepped : (before : Moment S) (line : ℕ) (way : Cancel) (floor room spare count : ℕ) (es items : List (Entry S R)) (bag : Bag) (words : List ℤ) (snap : Snapshot S) (ms : List Message) (old new : Lists) (s due' : ℕ)
-      → IsKeptBy (valid model) (meaning model) (residue_of model) c before floor es old
+      → IsKeptBy (valid model) (meaning model) (undone model) c before floor es old
       → s ≡ next_of before old.pending → s < never → phase_of s ≡ 0
       → snap.value ≡ before.state → bag ≡ sorted_bag ((meaning model).out before.state) → words ≡ []
       → ms ≡ routed (network_of meaning network) c (s + 1) bag → count ≡ length ms → new ≡ with_room room spare (with_all_sent way ms old) → due' ≡ s + 1
@@ -127,15 +127,15 @@ module _ {M S R : Type 0} (valid : M → S → Type 0) (meaning : M → Meaning 
       let odd = first_odd c old.pending pending_taken in
       let due_now : before.due ≡ s = omega (arith, next, even, odd) in
       let low = kept.standing.from in
-      let g = grown (valid model) (meaning model) (residue_of model) c before now floor es e old mid [] ms kept (λ i. record { state = snap_is i; last = before.last; due = before.due }) (sym snap_is) (sym (append-nil old.consumed)) refl refl (sym count_is) refl
+      let g = grown (valid model) (meaning model) (undone model) c before now floor es e old mid [] ms kept (λ i. record { state = snap_is i; last = before.last; due = before.due }) (sym snap_is) (sym (append-nil old.consumed)) refl refl (sym count_is) refl
       (omega (arith, low, due_now)) tt (after_output (valid model) (meaning model) before (floor_after floor (shown es old.consumed old.sent)) s kept.standing due_now top even) (omega (arith, next, even, odd)) in
       record {
         kept = record {
           model = model;
           there = there;
-          by = subst (λ d. IsKeptBy (valid model) (meaning model) (residue_of model) c (record { state = before.state; last = before.last; due = d }) floor items new) (sym due_is)
-              (subst (λ l. IsKeptBy (valid model) (meaning model) (residue_of model) c now floor l new) (sym items_is)
-              (subst (λ l. IsKeptBy (valid model) (meaning model) (residue_of model) c now floor (es ++ e ∷ []) l) (sym new_is) g.kept));
+          by = subst (λ d. IsKeptBy (valid model) (meaning model) (undone model) c (record { state = before.state; last = before.last; due = d }) floor items new) (sym due_is)
+              (subst (λ l. IsKeptBy (valid model) (meaning model) (undone model) c now floor l new) (sym items_is)
+              (subst (λ l. IsKeptBy (valid model) (meaning model) (undone model) c now floor (es ++ e ∷ []) l) (sym new_is) g.kept));
         };
         stepped = record {
           made = output_made net c before old.pending s (output net c before s);
@@ -161,10 +161,10 @@ module _ {M S R : Type 0} (valid : M → S → Type 0) (meaning : M → Meaning 
   transition_entry s last due kind count bag words tk residue snap = record { done = record { component = c; stamp = s; kind = kind; bag = bag; words = words }; last = last; due = due; consumed = count; sent = 0; residue = Some (tk, residue); before = snap }
 
   pub transition_stepped : (before : Moment S) (line : ℕ) (way : Cancel) (floor count : ℕ) (es items : List (Entry S R)) (bag : Bag) (words : List ℤ) (snap : Snapshot S) (tk : Turn) (residue : R) (kind : RecordKind) (o : Option ℕ) (old new : Lists) (s elapsed : ℕ) (state' : S) (last' due' : ℕ)
-      → IsKeptBy (valid model) (meaning model) (residue_of model) c before floor es old
+      → IsKeptBy (valid model) (meaning model) (undone model) c before floor es old
       → s ≡ next_of before old.pending → s < never → phase_of s ≡ 1 → network.micro_limit ≤ max_microstep
       → snap.value ≡ before.state → bag ≡ items_of (front s old.pending) → tk ≡ turn (before.due == s) bag → elapsed ≡ tick_of s - tick_of before.last
-      → state' ≡ turned (meaning model) tk before.state elapsed bag → residue ≡ residue_of model tk before.state elapsed bag
+      → state' ≡ turned (meaning model) tk before.state elapsed bag → (CanTurn (valid model) (meaning model) tk before.state elapsed bag → undone model tk (turned (meaning model) tk before.state elapsed bag) elapsed bag residue ≡ before.state)
       → (CanTurn (valid model) (meaning model) tk before.state elapsed bag → valid model (turned (meaning model) tk before.state elapsed bag))
       → advanced s ((meaning model).ta state') network.micro_limit ≡ Ok o → due' ≡ due_of o → last' ≡ s - 1
       → words ≡ (meaning model).words state' → kind ≡ kind_of tk → new ≡ front_consumed s old → count ≡ length (front s old.pending)
@@ -202,12 +202,10 @@ module _ {M S R : Type 0} (valid : M → S → Type 0) (meaning : M → Meaning 
       let low = kept.standing.from in
       let first = kept.from in
       let standing = after_transition (valid model) (meaning model) state' s network.micro_limit o (subst (λ x. valid model x) (sym state_is) (stays can1)) top odd small advances in
-      let g = grown (valid model) (meaning model) (residue_of model) c before now floor es e old mid fronts [] kept (λ i. record { state = snap_is i; last = before.last; due = before.due }) (
+      let g = grown (valid model) (meaning model) (undone model) c before now floor es e old mid fronts [] kept (λ i. record { state = snap_is i; last = before.last; due = before.due }) (
         top,
         kept.standing.last_is,
-        subst (λ x. CanTurn (valid model) (meaning model) tk x el bag) (sym snap_is) (subst (λ x. CanTurn (valid model) (meaning model) tk before.state x bag) elapsed_is can1),
-        state_is ∙ (λ i. turned (meaning model) tk (sym snap_is i) (elapsed_is i) bag),
-        residue_is ∙ (λ i. residue_of model tk (sym snap_is i) (elapsed_is i) bag),
+        (λ i. undone model tk (state_is i) (sym elapsed_is i) bag residue) ∙ residue_is can1 ∙ sym snap_is,
       )
       refl (sym (append-nil old.sent)) (sym count_is) refl (front-behind s old.pending)
       (omega (arith, low, first, next)) (front_at s old.pending) standing (omega (arith, later, next)) in
@@ -215,10 +213,10 @@ module _ {M S R : Type 0} (valid : M → S → Type 0) (meaning : M → Meaning 
         kept = record {
           model = model;
           there = there;
-          by = subst (λ d. IsKeptBy (valid model) (meaning model) (residue_of model) c (record { state = state'; last = last'; due = d }) floor items new) (sym due_is)
-              (subst (λ d. IsKeptBy (valid model) (meaning model) (residue_of model) c (record { state = state'; last = d; due = due_of o }) floor items new) (sym last_is)
-              (subst (λ l. IsKeptBy (valid model) (meaning model) (residue_of model) c now floor l new) (sym items_is)
-              (subst (λ l. IsKeptBy (valid model) (meaning model) (residue_of model) c now floor (es ++ e ∷ []) l) (sym new_is) g.kept)));
+          by = subst (λ d. IsKeptBy (valid model) (meaning model) (undone model) c (record { state = state'; last = last'; due = d }) floor items new) (sym due_is)
+              (subst (λ d. IsKeptBy (valid model) (meaning model) (undone model) c (record { state = state'; last = d; due = due_of o }) floor items new) (sym last_is)
+              (subst (λ l. IsKeptBy (valid model) (meaning model) (undone model) c now floor l new) (sym items_is)
+              (subst (λ l. IsKeptBy (valid model) (meaning model) (undone model) c now floor (es ++ e ∷ []) l) (sym new_is) g.kept)));
         };
         stepped = record {
           made = transition_made before old.pending s move;
@@ -242,7 +240,7 @@ module _ {M S R : Type 0} (valid : M → S → Type 0) (meaning : M → Meaning 
       }
 
   -- what a turn needs, as the code has it
-  pub turn_possible : (before : Moment S) (floor : ℕ) (es : List (Entry S R)) (old : Lists) (bag : Bag) (tk : Turn) (s elapsed : ℕ) → IsKeptBy (valid model) (meaning model) (residue_of model) c before floor es old
+  pub turn_possible : (before : Moment S) (floor : ℕ) (es : List (Entry S R)) (old : Lists) (bag : Bag) (tk : Turn) (s elapsed : ℕ) → IsKeptBy (valid model) (meaning model) (undone model) c before floor es old
       → s ≡ next_of before old.pending → s < never → phase_of s ≡ 1 → bag ≡ items_of (front s old.pending) → tk ≡ turn (before.due == s) bag → elapsed ≡ tick_of s - tick_of before.last
       → CanTurn (valid model) (meaning model) tk before.state elapsed bag
   turn_possible before floor es old bag tk s elapsed kept next top odd bag_is tk_is elapsed_is =
@@ -276,7 +274,7 @@ module _ {M S R : Type 0} (valid : M → S → Type 0) (meaning : M → Meaning 
 
   -- an output whose nodes would be too many
   pub too_large : (now : Moment S) (line : ℕ) (way : Cancel) (floor : ℕ) (es : List (Entry S R)) (lists : Lists) (s : ℕ) (bag : Bag) (ms : List Message)
-      → IsKeptBy (valid model) (meaning model) (residue_of model) c now floor es lists
+      → IsKeptBy (valid model) (meaning model) (undone model) c now floor es lists
       → s ≡ next_of now lists.pending → s < never → phase_of s ≡ 0 → bag ≡ sorted_bag ((meaning model).out now.state) → ms ≡ routed (network_of meaning network) c (s + 1) bag
       → 1048576 < lists_count lists + 2 * length (sent_out way lists.owed ms)
       → IsFullFor (network_of meaning network) c (seen network c now line way floor es lists).process
@@ -289,5 +287,5 @@ module _ {M S R : Type 0} (valid : M → S → Type 0) (meaning : M → Meaning 
       record {
         made = output_made net c now lists.pending s (output net c now s);
         is = local_output net c now lists.pending s next top even;
-        passes = omega (arith, full, ap (λ l. length (sent_out way lists.owed l)) sends, live_shown (valid model) (meaning model) (residue_of model) network c now line way floor es lists kept);
+        passes = omega (arith, full, ap (λ l. length (sent_out way lists.owed l)) sends, live_shown (valid model) (meaning model) (undone model) network c now line way floor es lists kept);
       }

@@ -43,9 +43,9 @@ each_end : (c : ℕ) (ms : List Message) → Each (CanTake c) ms → Each (λ x.
 each_end c [] h = tt
 each_end c (x ∷ ms) h = (h.0.before_end, each_end c ms h.1)
 
-module _ {S R : Type 0} (valid : S → Type 0) (m : Meaning S) (residue_of : Turn → S → ℕ → Bag → R) (c : ℕ) (now : Moment S) (floor : ℕ) (es : List (Entry S R)) (old : Lists) (kept : IsKeptBy valid m residue_of c now floor es old) where
+module _ {S R : Type 0} (valid : S → Type 0) (m : Meaning S) (undone : Turn → S → ℕ → Bag → R → S) (c : ℕ) (now : Moment S) (floor : ℕ) (es : List (Entry S R)) (old : Lists) (kept : IsKeptBy valid m undone c now floor es old) where
   -- other lists and rooms
-  pub others_kept : (waiting : List Message) (outgoing : List Item) (owed : List Message) (room spare : ℕ) → IsKeptBy valid m residue_of c now floor es (record old { waiting = waiting; outgoing = outgoing; owed = owed; room = room; spare = spare })
+  pub others_kept : (waiting : List Message) (outgoing : List Item) (owed : List Message) (room spare : ℕ) → IsKeptBy valid m undone c now floor es (record old { waiting = waiting; outgoing = outgoing; owed = owed; room = room; spare = spare })
   others_kept waiting outgoing owed room spare = record {
     linked = kept.linked;
     consumed_is = kept.consumed_is;
@@ -61,7 +61,7 @@ module _ {S R : Type 0} (valid : S → Type 0) (m : Meaning S) (residue_of : Tur
   low = subst (λ l. Each (λ x. x.stamp < floor_after floor (shown es old.consumed old.sent)) l) (consumed_by_shown es old.consumed old.sent kept.consumed_is) (consumed_before valid m floor (shown es old.consumed old.sent) kept.stood)
 
   -- other messages pending, in order and not before the floor
-  pub pending_kept : (pending : List Message) (room spare : ℕ) → Sorted pending → Each (CanTake c) pending → floor_after floor (shown es old.consumed old.sent) ≤ first_stamp pending → IsKeptBy valid m residue_of c now floor es (record old { pending = pending; room = room; spare = spare })
+  pub pending_kept : (pending : List Message) (room spare : ℕ) → Sorted pending → Each (CanTake c) pending → floor_after floor (shown es old.consumed old.sent) ≤ first_stamp pending → IsKeptBy valid m undone c now floor es (record old { pending = pending; room = room; spare = spare })
   pending_kept pending room spare sorted fit from = record {
     linked = kept.linked;
     consumed_is = kept.consumed_is;
@@ -73,23 +73,23 @@ module _ {S R : Type 0} (valid : S → Type 0) (m : Meaning S) (residue_of : Tur
     from = from;
   }
 
-  pub put_kept : (x : Message) (room spare : ℕ) → (CanTake c) x → floor_after floor (shown es old.consumed old.sent) ≤ x.stamp → IsKeptBy valid m residue_of c now floor es (with_room room spare (with_pending x old))
+  pub put_kept : (x : Message) (room spare : ℕ) → (CanTake c) x → floor_after floor (shown es old.consumed old.sent) ≤ x.stamp → IsKeptBy valid m undone c now floor es (with_room room spare (with_pending x old))
   put_kept x room spare fits after =
       let fit = (each_parts (CanTake c) old.consumed old.pending kept.fit).1 in
       let sorted = sorted_right old.consumed old.pending kept.sorted in
       pending_kept (place x old.pending) room spare (place-Sorted x old.pending sorted) (each-place (CanTake c) x old.pending fits fit) (first_of_place (floor_after floor (shown es old.consumed old.sent)) x old.pending after kept.from)
 
-  pub withdrawn_kept : (x : Message) (room spare : ℕ) → IsKeptBy valid m residue_of c now floor es (with_room room spare (without_pending x old))
+  pub withdrawn_kept : (x : Message) (room spare : ℕ) → IsKeptBy valid m undone c now floor es (with_room room spare (without_pending x old))
   withdrawn_kept x room spare =
       let fit = (each_parts (CanTake c) old.consumed old.pending kept.fit).1 in
       let sorted = sorted_right old.consumed old.pending kept.sorted in
       pending_kept (without x old.pending) room spare (without-Sorted x old.pending sorted) (each-without (CanTake c) x old.pending fit) (first_of_without (floor_after floor (shown es old.consumed old.sent)) x old.pending (ascending_of_sorted old.pending (each_end c old.pending fit) sorted) kept.from)
 
 -- other lists, whatever the model is
-pub kept_with : {M S R : Type 0} (valid : M → S → Type 0) (meaning : M → Meaning S) (residue_of : M → Turn → S → ℕ → Bag → R) (network : NetworkContents M) (c : ℕ) (now : Moment S) (floor : ℕ) (es : List (Entry S R)) (old new goal : Lists) → IsKept valid meaning residue_of network c now floor es old
-    → new ≡ goal → ((x : M) → IsKeptBy (valid x) (meaning x) (residue_of x) c now floor es old → IsKeptBy (valid x) (meaning x) (residue_of x) c now floor es goal) → IsKept valid meaning residue_of network c now floor es new
-kept_with valid meaning residue_of network c now floor es old new goal kept is f = record {
+pub kept_with : {M S R : Type 0} (valid : M → S → Type 0) (meaning : M → Meaning S) (undone : M → Turn → S → ℕ → Bag → R → S) (network : NetworkContents M) (c : ℕ) (now : Moment S) (floor : ℕ) (es : List (Entry S R)) (old new goal : Lists) → IsKept valid meaning undone network c now floor es old
+    → new ≡ goal → ((x : M) → IsKeptBy (valid x) (meaning x) (undone x) c now floor es old → IsKeptBy (valid x) (meaning x) (undone x) c now floor es goal) → IsKept valid meaning undone network c now floor es new
+kept_with valid meaning undone network c now floor es old new goal kept is f = record {
   model = kept.model;
   there = kept.there;
-  by = subst (λ l. IsKeptBy (valid kept.model) (meaning kept.model) (residue_of kept.model) c now floor es l) (sym is) (f kept.model kept.by);
+  by = subst (λ l. IsKeptBy (valid kept.model) (meaning kept.model) (undone kept.model) c now floor es l) (sym is) (f kept.model kept.by);
 }

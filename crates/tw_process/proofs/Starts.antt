@@ -51,8 +51,8 @@ start_standing valid m fits = record {
   from = omega arith;
 }
 
-pub start_kept : {S R : Type 0} (valid : S → Type 0) (m : Meaning S) (residue_of : Turn → S → ℕ → Bag → R) (c : ℕ) (now : Moment S) (lists : Lists) (all : List Message) → lists.pending ≡ sorted_messages all → Each (CanTake c) lists.pending → lists.consumed ≡ [] → lists.sent ≡ [] → IsStanding valid m now 0 → IsKeptBy {S = S} {R = R} valid m residue_of c now 0 [] lists
-start_kept valid m residue_of c now lists all pending fit consumed sent standing = record {
+pub start_kept : {S R : Type 0} (valid : S → Type 0) (m : Meaning S) (undone : Turn → S → ℕ → Bag → R → S) (c : ℕ) (now : Moment S) (lists : Lists) (all : List Message) → lists.pending ≡ sorted_messages all → Each (CanTake c) lists.pending → lists.consumed ≡ [] → lists.sent ≡ [] → IsStanding valid m now 0 → IsKeptBy {S = S} {R = R} valid m undone c now 0 [] lists
+start_kept valid m undone c now lists all pending fit consumed sent standing = record {
   linked = tt;
   consumed_is = sym (ap length consumed);
   sent_is = sym (ap length sent);

@@ -6,7 +6,7 @@
 --     IsKeptBy, IsKept      what a process of a model keeps; that it keeps it for the model of its component
 use Rattle.std.specs.Prelude.{◌≡◌, ℕ, ◌+◌, ◌-◌, ◌<◌, ◌≤◌, min, List, [], ◌∷◌, ◌++◌, length, take, drop, Option, Some, None, slice_get}
 use Rattle.std.specs.List.{AllByRecursion as Each}
-use Rattle.tw_atomic.specs.Atomic.{Bag, Meaning, turned, CanTurn}
+use Rattle.tw_atomic.specs.Atomic.{Bag, Meaning}
 use Rattle.tw_atomic.specs.declared.Turn.{Turn}
 use Rattle.tw_msgs.specs.Messages.{Sorted}
 use Rattle.tw_msgs.specs.declared.message.Message.{Message}
@@ -73,15 +73,13 @@ module _ {S R : Type 0} where
   abbrev pub elapsed_of : Entry S R → ℕ
   elapsed_of e = tick_of e.done.stamp - tick_of e.last
 
-  -- what a step's residue says of the states on both sides
-  abbrev pub LinkBy : (S → Type 0) → Meaning S → (Turn → S → ℕ → Bag → R) → Option (Turn × R) → Entry S R → S → Type 0
-  LinkBy valid m residue_of None e after = after ≡ e.before.value
-  LinkBy valid m residue_of (Some made) e after =
+  -- how a step is taken back on the state: an output left it, a transition is undone by its residue
+  abbrev pub LinkBy : (Turn → S → ℕ → Bag → R → S) → Option (Turn × R) → Entry S R → S → Type 0
+  LinkBy undone None e after = after ≡ e.before.value
+  LinkBy undone (Some made) e after =
       (e.done.stamp < never)
       × (e.last < never)
-      × CanTurn valid m made.0 e.before.value (elapsed_of e) e.done.bag
-      × (after ≡ turned m made.0 e.before.value (elapsed_of e) e.done.bag)
-      × (made.1 ≡ residue_of made.0 e.before.value (elapsed_of e) e.done.bag)
+      × (undone made.0 after (elapsed_of e) e.done.bag made.1 ≡ e.before.value)
 
   -- the state before the first of these entries, if it is this one after them
   abbrev pub state_before : List (Entry S R) → S → S
@@ -89,13 +87,13 @@ module _ {S R : Type 0} where
   state_before (e ∷ es) now = e.before.value
 
   -- each entry leads to the next one
-  abbrev pub Linked : (S → Type 0) → Meaning S → (Turn → S → ℕ → Bag → R) → List (Entry S R) → S → Type 0
-  Linked valid m residue_of [] now = Unit {0}
-  Linked valid m residue_of (e ∷ es) now = LinkBy valid m residue_of e.residue e (state_before es now) × Linked valid m residue_of es now
+  abbrev pub Linked : (Turn → S → ℕ → Bag → R → S) → List (Entry S R) → S → Type 0
+  Linked undone [] now = Unit {0}
+  Linked undone (e ∷ es) now = LinkBy undone e.residue e (state_before es now) × Linked undone es now
 
   -- what a process of this model keeps
-  pub record IsKeptBy (valid : S → Type 0) (m : Meaning S) (residue_of : Turn → S → ℕ → Bag → R) (c : ℕ) (now : Moment S) (floor : ℕ) (history : List (Entry S R)) (lists : Lists) : Type 0 where
-    pub linked : Linked valid m residue_of history now.state
+  pub record IsKeptBy (valid : S → Type 0) (m : Meaning S) (undone : Turn → S → ℕ → Bag → R → S) (c : ℕ) (now : Moment S) (floor : ℕ) (history : List (Entry S R)) (lists : Lists) : Type 0 where
+    pub linked : Linked undone history now.state
     pub consumed_is : total_consumed history ≡ length lists.consumed
     pub sent_is : total_sent history ≡ length lists.sent
     pub sorted : Sorted (lists.consumed ++ lists.pending)
@@ -105,7 +103,7 @@ module _ {S R : Type 0} where
     pub from : floor_after floor (shown history lists.consumed lists.sent) ≤ first_stamp lists.pending
 
   -- what a process keeps
-  pub record IsKept {M : Type 0} (valid : M → S → Type 0) (meaning : M → Meaning S) (residue_of : M → Turn → S → ℕ → Bag → R) (network : Contents M) (c : ℕ) (now : Moment S) (floor : ℕ) (history : List (Entry S R)) (lists : Lists) : Type 0 where
+  pub record IsKept {M : Type 0} (valid : M → S → Type 0) (meaning : M → Meaning S) (undone : M → Turn → S → ℕ → Bag → R → S) (network : Contents M) (c : ℕ) (now : Moment S) (floor : ℕ) (history : List (Entry S R)) (lists : Lists) : Type 0 where
     pub model : M
     pub there : slice_get network.models c ≡ Some model
-    pub by : IsKeptBy (valid model) (meaning model) (residue_of model) c now floor history lists
+    pub by : IsKeptBy (valid model) (meaning model) (undone model) c now floor history lists

@@ -5,13 +5,14 @@
 --     IsFullBy n p      n more nodes would be too many
 --     CanCome p m      a message that can be pending now
 --     with_.., without_..      the same process, changed in one part
-use Rattle.std.specs.Prelude.{◌≡◌, ℕ, ◌+◌, ◌<◌, ◌≤◌, List, [], ◌∷◌, ◌++◌, take, drop, slice_get, Option, None, Some, Ok, Err, Result, ⊤}
+use Rattle.std.specs.Prelude.{◌≡◌, ℕ, ◌+◌, ◌<◌, ◌≤◌, List, [], ◌∷◌, ◌++◌, take, take_while, drop, nat_lt, slice_get, Option, None, Some, Ok, Err, Result, ⊤}
 use Rattle.tw_atomic.specs.Atomic.{Meaning}
 use Rattle.tw_msgs.specs.declared.message.Message.{Message}
 use Rattle.tw_msgs.specs.Messages.{without}
 use Rattle.tw_msgs.specs.declared.record.Record.{Record}
 use Rattle.tw_msgs.specs.declared.record_kind.RecordKind.{RecordKind}
 use Rattle.tw_network.specs.Contents.{Contents, network_of}
+use Rattle.tw_theory.specs.Chains.{Start}
 use Rattle.tw_theory.specs.Contents.{Process, Cancel, with_step, undo_last, settle, cut, placed, removed, with_waiting, harvested, steps_before}
 use Rattle.tw_theory.specs.Installing.{IsFullFor}
 use Rattle.tw_theory.specs.Memory.{live, max_nodes}
@@ -147,3 +148,14 @@ pub record IsNew {M S : Type 0} (meaning : M → Meaning S) (network : Contents 
   pub component_is : p.component ≡ c
   pub process_is : p.process ≡ new_process (network_of meaning network) way c (meaning model)
   pub floor_is : p.floor ≡ 0
+
+-- what a chain is worked out from, of at most burst steps before a bound
+abbrev pub start_of : {M S : Type 0} → ℕ → ℕ → Held M S → Start S
+start_of before burst p = record {
+  component = p.component;
+  now = p.process.now;
+  micro_limit = p.network.micro_limit;
+  messages = take_while (λ m. nat_lt m.stamp before) p.process.pending;
+  before = before;
+  burst = burst;
+}

@@ -33,7 +33,7 @@ pub(crate) fn take_back<M: Atomic>(
     state: &mut M::State,
     entry: &mut Entry<M::State, M::Residue>,
 )
-    requires { LinkBy (M.valid model.now) (M.meaning model.now) (M.residue_of model.now) entry.old.residue entry.old state.old }
+    requires { LinkBy (M.undone model.now) entry.old.residue entry.old state.old }
     ensures state { state.new ≡ entry.old.before.value }
     ensures entry { entry.new ≡ record entry.old { residue = None } }
 {

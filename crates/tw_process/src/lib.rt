@@ -9,7 +9,9 @@
 //!
 //! | File | Calls |
 //! |---|---|
-//! | `process` | making, readers |
+//! | `process` | making, the next stamp, the history's length and last stamp |
+//! | `reading` | all other contents; the pool and the heap |
+//! | `chains` | `start`: what a chain is worked out from |
 //! | `stepping` | `step`: the next step, or why it is not made ([`StepRefused`]) |
 //! | `undoing` | `undo_last` |
 //! | `receiving` | messages and anti-messages that come and go |
@@ -17,10 +19,12 @@
 //! | `committing` | the oldest step leaves the history |
 #![tactic(auto)]
 
+mod chains;
 mod committing;
 mod entry;
 mod posting;
 pub mod process;
+mod reading;
 mod receiving;
 mod refused;
 mod starting;

@@ -49,7 +49,7 @@ impl<M: Atomic> Model for Process<M> {
         (record { state = p.state; last = p.last; due = p.due })
         p.line (way_of p.cancel) p.floor p.history.items p.lists };
 
-    ghost invariant = { λ p. IsKept M.valid M.meaning M.residue_of (arc_value p.network) p.component
+    ghost invariant = { λ p. IsKept M.valid M.meaning M.undone (arc_value p.network) p.component
         (record { state = p.state; last = p.last; due = p.due })
         p.floor p.history.items p.lists };
 }

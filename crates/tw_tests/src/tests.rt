@@ -6,5 +6,6 @@ mod models;
 mod msgs;
 mod networks;
 mod pool;
+mod process;
 mod sequential;
 mod stamps;

@@ -23,18 +23,18 @@ use Rattle.tw_process.proofs.process.Process.make_output.Goals as goal
 there : (g : Over) (c : After-drop-sent-2 g) → slice_get (arc_value c.self.inside.network).models c.self.inside.component ≡ Some c.model.result.now
 there g c = ap (λ n. slice_get n.models c.self.inside.component) (sym c.deref-network.ensures) ∙ c.model.ensures
 
-all : (g : Over) (c : After-drop-sent-2 g) → Stepped g.M.Atomic.valid g.M.Atomic.meaning g.M.Atomic.residue_of (arc_value c.self.inside.network) c.self.inside.component c.model.result.now (there g c)
+all : (g : Over) (c : After-drop-sent-2 g) → Stepped g.M.Atomic.valid g.M.Atomic.meaning g.M.Atomic.undone (arc_value c.self.inside.network) c.self.inside.component c.model.result.now (there g c)
     (record { state = c.self.inside.state; last = c.self.inside.last; due = c.self.inside.due }) (record { state = c.self.inside.state; last = c.self.inside.last; due = c.transition-self-inside.result })
     c.self.inside.line (way_of c.self.inside.cancel) c.self.inside.floor c.self.inside.history.items c.push_back_reserved.new.self.items c.self.inside.lists c.send_all.new.self c.args.stamp Out
 all g c =
     let inside = c.self.inside in
     let network = arc_value inside.network in
     let before : Moment g.row.M-State.Denot = record { state = inside.state; last = inside.last; due = inside.due } in
-    let kept = kept_at g.M.Atomic.valid g.M.Atomic.meaning g.M.Atomic.residue_of network inside.component before inside.floor inside.history.items inside.lists c.self.invariant c.model.result.now (there g c) in
+    let kept = kept_at g.M.Atomic.valid g.M.Atomic.meaning g.M.Atomic.undone network inside.component before inside.floor inside.history.items inside.lists c.self.invariant c.model.result.now (there g c) in
     let at : c.transition.result ≡ c.args.stamp + 1 = omega (arith, c.transition.ensures, c.requires.is_output) in
     let at_self : c.transition-self-inside.result ≡ c.args.stamp + 1 = omega (arith, c.transition-self-inside.ensures, c.requires.is_output) in
     let ms = c.in_ok-sent.sent.items in
-    output_stepped g.M.Atomic.valid g.M.Atomic.meaning g.M.Atomic.residue_of network inside.component c.model.result.now (there g c)
+    output_stepped g.M.Atomic.valid g.M.Atomic.meaning g.M.Atomic.undone network inside.component c.model.result.now (there g c)
     before inside.line (way_of inside.cancel) inside.floor c.send_all.new.self.room c.send_all.new.self.spare c.len.result inside.history.items c.push_back_reserved.new.self.items
     c.in_ok-bag.bag c.from.result c.of.result ms inside.lists c.send_all.new.self c.args.stamp c.transition-self-inside.result
     kept (c.requires.is_next ∙ ap (λ p. next p.process) (sym c.self.view_is)) c.requires.is_due c.requires.is_output
@@ -58,8 +58,8 @@ invariant_of-self g c =
     let inside = c.self.inside in
     let now : Moment g.row.M-State.Denot = record { state = inside.state; last = inside.last; due = inside.due } in
     let new = c.reserve.new.self in
-    kept_with g.M.Atomic.valid g.M.Atomic.meaning g.M.Atomic.residue_of (arc_value inside.network) inside.component now inside.floor inside.history.items inside.lists new (with_room new.room new.spare inside.lists) c.self.invariant c.reserve.ensures.contents
-    (λ x kept. others_kept (g.M.Atomic.valid x) (g.M.Atomic.meaning x) (g.M.Atomic.residue_of x) inside.component now inside.floor inside.history.items inside.lists kept inside.lists.waiting inside.lists.outgoing inside.lists.owed new.room new.spare)
+    kept_with g.M.Atomic.valid g.M.Atomic.meaning g.M.Atomic.undone (arc_value inside.network) inside.component now inside.floor inside.history.items inside.lists new (with_room new.room new.spare inside.lists) c.self.invariant c.reserve.ensures.contents
+    (λ x kept. others_kept (g.M.Atomic.valid x) (g.M.Atomic.meaning x) (g.M.Atomic.undone x) inside.component now inside.floor inside.history.items inside.lists kept inside.lists.waiting inside.lists.outgoing inside.lists.owed new.room new.spare)
 
 pub returns-in_err-reserve-clause-stays : goal.returns-in_err-reserve-clause-stays
 returns-in_err-reserve-clause-stays g c =
@@ -77,14 +77,14 @@ returns-in_err-reserve-clause-stop g c =
     let model = c.model.result.now in
     let now : Moment g.row.M-State.Denot = record { state = inside.state; last = inside.last; due = inside.due } in
     let there = ap (λ n. slice_get n.models inside.component) (sym c.deref-network.ensures) ∙ c.model.ensures in
-    let kept = kept_at g.M.Atomic.valid g.M.Atomic.meaning g.M.Atomic.residue_of network inside.component now inside.floor inside.history.items inside.lists c.self.invariant model there in
+    let kept = kept_at g.M.Atomic.valid g.M.Atomic.meaning g.M.Atomic.undone network inside.component now inside.floor inside.history.items inside.lists c.self.invariant model there in
     let at : c.transition.result ≡ c.args.stamp + 1 = omega (arith, c.transition.ensures, c.requires.is_output) in
     let fresh : c.fresh_count-fresh.result ≡ length (sent_out (way_of inside.cancel) inside.lists.owed c.in_ok-sent.sent.items) = c.fresh_count-fresh.ensures.count ∙ ap (λ l. length (sent_out (way_of inside.cancel) inside.lists.owed l)) c.deref.ensures.value in
     stop_for_pool g.M.Atomic.meaning c.args.self.now c.from_residual-in_err-reserve.result c.in_err-reserve.field-0.0 c.from_residual-in_err-reserve.ensures.1
     (λ full.
     let limit = c.reserve.ensures.limit.1 (c.in_err-reserve.was ∙ ap Err full) in
     subst (λ old. IsFullFor (network_of g.M.Atomic.meaning old.network) old.component old.process) c.self.view_is
-    (too_large g.M.Atomic.valid g.M.Atomic.meaning g.M.Atomic.residue_of network inside.component model there now inside.line (way_of inside.cancel) inside.floor inside.history.items inside.lists c.args.stamp c.in_ok-bag.bag c.in_ok-sent.sent.items
+    (too_large g.M.Atomic.valid g.M.Atomic.meaning g.M.Atomic.undone network inside.component model there now inside.line (way_of inside.cancel) inside.floor inside.history.items inside.lists c.args.stamp c.in_ok-bag.bag c.in_ok-sent.sent.items
     kept (c.requires.is_next ∙ ap (λ p. next p.process) (sym c.self.view_is)) c.requires.is_due c.requires.is_output c.in_ok-bag.ensures
     (c.in_ok-sent.ensures ∙ (λ i. routed (network_of g.M.Atomic.meaning (c.deref-network.ensures i)) inside.component (at i) c.in_ok-bag.bag))
     (omega (arith, limit, fresh))))
@@ -94,9 +94,9 @@ invariant_of-self-in_err-reserve-2 g c =
     let inside = c.self.inside in
     let now : Moment g.row.M-State.Denot = record { state = inside.state; last = inside.last; due = inside.due } in
     let new = c.reserve.new.self in
-    subst (λ h. IsKept g.M.Atomic.valid g.M.Atomic.meaning g.M.Atomic.residue_of (arc_value inside.network) inside.component now inside.floor h new) (sym c.reserve-2.ensures.items)
-    (kept_with g.M.Atomic.valid g.M.Atomic.meaning g.M.Atomic.residue_of (arc_value inside.network) inside.component now inside.floor inside.history.items inside.lists new (with_room new.room new.spare inside.lists) c.self.invariant c.reserve.ensures.contents
-    (λ x kept. others_kept (g.M.Atomic.valid x) (g.M.Atomic.meaning x) (g.M.Atomic.residue_of x) inside.component now inside.floor inside.history.items inside.lists kept inside.lists.waiting inside.lists.outgoing inside.lists.owed new.room new.spare))
+    subst (λ h. IsKept g.M.Atomic.valid g.M.Atomic.meaning g.M.Atomic.undone (arc_value inside.network) inside.component now inside.floor h new) (sym c.reserve-2.ensures.items)
+    (kept_with g.M.Atomic.valid g.M.Atomic.meaning g.M.Atomic.undone (arc_value inside.network) inside.component now inside.floor inside.history.items inside.lists new (with_room new.room new.spare inside.lists) c.self.invariant c.reserve.ensures.contents
+    (λ x kept. others_kept (g.M.Atomic.valid x) (g.M.Atomic.meaning x) (g.M.Atomic.undone x) inside.component now inside.floor inside.history.items inside.lists kept inside.lists.waiting inside.lists.outgoing inside.lists.owed new.room new.spare))
 
 pub returns-in_err-reserve-2-clause-stays : goal.returns-in_err-reserve-2-clause-stays
 returns-in_err-reserve-2-clause-stays g c =

@@ -31,8 +31,8 @@ there g c = ap (λ n. slice_get n.models c.self.inside.component) (sym c.deref-n
 now : (g : Over) (c : After-as_slice g) → Moment g.row.M-State.Denot
 now g c = record { state = c.self.inside.state; last = c.self.inside.last; due = c.self.inside.due }
 
-kept : (g : Over) (c : After-as_slice g) → IsKeptBy (g.M.Atomic.valid c.model-model.result.now) (g.M.Atomic.meaning c.model-model.result.now) (g.M.Atomic.residue_of c.model-model.result.now) c.self.inside.component (record { state = c.self.inside.state; last = c.self.inside.last; due = c.self.inside.due }) c.self.inside.floor c.self.inside.history.items c.self.inside.lists
-kept g c = kept_at g.M.Atomic.valid g.M.Atomic.meaning g.M.Atomic.residue_of (arc_value c.self.inside.network) c.self.inside.component (record { state = c.self.inside.state; last = c.self.inside.last; due = c.self.inside.due }) c.self.inside.floor c.self.inside.history.items c.self.inside.lists c.self.invariant c.model-model.result.now (there g c)
+kept : (g : Over) (c : After-as_slice g) → IsKeptBy (g.M.Atomic.valid c.model-model.result.now) (g.M.Atomic.meaning c.model-model.result.now) (g.M.Atomic.undone c.model-model.result.now) c.self.inside.component (record { state = c.self.inside.state; last = c.self.inside.last; due = c.self.inside.due }) c.self.inside.floor c.self.inside.history.items c.self.inside.lists
+kept g c = kept_at g.M.Atomic.valid g.M.Atomic.meaning g.M.Atomic.undone (arc_value c.self.inside.network) c.self.inside.component (record { state = c.self.inside.state; last = c.self.inside.last; due = c.self.inside.due }) c.self.inside.floor c.self.inside.history.items c.self.inside.lists c.self.invariant c.model-model.result.now (there g c)
 
 is_next : (g : Over) (c : After-as_slice g) → c.args.stamp ≡ next (seen (arc_value c.self.inside.network) c.self.inside.component (record { state = c.self.inside.state; last = c.self.inside.last; due = c.self.inside.due }) c.self.inside.line (way_of c.self.inside.cancel) c.self.inside.floor c.self.inside.history.items c.self.inside.lists).process
 is_next g c = c.requires.is_next ∙ ap (λ p. next p.process) (sym c.self.view_is)
@@ -46,7 +46,7 @@ elapsed_is g c = c.saturating_sub-elapsed.ensures ∙ (λ i. c.tick.ensures.tick
 pub make_turn-requires-clause-can_turn : goal.make_turn-requires-clause-can_turn
 make_turn-requires-clause-can_turn g c =
     subst (λ b. CanTurn (g.M.Atomic.valid c.model-model.result.now) (g.M.Atomic.meaning c.model-model.result.now) c.turn_of-turn.result.0 c.self.inside.state c.saturating_sub-elapsed.result b) (sym c.as_slice.ensures)
-    (turn_possible g.M.Atomic.valid g.M.Atomic.meaning g.M.Atomic.residue_of (arc_value c.self.inside.network) c.self.inside.component c.model-model.result.now (there g c)
+    (turn_possible g.M.Atomic.valid g.M.Atomic.meaning g.M.Atomic.undone (arc_value c.self.inside.network) c.self.inside.component c.model-model.result.now (there g c)
     (record { state = c.self.inside.state; last = c.self.inside.last; due = c.self.inside.due }) c.self.inside.floor c.self.inside.history.items c.self.inside.lists c.in_ok-bag.bag c.turn_of-turn.result.0 c.args.stamp c.saturating_sub-elapsed.result
     (kept g c) (is_next g c) c.requires.is_due c.requires.is_transition c.in_ok-bag.ensures.bag (turn_is g c) (elapsed_is g c))
 
@@ -82,7 +82,7 @@ returns-in-Err-clause-stop g c =
     let before : Moment g.row.M-State.Denot = record { state = inside.state; last = inside.last; due = inside.due } in
     subst (λ e. IsStop g.M.Atomic.meaning c.args.self.now e) (sym c.into.ensures)
     (subst (λ old. IsStop g.M.Atomic.meaning old (of_turn c.in-Err.refused)) c.self.view_is
-    (stops g.M.Atomic.valid g.M.Atomic.meaning g.M.Atomic.residue_of (arc_value inside.network) inside.component model (there g at)
+    (stops g.M.Atomic.valid g.M.Atomic.meaning g.M.Atomic.undone (arc_value inside.network) inside.component model (there g at)
     before inside.line (way_of inside.cancel) inside.floor inside.history.items inside.lists c.args.stamp c.saturating_sub-elapsed.result c.in_ok-bag.bag c.turn_of-turn.result.0 c.in-Err.refused
     (is_next g at) c.requires.is_due c.requires.is_transition c.in_ok-bag.ensures.bag (turn_is g at) (elapsed_is g at)
     (subst (λ b. IsRefusedBy (advanced c.args.stamp ((g.M.Atomic.meaning model).ta (turned (g.M.Atomic.meaning model) c.turn_of-turn.result.0 inside.state c.saturating_sub-elapsed.result b)) (arc_value inside.network).micro_limit) c.in-Err.refused) c.as_slice.ensures
@@ -91,7 +91,7 @@ returns-in-Err-clause-stop g c =
 at_end : (g : Over) (c : After-output-self-inside g) → slice_get (arc_value c.self.inside.network).models c.self.inside.component ≡ Some c.model-model.result.now
 at_end g c = ap (λ n. slice_get n.models c.self.inside.component) (sym c.deref-network.ensures) ∙ c.model-model.ensures
 
-all : (g : Over) (c : After-output-self-inside g) → Stepped g.M.Atomic.valid g.M.Atomic.meaning g.M.Atomic.residue_of (arc_value c.self.inside.network) c.self.inside.component c.model-model.result.now (at_end g c)
+all : (g : Over) (c : After-output-self-inside g) → Stepped g.M.Atomic.valid g.M.Atomic.meaning g.M.Atomic.undone (arc_value c.self.inside.network) c.self.inside.component c.model-model.result.now (at_end g c)
     (record { state = c.self.inside.state; last = c.self.inside.last; due = c.self.inside.due }) (record { state = c.make_turn.new.state; last = c.output-self-inside.result; due = c.in-Ok.made.due })
     c.self.inside.line (way_of c.self.inside.cancel) c.self.inside.floor c.self.inside.history.items c.push_back_reserved.new.self.items c.self.inside.lists c.consume_bag.new.self c.args.stamp c.turn_of-turn.result.1
 all g c =
@@ -102,11 +102,11 @@ all g c =
     let tk = c.turn_of-turn.result.0 in
     let el = c.saturating_sub-elapsed.result in
     let bag = c.in_ok-bag.bag in
-    let kept = kept_at g.M.Atomic.valid g.M.Atomic.meaning g.M.Atomic.residue_of network inside.component before inside.floor inside.history.items inside.lists c.self.invariant model (at_end g c) in
+    let kept = kept_at g.M.Atomic.valid g.M.Atomic.meaning g.M.Atomic.undone network inside.component before inside.floor inside.history.items inside.lists c.self.invariant model (at_end g c) in
     let limit : c.micro_limit-limit.result ≡ network.micro_limit = c.micro_limit-limit.ensures ∙ ap (λ n. n.micro_limit) c.deref-network.ensures in
     let small : network.micro_limit ≤ max_microstep = subst (λ n. n.micro_limit ≤ max_microstep) c.deref-network.ensures c.facts.ensures.microsteps in
     let e = c.in-Ok.ensures in
-    transition_stepped g.M.Atomic.valid g.M.Atomic.meaning g.M.Atomic.residue_of network inside.component model (at_end g c)
+    transition_stepped g.M.Atomic.valid g.M.Atomic.meaning g.M.Atomic.undone network inside.component model (at_end g c)
     before inside.line (way_of inside.cancel) inside.floor c.len-consumed.result inside.history.items c.push_back_reserved.new.self.items bag c.in-Ok.made.words c.of-before.result tk c.in-Ok.made.residue c.turn_of-turn.result.1 e.due.0
     inside.lists c.consume_bag.new.self c.args.stamp el c.make_turn.new.state c.output-self-inside.result c.in-Ok.made.due
     kept (c.requires.is_next ∙ ap (λ p. next p.process) (sym c.self.view_is)) c.requires.is_due c.requires.is_transition small
@@ -114,7 +114,7 @@ all g c =
     (c.turn_of-turn.ensures.turn bag c.is_empty.ensures ∙ ap (λ b. turn b bag) c.eq.ensures)
     (c.saturating_sub-elapsed.ensures ∙ (λ i. c.tick.ensures.tick i - c.tick-2.ensures.tick i))
     (e.state ∙ ap (turned (g.M.Atomic.meaning model) tk inside.state el) c.as_slice.ensures)
-    (e.residue ∙ ap (g.M.Atomic.residue_of model tk inside.state el) c.as_slice.ensures)
+    (λ can. ap (g.M.Atomic.undone model tk (turned (g.M.Atomic.meaning model) tk inside.state el bag) el bag) (e.residue ∙ ap (g.M.Atomic.residue_of model tk inside.state el) c.as_slice.ensures) ∙ g.met.M.Atomic.reverses model tk inside.state el bag can)
     (λ can. g.met.M.Atomic.stays_valid model tk inside.state el bag can)
     (ap (advanced c.args.stamp ((g.M.Atomic.meaning model).ta c.make_turn.new.state)) (sym limit) ∙ e.due.1)
     e.due.2

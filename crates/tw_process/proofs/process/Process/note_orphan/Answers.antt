@@ -15,7 +15,7 @@ count : (g : Over) (c : After-note_orphan g) → lists_count c.self.inside.lists
 count g c =
     let inside = c.self.inside in
     let x = c.self.invariant.model in
-    sym (live_shown (g.M.Atomic.valid x) (g.M.Atomic.meaning x) (g.M.Atomic.residue_of x) (arc_value inside.network) inside.component (record { state = inside.state; last = inside.last; due = inside.due }) inside.line (way_of inside.cancel) inside.floor inside.history.items inside.lists c.self.invariant.by)
+    sym (live_shown (g.M.Atomic.valid x) (g.M.Atomic.meaning x) (g.M.Atomic.undone x) (arc_value inside.network) inside.component (record { state = inside.state; last = inside.last; due = inside.due }) inside.line (way_of inside.cancel) inside.floor inside.history.items inside.lists c.self.invariant.by)
     ∙ ap (λ p. live p.process) c.self.view_is
 
 pub returns-clause-limit : goal.returns-clause-limit
@@ -28,7 +28,7 @@ invariant_of-self g c =
     let new = c.note_orphan.new.self in
     let m = c.args.message.now in
     either_way _ _ _ c.note_orphan.result c.note_orphan.ensures.noted c.note_orphan.ensures.stays
-    (λ noted. kept_with g.M.Atomic.valid g.M.Atomic.meaning g.M.Atomic.residue_of (arc_value inside.network) inside.component now inside.floor inside.history.items inside.lists new (with_room new.room new.spare (with_orphan m inside.lists)) c.self.invariant noted
-    (λ x kept. others_kept (g.M.Atomic.valid x) (g.M.Atomic.meaning x) (g.M.Atomic.residue_of x) inside.component now inside.floor inside.history.items inside.lists kept (inside.lists.waiting ++ m ∷ []) inside.lists.outgoing inside.lists.owed new.room new.spare))
-    (λ stays. kept_with g.M.Atomic.valid g.M.Atomic.meaning g.M.Atomic.residue_of (arc_value inside.network) inside.component now inside.floor inside.history.items inside.lists new (with_room new.room new.spare inside.lists) c.self.invariant stays
-    (λ x kept. others_kept (g.M.Atomic.valid x) (g.M.Atomic.meaning x) (g.M.Atomic.residue_of x) inside.component now inside.floor inside.history.items inside.lists kept inside.lists.waiting inside.lists.outgoing inside.lists.owed new.room new.spare))
+    (λ noted. kept_with g.M.Atomic.valid g.M.Atomic.meaning g.M.Atomic.undone (arc_value inside.network) inside.component now inside.floor inside.history.items inside.lists new (with_room new.room new.spare (with_orphan m inside.lists)) c.self.invariant noted
+    (λ x kept. others_kept (g.M.Atomic.valid x) (g.M.Atomic.meaning x) (g.M.Atomic.undone x) inside.component now inside.floor inside.history.items inside.lists kept (inside.lists.waiting ++ m ∷ []) inside.lists.outgoing inside.lists.owed new.room new.spare))
+    (λ stays. kept_with g.M.Atomic.valid g.M.Atomic.meaning g.M.Atomic.undone (arc_value inside.network) inside.component now inside.floor inside.history.items inside.lists new (with_room new.room new.spare inside.lists) c.self.invariant stays
+    (λ x kept. others_kept (g.M.Atomic.valid x) (g.M.Atomic.meaning x) (g.M.Atomic.undone x) inside.component now inside.floor inside.history.items inside.lists kept inside.lists.waiting inside.lists.outgoing inside.lists.owed new.room new.spare))

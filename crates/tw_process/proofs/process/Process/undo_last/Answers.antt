@@ -8,21 +8,21 @@ use Rattle.tw_lists.specs.Lists.{restored, cancelled}
 use Rattle.tw_process.specs.Process.{with_last_undone}
 use Rattle.tw_lists.specs.Ways.{way_of}
 use Rattle.tw_process.specs.History.{IsKept, IsKeptBy, seen, shown}
-use Rattle.tw_process.proofs.Histories.{Undone, undone, shown_some, kept_at, nothing_undone, nil_of_length}
+use Rattle.tw_process.proofs.Histories.{TakenBack, taken_back, shown_some, kept_at, nothing_undone, nil_of_length}
 use Rattle.tw_process.proofs.process.Process.undo_last.Given.{Over}
 use Rattle.tw_process.proofs.process.Process.undo_last.Goals.{After-model-model}
 use Rattle.tw_process.proofs.process.Process.undo_last.Goals as goal
 
-back : (g : Over) (c : After-model-model g) → Undone (g.M.Atomic.valid c.model-model.result.now) (g.M.Atomic.meaning c.model-model.result.now) (g.M.Atomic.residue_of c.model-model.result.now) (arc_value c.self.inside.network) c.self.inside.component (record { state = c.self.inside.state; last = c.self.inside.last; due = c.self.inside.due }) c.self.inside.line (way_of c.self.inside.cancel) c.self.inside.floor c.pop_back.new.self.items c.in-Some.entry c.self.inside.lists
+back : (g : Over) (c : After-model-model g) → TakenBack (g.M.Atomic.valid c.model-model.result.now) (g.M.Atomic.meaning c.model-model.result.now) (g.M.Atomic.undone c.model-model.result.now) (arc_value c.self.inside.network) c.self.inside.component (record { state = c.self.inside.state; last = c.self.inside.last; due = c.self.inside.due }) c.self.inside.line (way_of c.self.inside.cancel) c.self.inside.floor c.pop_back.new.self.items c.in-Some.entry c.self.inside.lists
 back g c =
     let inside = c.self.inside in
     let network = arc_value inside.network in
     let now : Moment g.row.M-State.Denot = record { state = inside.state; last = inside.last; due = inside.due } in
     let model = c.model-model.result.now in
     let there = ap (λ n. slice_get n.models inside.component) (sym c.deref-network.ensures) ∙ c.model-model.ensures in
-    let kept = kept_at g.M.Atomic.valid g.M.Atomic.meaning g.M.Atomic.residue_of network inside.component now inside.floor inside.history.items inside.lists c.self.invariant model there in
-    undone (g.M.Atomic.valid model) (g.M.Atomic.meaning model) (g.M.Atomic.residue_of model) network inside.component now inside.line (way_of inside.cancel) inside.floor c.pop_back.new.self.items c.in-Some.entry inside.lists
-    (subst (λ h. IsKeptBy (g.M.Atomic.valid model) (g.M.Atomic.meaning model) (g.M.Atomic.residue_of model) c.self.inside.component now inside.floor h inside.lists) c.in-Some.ensures.items kept)
+    let kept = kept_at g.M.Atomic.valid g.M.Atomic.meaning g.M.Atomic.undone network inside.component now inside.floor inside.history.items inside.lists c.self.invariant model there in
+    taken_back (g.M.Atomic.valid model) (g.M.Atomic.meaning model) (g.M.Atomic.undone model) network inside.component now inside.line (way_of inside.cancel) inside.floor c.pop_back.new.self.items c.in-Some.entry inside.lists
+    (subst (λ h. IsKeptBy (g.M.Atomic.valid model) (g.M.Atomic.meaning model) (g.M.Atomic.undone model) c.self.inside.component now inside.floor h inside.lists) c.in-Some.ensures.items kept)
 
 pub take_back-requires : goal.take_back-requires
 take_back-requires g c = (back g (goal.at.take_back-requires g c).After-model-model).link
@@ -50,8 +50,8 @@ invariant_of-self-2 g c =
     record {
       model = model;
       there = there;
-      by = subst (λ l. IsKeptBy (g.M.Atomic.valid model) (g.M.Atomic.meaning model) (g.M.Atomic.residue_of model) c.self.inside.component (record { state = c.take_back.new.state; last = c.take_back.new.entry.last; due = c.take_back.new.entry.due }) inside.floor c.pop_back.new.self.items l) (sym lists)
-          (subst (λ (x : Moment g.row.M-State.Denot). IsKeptBy (g.M.Atomic.valid model) (g.M.Atomic.meaning model) (g.M.Atomic.residue_of model) c.self.inside.component x inside.floor c.pop_back.new.self.items (cancelled (way_of inside.cancel) c.in-Some.entry.sent (restored c.in-Some.entry.consumed inside.lists)))
+      by = subst (λ l. IsKeptBy (g.M.Atomic.valid model) (g.M.Atomic.meaning model) (g.M.Atomic.undone model) c.self.inside.component (record { state = c.take_back.new.state; last = c.take_back.new.entry.last; due = c.take_back.new.entry.due }) inside.floor c.pop_back.new.self.items l) (sym lists)
+          (subst (λ (x : Moment g.row.M-State.Denot). IsKeptBy (g.M.Atomic.valid model) (g.M.Atomic.meaning model) (g.M.Atomic.undone model) c.self.inside.component x inside.floor c.pop_back.new.self.items (cancelled (way_of inside.cancel) c.in-Some.entry.sent (restored c.in-Some.entry.consumed inside.lists)))
           (sym (λ i. record { state = c.take_back.ensures.state i; last = (c.take_back.ensures.entry i).last; due = (c.take_back.ensures.entry i).due })) kept);
     }
 

@@ -18,7 +18,7 @@ invariant_of-result-2 g c =
     record {
       model = model;
       there = ap (λ n. slice_get n.models c.args.component) (sym c.deref-shared.ensures) ∙ c.model.ensures;
-      by = subst (λ h. IsKeptBy (g.M.Atomic.valid model) (g.M.Atomic.meaning model) (g.M.Atomic.residue_of model) c.args.component now 0 h c.in_ok-lists.lists) (sym c.new.ensures.items)
-          (start_kept (g.M.Atomic.valid model) (g.M.Atomic.meaning model) (g.M.Atomic.residue_of model) c.args.component now c.in_ok-lists.lists (addressed c.args.component (network_of g.M.Atomic.meaning c.deref-shared.result.now).inputs)
+      by = subst (λ h. IsKeptBy (g.M.Atomic.valid model) (g.M.Atomic.meaning model) (g.M.Atomic.undone model) c.args.component now 0 h c.in_ok-lists.lists) (sym c.new.ensures.items)
+          (start_kept (g.M.Atomic.valid model) (g.M.Atomic.meaning model) (g.M.Atomic.undone model) c.args.component now c.in_ok-lists.lists (addressed c.args.component (network_of g.M.Atomic.meaning c.deref-shared.result.now).inputs)
           c.in_ok-lists.ensures.pending c.in_ok-lists.ensures.fit c.in_ok-lists.ensures.consumed c.in_ok-lists.ensures.sent standing);
     }

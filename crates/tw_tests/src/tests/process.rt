@@ -1,0 +1,232 @@
+//! One process by worked examples: its steps, the way back, and each call once.
+
+use std::alloc::Global;
+use std::process::Abort;
+use std::sync::Arc;
+use tw_atomic::Atomic;
+use tw_models::Model;
+use tw_msgs::{Message, RecordKind, Sign};
+use tw_network::{Coupling, Input, Network};
+use tw_process::{Cancel, Process, StepRefused};
+use tw_vtime::Stamp;
+
+/// A stamp, written as in the examples.
+fn stamp(rt: &impl Abort, tick: u64, microstep: u32, phase: u8) -> Stamp {
+    Stamp::new(tick, microstep, phase).expect(rt, "a stamp")
+}
+
+/// A network of these models.
+fn network(
+    rt: &impl Abort,
+    alloc: Global,
+    models: &[Model],
+    couplings: &[Coupling],
+    inputs: &[Input],
+) -> Arc<Network<Model>> {
+    let names = ["a", "b", "c"];
+    let mut components = Vec::new(alloc);
+    for (name, model) in names.iter().zip(models.iter()) {
+        let name = String::from_str(alloc, name).expect(rt, "a name");
+        components.push((name, *model)).expect(rt, "memory");
+    }
+    let couplings = Vec::from_slice(alloc, couplings).expect(rt, "memory");
+    let inputs = Vec::from_slice(alloc, inputs).expect(rt, "memory");
+    let network = Network::new(alloc, components, couplings, inputs, 100).expect(rt, "a network");
+    Arc::new(alloc, network).expect(rt, "memory")
+}
+
+/// The process of the first component.
+fn first_process(
+    rt: &impl Abort,
+    alloc: Global,
+    network: Arc<Network<Model>>,
+    cancel: Cancel,
+) -> Process<Model> {
+    assert!(rt; 0 < network.len());
+    Process::with_cancel(alloc, network, 0, cancel).expect(rt, "a process")
+}
+
+/// Asserts the words of the state.
+fn assert_words(
+    rt: &impl Abort,
+    alloc: Global,
+    model: &Model,
+    process: &Process<Model>,
+    expected: &[i128],
+) {
+    let mut words = Vec::new(alloc);
+    model
+        .words(alloc, process.state(), &mut words)
+        .expect(rt, "memory");
+    assert!(rt; words.as_slice() == expected);
+}
+
+#[test]
+fn a_full_queue_drops_and_forgets(rt: HostRuntime) {
+    let alloc = rt.alloc();
+    let model = Model::queue(100).expect(&rt, "a queue");
+    let mut inputs = Vec::new(alloc);
+    let mut full = Vec::new(alloc);
+    full.push(0).expect(&rt, "memory");
+    for value in 1..65 {
+        inputs.push((1, 0, 0, value)).expect(&rt, "memory");
+        full.push(i128::from(value)).expect(&rt, "memory");
+    }
+    for value in 101..106 {
+        inputs.push((2, 0, 0, value)).expect(&rt, "memory");
+    }
+    let net = network(&rt, alloc, &[model], &[], inputs.as_slice());
+    let mut process = first_process(&rt, alloc, net, Cancel::Aggressive);
+
+    assert!(rt; process.step(alloc) == Ok((stamp(&rt, 1, 0, 1), RecordKind::Ext)));
+    assert!(rt; process.step(alloc) == Ok((stamp(&rt, 2, 0, 1), RecordKind::Ext)));
+    full[0] = 5;
+    assert_words(&rt, alloc, &model, &process, full.as_slice());
+    assert!(rt; process.due() == stamp(&rt, 101, 0, 0));
+
+    assert!(rt; process.undo_last());
+    full[0] = 0;
+    assert_words(&rt, alloc, &model, &process, full.as_slice());
+    assert!(rt; process.due() == stamp(&rt, 101, 0, 0));
+    assert!(rt; process.last() == stamp(&rt, 1, 0, 0));
+    assert!(rt; process.history_len() == 1);
+    assert!(rt; process.pending_len() == 5);
+}
+
+#[test]
+fn a_relay_overflows_and_forgets(rt: HostRuntime) {
+    let alloc = rt.alloc();
+    let model = Model::relay(100).expect(&rt, "a relay");
+    let mut inputs = Vec::new(alloc);
+    let mut held = Vec::new(alloc);
+    held.push(1).expect(&rt, "memory");
+    for value in 1..34 {
+        inputs.push((1, 0, 0, value)).expect(&rt, "memory");
+        if value < 33 {
+            held.push(i128::from(value)).expect(&rt, "memory");
+        }
+    }
+    let net = network(&rt, alloc, &[model], &[], inputs.as_slice());
+    let mut process = first_process(&rt, alloc, net, Cancel::Aggressive);
+    assert!(rt; process.step(alloc).is_ok());
+    assert_words(&rt, alloc, &model, &process, held.as_slice());
+    assert!(rt; process.undo_last());
+    assert_words(&rt, alloc, &model, &process, &[0]);
+    assert!(rt; process.due() == Stamp::END);
+}
+
+#[test]
+fn a_hop_external_and_back(rt: HostRuntime) {
+    let alloc = rt.alloc();
+    let model = Model::hop(0, 2, 4).expect(&rt, "a hop");
+    let net = network(&rt, alloc, &[model], &[], &[(0, 0, 0, -1)]);
+    let mut process = first_process(&rt, alloc, net, Cancel::Aggressive);
+    assert!(rt; process.step(alloc) == Ok((stamp(&rt, 0, 0, 1), RecordKind::Ext)));
+    assert_words(&rt, alloc, &model, &process, &[13525302890751722018]);
+    assert!(rt; process.undo_last());
+    assert_words(&rt, alloc, &model, &process, &[0]);
+    assert!(rt; process.due() == stamp(&rt, 1, 0, 0));
+}
+
+/// A relay with delay 1 in front of two tallies, with 0=8 at tick 3; it sends to the second.
+fn relay_process(rt: &impl Abort, alloc: Global, cancel: Cancel) -> Process<Model> {
+    let relay = Model::relay(1).expect(rt, "a relay");
+    let tally = Model::tally().expect(rt, "a tally");
+    let net = network(
+        rt,
+        alloc,
+        &[relay, tally, tally],
+        &[(0, 0, 2, 0)],
+        &[(3, 0, 0, 8)],
+    );
+    first_process(rt, alloc, net, cancel)
+}
+
+/// Three steps of it, taken back.
+fn there_and_back(rt: &impl Abort, alloc: Global, process: &mut Process<Model>) {
+    assert!(rt; process.step(alloc) == Ok((stamp(rt, 3, 0, 1), RecordKind::Ext)));
+    assert!(rt; process.step(alloc) == Ok((stamp(rt, 4, 0, 0), RecordKind::Out)));
+    assert!(rt; process.step(alloc) == Ok((stamp(rt, 4, 0, 1), RecordKind::Int)));
+    assert!(rt; process.step(alloc) == Err(StepRefused::NothingDue));
+    assert!(rt; process.last_stamp() == Some(stamp(rt, 4, 0, 1)));
+    assert!(rt; process.steps_before(stamp(rt, 4, 0, 0)) == 1);
+    for _ in 0..3 {
+        assert!(rt; process.undo_last());
+    }
+    assert!(rt; !process.undo_last());
+    assert!(rt; process.due() == Stamp::END);
+    assert!(rt; process.last() == Stamp::START);
+    assert!(rt; process.next() == stamp(rt, 3, 0, 1));
+}
+
+#[test]
+fn three_steps_taken_back_leave_an_anti_message(rt: HostRuntime) {
+    let alloc = rt.alloc();
+    let mut process = relay_process(&rt, alloc, Cancel::Aggressive);
+    there_and_back(&rt, alloc, &mut process);
+    let sent = Message {
+        stamp: stamp(&rt, 4, 0, 1),
+        port: 0,
+        value: 8,
+        to: 2,
+    };
+    let outgoing = process.outgoing(alloc).expect(&rt, "memory");
+    assert!(rt; outgoing.len() == 2);
+    assert!(rt; outgoing[0].sign == Sign::Positive && outgoing[0].message == sent);
+    assert!(rt; outgoing[1].sign == Sign::Anti && outgoing[1].message == sent);
+    assert!(rt; process.least_outgoing() == sent.stamp);
+    process.clear_outgoing();
+    assert!(rt; process.outgoing_len() == 0);
+}
+
+#[test]
+fn a_lazy_process_owes_and_sends_again(rt: HostRuntime) {
+    let alloc = rt.alloc();
+    let mut process = relay_process(&rt, alloc, Cancel::Lazy);
+    there_and_back(&rt, alloc, &mut process);
+    assert!(rt; process.outgoing_len() == 1 && process.owed_len() == 1);
+    assert!(rt; process.least_owed() == stamp(&rt, 4, 0, 1));
+    process.settle();
+    assert!(rt; process.owed_len() == 1);
+    assert!(rt; process.step(alloc).is_ok() && process.step(alloc).is_ok());
+    assert!(rt; process.outgoing_len() == 1 && process.owed_len() == 0);
+    assert!(rt; process.undo_last());
+    let owed = process.owed(alloc).expect(&rt, "memory");
+    assert!(rt; owed.len() == 1 && owed[0].value == 8);
+}
+
+#[test]
+fn messages_come_and_go(rt: HostRuntime) {
+    let alloc = rt.alloc();
+    let mut process = relay_process(&rt, alloc, Cancel::Aggressive);
+    let message = Message {
+        stamp: stamp(&rt, 2, 0, 1),
+        port: 0,
+        value: 5,
+        to: 0,
+    };
+    process.note_orphan(&message).expect(&rt, "room");
+    assert!(rt; process.waiting_len() == 1);
+    assert!(rt; process.waiting(alloc).expect(&rt, "memory")[0] == message);
+    assert!(rt; process.clear_orphan(&message) && !process.clear_orphan(&message));
+    let pending = process.pending(alloc).expect(&rt, "memory");
+    assert!(rt; pending.len() == 1 && pending[0].value == 8);
+    assert!(rt; !process.withdraw(&message) && process.withdraw(&pending[0]));
+    assert!(rt; !process.has_consumed(&message));
+}
+
+#[test]
+fn the_oldest_step_is_committed(rt: HostRuntime) {
+    let alloc = rt.alloc();
+    let mut process = relay_process(&rt, alloc, Cancel::Aggressive);
+    assert!(rt; process.step(alloc).is_ok() && process.step(alloc).is_ok());
+    let record = process.commit_oldest().expect(&rt, "a step");
+    assert!(rt; record.stamp == stamp(&rt, 3, 0, 1) && record.kind == RecordKind::Ext);
+    assert!(rt; process.history_len() == 1);
+    process.set_line(stamp(&rt, 4, 0, 0));
+    assert!(rt; process.line() == stamp(&rt, 4, 0, 0));
+    assert!(rt; process.cancel() == Cancel::Aggressive && process.component() == 0);
+    assert!(rt; process.network().len() == 3);
+    let start = process.start(alloc, Stamp::END, 1).expect(&rt, "memory");
+    assert!(rt; start.component() == 0);
+}

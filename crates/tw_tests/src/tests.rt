@@ -1,6 +1,7 @@
 mod executive;
 mod heap;
 mod lines;
+mod mail;
 mod models;
 mod msgs;
 mod networks;

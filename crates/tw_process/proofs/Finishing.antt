@@ -99,14 +99,14 @@ drop_at (y ∷ xs) (suc n) x is = drop_at xs n x is
 module _ {M S R : Type 0} (net : Network S) (valid : S → Type 0) (m : Meaning S) (undone : Turn → S → ℕ → Bag → R → S) (r : SoloRun S) (home : IsHome net m r.start) (small : net.micro_limit ≤ max_microstep)
     (stays : (tk : Turn) (state : S) (elapsed : ℕ) (bag : Bag) → CanTurn valid m tk state elapsed bag → valid (turned m tk state elapsed bag))
     (network : NetworkContents M) (line : ℕ) (way : Cancel) (floor : ℕ) (run : IsSoloRun m r) where
-  pub record Made' (n : ℕ) (now now' : Moment S) (hs : List (Entry S R)) (lists : Lists) (parts : List (ChainStep S R)) : Type 0 where
+  pub record MadeUpTo (n : ℕ) (now now' : Moment S) (hs : List (Entry S R)) (lists : Lists) (parts : List (ChainStep S R)) : Type 0 where
     pub all : AllMade net valid m undone r.start home small stays network line way floor 0 parts now now' hs lists
     pub begins : n ≡ 0 → now' ≡ r.start.now
 
   -- the first n steps, which are these parts, are made
   pub made : (n : ℕ) (now now' : Moment S) (hs : List (Entry S R)) (lists : Lists) (parts : List (ChainStep S R)) → now ≡ r.start.now → IsKeptBy valid m undone r.start.component now floor hs lists
       → shown_all parts ≡ take n r.steps → now' ≡ before_all (drop n r.steps) r.after → AreNext net r.start.component way parts lists → chain.Linked undone parts now'.state
-      → Made' n now now' hs lists parts
+      → MadeUpTo n now now' hs lists parts
   made n now now' hs lists parts stands kept parts_is now_is next linked =
       let s = split (alone m r.start) r.start.component n r.start.now r.start.messages r.steps r.after r.left run.leads in
       let leads : Leads (alone m r.start) r.start.component now r.start.messages (shown_all parts) now' s.mid =

@@ -1,5 +1,5 @@
 -- What installing a chain answers, from its parts.
-use Rattle.std.proofs.Common.{◌≡◌, ℕ, zero, suc, ◌+◌, ◌-◌, ◌*◌, ◌<◌, ◌≤◌, List, [], ◌∷◌, ◌++◌, Option, Some, None, Ok, refl, sym, ap, subst, ◌∙◌, arith, length, take, drop, map}
+use Rattle.std.proofs.Common.{◌≡◌, ℕ, zero, suc, ◌<◌, ◌≤◌, List, [], ◌∷◌, ◌++◌, Option, Some, None, refl, sym, ap, subst, ◌∙◌, arith, length, take, drop}
 use Rattle.std.specs.Prelude.{slice_get, IfNone, IfSome}
 use Rattle.std.specs.Option.{option_map, unwrap_or}
 use Rattle.std.proofs.lemmas.List.{length-map, take-map}
@@ -9,27 +9,26 @@ use Rattle.tw_atomic.specs.declared.Turn.{Turn}
 use Rattle.tw_msgs.specs.declared.message.Message.{Message}
 use Rattle.tw_msgs.specs.declared.record.Record.{Record}
 use Rattle.tw_network.specs.Contents.{Contents as NetworkContents}
-use Rattle.tw_theory.specs.Chains.{Start, SoloRun, IsSoloRun, Cause, IsHome, Agrees, alone, made_anew, sent_in}
+use Rattle.tw_theory.specs.Chains.{SoloRun, IsSoloRun, Cause, IsHome, Agrees, alone, made_anew, sent_in}
 use Rattle.tw_theory.specs.Contents.{Process, Cancel, sent_out, before_all}
 use Rattle.tw_theory.specs.Installing.{IsFresh, IsFullFor, IsInstalled, StopsAt, TakesFrom}
 use Rattle.tw_theory.specs.Installing as theory
-use Rattle.tw_theory.specs.LocalRun.{Step, Made, Leads, local_step}
-use Rattle.tw_theory.specs.Memory.{max_nodes, live, need_of_step}
-use Rattle.tw_theory.specs.Network.{Network, model_of}
+use Rattle.tw_theory.specs.LocalRun.{Step, Leads}
+use Rattle.tw_theory.specs.Network.{Network}
 use Rattle.tw_theory.specs.Transitions.{Moment}
-use Rattle.tw_theory.proofs.Agreeing.{Taken, step_taken, same_step}
+use Rattle.tw_theory.proofs.Agreeing.{step_taken, same_step}
 use Rattle.tw_vtime.specs.Stamps.{max_microstep}
 use Rattle.tw_chain.specs.Kept as chain
 use Rattle.tw_chain.specs.Kept.{shown_all}
 use Rattle.tw_chain.specs.Stops.{meant}
 use Rattle.tw_chain.specs.declared.cause.Cause.{Cause as ChainCause}
 use Rattle.tw_chain.specs.declared.step.ChainStep.{ChainStep}
-use Rattle.tw_lists.specs.Lists.{Lists, node_count, with_room}
+use Rattle.tw_lists.specs.Lists.{Lists, with_room}
 use Rattle.tw_process.specs.declared.entry.Entry.{Entry}
 use Rattle.tw_process.specs.declared.finished.Stop.{Stop}
 use Rattle.tw_process.specs.declared.finished.Stop.TheVariants.{Ended, Stale, OutOfMemory, Full}
 use Rattle.tw_process.specs.History.{seen, IsKeptBy}
-use Rattle.tw_process.specs.Installing.{after_record, after_steps, AreNext, IsNext, WhyNot, entries_of, entries_with, sent_counts, stop_of}
+use Rattle.tw_process.specs.Installing.{after_record, after_steps, AreNext, WhyNot, entries_of, entries_with, sent_counts, stop_of}
 use Rattle.tw_process.proofs.Histories.{live_shown}
 use Rattle.tw_process.proofs.Installations.{AllMade, all_made, entries_counted}
 use Rattle.tw_process.proofs.Receipts.{others_kept}

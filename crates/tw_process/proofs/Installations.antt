@@ -1,20 +1,19 @@
 -- The steps of a chain that agree with a process, one after another, are its own next ones.
-use Rattle.std.proofs.Common.{◌≡◌, ℕ, zero, suc, ◌+◌, ◌-◌, ◌<◌, ◌≤◌, ◌==◌, List, [], ◌∷◌, ◌++◌, Bool, true, false, cond, Option, Some, None, Ok, refl, sym, ap, subst, ◌∙◌, arith, ⊎_elim, length, take, drop, append-nil, append_assoc}
-use Rattle.std.specs.List.{AllByRecursion as Each}
+use Rattle.std.proofs.Common.{◌≡◌, ℕ, ◌+◌, ◌≤◌, ◌==◌, List, [], ◌∷◌, ◌++◌, true, false, cond, Option, Some, None, refl, sym, ap, subst, ◌∙◌, arith, ⊎_elim, length, append-nil, append_assoc}
 use Rattle.std.proofs.lemmas.Bool.{cond-true, cond-false, eqb-false, cases_Bool}
 use Rattle.tw_atomic.specs.Atomic.{Bag, Meaning, turned, CanTurn}
 use Rattle.tw_atomic.specs.declared.Turn.{Turn}
 use Rattle.tw_msgs.specs.declared.message.Message.{Message}
 use Rattle.tw_msgs.specs.declared.record.Record.{Record}
 use Rattle.tw_network.specs.Contents.{Contents as NetworkContents}
-use Rattle.tw_theory.specs.Bundles.{front, items_of, positives}
-use Rattle.tw_theory.specs.Chains.{Start, IsHome, Agrees, alone, made_anew, sent_in, taken_at, left_at}
-use Rattle.tw_theory.specs.Contents.{Process, Cancel, sent_out, owed_after, with_step}
-use Rattle.tw_theory.specs.Installing.{IsFresh, TakesFrom}
-use Rattle.tw_theory.specs.LocalRun.{Step, Made, Leads, local_step}
-use Rattle.tw_theory.specs.Network.{Network, model_of}
+use Rattle.tw_theory.specs.Bundles.{front, items_of}
+use Rattle.tw_theory.specs.Chains.{Start, IsHome, Agrees, alone, made_anew, sent_in, taken_at}
+use Rattle.tw_theory.specs.Contents.{Cancel}
+use Rattle.tw_theory.specs.Installing.{TakesFrom}
+use Rattle.tw_theory.specs.LocalRun.{Step, Leads}
+use Rattle.tw_theory.specs.Network.{Network}
 use Rattle.tw_theory.specs.Transitions.{Moment}
-use Rattle.tw_theory.proofs.Agreeing.{Taken, step_taken, same_step}
+use Rattle.tw_theory.proofs.Agreeing.{step_taken, same_step}
 use Rattle.tw_vtime.specs.Stamps.{phase_of, max_microstep}
 use Rattle.tw_chain.specs.Kept as chain
 use Rattle.tw_chain.specs.Kept.{shown_all, IsTakenBack}
@@ -22,8 +21,8 @@ use Rattle.tw_chain.specs.declared.step.ChainStep.{ChainStep}
 use Rattle.tw_lists.specs.Lists.{Lists}
 use Rattle.tw_process.specs.declared.entry.Entry.{Entry}
 use Rattle.tw_process.specs.History.{seen, LinkBy, IsKeptBy}
-use Rattle.tw_process.specs.Installing.{after_record, after_steps, AreNext, IsNext, consumed_count, entry_with, entry_of, entries_of, entries_with, sent_counts}
-use Rattle.tw_process.proofs.Installs.{Installed, installed, installing, IsRow}
+use Rattle.tw_process.specs.Installing.{after_record, after_steps, AreNext, entry_with, entry_of, entries_of, entries_with, sent_counts}
+use Rattle.tw_process.proofs.Installs.{installed, installing, IsRow}
 use Rattle.tw_lists.proofs.Loops.{items_length}
 
 -- ---- one step of a chain in the history

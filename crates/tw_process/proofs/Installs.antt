@@ -1,5 +1,5 @@
 -- A step that the definition makes keeps what a process keeps: for steps that were made elsewhere, as a chain's.
-use Rattle.std.proofs.Common.{◌≡◌, ℕ, ◌+◌, ◌-◌, ◌<◌, ◌≤◌, ◌==◌, List, [], ◌∷◌, ◌++◌, Bool, true, false, cond, Option, Some, None, Result, Ok, Err, refl, sym, ap, subst, ◌∙◌, arith, ⊎_elim, length, append-nil, append_assoc}
+use Rattle.std.proofs.Common.{◌≡◌, ℕ, ◌+◌, ◌-◌, ◌<◌, ◌≤◌, ◌==◌, List, [], ◌∷◌, ◌++◌, true, false, cond, Option, Result, Ok, Err, refl, sym, ap, subst, ◌∙◌, arith, ⊎_elim, length}
 use Rattle.std.specs.Prelude.{nat_le}
 use Rattle.std.specs.List.{AllByRecursion as Each}
 use Rattle.std.proofs.lemmas.Bool.{cond-true, cond-false, eqb-true, eqb-false, lt-leb, cases_Bool}
@@ -9,7 +9,7 @@ use Rattle.tw_msgs.specs.Messages.{Sorted}
 use Rattle.tw_msgs.specs.declared.message.Message.{Message}
 use Rattle.tw_theory.specs.Bundles.{front, items_of, first_stamp}
 use Rattle.tw_theory.specs.LocalRun.{Made, local_step, step_at, next_of, output_made, transition_made, if_moved}
-use Rattle.tw_theory.specs.Transitions.{Moment, Move, output, transition, moved, if_within, turn, kind_of, due_of}
+use Rattle.tw_theory.specs.Transitions.{Moment, output, transition, moved, if_within, turn, kind_of, due_of}
 use Rattle.tw_theory.specs.Network.{Network, model_of}
 use Rattle.tw_theory.proofs.Steps.{local_step_follows}
 use Rattle.tw_vtime.specs.Advance.{advanced}
@@ -27,7 +27,7 @@ use Rattle.tw_process.specs.declared.entry.Entry.{Entry}
 use Rattle.tw_lists.specs.Lists.{Lists}
 use Rattle.tw_process.specs.History.{before_of, step_of, shown, seen, LinkBy, IsKeptBy}
 use Rattle.tw_theory.specs.Standing.{floor_after}
-use Rattle.tw_process.proofs.Histories.{Grown, grown}
+use Rattle.tw_process.proofs.Histories.{grown}
 
 module _ {S : Type 0} (net : Network S) (c : ℕ) (valid : S → Type 0) (m : Meaning S) (is : (s : S) → model_of net c s ≡ m) (small : net.micro_limit ≤ max_microstep)
     (stays : (tk : Turn) (state : S) (elapsed : ℕ) (bag : Bag) → CanTurn valid m tk state elapsed bag → valid (turned m tk state elapsed bag)) where

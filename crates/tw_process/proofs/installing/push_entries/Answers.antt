@@ -1,4 +1,4 @@
-use Rattle.std.proofs.Common.{◌≡◌, ℕ, zero, suc, ◌+◌, ◌-◌, ◌≤◌, ◌++◌, List, [], ◌∷◌, Option, Some, None, drop, length, ap, sym, ◌∙◌, arith, refl, append_assoc, length-drop}
+use Rattle.std.proofs.Common.{◌≡◌, ℕ, ◌++◌, List, [], ◌∷◌, Option, Some, None, drop, length, ap, sym, ◌∙◌, arith, refl, append_assoc}
 use Rattle.std.specs.Option.{option_to_list, unwrap_or}
 use Rattle.tw_process.specs.Installing.{entries_with, entry_with, first_count}
 use Rattle.tw_process.proofs.installing.push_entries.Goals as goal

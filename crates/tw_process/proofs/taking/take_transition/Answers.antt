@@ -1,4 +1,4 @@
-use Rattle.std.proofs.Common.{◌≡◌, ◌≤◌, ◌-◌, ◌++◌, drop, length, ap, sym, subst, ◌∙◌, arith}
+use Rattle.std.proofs.Common.{◌≤◌, ◌-◌, ◌++◌, drop, length, ap, sym, subst, ◌∙◌, arith}
 use Rattle.tw_msgs.specs.Messages.{Sorted}
 use Rattle.tw_theory.specs.Bundles.{front}
 use Rattle.tw_lists.specs.Lists.{restored}

@@ -1,26 +1,25 @@
 -- What the lists keep as messages come and go.
-use Rattle.std.proofs.Common.{◌≡◌, ◌≢◌, ℕ, zero, suc, drop, length-drop, ◌+◌, ◌-◌, ◌==◌, ◌<◌, ◌≤◌, Bool, true, false, nat_le, List, [], ◌∷◌, ◌++◌, length, map, set, Option, Some, None, cond, refl, sym, ap, subst, ◌∙◌, inl, inr, arith, append-nil, length-append}
+use Rattle.std.proofs.Common.{◌≡◌, ◌≢◌, ℕ, zero, suc, drop, length-drop, ◌+◌, ◌-◌, ◌==◌, ◌<◌, ◌≤◌, Bool, true, false, nat_le, List, [], ◌∷◌, ◌++◌, length, map, set, Some, None, refl, sym, ap, subst, ◌∙◌, inl, inr, arith, append-nil, length-append}
 use Rattle.std.proofs.lemmas.Bool.{cases_eq, leb-true, cond-true, cond-false, le-leb}
 use Rattle.std.proofs.lemmas.List.{map-append, length-set, get_or-set_same, get_or-set_other}
 use Rattle.std.specs.Map.{lookup}
-use Rattle.tw_pool.specs.Lists.{list_at, item_of, IsLive, without as without_node, with_item_last, AreDistinct, without_first}
+use Rattle.tw_pool.specs.Lists.{list_at, IsLive, without as without_node, with_item_last, AreDistinct, without_first}
 use Rattle.tw_pool.proofs.ListLemmas.{lookup_lacks, lookup_found, lacks_left, without_found}
 use Rattle.tw_pool.proofs.IndexLemmas.{item_is, item_live, lookup_other}
-use Rattle.tw_heap.specs.declared.entries.Entry.{Entry}
 use Rattle.tw_heap.specs.Order.{insert_by}
-use Rattle.tw_heap.specs.Entries.{Events, is_before, entry_of, message_of, without, AreDistinct as AreDistinctEntries}
+use Rattle.tw_heap.specs.Entries.{Events, is_before, entry_of, message_of, without}
 use Rattle.tw_heap.proofs.EntryLemmas.{messages-insert, messages-without}
-use Rattle.tw_msgs.specs.Messages.{Sorted, has, without as without_message}
+use Rattle.tw_msgs.specs.Messages.{Sorted, has}
 use Rattle.tw_msgs.specs.declared.message.Message.{Message}
 use Rattle.tw_msgs.specs.declared.message.Item.{Item}
 use Rattle.tw_theory.specs.Bundles.{anti, antis}
-use Rattle.tw_lists.specs.Lists.{Lists, with_pending, without_pending, without_orphan, forgotten}
+use Rattle.tw_lists.specs.Lists.{with_pending, without_pending, without_orphan, forgotten}
 use Rattle.tw_lists.specs.Nodes.{contents, spare_of, IsBelow, IsKept, index_of}
 use Rattle.tw_lists.specs.Lists.{Nodes, event, message_at, item_at}
 use Rattle.tw_lists.proofs.NodeMoves.{below_more}
 use Rattle.tw_lists.proofs.Sends.{map-drop}
 use Rattle.tw_lists.proofs.Counts.{insert-length, without-length}
-use Rattle.tw_lists.proofs.Finding.{Found, found_at, entry_has}
+use Rattle.tw_lists.proofs.Finding.{found_at, entry_has}
 
 -- a heap with more room
 pub roomy_kept : (lists : List Nodes) (heap new : Events) → IsKept lists heap → new.entries ≡ heap.entries → heap.room ≤ new.room → heap.top ≤ new.top → IsKept lists new

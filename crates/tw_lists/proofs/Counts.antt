@@ -1,11 +1,11 @@
 -- How many nodes there are.
-use Rattle.std.proofs.Common.{◌≡◌, ℕ, suc, ◌+◌, ◌==◌, Bool, true, false, List, [], ◌∷◌, length, map, Option, Some, None, cond, refl, sym, ap, ◌∙◌, arith}
+use Rattle.std.proofs.Common.{◌≡◌, ℕ, ◌+◌, ◌==◌, Bool, true, false, List, [], ◌∷◌, length, Some, cond, refl, arith}
 use Rattle.std.proofs.lemmas.List.{length-map}
 use Rattle.std.proofs.lemmas.List.Sums.{sum_by-cons}
 use Rattle.tw_pool.specs.Lists.{list_at, live_count}
 use Rattle.tw_heap.specs.declared.entries.Entry.{Entry}
 use Rattle.tw_heap.specs.Order.{insert_by}
-use Rattle.tw_heap.specs.Entries.{Events, is_before, entry_of, without, message_of}
+use Rattle.tw_heap.specs.Entries.{is_before, entry_of, without, message_of}
 use Rattle.tw_lists.specs.Lists.{node_count}
 use Rattle.tw_lists.specs.Nodes.{contents}
 use Rattle.tw_lists.specs.Lists.{Nodes, message_at, item_at}

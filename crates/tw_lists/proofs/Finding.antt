@@ -1,8 +1,8 @@
 -- A message looked for in a list of nodes.
-use Rattle.std.proofs.Common.{◌≡◌, ◌≢◌, ℕ, suc, ◌+◌, ◌-◌, ◌==◌, ◌<◌, ◌≤◌, Bool, true, false, ◌||◌, List, [], ◌∷◌, ◌++◌, length, map, take, drop, Option, Some, None, is_some, cond, refl, sym, ap, subst, ◌∙◌, inl, inr, arith, take-append-drop, drop-drop, drop_of_length-le}
-use Rattle.std.proofs.lemmas.Bool.{cases_eq, eq-eqb, ne_eqb, or_cases, cond-true, cond-false}
+use Rattle.std.proofs.Common.{◌≡◌, ℕ, ◌+◌, ◌==◌, ◌<◌, ◌≤◌, Bool, true, false, ◌||◌, List, [], ◌∷◌, ◌++◌, length, map, take, drop, Some, None, is_some, cond, refl, sym, ap, ◌∙◌, inl, inr, take-append-drop, drop-drop, drop_of_length-le}
+use Rattle.std.proofs.lemmas.Bool.{cases_eq, eq-eqb, ne_eqb}
 use Rattle.std.specs.Map.{lookup}
-use Rattle.tw_pool.specs.Lists.{list_at, item_of, IsLive, first_of, next_of, AreDistinct}
+use Rattle.tw_pool.specs.Lists.{list_at, item_of, first_of, next_of, AreDistinct}
 use Rattle.tw_pool.proofs.IndexLemmas.{item_is, next_is}
 use Rattle.tw_heap.specs.declared.entries.Entry.{Entry}
 use Rattle.tw_heap.specs.Entries.{entry_of, message_of, AreDistinct as AreDistinctEntries}
@@ -68,7 +68,7 @@ ended_first l k first = go (drop k l) refl
     go [] is = sym (ap first_of (sym (drop-drop 1 k l) ∙ ap (drop 1) is))
     go (e ∷ r) is = let some = first ∙ ap first_of is in absurd (cc)
 
--- ## What was found
+-- ---- What was found
 
 pub record Found (m : Message) (l : Nodes) (index : ℕ) : Type 0 where
   pub item : Item
@@ -121,7 +121,7 @@ without_absent m (n ∷ ms) none = go (same_message m n) (without_absent m ms) n
     go true rest h = absurd (cc)
     go false rest h = ap (λ l. n ∷ l) (rest h)
 
--- ## Among entries
+-- ---- Among entries
 
 pub entry_has : (m : Message) (index : ℕ) (es : List Entry) → entry_of index es ≡ Some (record { key = m; index = index }) → has m (map message_of es) ≡ true
 entry_has m index [] is = absurd (cc)

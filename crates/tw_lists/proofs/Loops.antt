@@ -1,5 +1,5 @@
 -- What the loops over the lists keep.
-use Rattle.std.proofs.Common.{◌≡◌, ◌≢◌, ℕ, zero, suc, ◌+◌, ◌-◌, ◌==◌, ◌<◌, ◌≤◌, List, [], ◌∷◌, ◌++◌, length, take, drop, Option, Some, None, cond, refl, sym, ap, subst, ◌∙◌, arith, length-append, append-nil, append_assoc, take-append-drop, take-take, drop-drop, length-take-le, take_at, drop_at, Bool, true, false}
+use Rattle.std.proofs.Common.{◌≡◌, ◌≢◌, ℕ, zero, suc, ◌+◌, ◌-◌, ◌<◌, ◌≤◌, List, [], ◌∷◌, ◌++◌, length, take, drop, Some, None, cond, refl, sym, ap, subst, ◌∙◌, arith, length-append, append_assoc, take-append-drop, take-take, drop-drop, length-take-le, take_at, drop_at}
 use Rattle.std.proofs.lemmas.Bool.{ne_eqb}
 use Rattle.std.proofs.lemmas.List.{drop-take}
 use Rattle.tw_msgs.specs.Messages.{Sorted}

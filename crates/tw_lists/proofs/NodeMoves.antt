@@ -1,25 +1,24 @@
 -- What the lists keep, as a node moves from one of them to another.
-use Rattle.std.proofs.Common.{◌≡◌, ◌≢◌, ℕ, ◌+◌, ◌-◌, ◌==◌, ◌<◌, ◌≤◌, nat_le, true, List, [], ◌∷◌, ◌++◌, length, map, take, drop, Option, Some, None, is_some, cond, refl, sym, ap, subst, ◌∙◌, inl, inr, arith, length-append, append-nil}
+use Rattle.std.proofs.Common.{◌≡◌, ◌≢◌, ℕ, ◌+◌, ◌-◌, ◌==◌, ◌<◌, ◌≤◌, nat_le, true, List, [], ◌∷◌, ◌++◌, length, map, drop, Option, Some, None, is_some, cond, refl, sym, ap, subst, ◌∙◌, inl, inr, arith, length-append, append-nil}
 use Rattle.std.proofs.lemmas.Bool.{cases_eq}
 use Rattle.std.proofs.lemmas.List.{map-append}
 use Rattle.std.specs.Map.{lookup}
 use Rattle.tw_pool.specs.Lists.{list_at, item_of, IsLive, first_of, backward, without as without_node, with_item_last, AreDistinct}
 use Rattle.tw_pool.proofs.ListLemmas.{stands, lookup_lacks, lookup_found}
-use Rattle.tw_pool.proofs.IndexLemmas.{Moved, moved, item_is, item_live, lookup_other, last_of}
+use Rattle.tw_pool.proofs.IndexLemmas.{moved, item_is, item_live, lookup_other, last_of}
 use Rattle.tw_heap.specs.declared.entries.Entry.{Entry}
 use Rattle.tw_heap.specs.Order.{insert_by}
 use Rattle.tw_heap.specs.Entries.{Events, is_before, entry_of, without, message_of}
 use Rattle.tw_heap.proofs.EntryLemmas.{entry_of-first, without-first, messages-insert}
 use Rattle.tw_msgs.specs.Messages.{Sorted}
 use Rattle.tw_msgs.proofs.Messages.{place-first}
-use Rattle.tw_msgs.specs.declared.message.Message.{Message}
 use Rattle.tw_msgs.specs.declared.message.Item.{Item}
 use Rattle.tw_theory.specs.Bundles.{antis}
-use Rattle.tw_lists.specs.Lists.{Lists, first_consumed, restored}
+use Rattle.tw_lists.specs.Lists.{first_consumed, restored}
 use Rattle.tw_lists.specs.Nodes.{contents, spare_of, IsBelow, IsKept}
 use Rattle.tw_lists.specs.Lists.{Nodes, event, message_at, item_at}
 use Rattle.tw_lists.proofs.Counts.{insert-length}
-use Rattle.tw_lists.proofs.Ends.{LastOff, last_off}
+use Rattle.tw_lists.proofs.Ends.{last_off}
 
 pub below_out : (top : ℕ) (a : Nodes) (node : ℕ × Item) (b : Nodes) → IsBelow top (a ++ node ∷ b) → (node.0 < top) × IsBelow top (a ++ b)
 below_out top [] node b below = below
@@ -37,7 +36,7 @@ below_more top more (n ∷ l) less below = (omega (arith, below.0, less), below_
 pub same_spare : (top top' : ℕ) (heap new : Events) (n n' : ℕ) → top' ≡ top → new.top ≡ heap.top → new.room - n' ≡ heap.room - n → spare_of top' new n' ≡ spare_of top heap n
 same_spare top top' heap new n n' a b c = λ i. cond (nat_le (a i) (b i)) (c i) 0
 
--- ## The first event
+-- ---- The first event
 
 -- the node of an event
 pub record NodeOf (nodes : Nodes) (e : Entry) : Type 0 where
@@ -123,7 +122,7 @@ first_live lists heap e es kept six distinct first =
     let at = node_of (list_at lists 0) e heap.entries found (kept.same e.index) in
     item_live lists e.index at.item (item_is lists e.index 0 at.item at.before at.behind distinct (omega (arith, six)) at.split)
 
--- ## The last consumed node
+-- ---- The last consumed node
 
 pub record Restoring (lists : List Nodes) (heap : Events) (index : ℕ) (item : Item) : Type 0 where
   pub before : Nodes

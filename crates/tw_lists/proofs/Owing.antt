@@ -1,9 +1,9 @@
 -- Owed nodes: sent again, counted, and posted.
-use Rattle.std.proofs.Common.{◌≡◌, ◌≢◌, ℕ, zero, suc, ◌+◌, ◌-◌, ◌*◌, ◌<◌, ◌≤◌, nat_le, nat_lt, Bool, true, false, ◌||◌, List, [], ◌∷◌, ◌++◌, length, map, take, drop, Option, Some, None, cond, refl, sym, ap, ap₂, subst, ◌∙◌, arith, length-append, append-nil, append_assoc, add-one, drop-drop, take-append-drop, take_all, length-drop, IfSome, IsSome}
+use Rattle.std.proofs.Common.{◌≡◌, ℕ, zero, suc, ◌+◌, ◌-◌, ◌<◌, ◌≤◌, nat_le, nat_lt, Bool, true, false, ◌||◌, List, [], ◌∷◌, ◌++◌, length, map, take, drop, Option, Some, None, cond, refl, sym, ap, ap₂, subst, ◌∙◌, arith, length-append, append-nil, append_assoc, add-one, drop-drop, take_all, length-drop, IfSome, IsSome}
 use Rattle.std.proofs.lemmas.List.{map-append}
-use Rattle.std.proofs.lemmas.Bool.{cond-true, cond-false, leb-true, le-leb, lt-leb}
+use Rattle.std.proofs.lemmas.Bool.{cond-true, cond-false, le-leb, lt-leb}
 use Rattle.tw_pool.specs.Lists.{list_at, item_of, IsLive, first_of, next_of, without as without_node, with_item_last, AreDistinct}
-use Rattle.tw_pool.proofs.IndexLemmas.{Moved, moved, item_is, item_live, next_is}
+use Rattle.tw_pool.proofs.IndexLemmas.{moved, item_is, next_is}
 use Rattle.tw_heap.specs.Entries.{Events, message_of}
 use Rattle.tw_msgs.specs.Counting.{total, one_at}
 use Rattle.tw_msgs.specs.Messages.{has, without, same_message}
@@ -13,7 +13,7 @@ use Rattle.tw_msgs.proofs.Messages.{same_message_is}
 use Rattle.tw_msgs.proofs.MessageLists.{total-without}
 use Rattle.tw_msgs.proofs.Totals.{total-append}
 use Rattle.tw_theory.specs.Bundles.{anti, positive, positives, antis, sent_anew, still_owed, overdue, not_overdue}
-use Rattle.tw_theory.specs.Contents.{Cancel, Aggressive, Lazy, sent_out, owed_after}
+use Rattle.tw_theory.specs.Contents.{Cancel, Lazy, sent_out, owed_after}
 use Rattle.tw_theory.proofs.Owing.{anew-append, still-append, out-append, after-append}
 use Rattle.tw_lists.specs.Lists.{Lists, with_sent_again, with_overdue_posted, with_all_sent}
 use Rattle.tw_lists.specs.Nodes.{contents, spare_of, IsKept, index_of, overdue_nodes, not_overdue_nodes, IsSettled, IsPosted}
@@ -21,7 +21,7 @@ use Rattle.tw_lists.specs.Lists.{Nodes, message_at, item_at}
 use Rattle.tw_lists.proofs.Finding.{found_at}
 use Rattle.tw_lists.proofs.Sends.{Changed, changed_kept, changed_contents, antis-append}
 
--- ## Lists of anti-messages
+-- ---- Lists of anti-messages
 
 head_same : {A : Type 0} {p q : A} {ps qs : List A} → p ∷ ps ≡ q ∷ qs → p ≡ q
 head_same e = cc
@@ -47,7 +47,7 @@ antis_overdue s (x ∷ l) is = go (nat_lt (x.1.message.stamp - 1) s) (antis_over
     go true rest = (antis_one x (overdue_nodes s l) (head_same is) rest.0, rest.1)
     go false rest = (rest.0, antis_one x (not_overdue_nodes s l) (head_same is) rest.1)
 
--- ## A message sent again
+-- ---- A message sent again
 
 pub record Resent (lists now : List Nodes) (room spare room0 spare0 : ℕ) (heap : Events) (m : Message) : Type 0 where
   pub kept : IsKept now heap
@@ -86,7 +86,7 @@ resent_kept lists now room spare room0 spare0 heap index m kept six distinct is 
           });
     }
 
--- ## Messages sent one after another
+-- ---- Messages sent one after another
 
 pub sending_more : (way : Cancel) (xs ys : List Message) (c : Lists) → with_all_sent way ys (with_all_sent way xs c) ≡ with_all_sent way (xs ++ ys) c
 sending_more way xs ys c = λ i. record {
@@ -126,7 +126,7 @@ room_next owed xs m ys =
     ap length (anew-append o (m ∷ []) ys) ∙ length-append (sent_anew o (m ∷ [])) (sent_anew (still_owed o (m ∷ [])) ys)
     ∙ ap (λ l. length (sent_anew o (m ∷ [])) + length (sent_anew l ys)) (sym (still-append owed xs (m ∷ [])))
 
--- ## How many are sent anew
+-- ---- How many are sent anew
 
 has_total : (m : Message) (l : List Message) → (has m l ≡ true → 0 < total (one_at m) l) × (has m l ≡ false → total (one_at m) l ≡ 0)
 has_total m [] = (λ h. absurd (cc), λ h. refl)
@@ -184,7 +184,7 @@ pub total_more : (m : Message) (ms : List Message) (k : ℕ) (x : Message) → k
 total_more m ms k x within is b same =
     ap (total (one_at m)) is ∙ total-append (one_at m) (take k ms) (x ∷ []) ∙ ap (λ n. total (one_at m) (take k ms) + (n + 0)) (ap (λ t. cond t 1 0) same) ∙ omega arith
 
--- ## Owed nodes that are posted
+-- ---- Owed nodes that are posted
 
 pub take_more : {A : Type 0} (k : ℕ) (l : List A) (x : A) (r : List A) → drop k l ≡ x ∷ r → take (k + 1) l ≡ take k l ++ x ∷ []
 take_more {A = A} k l x r is = go k l is

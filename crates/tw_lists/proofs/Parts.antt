@@ -1,5 +1,5 @@
 -- The messages of one stamp consumed one by one, as long as they carry a bag.
-use Rattle.std.proofs.Common.{◌≡◌, ◌≢◌, ℕ, ℤ, zero, suc, ◌+◌, ◌-◌, ◌==◌, ◌<◌, ◌≤◌, Bool, true, false, List, [], ◌∷◌, ◌++◌, length, take, drop, cond, refl, sym, ap, ap₂, subst, ◌∙◌, arith, length-append, length-drop, append-nil, append_assoc, take-append-drop, drop-drop, take_all, take_at, drop_at, length-take-le}
+use Rattle.std.proofs.Common.{◌≡◌, ◌≢◌, ℕ, ℤ, zero, suc, ◌+◌, ◌-◌, ◌==◌, ◌≤◌, Bool, true, false, List, [], ◌∷◌, ◌++◌, length, take, drop, cond, refl, sym, ap, ap₂, subst, ◌∙◌, arith, length-append, length-drop, append-nil, append_assoc, take-append-drop, drop-drop, take_all, take_at, drop_at, length-take-le}
 use Rattle.std.proofs.lemmas.Bool.{eq-eqb}
 use Rattle.tw_msgs.specs.Bags.{Bag}
 use Rattle.tw_msgs.specs.Messages.{Sorted}

@@ -1,13 +1,12 @@
 -- What the lists keep as messages are sent, and as they are cancelled.
-use Rattle.std.proofs.Common.{◌≡◌, ◌≢◌, ℕ, zero, suc, ◌+◌, ◌-◌, ◌<◌, ◌≤◌, List, [], ◌∷◌, ◌++◌, length, map, set, take, drop, refl, sym, ap, subst, ◌∙◌, arith, Result, Ok, Err, IfOk, OnOk, IsOk}
+use Rattle.std.proofs.Common.{◌≡◌, ◌≢◌, ℕ, zero, suc, ◌-◌, List, [], ◌∷◌, ◌++◌, length, map, set, take, drop, refl, sym, ap, ◌∙◌, arith, Result, Ok, Err, IfOk, OnOk, IsOk}
 use Rattle.std.proofs.lemmas.List.{map-append, length-map, length-set, get_or-set_same, get_or-set_other}
 use Rattle.tw_pool.specs.Lists.{list_at, with_item_last, with_last_moved}
 use Rattle.tw_heap.specs.Entries.{Events, message_of}
 use Rattle.tw_msgs.specs.declared.message.Message.{Message}
-use Rattle.tw_msgs.specs.declared.message.Item.{Item}
 use Rattle.tw_theory.specs.Bundles.{anti, positive, antis}
 use Rattle.tw_theory.specs.Contents.{Cancel, Aggressive, Lazy}
-use Rattle.tw_lists.specs.Lists.{Lists, cancelled, with_sent}
+use Rattle.tw_lists.specs.Lists.{cancelled, with_sent}
 use Rattle.tw_lists.specs.Nodes.{contents, spare_of, IsKept}
 use Rattle.tw_lists.specs.Lists.{Nodes, message_at, item_at}
 

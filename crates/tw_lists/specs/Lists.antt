@@ -1,4 +1,11 @@
--- What a contract sees of the five lists of a process, and what the calls do to them.
+-- What a contract sees of the six lists of a process, and what the calls do to them.
+--     node_count lists      how many nodes they have together
+--     first_consumed, front_consumed s, restored n      the first pending message, all of stamp s at the front; the last n pending again
+--     with_sent m, with_all_sent way ms, with_sent_again m      messages sent; one sent again that was owed
+--     cancelled way n, with_overdue_posted s      the last n sent messages taken back; what was owed for too long
+--     with_pending m, without_pending m, with_orphan m, without_orphan m      messages and anti-messages come and go
+--     forgotten n k, without_outgoing      the oldest consumed and sent messages, and what was outgoing, are gone
+--     Nodes, AreSame      the nodes of the pool and the entries of the heap, as they are lent
 use Rattle.std.specs.Prelude.{ℕ, ◌+◌, ◌-◌, List, [], ◌∷◌, ◌++◌, length, take, drop, Option, Some, None, ◌≡◌, ◌==◌}
 use Rattle.std.specs.Map.{lookup}
 use Rattle.tw_heap.specs.declared.entries.Entry.{Entry}
@@ -9,7 +16,7 @@ use Rattle.tw_msgs.specs.declared.message.Item.{Item}
 use Rattle.tw_theory.specs.Bundles.{front, behind, positive, positives, overdue, not_overdue, antis}
 use Rattle.tw_theory.specs.Contents.{Cancel, sent_out, owed_after, outgoing_undone, owed_undone}
 
--- the five lists, for how many more items there is room, and for how many more messages to come beside those that were consumed
+-- the six lists, for how many more items there is room, and for how many more messages to come beside those that were consumed
 pub record Lists : Type 0 where
   pub pending : List Message
   pub consumed : List Message
@@ -55,7 +62,7 @@ cancelled way n c = record c {
 abbrev pub with_room : ℕ → ℕ → Lists → Lists
 with_room room spare c = record c { room = room; spare = spare }
 
--- a message is sent
+-- a message is sent: it goes out, and is kept
 abbrev pub with_sent : Message → Lists → Lists
 with_sent m c = record c { sent = c.sent ++ m ∷ []; outgoing = c.outgoing ++ positive m ∷ [] }
 

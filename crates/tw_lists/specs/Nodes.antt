@@ -1,9 +1,8 @@
--- How the five lists lie in a pool and a heap. No public clause cites this module.
-use Rattle.std.specs.Prelude.{ℤ, ◌≢◌, ◌++◌, take, drop, nat_lt, true, false, ◌≡◌, ℕ, ◌-◌, ◌<◌, ◌≤◌, ◌==◌, nat_le, List, [], ◌∷◌, map, length, Option, Some, None, if◌then◌else◌}
-use Rattle.std.specs.Map.{lookup}
+-- How the six lists lie in a pool and a heap. No public clause cites this module.
+use Rattle.std.specs.Prelude.{ℤ, ◌≢◌, ◌++◌, take, drop, nat_lt, true, false, ◌≡◌, ℕ, ◌-◌, ◌<◌, ◌≤◌, nat_le, List, [], ◌∷◌, map, length, Option, Some, None, if◌then◌else◌}
 use Rattle.tw_pool.specs.Lists.{list_at, with_item_last, without}
 use Rattle.tw_heap.specs.declared.entries.Entry.{Entry}
-use Rattle.tw_heap.specs.Entries.{Events, entry_of, message_of}
+use Rattle.tw_heap.specs.Entries.{Events, message_of}
 use Rattle.tw_msgs.specs.Messages.{same_message}
 use Rattle.tw_msgs.specs.declared.message.Message.{Message}
 use Rattle.tw_msgs.specs.declared.message.Item.{Item}

@@ -1,5 +1,5 @@
 -- The oldest steps leave a history.
-use Rattle.std.proofs.Common.{◌≡◌, ◌≢◌, ℕ, zero, suc, ◌+◌, ◌-◌, ◌<◌, ◌≤◌, List, [], ◌∷◌, ◌++◌, length, take, drop, min, cond, Bool, true, false, Some, refl, sym, ap, subst, ◌∙◌, arith, take-append-drop, length-drop, append_assoc, append-nil}
+use Rattle.std.proofs.Common.{◌≡◌, ℕ, zero, suc, ◌+◌, ◌<◌, ◌≤◌, List, [], ◌∷◌, ◌++◌, length, drop, cond, refl, sym, ap, ◌∙◌, arith, length-drop}
 use Rattle.std.specs.List.{AllByRecursion as Each, prefix_len}
 use Rattle.std.specs.Prelude.{nat_lt, take_while, slice_index_or, remove}
 use Rattle.std.proofs.lemmas.Bool.{cond_both}
@@ -7,19 +7,16 @@ use Rattle.std.proofs.lemmas.List.Folds.{length-prefix_len}
 use Rattle.tw_atomic.specs.Atomic.{Bag, Meaning}
 use Rattle.tw_atomic.specs.declared.Turn.{Turn}
 use Rattle.tw_msgs.specs.declared.message.Message.{Message}
-use Rattle.tw_msgs.specs.declared.record.Record.{Record}
 use Rattle.tw_theory.specs.Bundles.{first_stamp}
-use Rattle.tw_theory.specs.Contents.{Process, steps_before, records_of}
+use Rattle.tw_theory.specs.Contents.{steps_before}
 use Rattle.tw_theory.specs.LocalRun.{Step}
 use Rattle.tw_theory.specs.Transitions.{Moment}
 use Rattle.tw_theory.proofs.Elements.{each_parts}
 use Rattle.tw_vtime.specs.Stamps.{never}
 use Rattle.tw_process.specs.declared.entry.Entry.{Entry}
 use Rattle.tw_lists.specs.Lists.{Lists, with_room, forgotten}
-use Rattle.tw_process.specs.History.{shown, total_consumed, IsKeptBy}
-use Rattle.tw_process.specs.Process.{Held, with_history, left_by, without_oldest, without_first, with_spare, oldest_of}
-use Rattle.tw_theory.specs.Standing.{IsStanding, floor_after, CanTake}
-use Rattle.tw_process.specs.History.{Stood}
+use Rattle.tw_process.specs.History.{shown, IsKeptBy}
+use Rattle.tw_theory.specs.Standing.{CanTake}
 use Rattle.tw_lists.proofs.Loops.{sorted_drop}
 use Rattle.tw_process.proofs.Receipts.{floor_grows}
 

@@ -1,5 +1,5 @@
 -- What a chain is worked out from is ready.
-use Rattle.std.proofs.Common.{◌≡◌, ℕ, zero, suc, ◌+◌, ◌<◌, ◌≤◌, List, [], ◌∷◌, ◌++◌, take, drop, sym, subst, arith, take-append-drop}
+use Rattle.std.proofs.Common.{ℕ, zero, suc, ◌≤◌, List, [], ◌∷◌, take, drop, sym, subst, arith, take-append-drop}
 use Rattle.std.specs.List.{AllByRecursion as Each, prefix_len}
 use Rattle.std.specs.Prelude.{nat_lt, take_while}
 use Rattle.tw_atomic.specs.Atomic.{Bag, Meaning}

@@ -1,27 +1,22 @@
 -- The last step of a history, made and floor back.
-use Rattle.std.proofs.Common.{◌≡◌, ◌≢◌, ℕ, zero, suc, ◌+◌, ◌-◌, ◌<◌, ◌≤◌, List, [], ◌∷◌, ◌++◌, length, take, drop, Option, Some, None, refl, sym, ap, subst, ◌∙◌, arith, length-append, append-nil, append_assoc, take-append-drop, length-take-le, length-drop, take_all}
+use Rattle.std.proofs.Common.{◌≡◌, ◌≢◌, ℕ, suc, ◌+◌, ◌-◌, ◌<◌, ◌≤◌, List, [], ◌∷◌, ◌++◌, length, take, drop, Some, refl, sym, ap, subst, ◌∙◌, arith, length-append, append-nil, append_assoc, take-append-drop, length-take-le, length-drop, take_all}
 use Rattle.std.proofs.lemmas.List.{take-append-le, drop-append-le}
 use Rattle.std.proofs.lemmas.Option.{same_Some}
-use Rattle.std.specs.Prelude.{slice_get, slice_index_or, ◌==◌, nat_lt, Bool, true, false, cond, min}
+use Rattle.std.specs.Prelude.{slice_get, slice_index_or}
 use Rattle.tw_network.specs.Contents.{Contents as NetworkContents}
 use Rattle.std.specs.List.{AllByRecursion as Each}
 use Rattle.tw_atomic.specs.Atomic.{Bag, Meaning}
 use Rattle.tw_atomic.specs.declared.Turn.{Turn}
 use Rattle.tw_msgs.specs.Messages.{Sorted}
 use Rattle.tw_msgs.specs.declared.message.Message.{Message}
-use Rattle.tw_theory.specs.Bundles.{first_stamp, antis}
+use Rattle.tw_theory.specs.Bundles.{first_stamp}
 use Rattle.tw_msgs.specs.declared.message.Item.{Item}
-use Rattle.tw_theory.specs.Contents.{Process, Cancel, Aggressive, Lazy, undo_last, cut, steps_before, steps_from, back_to_first, before_all, consumed_by, sent_by, unsent_by, outgoing_undone, owed_undone}
+use Rattle.tw_theory.specs.Contents.{Process, Cancel, Aggressive, Lazy, undo_last, back_to_first, before_all, consumed_by, sent_by, unsent_by, outgoing_undone, owed_undone}
 use Rattle.tw_theory.specs.LocalRun.{Step}
 use Rattle.tw_theory.specs.Transitions.{Moment}
-use Rattle.std.proofs.lemmas.Bool.{cond-true, cond-false, le-ltb, lt-ltb, ltb-true, ltb-false}
-use Rattle.std.specs.Ordering.{nat_cmp, is_lt}
-use Rattle.std.specs.declared.cmp.Ordering.TheVariants.{Less, Equal, Greater}
 use Rattle.tw_theory.specs.Soundness.{AllBefore}
-use Rattle.tw_theory.proofs.Cuts.{back_twice, steps_before-take}
-use Rattle.tw_theory.proofs.Elements.{each-append, each_parts}
 use Rattle.tw_process.specs.declared.entry.Entry.{Entry}
-use Rattle.tw_lists.specs.Lists.{Lists, node_count as lists_count, restored, cancelled, with_room}
+use Rattle.tw_lists.specs.Lists.{Lists, node_count as lists_count, restored, cancelled}
 use Rattle.tw_process.specs.History.{before_of, step_of, shown, seen, total_consumed, total_sent, LinkBy, state_before, Linked, IsKeptBy, IsKept}
 use Rattle.tw_theory.specs.Memory.{live}
 use Rattle.tw_process.specs.Process.{with_last_undone, last_stamp_of}

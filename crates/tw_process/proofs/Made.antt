@@ -4,7 +4,7 @@ use Rattle.std.specs.Prelude.{nat_le, ◌==◌, slice_get}
 use Rattle.std.specs.List.{AllByRecursion as Each}
 use Rattle.std.specs.declared.snapshot.Snapshot.{Snapshot}
 use Rattle.std.proofs.lemmas.Bool.{cond-true, cond-false, eq-eqb, ne_eqb, lt-leb}
-use Rattle.std.proofs.lemmas.Option.{get_or_from_slice_get, slice_get-map, same_Some}
+use Rattle.std.proofs.lemmas.Option.{get_or_from_slice_get, slice_get-map}
 use Rattle.std.specs.Option.{option_map}
 use Rattle.tw_atomic.specs.Atomic.{Meaning, turned, CanTurn}
 use Rattle.tw_atomic.specs.declared.Turn.{Turn}
@@ -14,9 +14,9 @@ use Rattle.tw_msgs.specs.declared.message.Item.{Item}
 use Rattle.tw_msgs.specs.declared.record_kind.RecordKind.{RecordKind}
 use Rattle.tw_msgs.specs.declared.record_kind.RecordKind.TheVariants.{Out}
 use Rattle.tw_network.specs.Contents.{Contents, network_of}
-use Rattle.tw_theory.specs.Bundles.{front, behind, items_of, positives, first_stamp, Ascending}
-use Rattle.tw_theory.specs.Contents.{Cancel, Aggressive, Lazy, with_step, sent_out, owed_after}
-use Rattle.tw_theory.specs.LocalRun.{Made, Step, NoStep, NothingDue as NothingIsDue, next_of, step_at, local_step, output_made, if_moved, transition_made}
+use Rattle.tw_theory.specs.Bundles.{front, behind, items_of, positives, first_stamp}
+use Rattle.tw_theory.specs.Contents.{Cancel, Aggressive, Lazy, sent_out, owed_after}
+use Rattle.tw_theory.specs.LocalRun.{Step, NothingDue as NothingIsDue, next_of, step_at, local_step, output_made, if_moved, transition_made}
 use Rattle.tw_theory.specs.Transitions.{Moment, Move, output, if_within, moved, transition, turn, kind_of, due_of}
 use Rattle.tw_theory.specs.Installing.{IsFullFor}
 use Rattle.tw_theory.specs.Network.{Network, model_of, routed}
@@ -33,12 +33,12 @@ use Rattle.tw_pool.specs.declared.refused.PoolRefused.TheVariants as pool_refuse
 use Rattle.tw_process.specs.declared.refused.StepRefused.{StepRefused}
 use Rattle.tw_process.specs.Refusals.{of_pool, of_turn}
 use Rattle.tw_lists.specs.Lists.{Lists, node_count as lists_count, with_room, with_all_sent, front_consumed}
-use Rattle.tw_process.specs.History.{step_of, shown, seen, IsKeptBy, IsKept}
+use Rattle.tw_process.specs.History.{shown, seen, IsKeptBy, IsKept}
 use Rattle.tw_process.specs.Process.{Held, IsStepped, IsStop}
-use Rattle.tw_theory.specs.Standing.{IsStanding, CanTake, floor_after}
+use Rattle.tw_theory.specs.Standing.{CanTake, floor_after}
 use Rattle.tw_step.specs.Turns.{IsRefusedBy}
 use Rattle.tw_theory.proofs.Standing.{can_turn, after_output, after_transition}
-use Rattle.tw_process.proofs.Histories.{Grown, grown, live_shown}
+use Rattle.tw_process.proofs.Histories.{grown, live_shown}
 
 module _ {S : Type 0} (net : Network S) (c : ℕ) (now : Moment S) (pending : List Message) (s : ℕ) where
   pub local_output : s ≡ next_of now pending → s < never → phase_of s ≡ 0 → local_step net c now pending ≡ Ok (output_made net c now pending s (output net c now s))

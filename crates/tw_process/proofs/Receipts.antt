@@ -1,8 +1,6 @@
 -- What a process keeps as messages come and go.
-use Rattle.std.proofs.Common.{◌≡◌, ◌≢◌, ℕ, zero, suc, ◌+◌, ◌-◌, ◌<◌, ◌≤◌, List, [], ◌∷◌, ◌++◌, length, take, drop, Some, refl, sym, ap, subst, ◌∙◌, arith, append-nil, take-append-drop, length-drop}
+use Rattle.std.proofs.Common.{◌≡◌, ℕ, ◌+◌, ◌<◌, ◌≤◌, List, [], ◌∷◌, sym, subst, arith}
 use Rattle.std.specs.List.{AllByRecursion as Each}
-use Rattle.std.specs.Prelude.{nat_lt, Bool, true, false, cond}
-use Rattle.std.proofs.lemmas.Bool.{ltb-true}
 use Rattle.tw_atomic.specs.Atomic.{Bag, Meaning}
 use Rattle.tw_atomic.specs.declared.Turn.{Turn}
 use Rattle.tw_msgs.specs.Messages.{Sorted, place, without}
@@ -11,18 +9,17 @@ use Rattle.tw_msgs.proofs.MessageLists.{without-Sorted}
 use Rattle.tw_msgs.specs.declared.message.Message.{Message}
 use Rattle.tw_msgs.specs.declared.message.Item.{Item}
 use Rattle.tw_theory.specs.Bundles.{first_stamp}
-use Rattle.tw_theory.specs.Contents.{Process, consumed_by, cut, steps_before, back_to_first}
+use Rattle.tw_theory.specs.Contents.{consumed_by}
 use Rattle.tw_theory.specs.LocalRun.{Step}
 use Rattle.tw_theory.specs.Transitions.{Moment}
-use Rattle.tw_theory.specs.Soundness.{AllBefore}
 use Rattle.tw_theory.proofs.Elements.{each-append, each_parts, each-place, each-without, each_weaker}
 use Rattle.tw_theory.proofs.MessageOrder.{first_of_place, first_of_without, sorted_join, sorted_right, ascending_of_sorted}
 use Rattle.tw_process.specs.declared.entry.Entry.{Entry}
 use Rattle.tw_lists.specs.Lists.{Lists, with_room, with_pending, without_pending}
 use Rattle.tw_network.specs.Contents.{Contents as NetworkContents}
 use Rattle.tw_process.proofs.Histories.{consumed_by_shown}
-use Rattle.tw_process.specs.History.{shown, total_consumed, IsKeptBy, IsKept}
-use Rattle.tw_theory.specs.Standing.{IsStanding, floor_after, CanTake}
+use Rattle.tw_process.specs.History.{shown, IsKeptBy, IsKept}
+use Rattle.tw_theory.specs.Standing.{floor_after, CanTake}
 use Rattle.tw_process.specs.History.{Stood}
 
 module _ {S : Type 0} (valid : S → Type 0) (m : Meaning S) where

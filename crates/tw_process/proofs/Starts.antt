@@ -1,9 +1,8 @@
 -- A process at the start.
-use Rattle.std.proofs.Common.{◌≡◌, ◌≢◌, ℕ, zero, suc, ◌+◌, ◌-◌, ◌<◌, ◌≤◌, ◌==◌, ◌⊎◌, inl, inr, List, [], ◌∷◌, ◌++◌, length, map, drop, Option, Some, None, cond, true, false, refl, sym, ap, subst, ◌∙◌, arith, ⊎_elim, slice_index_or, add-one}
+use Rattle.std.proofs.Common.{◌≡◌, ℕ, ◌+◌, ◌<◌, ◌≤◌, inl, inr, List, [], ◌∷◌, ◌++◌, length, map, drop, Option, Some, None, refl, sym, ap, subst, ◌∙◌, arith, ⊎_elim, slice_index_or, add-one}
 use Rattle.std.proofs.Math.Seq.{drop-cons}
-use Rattle.std.proofs.lemmas.Bool.{cond-true, cond-false, cases_eq}
+use Rattle.std.proofs.lemmas.Bool.{cases_eq}
 use Rattle.std.specs.List.{AllByRecursion as Each}
-use Rattle.std.specs.Option.{ForSome}
 use Rattle.tw_atomic.specs.Atomic.{Meaning}
 use Rattle.tw_atomic.specs.Atomic.{Bag}
 use Rattle.tw_atomic.specs.declared.Turn.{Turn}
@@ -12,10 +11,9 @@ use Rattle.tw_msgs.proofs.Messages.{place-comm, sorted_messages-Sorted}
 use Rattle.tw_lists.specs.Lists.{Lists}
 use Rattle.tw_process.specs.History.{IsKeptBy}
 use Rattle.tw_msgs.specs.declared.message.Message.{Message}
-use Rattle.tw_network.specs.Contents.{Input, message_of, StartsInTime}
+use Rattle.tw_network.specs.Contents.{Input, message_of}
 use Rattle.tw_theory.specs.Bundles.{addressed}
 use Rattle.tw_theory.specs.Transitions.{Moment, start_moment, first_due}
-use Rattle.tw_vtime.specs.Stamps.{stamp, never, max_tick, tick_of, phase_of}
 use Rattle.tw_theory.specs.Standing.{IsTied, IsStanding, CanTake}
 
 -- each message put at its place, one after another

@@ -1,3 +1,4 @@
 pub mod Process
 pub mod Refusals
 pub mod History
+pub mod Installing

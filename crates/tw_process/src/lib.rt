@@ -12,6 +12,7 @@
 //! | `process` | making, the next stamp, the history's length and last stamp |
 //! | `reading` | all other contents; the pool and the heap |
 //! | `chains` | `start`: what a chain is worked out from |
+//! | `installing` | `install`: the steps of a chain made here ([`Finished`]) |
 //! | `stepping` | `step`: the next step, or why it is not made ([`StepRefused`]) |
 //! | `undoing` | `undo_last` |
 //! | `receiving` | messages and anti-messages that come and go |
@@ -22,6 +23,8 @@
 mod chains;
 mod committing;
 mod entry;
+mod finished;
+mod installing;
 mod posting;
 pub mod process;
 mod reading;
@@ -29,8 +32,10 @@ mod receiving;
 mod refused;
 mod starting;
 mod stepping;
+mod taking;
 mod undoing;
 
+pub use finished::{Finished, Stop};
 pub use process::Process;
 pub use refused::StepRefused;
 pub use tw_lists::Cancel;

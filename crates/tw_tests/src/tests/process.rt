@@ -1,13 +1,16 @@
 //! One process by worked examples: its steps, the way back, and each call once.
 
+ghost use Rattle.std.specs.Prelude.{◌≡◌, Some, slice_get};
+
 use std::alloc::Global;
 use std::process::Abort;
 use std::sync::Arc;
 use tw_atomic::Atomic;
+use tw_chain::{Cause, Prepared};
 use tw_models::Model;
 use tw_msgs::{Message, RecordKind, Sign};
 use tw_network::{Coupling, Input, Network};
-use tw_process::{Cancel, Process, StepRefused};
+use tw_process::{Cancel, Process, StepRefused, Stop};
 use tw_vtime::Stamp;
 
 /// A stamp, written as in the examples.
@@ -61,16 +64,23 @@ fn assert_words(
     assert!(rt; words.as_slice() == expected);
 }
 
+/// A number, and then those from 1 on, so many.
+fn counted_words(rt: &impl Abort, alloc: Global, first: i128, count: i128) -> Vec<i128> {
+    let mut words = Vec::new(alloc);
+    words.push(first).expect(rt, "memory");
+    for value in 1..=count {
+        words.push(value).expect(rt, "memory");
+    }
+    words
+}
+
 #[test]
 fn a_full_queue_drops_and_forgets(rt: HostRuntime) {
     let alloc = rt.alloc();
     let model = Model::queue(100).expect(&rt, "a queue");
     let mut inputs = Vec::new(alloc);
-    let mut full = Vec::new(alloc);
-    full.push(0).expect(&rt, "memory");
     for value in 1..65 {
         inputs.push((1, 0, 0, value)).expect(&rt, "memory");
-        full.push(i128::from(value)).expect(&rt, "memory");
     }
     for value in 101..106 {
         inputs.push((2, 0, 0, value)).expect(&rt, "memory");
@@ -80,12 +90,12 @@ fn a_full_queue_drops_and_forgets(rt: HostRuntime) {
 
     assert!(rt; process.step(alloc) == Ok((stamp(&rt, 1, 0, 1), RecordKind::Ext)));
     assert!(rt; process.step(alloc) == Ok((stamp(&rt, 2, 0, 1), RecordKind::Ext)));
-    full[0] = 5;
-    assert_words(&rt, alloc, &model, &process, full.as_slice());
+    let dropped = counted_words(&rt, alloc, 5, 64);
+    assert_words(&rt, alloc, &model, &process, dropped.as_slice());
     assert!(rt; process.due() == stamp(&rt, 101, 0, 0));
 
     assert!(rt; process.undo_last());
-    full[0] = 0;
+    let full = counted_words(&rt, alloc, 0, 64);
     assert_words(&rt, alloc, &model, &process, full.as_slice());
     assert!(rt; process.due() == stamp(&rt, 101, 0, 0));
     assert!(rt; process.last() == stamp(&rt, 1, 0, 0));
@@ -98,17 +108,13 @@ fn a_relay_overflows_and_forgets(rt: HostRuntime) {
     let alloc = rt.alloc();
     let model = Model::relay(100).expect(&rt, "a relay");
     let mut inputs = Vec::new(alloc);
-    let mut held = Vec::new(alloc);
-    held.push(1).expect(&rt, "memory");
     for value in 1..34 {
         inputs.push((1, 0, 0, value)).expect(&rt, "memory");
-        if value < 33 {
-            held.push(i128::from(value)).expect(&rt, "memory");
-        }
     }
     let net = network(&rt, alloc, &[model], &[], inputs.as_slice());
     let mut process = first_process(&rt, alloc, net, Cancel::Aggressive);
     assert!(rt; process.step(alloc).is_ok());
+    let held = counted_words(&rt, alloc, 1, 32);
     assert_words(&rt, alloc, &model, &process, held.as_slice());
     assert!(rt; process.undo_last());
     assert_words(&rt, alloc, &model, &process, &[0]);
@@ -130,15 +136,18 @@ fn a_hop_external_and_back(rt: HostRuntime) {
 
 /// A relay with delay 1 in front of two tallies, with 0=8 at tick 3; it sends to the second.
 fn relay_process(rt: &impl Abort, alloc: Global, cancel: Cancel) -> Process<Model> {
-    let relay = Model::relay(1).expect(rt, "a relay");
-    let tally = Model::tally().expect(rt, "a tally");
-    let net = network(
-        rt,
-        alloc,
-        &[relay, tally, tally],
-        &[(0, 0, 2, 0)],
-        &[(3, 0, 0, 8)],
-    );
+    let mut models = Vec::new(alloc);
+    models
+        .push(Model::relay(1).expect(rt, "a relay"))
+        .expect(rt, "memory");
+    for _ in 0..2 {
+        models
+            .push(Model::tally().expect(rt, "a tally"))
+            .expect(rt, "memory");
+    }
+    let couplings = [(0, 0, 2, 0)];
+    let inputs = [(3, 0, 0, 8)];
+    let net = network(rt, alloc, models.as_slice(), &couplings, &inputs);
     first_process(rt, alloc, net, cancel)
 }
 
@@ -229,4 +238,35 @@ fn the_oldest_step_is_committed(rt: HostRuntime) {
     assert!(rt; process.network().len() == 3);
     let start = process.start(alloc, Stamp::END, 1).expect(&rt, "memory");
     assert!(rt; start.component() == 0);
+}
+
+/// A chain of one step, before tick 10, worked out from where a process stands.
+fn prepared(rt: &impl Abort, alloc: Global, process: &Process<Model>) -> Prepared<Model>
+    ensures component { result.run.start.component ≡ process.now.component }
+    ensures limit { result.run.start.micro_limit ≡ process.now.network.micro_limit }
+    ensures model { slice_get process.now.network.models process.now.component ≡ Some result.model }
+{
+    let start = process
+        .start(alloc, stamp(rt, 10, 0, 0), 1)
+        .expect(rt, "memory");
+    let network = &**process.network();
+    let component = process.component();
+    assert!(rt; component < network.len());
+    start.prepare(alloc, network.model(component))
+}
+
+#[test]
+fn the_second_of_two_chains_is_stale(rt: HostRuntime) {
+    let alloc = rt.alloc();
+    let mut process = relay_process(&rt, alloc, Cancel::Aggressive);
+    let first = prepared(&rt, alloc, &process);
+    let second = prepared(&rt, alloc, &process);
+    assert!(rt; first.len() == 1);
+    let finished = process.install(alloc, first);
+    assert!(rt; finished.installed == 1 && finished.stop == Stop::Ended(Cause::All));
+    assert!(rt; process.history_len() == 1 && process.due() == stamp(&rt, 4, 0, 0));
+    let finished = process.install(alloc, second);
+    assert!(rt; finished.installed == 0 && finished.stop == Stop::Stale);
+    assert!(rt; process.history_len() == 1 && process.due() == stamp(&rt, 4, 0, 0));
+    assert!(rt; process.undo_last() && process.pending_len() == 1);
 }

@@ -1,8 +1,8 @@
-use Rattle.std.proofs.Common.{◌≡◌, ◌+◌, ◌<◌, ◌≤◌, ◌++◌, [], ◌∷◌, ℕ, drop, map, min, length, Option, Some, None, IfSome, ap, sym, subst, ◌∙◌, arith, refl, drop_of_length-le}
+use Rattle.std.proofs.Common.{◌≡◌, ◌+◌, ◌≤◌, drop, map, min, length, Option, Some, None, IfSome, ap, sym, subst, ◌∙◌, arith, drop_of_length-le}
 use Rattle.tw_pool.specs.Lists.{list_at, first_of, IsLive}
 use Rattle.tw_theory.specs.Bundles.{least_stamp}
 use Rattle.tw_lists.specs.Lists.{item_at}
-use Rattle.tw_lists.proofs.Finding.{FindStep, find_step, ended_first}
+use Rattle.tw_lists.proofs.Finding.{find_step, ended_first}
 use Rattle.tw_lists.proofs.Owing.{ended_owed}
 use Rattle.tw_lists.proofs.Walks.{least_more, least_end, least_top, ord_min-is}
 use Rattle.tw_lists.proofs.reading.least_in.Goals.{in-Some, in_default}

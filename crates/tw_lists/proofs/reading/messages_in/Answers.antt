@@ -1,7 +1,7 @@
-use Rattle.std.proofs.Common.{◌≡◌, ◌+◌, ◌<◌, ◌++◌, [], ◌∷◌, ℕ, drop, map, Option, Some, None, IfSome, ap, sym, subst, ◌∙◌, arith, refl}
+use Rattle.std.proofs.Common.{◌≡◌, ◌+◌, ◌++◌, drop, map, Option, Some, None, IfSome, ap, sym, subst, ◌∙◌, arith}
 use Rattle.tw_pool.specs.Lists.{list_at, first_of, IsLive}
 use Rattle.tw_lists.specs.Lists.{message_at}
-use Rattle.tw_lists.proofs.Finding.{FindStep, find_step, ended_first}
+use Rattle.tw_lists.proofs.Finding.{find_step, ended_first}
 use Rattle.tw_lists.proofs.Owing.{ended_owed}
 use Rattle.tw_lists.proofs.Walks.{read_more, read_end}
 use Rattle.tw_lists.proofs.reading.messages_in.Goals.{in-Some+in_ok-push, in_default}

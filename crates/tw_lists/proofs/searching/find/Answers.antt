@@ -1,9 +1,8 @@
-use Rattle.std.proofs.Common.{◌≡◌, ◌+◌, ◌<◌, ℕ, drop, Option, Some, None, IfSome, ap, sym, subst, ◌∙◌, arith, refl}
+use Rattle.std.proofs.Common.{◌≡◌, drop, Option, Some, None, IfSome, ap, sym, subst, ◌∙◌, arith}
 use Rattle.tw_msgs.specs.Messages.{same_message}
 use Rattle.tw_msgs.proofs.Messages.{same_fields-is}
 use Rattle.tw_pool.specs.Lists.{list_at, first_of, IsLive}
-use Rattle.tw_lists.specs.Nodes.{index_of}
-use Rattle.tw_lists.proofs.Finding.{FindStep, find_step, found_here, found_later, ended, ended_first}
+use Rattle.tw_lists.proofs.Finding.{find_step, found_here, found_later, ended, ended_first}
 use Rattle.tw_lists.proofs.searching.find.Goals.{in-Some+else-eq, in_default}
 use Rattle.tw_lists.proofs.searching.find.Goals as goal
 

@@ -1,4 +1,4 @@
-use Rattle.std.proofs.Common.{◌≡◌, ◌+◌, ◌≤◌, take}
+use Rattle.std.proofs.Common.{◌≡◌, ◌≤◌, take}
 use Rattle.tw_msgs.specs.Counting.{total, one_at}
 use Rattle.tw_lists.proofs.sending.earlier_count.Given as goal
 

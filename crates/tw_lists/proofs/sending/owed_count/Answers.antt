@@ -1,10 +1,10 @@
-use Rattle.std.proofs.Common.{◌≡◌, ◌+◌, ◌<◌, ℕ, drop, map, Option, Some, None, IfSome, ap, sym, subst, ◌∙◌, arith, refl, cond}
+use Rattle.std.proofs.Common.{◌≡◌, drop, map, Option, Some, None, IfSome, ap, sym, subst, ◌∙◌, arith}
 use Rattle.tw_msgs.specs.Messages.{same_message}
 use Rattle.tw_msgs.specs.Counting.{total, one_at}
 use Rattle.tw_msgs.proofs.Messages.{same_fields-is}
 use Rattle.tw_pool.specs.Lists.{list_at, first_of, IsLive}
 use Rattle.tw_lists.specs.Lists.{message_at}
-use Rattle.tw_lists.proofs.Finding.{FindStep, find_step, ended_first}
+use Rattle.tw_lists.proofs.Finding.{find_step, ended_first}
 use Rattle.tw_lists.proofs.Owing.{count_step, ended_owed}
 use Rattle.tw_lists.proofs.sending.owed_count.Goals.{in-Some, in_default}
 use Rattle.tw_lists.proofs.sending.owed_count.Goals as goal

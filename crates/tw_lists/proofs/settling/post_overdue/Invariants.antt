@@ -1,4 +1,4 @@
-use Rattle.std.proofs.Common.{◌≡◌, drop, length, IfSome}
+use Rattle.std.proofs.Common.{◌≡◌, drop, IfSome}
 use Rattle.tw_pool.specs.Lists.{list_at, first_of, IsLive}
 use Rattle.tw_lists.specs.Nodes.{IsSettled}
 use Rattle.tw_lists.proofs.settling.post_overdue.Given as goal

@@ -1,7 +1,6 @@
-use Rattle.std.proofs.Common.{◌≡◌, ◌≢◌, ℕ, ◌+◌, ◌==◌, [], ◌∷◌, map, drop, length, slice_index_or, pos, cond, ap, sym, subst, ◌∙◌, arith, FitsSigned, w64}
+use Rattle.std.proofs.Common.{◌≡◌, ℕ, ◌+◌, ◌∷◌, map, drop, length, slice_index_or, pos, cond, ap, sym, subst, ◌∙◌, arith, FitsSigned, w64}
 use Rattle.std.specs.List.{All, AllByRecursion as Each}
 use Rattle.std.proofs.lemmas.Bool.{eq-eqb, ne_eqb}
-use Rattle.tw_msgs.specs.Messages.{place}
 use Rattle.tw_network.specs.Contents.{Input, message_of, IsInput}
 use Rattle.tw_theory.specs.Bundles.{addressed}
 use Rattle.tw_theory.proofs.Elements.{each-place}

@@ -1,9 +1,8 @@
-use Rattle.std.proofs.Common.{◌≡◌, ◌<◌, ap, sym, ◌∙◌, is_some, arith, length, rules, map, Some, None, true, false}
+use Rattle.std.proofs.Common.{◌≡◌, ap, sym, ◌∙◌, is_some, arith, length, rules, false}
 use Rattle.tw_msgs.specs.Messages.{has}
 use Rattle.tw_pool.specs.Lists.{list_at}
 use Rattle.tw_lists.specs.Lists.{with_room, without_orphan}
-use Rattle.tw_lists.specs.Nodes.{contents, spare_of, index_of}
-use Rattle.tw_lists.specs.Lists.{message_at}
+use Rattle.tw_lists.specs.Nodes.{spare_of}
 use Rattle.tw_lists.proofs.Finding.{has_is, without_absent}
 use Rattle.tw_lists.proofs.Comings.{Cleared, cleared_kept, found_live}
 use Rattle.tw_lists.proofs.lists.EventLists.clear_orphan.Goals.{After-take}

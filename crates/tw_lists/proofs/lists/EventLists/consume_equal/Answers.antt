@@ -1,9 +1,9 @@
-use Rattle.std.proofs.Common.{◌≡◌, ◌+◌, ◌-◌, ◌++◌, ◌∷◌, [], take, drop, length, ap, sym, subst, ◌∙◌, arith, refl, add-one, slice_index_or, pos}
+use Rattle.std.proofs.Common.{◌+◌, ◌-◌, ◌++◌, drop, length, ap, sym, subst, ◌∙◌, arith, refl, slice_index_or, pos}
 use Rattle.std.proofs.Math.Seq.{drop-cons}
 use Rattle.std.proofs.lemmas.List.{take_more}
 use Rattle.tw_msgs.specs.Messages.{Sorted}
 use Rattle.tw_lists.specs.Lists.{restored}
-use Rattle.tw_lists.proofs.Parts.{part_none, part_more, Back, part_back, part_differs, part_longer, Whole, part_whole}
+use Rattle.tw_lists.proofs.Parts.{part_none, part_more, part_back, part_differs, part_longer, part_whole}
 use Rattle.tw_lists.proofs.lists.EventLists.consume_equal.Goals as goal
 
 pub loop-item-init : goal.loop-item-init

@@ -1,5 +1,4 @@
-use Rattle.std.proofs.Common.{◌≡◌, ◌≤◌, ◌++◌, take, length}
-use Rattle.tw_theory.specs.Bundles.{items_of, front}
+use Rattle.std.proofs.Common.{◌≡◌}
 use Rattle.tw_lists.specs.Nodes.{IsPart}
 use Rattle.tw_lists.proofs.lists.EventLists.consume_equal.Given as goal
 

@@ -1,4 +1,4 @@
-use Rattle.std.proofs.Common.{◌≡◌, ◌<◌, arith, rules, ap, ◌∙◌, length, subst}
+use Rattle.std.proofs.Common.{arith, rules, ap, ◌∙◌, length, subst}
 use Rattle.tw_heap.specs.Entries.{AreBelow}
 use Rattle.tw_heap.proofs.EntryLemmas.{behind_first}
 use Rattle.tw_pool.specs.Lists.{list_at}

@@ -1,4 +1,4 @@
-use Rattle.std.proofs.Common.{◌≡◌, ◌+◌, ◌≤◌, arith, ap, length}
+use Rattle.std.proofs.Common.{arith, ap, length}
 use Rattle.tw_pool.specs.Lists.{list_at}
 use Rattle.tw_lists.specs.Lists.{node_count}
 use Rattle.tw_lists.specs.Nodes.{spare_of}

@@ -1,4 +1,4 @@
-use Rattle.std.proofs.Common.{◌≡◌, ◌≤◌, ap, sym, subst, ◌∙◌, length, arith, rules}
+use Rattle.std.proofs.Common.{ap, ◌∙◌, length, arith, rules}
 use Rattle.std.proofs.lemmas.List.{length-map}
 use Rattle.tw_pool.specs.Lists.{list_at, without_first}
 use Rattle.tw_lists.specs.Lists.{with_room, forgotten}

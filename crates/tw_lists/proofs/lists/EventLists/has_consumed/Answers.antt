@@ -1,4 +1,4 @@
-use Rattle.std.proofs.Common.{◌≡◌, ap, sym, ◌∙◌, is_some}
+use Rattle.std.proofs.Common.{ap, sym, ◌∙◌, is_some}
 use Rattle.tw_msgs.specs.Messages.{has}
 use Rattle.tw_pool.specs.Lists.{list_at}
 use Rattle.tw_lists.proofs.Finding.{has_is}

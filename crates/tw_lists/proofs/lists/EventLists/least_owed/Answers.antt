@@ -1,4 +1,4 @@
-use Rattle.std.proofs.Common.{◌≡◌, ap, sym, ◌∙◌}
+use Rattle.std.proofs.Common.{ap, sym, ◌∙◌}
 use Rattle.tw_pool.specs.Lists.{list_at}
 use Rattle.tw_theory.specs.Bundles.{least_owed}
 use Rattle.tw_lists.proofs.Walks.{least_owed-is}

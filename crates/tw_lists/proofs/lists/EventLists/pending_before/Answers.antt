@@ -1,4 +1,4 @@
-use Rattle.std.proofs.Common.{◌≡◌, ap, sym, ◌∙◌, false}
+use Rattle.std.proofs.Common.{sym, ◌∙◌}
 use Rattle.tw_lists.proofs.Walks.{before_more, not_le}
 use Rattle.tw_lists.proofs.lists.EventLists.pending_before.Goals as goal
 

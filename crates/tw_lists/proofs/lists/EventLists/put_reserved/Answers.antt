@@ -1,9 +1,8 @@
-use Rattle.std.proofs.Common.{◌≡◌, ℕ, ◌<◌, ◌≤◌, ◌+◌, ap, sym, subst, ◌∙◌, arith, length, rules, None, Result, Ok, Err, IsOk}
-use Rattle.tw_heap.specs.Entries.{entry_of}
+use Rattle.std.proofs.Common.{◌≡◌, ℕ, ◌≤◌, ap, sym, subst, ◌∙◌, arith, length, Result, Ok, Err, IsOk}
 use Rattle.tw_pool.specs.Lists.{list_at, with_item_last}
 use Rattle.tw_theory.specs.Bundles.{positive}
 use Rattle.tw_lists.specs.Lists.{with_room, with_pending}
-use Rattle.tw_lists.specs.Nodes.{contents, spare_of}
+use Rattle.tw_lists.specs.Nodes.{spare_of}
 use Rattle.tw_lists.specs.Lists.{event}
 use Rattle.tw_lists.proofs.Comings.{Put, put_kept, Pushed, pushed, Spare, spare_means}
 use Rattle.tw_lists.proofs.lists.EventLists.put_reserved.Goals.{After-lists_law-in-Ok, After-insert}

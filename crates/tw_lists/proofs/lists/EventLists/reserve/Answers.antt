@@ -1,6 +1,5 @@
-use Rattle.std.proofs.Common.{◌≡◌, ◌<◌, ◌+◌, ℕ, Err, ap, sym, ◌∙◌, subst, length}
+use Rattle.std.proofs.Common.{ap, sym, ◌∙◌, length}
 use Rattle.tw_pool.specs.Lists.{list_at}
-use Rattle.tw_pool.specs.declared.refused.PoolRefused.TheVariants.{Full}
 use Rattle.tw_lists.specs.Lists.{node_count}
 use Rattle.tw_lists.specs.Nodes.{spare_of}
 use Rattle.tw_lists.proofs.Counts.{count_is}

@@ -1,4 +1,4 @@
-use Rattle.std.proofs.Common.{◌≡◌, subst, sym}
+use Rattle.std.proofs.Common.{subst, sym}
 use Rattle.tw_lists.specs.Nodes.{IsKept}
 use Rattle.tw_lists.proofs.Comings.{roomy_kept}
 use Rattle.tw_lists.proofs.lists.EventLists.reserve_pending.Goals as goal

@@ -1,4 +1,4 @@
-use Rattle.std.proofs.Common.{◌≡◌, ◌+◌, ◌-◌, ◌++◌, drop, length, arith, ap, subst, sym, ◌∙◌, rules}
+use Rattle.std.proofs.Common.{◌-◌, ◌++◌, drop, length, arith, ap, subst, sym, ◌∙◌}
 use Rattle.tw_msgs.specs.Messages.{Sorted}
 use Rattle.tw_lists.specs.Lists.{restored}
 use Rattle.tw_lists.proofs.Loops.{restored_more, restored_sorted, tail_is}

@@ -1,4 +1,4 @@
-use Rattle.std.proofs.Common.{◌≡◌, length}
+use Rattle.std.proofs.Common.{◌≡◌}
 use Rattle.tw_lists.specs.Lists.{restored}
 use Rattle.tw_lists.proofs.lists.EventLists.restore.Given as goal
 

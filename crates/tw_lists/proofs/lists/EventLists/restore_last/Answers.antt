@@ -1,4 +1,4 @@
-use Rattle.std.proofs.Common.{◌≡◌, ◌<◌, ◌++◌, ◌-◌, drop, length, arith, map, rules, ap, subst, sym, ◌∙◌}
+use Rattle.std.proofs.Common.{◌++◌, ◌-◌, drop, length, map, ap, subst, sym, ◌∙◌}
 use Rattle.tw_msgs.specs.Messages.{Sorted}
 use Rattle.tw_pool.specs.Lists.{list_at}
 use Rattle.tw_pool.proofs.IndexLemmas.{last_none}

@@ -1,6 +1,5 @@
-use Rattle.std.proofs.Common.{◌≡◌, ◌≤◌, ◌<◌, ◌+◌, arith, ap, sym, ◌∙◌, length}
+use Rattle.std.proofs.Common.{◌≡◌, ◌≤◌, ◌+◌, arith, ap, ◌∙◌, length}
 use Rattle.tw_pool.specs.Lists.{list_at, with_item_last}
-use Rattle.tw_theory.specs.Bundles.{anti, positive}
 use Rattle.tw_lists.specs.Lists.{with_sent, with_room}
 use Rattle.tw_lists.specs.Nodes.{spare_of}
 use Rattle.tw_lists.proofs.Sends.{added, on_ok, sent_kept, Sent}

@@ -1,9 +1,8 @@
-use Rattle.std.proofs.Common.{◌≡◌, ◌<◌, ap, sym, ◌∙◌, is_some, arith, length, rules, map, Some, None, true, false}
+use Rattle.std.proofs.Common.{ap, sym, ◌∙◌, is_some, arith, length, rules}
 use Rattle.tw_msgs.specs.Messages.{has}
 use Rattle.tw_pool.specs.Lists.{list_at}
 use Rattle.tw_lists.specs.Lists.{with_room, with_sent_again}
-use Rattle.tw_lists.specs.Nodes.{contents, spare_of, index_of}
-use Rattle.tw_lists.specs.Lists.{message_at}
+use Rattle.tw_lists.specs.Nodes.{spare_of}
 use Rattle.tw_lists.proofs.Finding.{has_is}
 use Rattle.tw_lists.proofs.Comings.{found_live}
 use Rattle.tw_lists.proofs.Owing.{Resent, resent_kept}

@@ -1,4 +1,4 @@
-use Rattle.std.proofs.Common.{◌≡◌, ◌+◌, ◌*◌, ◌≤◌, length, take, drop}
+use Rattle.std.proofs.Common.{◌≡◌, ◌+◌, ◌*◌, ◌≤◌, take}
 use Rattle.tw_theory.specs.Contents.{Aggressive}
 use Rattle.tw_lists.specs.Lists.{with_room, with_all_sent}
 use Rattle.tw_lists.proofs.lists.EventLists.send_each.Given as goal

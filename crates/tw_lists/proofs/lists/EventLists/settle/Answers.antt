@@ -1,4 +1,4 @@
-use Rattle.std.proofs.Common.{◌≡◌, ap, ◌∙◌, length}
+use Rattle.std.proofs.Common.{ap, ◌∙◌, length}
 use Rattle.tw_pool.specs.Lists.{list_at}
 use Rattle.tw_lists.specs.Lists.{with_overdue_posted}
 use Rattle.tw_lists.specs.Nodes.{contents, spare_of}

@@ -1,10 +1,8 @@
-use Rattle.std.proofs.Common.{◌≡◌, ◌<◌, ap, sym, subst, ◌∙◌, is_some, IsSome, arith, length, rules, map, Some, None, true, false}
+use Rattle.std.proofs.Common.{◌≡◌, ap, sym, subst, ◌∙◌, IsSome, arith, length, rules, false}
 use Rattle.tw_msgs.specs.Messages.{has}
-use Rattle.tw_heap.specs.Entries.{message_of, entry_of}
 use Rattle.tw_pool.specs.Lists.{list_at}
 use Rattle.tw_lists.specs.Lists.{with_room, without_pending}
-use Rattle.tw_lists.specs.Nodes.{contents, spare_of, index_of}
-use Rattle.tw_lists.specs.Lists.{message_at}
+use Rattle.tw_lists.specs.Nodes.{spare_of}
 use Rattle.tw_lists.proofs.Finding.{none_pending, without_absent}
 use Rattle.tw_lists.proofs.Comings.{Withdrawn, withdrawn_kept, found_live, pending_entry}
 use Rattle.tw_lists.proofs.lists.EventLists.withdraw.Goals.{After-take}

@@ -1,10 +1,8 @@
-use Rattle.std.proofs.Common.{◌≡◌, ◌≤◌, ◌++◌, ◌∷◌, [], ap, sym, subst, ◌∙◌}
 use Rattle.std.specs.Arc.{arc_value}
-use Rattle.tw_msgs.specs.Messages.{has, without}
+use Rattle.tw_msgs.specs.Messages.{without}
 use Rattle.tw_theory.specs.Transitions.{Moment}
-use Rattle.tw_theory.specs.Standing.{floor_after}
-use Rattle.tw_lists.specs.Lists.{with_room, with_pending, without_pending, without_orphan, with_orphan}
-use Rattle.tw_process.proofs.Receipts.{kept_with, others_kept, put_kept, withdrawn_kept}
+use Rattle.tw_lists.specs.Lists.{with_room, without_orphan}
+use Rattle.tw_process.proofs.Receipts.{kept_with, others_kept}
 use Rattle.tw_process.proofs.process.Process.clear_orphan.Goals as goal
 
 pub invariant_of-self : goal.invariant_of-self

@@ -1,11 +1,11 @@
-use Rattle.std.proofs.Common.{◌≡◌, ◌≤◌, ◌<◌, ◌+◌, ◌∷◌, ap, sym, subst, ◌∙◌, length, arith, min}
+use Rattle.std.proofs.Common.{◌≡◌, ◌+◌, ◌∷◌, ap, sym, subst, ◌∙◌, arith, min}
 use Rattle.std.specs.Arc.{arc_value}
 use Rattle.tw_theory.specs.Transitions.{Moment}
 use Rattle.tw_lists.specs.Ways.{way_of}
 use Rattle.tw_process.specs.History.{seen, shown, IsKeptBy}
 use Rattle.tw_lists.specs.Lists.{with_room, forgotten}
 use Rattle.tw_process.specs.Process.{oldest_of, with_spare, without_oldest}
-use Rattle.tw_process.proofs.Commits.{split_first, consumed_in, sent_in, stamp_small, committed}
+use Rattle.tw_process.proofs.Commits.{consumed_in, sent_in, stamp_small, committed}
 use Rattle.tw_process.proofs.process.Process.commit_oldest.Given.{Over}
 use Rattle.tw_process.proofs.process.Process.commit_oldest.Goals.{In-Some}
 use Rattle.tw_process.proofs.process.Process.commit_oldest.Goals as goal

@@ -1,9 +1,6 @@
-use Rattle.std.proofs.Common.{◌≡◌, ◌≤◌, ◌++◌, ◌∷◌, [], ap, sym, subst, ◌∙◌}
-use Rattle.std.specs.Arc.{arc_value}
-use Rattle.tw_msgs.specs.Messages.{has, without}
+use Rattle.std.proofs.Common.{ap, sym, ◌∙◌}
+use Rattle.tw_msgs.specs.Messages.{has}
 use Rattle.tw_theory.specs.Contents.{consumed_by}
-use Rattle.tw_theory.specs.Standing.{floor_after}
-use Rattle.tw_lists.specs.Lists.{with_room, with_pending, without_pending, without_orphan, with_orphan}
 use Rattle.tw_process.proofs.Histories.{consumed_by_shown}
 use Rattle.tw_process.proofs.process.Process.has_consumed.Goals as goal
 

@@ -1,9 +1,9 @@
-use Rattle.std.proofs.Common.{◌≡◌, ◌<◌, ◌+◌, ◌-◌, length, ap, sym, subst, ◌∙◌, arith, Some, refl}
+use Rattle.std.proofs.Common.{◌≡◌, ◌+◌, ap, sym, subst, ◌∙◌, arith, Some, refl}
 use Rattle.std.specs.Prelude.{slice_index_or}
 use Rattle.tw_theory.specs.Soundness.{AllBefore}
 use Rattle.tw_process.specs.History.{shown}
 use Rattle.tw_process.specs.Process.{last_stamp_of}
-use Rattle.tw_process.proofs.Histories.{last_shown, stood_before, length_shown}
+use Rattle.tw_process.proofs.Histories.{last_shown, stood_before}
 use Rattle.tw_process.proofs.process.Process.last_stamp.Given.{Over}
 use Rattle.tw_process.proofs.process.Process.last_stamp.Goals.{In-Some}
 use Rattle.tw_process.proofs.process.Process.last_stamp.Goals as goal

@@ -1,7 +1,6 @@
-use Rattle.std.proofs.Common.{◌≡◌, ◌+◌, ◌++◌, length, Some, Err, ap, sym, subst, ◌∙◌, arith, refl, min}
+use Rattle.std.proofs.Common.{◌≡◌, ◌+◌, length, Some, Err, ap, sym, subst, ◌∙◌, arith, min}
 use Rattle.std.specs.Arc.{arc_value}
 use Rattle.std.specs.Prelude.{slice_get}
-use Rattle.tw_msgs.specs.Bags.{sorted_bag}
 use Rattle.tw_msgs.specs.declared.record_kind.RecordKind.TheVariants.{Out}
 use Rattle.tw_network.specs.Contents.{network_of}
 use Rattle.tw_theory.specs.Contents.{next, sent_out}

@@ -1,16 +1,15 @@
-use Rattle.std.proofs.Common.{◌≡◌, ◌≢◌, ◌+◌, ◌-◌, ◌≤◌, ◌==◌, ◌++◌, length, drop, Some, Ok, ap, sym, subst, ◌∙◌, arith, refl}
+use Rattle.std.proofs.Common.{◌≡◌, ◌-◌, ◌≤◌, ◌==◌, ◌++◌, length, drop, Some, ap, sym, subst, ◌∙◌, arith}
 use Rattle.std.specs.Arc.{arc_value}
 use Rattle.std.specs.Prelude.{slice_get}
 use Rattle.tw_atomic.specs.Atomic.{CanTurn, turned}
 use Rattle.tw_msgs.specs.Messages.{Sorted}
-use Rattle.tw_network.specs.Contents.{network_of}
-use Rattle.tw_theory.specs.Bundles.{front, items_of}
+use Rattle.tw_theory.specs.Bundles.{front}
 use Rattle.tw_theory.specs.Contents.{next}
-use Rattle.tw_theory.specs.Transitions.{Moment, turn, kind_of}
+use Rattle.tw_theory.specs.Transitions.{Moment, turn}
 use Rattle.tw_vtime.specs.Advance.{advanced}
-use Rattle.tw_vtime.specs.Stamps.{tick_of, never, max_microstep}
+use Rattle.tw_vtime.specs.Stamps.{tick_of, max_microstep}
 use Rattle.tw_lists.specs.Ways.{way_of}
-use Rattle.tw_process.specs.History.{seen, IsKept, IsKeptBy}
+use Rattle.tw_process.specs.History.{seen, IsKeptBy}
 use Rattle.tw_lists.specs.Lists.{restored}
 use Rattle.tw_process.specs.Process.{Held, with_spare, IsStepped, IsStop}
 use Rattle.tw_process.specs.Refusals.{of_turn}

@@ -1,4 +1,4 @@
-use Rattle.std.proofs.Common.{◌≡◌, ap, sym, ◌∙◌}
+use Rattle.std.proofs.Common.{ap, sym, ◌∙◌}
 use Rattle.tw_theory.specs.Bundles.{antis}
 use Rattle.tw_theory.specs.Contents.{consumed_by, sent_by}
 use Rattle.tw_process.proofs.Histories.{consumed_by_shown, sent_by_shown}

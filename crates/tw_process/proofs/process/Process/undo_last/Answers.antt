@@ -1,4 +1,4 @@
-use Rattle.std.proofs.Common.{◌≡◌, ◌≢◌, ◌++◌, ◌∷◌, ◌-◌, ◌<◌, ◌≤◌, [], Some, None, drop, length, ap, sym, subst, ◌∙◌, rules, arith, append-nil}
+use Rattle.std.proofs.Common.{◌≡◌, ◌++◌, ◌-◌, ◌<◌, ◌≤◌, [], drop, length, ap, sym, subst, ◌∙◌, rules, arith, append-nil}
 use Rattle.std.specs.Arc.{arc_value}
 use Rattle.std.specs.Prelude.{slice_get}
 use Rattle.tw_msgs.specs.Messages.{Sorted}
@@ -7,7 +7,7 @@ use Rattle.tw_theory.specs.Transitions.{Moment}
 use Rattle.tw_lists.specs.Lists.{restored, cancelled}
 use Rattle.tw_process.specs.Process.{with_last_undone}
 use Rattle.tw_lists.specs.Ways.{way_of}
-use Rattle.tw_process.specs.History.{IsKept, IsKeptBy, seen, shown}
+use Rattle.tw_process.specs.History.{IsKeptBy, seen, shown}
 use Rattle.tw_process.proofs.Histories.{TakenBack, taken_back, shown_some, kept_at, nothing_undone, nil_of_length}
 use Rattle.tw_process.proofs.process.Process.undo_last.Given.{Over}
 use Rattle.tw_process.proofs.process.Process.undo_last.Goals.{After-model-model}

@@ -1,0 +1,212 @@
+//! The steps of a chain on the lists of a process, one after another.
+
+ghost use Rattle.std.specs.Prelude.{◌≡◌, ◌+◌, ◌<◌, ◌≤◌, ◌++◌, ◌∷◌, ◌⊎◌, [], Err, IfErr, IfNone, IfSome, IsTrue, OnErr, OnOk, Some, length, min, slice_get, take, vec_capacity, vec_len};
+ghost use Rattle.std.specs.VecDeque.{deque_capacity, deque_len};
+ghost use Rattle.tw_lists.specs.Lists.{front_consumed, with_room};
+ghost use Rattle.tw_lists.specs.Ways.{way_of};
+ghost use Rattle.tw_network.specs.Contents.{network_of};
+ghost use Rattle.tw_process.specs.Installing.{AreNext, IsNext, WhyNot, after_record, after_steps, sent_counts};
+ghost use Rattle.tw_theory.specs.Bundles.{first_stamp};
+ghost use Rattle.tw_theory.specs.Chains.{sent_in};
+ghost use Rattle.tw_vtime.specs.Stamps.{phase_of};
+
+use crate::entry::Entry;
+use crate::finished::Stop;
+use std::alloc::Global;
+use std::collections::VecDeque;
+use tw_atomic::Atomic;
+use tw_chain::ChainStep;
+use tw_lists::{Cancel, EventLists};
+use tw_network::Network;
+use tw_pool::PoolRefused;
+use tw_step::routed;
+use tw_vtime::Stamp;
+
+/// What was made of a chain: how many messages each step sent, and why no more steps were made.
+#[derive(Drop)]
+pub(crate) struct Taken {
+    pub(crate) counts: Vec<usize>,
+    pub(crate) stop: Option<Stop>,
+}
+
+/// The steps of a chain that are those of a component, one after another: their inputs are consumed, and what they
+/// send goes out. Room for them is made in the history.
+pub(crate) fn take_steps<M: Atomic>(
+    alloc: Global,
+    network: &Network<M>,
+    component: usize,
+    cancel: Cancel,
+    steps: &[ChainStep<M::State, M::Residue>],
+    lists: &mut EventLists,
+    history: &mut VecDeque<Entry<M::State, M::Residue>>,
+) -> Taken
+    requires known { component < length network.now.models }
+    ensures within { length result.counts.items ≤ length steps.now }
+    ensures counts { result.counts.items ≡ sent_counts (network_of M.meaning network.now) component (take (length result.counts.items) steps.now) }
+    ensures lists { lists.new ≡ with_room lists.new.room lists.new.spare (after_steps (network_of M.meaning network.now) component (way_of cancel) (take (length result.counts.items) steps.now) lists.old) }
+    ensures next { AreNext (network_of M.meaning network.now) component (way_of cancel) (take (length result.counts.items) steps.now) lists.old }
+    ensures history { history.new.items ≡ history.old.items }
+    ensures room { deque_len history.new + length result.counts.items ≤ deque_capacity history.new }
+    ensures all { IfNone result.stop (length result.counts.items ≡ length steps.now) }
+    ensures stop { IfSome result.stop (λ stop. (e : _) → slice_get steps.now (length result.counts.items) ≡ Some e → WhyNot (network_of M.meaning network.now) component (way_of cancel) e lists.new stop) }
+    ensures short { IfSome result.stop (λ stop. length result.counts.items < length steps.now) }
+{
+    let mut taken = Taken {
+        counts: Vec::new(alloc),
+        stop: None,
+    };
+    for step in steps {
+        if let Err(stop) = take_step(
+            alloc,
+            network,
+            component,
+            cancel,
+            step,
+            lists,
+            history,
+            &mut taken.counts,
+        ) {
+            taken.stop = Some(stop);
+            return taken;
+        }
+    }
+    taken
+}
+
+/// One step of a chain, if it is the component's next one.
+fn take_step<M: Atomic>(
+    alloc: Global,
+    network: &Network<M>,
+    component: usize,
+    cancel: Cancel,
+    step: &ChainStep<M::State, M::Residue>,
+    lists: &mut EventLists,
+    history: &mut VecDeque<Entry<M::State, M::Residue>>,
+    counts: &mut Vec<usize>,
+) -> Result<(), Stop>
+    requires known { component < length network.now.models }
+    ensures taken { OnOk result (lists.new ≡ with_room lists.new.room lists.new.spare (after_record (network_of M.meaning network.now) component (way_of cancel) step.now.done lists.old)) }
+    ensures next { OnOk result (IsNext step.now lists.old) }
+    ensures counted { OnOk result (counts.new.items ≡ counts.old.items ++ length (sent_in (network_of M.meaning network.now) component step.now.done) ∷ []) }
+    ensures stays { OnErr result (lists.new ≡ with_room lists.new.room lists.new.spare lists.old) }
+    ensures none { OnErr result (counts.new.items ≡ counts.old.items) }
+    ensures stop { IfErr result (WhyNot (network_of M.meaning network.now) component (way_of cancel) step.now lists.old) }
+    ensures history { history.new.items ≡ history.old.items }
+    ensures room { OnOk result (deque_len history.new + (vec_len counts.old + 1) ≤ deque_capacity history.new) }
+    ensures kept { deque_len history.old + vec_len counts.old ≤ deque_capacity history.old → deque_len history.new + vec_len counts.old ≤ deque_capacity history.new }
+{
+    if next_stamp(lists, step.due) != step.done.stamp {
+        return Err(Stop::Stale);
+    }
+    if step.done.stamp.pack() % 2 == 0 {
+        return take_output(
+            alloc, network, component, cancel, step, lists, history, counts,
+        );
+    }
+    take_transition(step, lists, history, counts)
+}
+
+/// The lesser of a component's own next stamp and the first pending one, or the end.
+fn next_stamp(lists: &EventLists, due: Stamp) -> Stamp
+    ensures { result ≡ min due (first_stamp lists.now.pending) }
+{
+    let first = match lists.first() {
+        Some(message) => message.stamp,
+        None => Stamp::END,
+    };
+    due.min(first)
+}
+
+/// An output of a chain that comes next: what it sends goes out.
+fn take_output<M: Atomic>(
+    alloc: Global,
+    network: &Network<M>,
+    component: usize,
+    cancel: Cancel,
+    step: &ChainStep<M::State, M::Residue>,
+    lists: &mut EventLists,
+    history: &mut VecDeque<Entry<M::State, M::Residue>>,
+    counts: &mut Vec<usize>,
+) -> Result<(), Stop>
+    requires known { component < length network.now.models }
+    requires comes { min step.now.due (first_stamp lists.old.pending) ≡ step.now.done.stamp }
+    requires is_output { phase_of step.now.done.stamp ≡ 0 }
+    ensures taken { OnOk result (lists.new ≡ with_room lists.new.room lists.new.spare (after_record (network_of M.meaning network.now) component (way_of cancel) step.now.done lists.old)) }
+    ensures next { OnOk result (IsNext step.now lists.old) }
+    ensures counted { OnOk result (counts.new.items ≡ counts.old.items ++ length (sent_in (network_of M.meaning network.now) component step.now.done) ∷ []) }
+    ensures stays { OnErr result (lists.new ≡ with_room lists.new.room lists.new.spare lists.old) }
+    ensures none { OnErr result (counts.new.items ≡ counts.old.items) }
+    ensures stop { IfErr result (WhyNot (network_of M.meaning network.now) component (way_of cancel) step.now lists.old) }
+    ensures history { history.new.items ≡ history.old.items }
+    ensures room { OnOk result (deque_len history.new + (vec_len counts.old + 1) ≤ deque_capacity history.new) }
+    ensures kept { deque_len history.old + vec_len counts.old ≤ deque_capacity history.old → deque_len history.new + vec_len counts.old ≤ deque_capacity history.new }
+{
+    let Ok(sent) = routed(
+        alloc,
+        network,
+        component,
+        step.done.stamp.transition(),
+        &step.done.bag,
+    ) else {
+        return Err(Stop::OutOfMemory);
+    };
+    let fresh = lists.fresh_count(&sent, cancel);
+    match lists.reserve(2 * fresh) {
+        Ok(()) => {}
+        Err(PoolRefused::Full) => return Err(Stop::Full),
+        Err(PoolRefused::OutOfMemory) => return Err(Stop::OutOfMemory),
+    }
+    if !has_room(history, counts) {
+        return Err(Stop::OutOfMemory);
+    }
+    lists.send_all(&sent, cancel);
+    counts.push_reserved(sent.len());
+    Ok(())
+}
+
+/// A transition of a chain that comes next, if its bag is what is pending: its inputs are consumed.
+fn take_transition<S: Drop, R: Drop>(
+    step: &ChainStep<S, R>,
+    lists: &mut EventLists,
+    history: &mut VecDeque<Entry<S, R>>,
+    counts: &mut Vec<usize>,
+) -> Result<(), Stop>
+    requires comes { min step.now.due (first_stamp lists.old.pending) ≡ step.now.done.stamp }
+    requires is_transition { phase_of step.now.done.stamp ≡ 1 }
+    ensures taken { OnOk result (lists.new ≡ front_consumed step.now.done.stamp lists.old) }
+    ensures next { OnOk result (IsNext step.now lists.old) }
+    ensures counted { OnOk result (counts.new.items ≡ counts.old.items ++ 0 ∷ []) }
+    ensures stays { OnErr result (lists.new ≡ lists.old) }
+    ensures none { OnErr result (counts.new.items ≡ counts.old.items) }
+    ensures stale { result ≡ Err Stop.Stale → IsNext step.now lists.old → ⊥ }
+    ensures refused { result ≡ Err Stop.OutOfMemory → IsNext step.now lists.old }
+    ensures others { IfErr result (λ stop. (stop ≡ Stop.Stale) ⊎ (stop ≡ Stop.OutOfMemory)) }
+    ensures history { history.new.items ≡ history.old.items }
+    ensures room { OnOk result (deque_len history.new + (vec_len counts.old + 1) ≤ deque_capacity history.new) }
+    ensures kept { deque_len history.old + vec_len counts.old ≤ deque_capacity history.old → deque_len history.new + vec_len counts.old ≤ deque_capacity history.new }
+{
+    let room = has_room(history, counts);
+    lists.order_law();
+    if !lists.consume_equal(step.done.stamp, step.done.bag.as_slice()) {
+        return Err(Stop::Stale);
+    }
+    if !room {
+        lists.restore(step.done.bag.len());
+        return Err(Stop::OutOfMemory);
+    }
+    counts.push_reserved(0);
+    Ok(())
+}
+
+/// Makes room for one step more, beside those that are counted, or answers that memory was refused.
+fn has_room<S: Drop, R: Drop>(history: &mut VecDeque<Entry<S, R>>, counts: &mut Vec<usize>) -> bool
+    ensures history { history.new.items ≡ history.old.items }
+    ensures len { deque_len history.new ≡ deque_len history.old }
+    ensures capacity { deque_capacity history.old ≤ deque_capacity history.new }
+    ensures counts { counts.new.items ≡ counts.old.items }
+    ensures counts_len { vec_len counts.new ≡ vec_len counts.old }
+    ensures room { IsTrue result → deque_len history.new + (vec_len counts.old + 1) ≤ deque_capacity history.new }
+    ensures counts_room { IsTrue result → vec_len counts.new < vec_capacity counts.new }
+{
+    history.reserve(counts.len() + 1).is_ok() && counts.reserve(1).is_ok()
+}

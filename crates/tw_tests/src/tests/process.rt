@@ -11,12 +11,12 @@ use tw_process::{Cancel, Process, StepRefused};
 use tw_vtime::Stamp;
 
 /// A stamp, written as in the examples.
-fn stamp(rt: &impl Abort, tick: u64, microstep: u32, phase: u8) -> Stamp {
+pub(crate) fn stamp(rt: &impl Abort, tick: u64, microstep: u32, phase: u8) -> Stamp {
     Stamp::new(tick, microstep, phase).expect(rt, "a stamp")
 }
 
 /// A network of these models.
-fn network(
+pub(crate) fn network(
     rt: &impl Abort,
     alloc: Global,
     models: &[Model],
@@ -80,6 +80,7 @@ fn a_full_queue_drops_and_forgets(rt: HostRuntime) {
 
     assert!(rt; process.step(alloc) == Ok((stamp(&rt, 1, 0, 1), RecordKind::Ext)));
     assert!(rt; process.step(alloc) == Ok((stamp(&rt, 2, 0, 1), RecordKind::Ext)));
+    assert!(rt; full.len() == 65);
     full[0] = 5;
     assert_words(&rt, alloc, &model, &process, full.as_slice());
     assert!(rt; process.due() == stamp(&rt, 101, 0, 0));
@@ -130,15 +131,12 @@ fn a_hop_external_and_back(rt: HostRuntime) {
 
 /// A relay with delay 1 in front of two tallies, with 0=8 at tick 3; it sends to the second.
 fn relay_process(rt: &impl Abort, alloc: Global, cancel: Cancel) -> Process<Model> {
-    let relay = Model::relay(1).expect(rt, "a relay");
-    let tally = Model::tally().expect(rt, "a tally");
-    let net = network(
-        rt,
-        alloc,
-        &[relay, tally, tally],
-        &[(0, 0, 2, 0)],
-        &[(3, 0, 0, 8)],
-    );
+    let models = [
+        Model::relay(1).expect(rt, "a relay"),
+        Model::tally().expect(rt, "a tally"),
+        Model::tally().expect(rt, "a tally"),
+    ];
+    let net = network(rt, alloc, &models, &[(0, 0, 2, 0)], &[(3, 0, 0, 8)]);
     first_process(rt, alloc, net, cancel)
 }
 

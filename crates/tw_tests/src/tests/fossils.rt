@@ -24,7 +24,9 @@ fn are_after(component: usize, stamp: Stamp, records: &[Record]) -> bool
     match records.split_first() {
         None => true,
         Some((first, later)) => {
-            first.component == component && stamp < first.stamp && are_after(component, stamp, later)
+            first.component == component
+                && stamp < first.stamp
+                && are_after(component, stamp, later)
         }
     }
 }
@@ -78,8 +80,18 @@ fn harvested(rt: &impl Abort, alloc: Global) -> Vec<Column> {
     let line = stamp(rt, 3, 0, 0);
     let mut columns = Vec::new(alloc);
     let mut generator = process_of(rt, alloc, &network, 0);
-    step(rt, alloc, &mut generator, (stamp(rt, 2, 0, 0), RecordKind::Out));
-    step(rt, alloc, &mut generator, (stamp(rt, 2, 0, 1), RecordKind::Int));
+    step(
+        rt,
+        alloc,
+        &mut generator,
+        (stamp(rt, 2, 0, 0), RecordKind::Out),
+    );
+    step(
+        rt,
+        alloc,
+        &mut generator,
+        (stamp(rt, 2, 0, 1), RecordKind::Int),
+    );
     let column = column_of(rt, alloc, &mut generator, line, 2);
     columns.push(column).expect(rt, "memory");
     let mut relay = process_of(rt, alloc, &network, 1);

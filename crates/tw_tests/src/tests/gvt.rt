@@ -18,8 +18,18 @@ fn gvt_sees_outgoing(rt: HostRuntime) {
     assert!(rt; least_of(&[process_of(&rt, alloc, &network, 2)], &mail) == Stamp::END);
 
     let mut generator = process_of(&rt, alloc, &network, 0);
-    step(&rt, alloc, &mut generator, (stamp(&rt, 2, 0, 0), RecordKind::Out));
-    step(&rt, alloc, &mut generator, (stamp(&rt, 2, 0, 1), RecordKind::Int));
+    step(
+        &rt,
+        alloc,
+        &mut generator,
+        (stamp(&rt, 2, 0, 0), RecordKind::Out),
+    );
+    step(
+        &rt,
+        alloc,
+        &mut generator,
+        (stamp(&rt, 2, 0, 1), RecordKind::Int),
+    );
     assert!(rt; generator.next() == stamp(&rt, 4, 0, 0));
     let mut processes = Vec::new(alloc);
     processes.push(generator).expect(&rt, "memory");
@@ -37,6 +47,11 @@ fn gvt_sees_outgoing(rt: HostRuntime) {
     come(&rt, &mut relay, &sent, Received::Placed);
     processes.push(relay).expect(&rt, "memory");
     assert!(rt; least_of(processes.as_slice(), &mail) == stamp(&rt, 2, 0, 1));
-    step(&rt, alloc, &mut processes[1], (stamp(&rt, 2, 0, 1), RecordKind::Ext));
+    step(
+        &rt,
+        alloc,
+        &mut processes[1],
+        (stamp(&rt, 2, 0, 1), RecordKind::Ext),
+    );
     assert!(rt; least_of(processes.as_slice(), &mail) == stamp(&rt, 3, 0, 0));
 }

@@ -58,12 +58,7 @@ pub(crate) fn step(
 }
 
 /// Lets an item come, of which this comes.
-pub(crate) fn come(
-    rt: &impl Abort,
-    process: &mut Process<Model>,
-    item: &Item,
-    expected: Received,
-)
+pub(crate) fn come(rt: &impl Abort, process: &mut Process<Model>, item: &Item, expected: Received)
     requires { process.old.floor ≡ 0 }
     ensures component { process.new.component ≡ process.old.component }
     ensures floor { process.new.floor ≡ process.old.floor }
@@ -180,9 +175,21 @@ fn three_delivery_orders(rt: HostRuntime) {
     let alloc = rt.alloc();
     let network = in_a_row(&rt, alloc, true);
     let orders = [
-        [(0, Received::Placed), (0, Received::Annihilated(0)), (1, Received::Placed)],
-        [(0, Received::Placed), (2, Received::Placed), (0, Received::Annihilated(0))],
-        [(1, Received::Waiting), (0, Received::Annihilated(0)), (1, Received::Placed)],
+        [
+            (0, Received::Placed),
+            (0, Received::Annihilated(0)),
+            (1, Received::Placed),
+        ],
+        [
+            (0, Received::Placed),
+            (2, Received::Placed),
+            (0, Received::Annihilated(0)),
+        ],
+        [
+            (1, Received::Waiting),
+            (0, Received::Annihilated(0)),
+            (1, Received::Placed),
+        ],
     ];
     for order in orders {
         let mut mail = posted(&rt, alloc, &network, true);
@@ -212,8 +219,18 @@ fn a_full_queue_goes_back(rt: HostRuntime) {
     }
     let network = network(&rt, alloc, &[model], &[], inputs.as_slice());
     let mut queue = process_of(&rt, alloc, &network, 0);
-    step(&rt, alloc, &mut queue, (stamp(&rt, 1, 0, 1), RecordKind::Ext));
-    step(&rt, alloc, &mut queue, (stamp(&rt, 2, 0, 1), RecordKind::Ext));
+    step(
+        &rt,
+        alloc,
+        &mut queue,
+        (stamp(&rt, 1, 0, 1), RecordKind::Ext),
+    );
+    step(
+        &rt,
+        alloc,
+        &mut queue,
+        (stamp(&rt, 2, 0, 1), RecordKind::Ext),
+    );
     assert!(rt; back_to(&mut queue, stamp(&rt, 2, 0, 1)) == 1);
     assert!(rt; queue.due() == stamp(&rt, 101, 0, 0));
     assert!(rt; queue.last() == stamp(&rt, 1, 0, 0));

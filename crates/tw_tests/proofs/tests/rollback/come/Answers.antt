@@ -1,4 +1,4 @@
-use Rattle.std.proofs.Common.{rules, ◌≡◌, ◌<◌, arith}
+use Rattle.std.proofs.Common.{rules}
 use Rattle.tw_tests.proofs.tests.rollback.come.Goals as goal
 
 pub receive-requires-clause-fits : goal.receive-requires-clause-fits

@@ -92,6 +92,7 @@ impl Mailboxes {
         ensures item { result ≡ slice_get (mail_of self.old.boxes to) place }
         ensures taken { OnSome result (self.new ≡ mail_after to place (slice_set self.old.boxes to (remove (mail_of self.old.boxes to) place))) }
         ensures stays { IfNone result (self.new ≡ self.old) }
+        ensures as_many { length self.new.boxes ≡ length self.old.boxes }
     {
         if place >= self.len(to) {
             return None;

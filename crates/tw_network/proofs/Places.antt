@@ -1,5 +1,5 @@
 -- The places of a component's port: no more than the couplings, and each of them a port of a component.
-use Rattle.std.proofs.Common.{◌≡◌, ℕ, suc, ◌+◌, ◌<◌, ◌≤◌, ◌==◌, ◌&&◌, List, [], ◌∷◌, length, map, Option, Some, arith, ap, ◌∙◌, slice_get}
+use Rattle.std.proofs.Common.{◌≡◌, ℕ, suc, ◌+◌, ◌≤◌, ◌==◌, ◌&&◌, List, [], ◌∷◌, length, map, Some, arith, ap, ◌∙◌, slice_get}
 use Rattle.std.specs.List.{All, AllByRecursion as Each}
 use Rattle.std.specs.Option.{option_map}
 use Rattle.std.proofs.lemmas.Bool.{cond_both}

@@ -1,4 +1,6 @@
 mod executive;
+mod fossils;
+mod gvt;
 mod heap;
 mod lines;
 mod mail;
@@ -7,5 +9,6 @@ mod msgs;
 mod networks;
 mod pool;
 mod process;
+mod rollback;
 mod sequential;
 mod stamps;

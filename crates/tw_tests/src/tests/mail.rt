@@ -23,7 +23,11 @@ fn item(rt: &impl Abort, sign: Sign, tick: u64, to: usize, value: i64) -> Item
 }
 
 /// Posts an item, at the second try where the first is refused, which leaves the mailbox as it was.
-fn post_again(rt: &impl Abort, mail: &mut Mailboxes, item: &Item) -> Result<(), AllocError>
+pub(crate) fn post_again(
+    rt: &impl Abort,
+    mail: &mut Mailboxes,
+    item: &Item,
+) -> Result<(), AllocError>
     requires { item.now.message.to < length mail.old.boxes }
     ensures { length mail.new.boxes ≡ length mail.old.boxes }
 {
@@ -51,7 +55,14 @@ fn items_close_up_and_are_put_back(rt: HostRuntime) {
 
     let middle = mail.take(1, 1).expect(&rt, "an item");
     assert!(rt; middle == item(&rt, Sign::Positive, 3, 1, 7));
-    assert!(rt; mail.items(1) == [item(&rt, Sign::Positive, 5, 1, 7), item(&rt, Sign::Positive, 4, 1, 7)]);
+    assert!(rt;
+        mail.items(1)
+            == [
+                item(&rt, Sign::Positive, 5, 1, 7),
+                item(&rt, Sign::Positive, 4, 1, 7)
+            ]
+            .as_slice()
+    );
     mail.put_back(1, 1, middle);
     assert!(rt; mail.items(1)[1] == middle);
     assert!(rt; mail.take(1, 3).is_none());
@@ -66,10 +77,10 @@ fn the_front_is_given_up_where_it_is_the_larger_part(rt: HostRuntime) {
         let item = item(&rt, Sign::Positive, tick, 0, 7);
         post_again(&rt, &mut mail, &item).expect(&rt, "memory");
     }
-    for tick in 0..10 {
+    for due in 0..10 {
         let first = mail.take(0, 0).expect(&rt, "an item");
         mail.put_back(0, 0, first);
-        assert!(rt; mail.take(0, 0) == Some(item(&rt, Sign::Positive, tick, 0, 7)));
+        assert!(rt; mail.take(0, 0) == Some(item(&rt, Sign::Positive, due, 0, 7)));
     }
     assert!(rt; mail.items(0).is_empty());
     assert!(rt; mail.least() == Stamp::END);

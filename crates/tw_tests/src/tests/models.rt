@@ -1,6 +1,6 @@
 //! The worked examples, by functions that know a model by its trait alone.
 ghost use Rattle.std.specs.Prelude.{◌≡◌, IsTrue};
-ghost use Rattle.tw_atomic.specs.Atomic.{FitsBag, IsDue};
+ghost use Rattle.tw_atomic.specs.Atomic.{FitsBag, FitsItem, IsDue};
 ghost use Rattle.tw_msgs.specs.Bags.{IsBeforeFirst, IsSorted, by_port};
 
 use super::lines::{bag_of, counted};
@@ -27,6 +27,13 @@ fn is_before_first(item: &(u8, i64), items: &[(u8, i64)]) -> bool
     }
 }
 
+/// An item fits: its port and its value are numbers of their sizes. It does nothing.
+fn fits(item: &(u8, i64))
+    ensures { FitsItem item.now }
+{
+    let (_port, _value) = *item;
+}
+
 /// Whether a slice is a sorted bag.
 fn is_bag(bag: &[(u8, i64)]) -> bool
     ensures { IsTrue result → IsSorted bag.now × FitsBag bag.now }
@@ -34,7 +41,7 @@ fn is_bag(bag: &[(u8, i64)]) -> bool
     match bag.split_first() {
         None => true,
         Some((item, items)) => {
-            let _item = *item;
+            fits(item);
             is_before_first(item, items) && is_bag(items)
         }
     }

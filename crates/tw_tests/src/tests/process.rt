@@ -14,12 +14,12 @@ use tw_process::{Cancel, Process, StepRefused, Stop};
 use tw_vtime::Stamp;
 
 /// A stamp, written as in the examples.
-fn stamp(rt: &impl Abort, tick: u64, microstep: u32, phase: u8) -> Stamp {
+pub(crate) fn stamp(rt: &impl Abort, tick: u64, microstep: u32, phase: u8) -> Stamp {
     Stamp::new(tick, microstep, phase).expect(rt, "a stamp")
 }
 
 /// A network of these models.
-fn network(
+pub(crate) fn network(
     rt: &impl Abort,
     alloc: Global,
     models: &[Model],

@@ -1,6 +1,5 @@
-use Rattle.std.proofs.Common.{◌≡◌, ◌∙◌, min, ap, map, sym, rules, take}
+use Rattle.std.proofs.Common.{◌≡◌, ◌∙◌, min, ap, map, sym, rules}
 use Rattle.std.proofs.lemmas.List.{take_all}
-use Rattle.tw_process.specs.Process.{Held}
 use Rattle.tw_theory.specs.Executive.{least_next}
 use Rattle.tw_gvt.proofs.Leasts.{least_more}
 use Rattle.tw_gvt.proofs.least.least_of.Goals as goal

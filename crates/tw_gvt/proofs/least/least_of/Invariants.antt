@@ -1,6 +1,5 @@
 -- The least of the processes so far.
 use Rattle.std.proofs.Common.{◌≡◌, map, take}
-use Rattle.tw_process.specs.Process.{Held}
 use Rattle.tw_theory.specs.Executive.{least_next}
 use Rattle.tw_gvt.proofs.least.least_of.Given as goal
 

@@ -4,7 +4,7 @@ use Rattle.tw_chain.specs.declared.step.ChainStep.{ChainStep}
 use Rattle.tw_lists.specs.Lists.{Lists, with_room}
 use Rattle.tw_process.specs.declared.finished.Stop.{Stop}
 use Rattle.tw_process.specs.declared.finished.Stop.TheVariants.{Ended, Stale, OutOfMemory, Full}
-use Rattle.tw_theory.specs.Chains.{sent_in}
+use Rattle.tw_theory.specs.Chains.{sent_at}
 use Rattle.tw_theory.specs.Contents.{Cancel}
 use Rattle.tw_theory.specs.Network.{Network}
 use Rattle.tw_process.specs.Installing.{after_record, after_steps, IsNext, AreNext, WhyNot, sent_counts}
@@ -18,9 +18,9 @@ module _ {S R : Type 0} (net : Network S) (c : ℕ) (way : Cancel) where
   next-push [] e lists are is = (is, tt)
   next-push (x ∷ es) e lists are is = (are.0, next-push es e (after_record net c way x.done lists) are.1 is)
 
-pub counts-push : {S R : Type 0} (net : Network S) (c : ℕ) (es : List (ChainStep S R)) (e : ChainStep S R) → sent_counts net c (es ++ e ∷ []) ≡ sent_counts net c es ++ length (sent_in net c e.done) ∷ []
+pub counts-push : {S R : Type 0} (net : Network S) (c : ℕ) (es : List (ChainStep S R)) (e : ChainStep S R) → sent_counts net c (es ++ e ∷ []) ≡ sent_counts net c es ++ length (sent_at net c e.done) ∷ []
 counts-push net c [] e = refl
-counts-push net c (x ∷ es) e = ap (λ l. length (sent_in net c x.done) ∷ l) (counts-push net c es e)
+counts-push net c (x ∷ es) e = ap (λ l. length (sent_at net c x.done) ∷ l) (counts-push net c es e)
 
 -- with other room it is not made for the same reason
 pub why-room : {S R : Type 0} (net : Network S) (c : ℕ) (way : Cancel) (e : ChainStep S R) (lists : Lists) (room spare : ℕ) (stop : Stop) → WhyNot net c way e lists stop → WhyNot net c way e (with_room room spare lists) stop

@@ -9,7 +9,7 @@ use Rattle.tw_atomic.specs.declared.Turn.{Turn}
 use Rattle.tw_msgs.specs.declared.message.Message.{Message}
 use Rattle.tw_msgs.specs.declared.record.Record.{Record}
 use Rattle.tw_network.specs.Contents.{Contents as NetworkContents}
-use Rattle.tw_theory.specs.Chains.{SoloRun, IsSoloRun, Cause, IsHome, Agrees, alone, made_anew, sent_in}
+use Rattle.tw_theory.specs.Chains.{SoloRun, IsSoloRun, Cause, IsHome, Agrees, alone, made_anew, sent_at}
 use Rattle.tw_theory.specs.Contents.{Process, Cancel, sent_out, before_all}
 use Rattle.tw_theory.specs.Installing.{IsFresh, IsFullFor, IsInstalled, StopsAt, TakesFrom}
 use Rattle.tw_theory.specs.Installing as theory
@@ -77,7 +77,7 @@ alike {S} {R} net c way (x ∷ xs) (y ∷ ys) lists same =
         subst (λ (r : Record). AreNext net c way ys (after_record net c way r lists)) done (rest.next h.1),
       );
       after = rest.after ∙ ap (λ (r : Record). after_steps net c way ys (after_record net c way r lists)) done;
-      counts = (λ i. length (sent_in net c (done i)) ∷ rest.counts i);
+      counts = (λ i. length (sent_at net c (done i)) ∷ rest.counts i);
     }
 
 -- the step of a chain that is shown so
@@ -136,7 +136,7 @@ module _ {M S R : Type 0} (net : Network S) (valid : S → Type 0) (m : Meaning 
       let s = split (alone m r.start) r.start.component n r.start.now r.start.messages r.steps r.after r.left run.leads in
       let rest : Leads (alone m r.start) r.start.component now' s.mid (step ∷ d.0) r.after r.left = subst (λ (x : Type 0). x) (λ i. Leads (alone m r.start) r.start.component (sym now_is i) s.mid (d.1 i) r.after r.left) s.rest in
       let own = same_step net m r.start home now' s.mid lists.pending rest.0 rest.1 (subst (λ (x : Step S). Agrees now' lists.pending x) (sym rest.2) agrees) in
-      let sends = ap (λ (x : Step S). length (sent_out way lists.owed (sent_in net r.start.component x.entry))) (rest.2 ∙ sym is) in (
+      let sends = ap (λ (x : Step S). length (sent_out way lists.owed (sent_at net r.start.component x.entry))) (rest.2 ∙ sym is) in (
         record { begins = begins; agrees = agrees },
         record {
           made = made_anew net r.start.component lists.pending rest.0;

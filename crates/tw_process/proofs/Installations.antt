@@ -7,7 +7,7 @@ use Rattle.tw_msgs.specs.declared.message.Message.{Message}
 use Rattle.tw_msgs.specs.declared.record.Record.{Record}
 use Rattle.tw_network.specs.Contents.{Contents as NetworkContents}
 use Rattle.tw_theory.specs.Bundles.{front, items_of}
-use Rattle.tw_theory.specs.Chains.{Start, IsHome, Agrees, alone, made_anew, sent_in, taken_at}
+use Rattle.tw_theory.specs.Chains.{Start, IsHome, Agrees, alone, made_anew, sent_at, taken_at}
 use Rattle.tw_theory.specs.Contents.{Cancel}
 use Rattle.tw_theory.specs.Installing.{TakesFrom}
 use Rattle.tw_theory.specs.LocalRun.{Step, Leads}
@@ -81,8 +81,8 @@ module _ {M S R : Type 0} (net : Network S) (valid : S → Type 0) (m : Meaning 
         done_is = sym entry_is;
         before_is = before_is;
         consumed_is = ap (λ (r : Record). length (taken_at r.stamp lists.pending)) entry_is ∙ counted e.done.stamp e.done.bag lists.pending next.0.bag;
-        sent_is = ap (λ (r : Record). length (sent_in net c r)) entry_is;
-        link = link_same undone (length (sent_in net c e.done)) e e.residue made.after.state (subst (λ x. IsTakenBack undone e e.residue x) (sym (state_next (alone m start) c made.after made.left es after left leads.3)) linked.0);
+        sent_is = ap (λ (r : Record). length (sent_at net c r)) entry_is;
+        link = link_same undone (length (sent_at net c e.done)) e e.residue made.after.state (subst (λ x. IsTakenBack undone e e.residue x) (sym (state_next (alone m start) c made.after made.left es after left leads.3)) linked.0);
       } in
       let one = installed net c valid m undone home.model_is small stays network now line way floor hs lists entry made' kept row in
       let lists_is : installing way made' lists ≡ after_record net c way e.done lists = ap (λ (r : Record). after_record net c way r lists) entry_is in

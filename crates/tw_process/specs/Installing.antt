@@ -7,7 +7,7 @@
 use Rattle.std.specs.Prelude.{ℕ, ◌+◌, ◌*◌, ◌<◌, List, [], ◌∷◌, ◌++◌, length, drop, ⊤, ◌==◌, if◌then◌else◌}
 use Rattle.tw_msgs.specs.declared.record.Record.{Record}
 use Rattle.tw_theory.specs.Bundles.{positives}
-use Rattle.tw_theory.specs.Chains.{Agrees, sent_in, taken_at, left_at}
+use Rattle.tw_theory.specs.Chains.{Agrees, sent_at, taken_at, left_at}
 use Rattle.tw_theory.specs.Contents.{Cancel, sent_out, owed_after}
 use Rattle.tw_theory.specs.Installing as theory
 use Rattle.tw_theory.specs.Memory.{max_nodes}
@@ -35,9 +35,9 @@ abbrev pub after_record : {S : Type 0} → Network S → ℕ → Cancel → Reco
 after_record net c way r lists = record lists {
   pending = left_at r.stamp lists.pending;
   consumed = lists.consumed ++ taken_at r.stamp lists.pending;
-  sent = lists.sent ++ sent_in net c r;
-  outgoing = lists.outgoing ++ positives (sent_out way lists.owed (sent_in net c r));
-  owed = owed_after way lists.owed (sent_in net c r);
+  sent = lists.sent ++ sent_at net c r;
+  outgoing = lists.outgoing ++ positives (sent_out way lists.owed (sent_at net c r));
+  owed = owed_after way lists.owed (sent_at net c r);
 }
 
 -- how many messages a step consumes
@@ -64,7 +64,7 @@ module _ {S R : Type 0} where
   WhyNot net c way e lists (Ended cause) = ⊥
   WhyNot net c way e lists Stale = IsNext e lists → ⊥
   WhyNot net c way e lists OutOfMemory = IsNext e lists
-  WhyNot net c way e lists Full = IsNext e lists × (max_nodes < node_count lists + 2 * length (sent_out way lists.owed (sent_in net c e.done)))
+  WhyNot net c way e lists Full = IsNext e lists × (max_nodes < node_count lists + 2 * length (sent_out way lists.owed (sent_at net c e.done)))
 
   -- a step of a chain as a step of the history that sent n messages
   abbrev pub entry_with : ℕ → ChainStep S R → Entry S R
@@ -83,7 +83,7 @@ module _ {S R : Type 0} where
   entries_with counts (e ∷ es) = entry_with (first_count counts) e ∷ entries_with (drop 1 counts) es
 
   abbrev pub entry_of : Network S → ℕ → ChainStep S R → Entry S R
-  entry_of net c e = entry_with (length (sent_in net c e.done)) e
+  entry_of net c e = entry_with (length (sent_at net c e.done)) e
 
   abbrev pub entries_of : Network S → ℕ → List (ChainStep S R) → List (Entry S R)
   entries_of net c [] = []
@@ -91,4 +91,4 @@ module _ {S R : Type 0} where
 
   abbrev pub sent_counts : Network S → ℕ → List (ChainStep S R) → List ℕ
   sent_counts net c [] = []
-  sent_counts net c (e ∷ es) = length (sent_in net c e.done) ∷ sent_counts net c es
+  sent_counts net c (e ∷ es) = length (sent_at net c e.done) ∷ sent_counts net c es

@@ -7,7 +7,7 @@ ghost use Rattle.tw_lists.specs.Ways.{way_of};
 ghost use Rattle.tw_network.specs.Contents.{network_of};
 ghost use Rattle.tw_process.specs.Installing.{AreNext, IsNext, WhyNot, after_record, after_steps, sent_counts};
 ghost use Rattle.tw_theory.specs.Bundles.{first_stamp};
-ghost use Rattle.tw_theory.specs.Chains.{sent_in};
+ghost use Rattle.tw_theory.specs.Chains.{sent_at};
 ghost use Rattle.tw_vtime.specs.Stamps.{phase_of};
 
 use crate::entry::Entry;
@@ -87,7 +87,7 @@ fn take_step<M: Atomic>(
     requires known { component < length network.now.models }
     ensures taken { OnOk result (lists.new ≡ with_room lists.new.room lists.new.spare (after_record (network_of M.meaning network.now) component (way_of cancel) step.now.done lists.old)) }
     ensures next { OnOk result (IsNext step.now lists.old) }
-    ensures counted { OnOk result (counts.new.items ≡ counts.old.items ++ length (sent_in (network_of M.meaning network.now) component step.now.done) ∷ []) }
+    ensures counted { OnOk result (counts.new.items ≡ counts.old.items ++ length (sent_at (network_of M.meaning network.now) component step.now.done) ∷ []) }
     ensures stays { OnErr result (lists.new ≡ with_room lists.new.room lists.new.spare lists.old) }
     ensures none { OnErr result (counts.new.items ≡ counts.old.items) }
     ensures stop { IfErr result (WhyNot (network_of M.meaning network.now) component (way_of cancel) step.now lists.old) }
@@ -133,7 +133,7 @@ fn take_output<M: Atomic>(
     requires is_output { phase_of step.now.done.stamp ≡ 0 }
     ensures taken { OnOk result (lists.new ≡ with_room lists.new.room lists.new.spare (after_record (network_of M.meaning network.now) component (way_of cancel) step.now.done lists.old)) }
     ensures next { OnOk result (IsNext step.now lists.old) }
-    ensures counted { OnOk result (counts.new.items ≡ counts.old.items ++ length (sent_in (network_of M.meaning network.now) component step.now.done) ∷ []) }
+    ensures counted { OnOk result (counts.new.items ≡ counts.old.items ++ length (sent_at (network_of M.meaning network.now) component step.now.done) ∷ []) }
     ensures stays { OnErr result (lists.new ≡ with_room lists.new.room lists.new.spare lists.old) }
     ensures none { OnErr result (counts.new.items ≡ counts.old.items) }
     ensures stop { IfErr result (WhyNot (network_of M.meaning network.now) component (way_of cancel) step.now lists.old) }

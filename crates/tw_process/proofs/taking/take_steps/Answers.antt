@@ -6,7 +6,7 @@ use Rattle.tw_chain.specs.declared.step.ChainStep.{ChainStep}
 use Rattle.tw_lists.specs.Lists.{with_room}
 use Rattle.tw_lists.specs.Ways.{way_of}
 use Rattle.tw_network.specs.Contents.{network_of}
-use Rattle.tw_theory.specs.Chains.{sent_in}
+use Rattle.tw_theory.specs.Chains.{sent_at}
 use Rattle.tw_process.specs.Installing.{AreNext, WhyNot, after_record, after_steps, sent_counts, IsNext}
 use Rattle.tw_process.proofs.ChainSteps.{after-push, next-push, counts-push, why-room}
 use Rattle.tw_process.proofs.taking.take_steps.Goals as goal
@@ -38,8 +38,8 @@ loop-step-preserved g c =
     let more = take_more steps i e c.loop-step-test.true ∙ ap (λ (x : ChainStep _ _). take i steps ++ x ∷ []) (sym c.step-item.is) in
     let before = after_steps net k way (take i steps) old in
     record {
-      counted = omega (arith, ap length done.counted, length-append c.loop-step.taken.counts.items (length (sent_in net k e.done) ∷ []), inv.counted);
-      counts = done.counted ∙ ap (λ l. l ++ length (sent_in net k e.done) ∷ []) inv.counts ∙ sym (counts-push net k (take i steps) e) ∙ ap (sent_counts net k) (sym more);
+      counted = omega (arith, ap length done.counted, length-append c.loop-step.taken.counts.items (length (sent_at net k e.done) ∷ []), inv.counted);
+      counts = done.counted ∙ ap (λ l. l ++ length (sent_at net k e.done) ∷ []) inv.counts ∙ sym (counts-push net k (take i steps) e) ∙ ap (sent_counts net k) (sym more);
       lists = done.taken ∙ ap (λ l. with_room new.room new.spare (after_record net k way e.done l)) inv.lists ∙ sym (ap (with_room new.room new.spare) (after-push net k way (take i steps) e old)) ∙ ap (λ l. with_room new.room new.spare (after_steps net k way l old)) (sym more);
       next = subst (λ l. AreNext net k way l old) (sym more) (next-push net k way (take i steps) e old inv.next (subst (λ l. IsNext e l) inv.lists done.next));
       history = done.history ∙ inv.history;

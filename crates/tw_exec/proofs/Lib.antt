@@ -1,0 +1,14 @@
+-- The proofs, in the order of the argument.
+
+-- the world as an executive holds it, and what each action makes of it
+pub mod Worlds
+pub mod Acts
+-- so every action keeps what an executive is
+pub mod Kept
+pub mod Deliveries
+pub mod Commits
+-- the start
+pub mod Starts
+-- what a post moves
+pub mod Overdue
+pub mod Comparing

@@ -1,0 +1,42 @@
+use Rattle.std.proofs.Common.{◌<◌, ap, sym, subst, ◌∙◌, arith, length}
+use Rattle.std.specs.Arc.{arc_value}
+use Rattle.std.specs.List.{AllByRecursion as Each}
+use Rattle.std.specs.Prelude.{slice_set}
+use Rattle.std.proofs.lemmas.Option.{slice_get_read}
+use Rattle.tw_exec.specs.Running.{answer, after}
+use Rattle.tw_exec.proofs.Acts.{post_none}
+use Rattle.tw_exec.proofs.Kept.{IsActed, all_near, post_acted}
+use Rattle.tw_theory.specs.Executive.{Post, Posted, posted}
+use Rattle.tw_exec.proofs.executive.Executive.post.Given.{Over}
+use Rattle.tw_exec.proofs.executive.Executive.post.Goals as goal
+
+pub returns-then-component-len-clause-refused : goal.returns-then-component-len-clause-refused
+returns-then-component-len-clause-refused g c =
+    ap (λ e. answer g.M.Atomic.meaning (Post c.args.component) e) (sym c.self.view_is)
+    ∙ ap (λ x. x.0) (post_none g.M.Atomic.meaning (arc_value c.self.inside.network) c.self.inside.until c.self.inside.gvt c.self.inside.processes.items c.self.inside.mail.boxes c.self.inside.columns.items c.args.component (omega (arith, c.if-component-len.true, c.len.ensures, c.self.inside.processes.ok.0)))
+
+pub post-requires : goal.post-requires
+post-requires g c =
+    let ps = c.self.inside.processes in
+    let old = c.index_mut-process.result.now in
+    let at = slice_get_read ps.items _ c.args.component old ps.ok.0 (omega (arith, c.if-component-len.false, c.len.ensures, c.self.inside.processes.ok.0)) c.index_mut-process.ensures.value in
+    subst (λ l. Each (λ i. i.message.to < length c.self.inside.mail.boxes) l) (sym (c.as_slice.ensures.value ∙ c.in_ok-items.ensures)) (all_near c.self.invariant.0 c.args.component old at)
+
+acted : (g : Over) (c : goal.After-drop-items-2 g) → IsActed g.M.Atomic.meaning (arc_value c.self.inside.network) c.self.inside.until c.self.inside.end c.self.inside.gvt c.self.inside.gvt c.self.inside.processes.items (slice_set c.self.inside.processes.items c.args.component c.clear_outgoing.new.self) c.self.inside.mail.boxes c.post.new.self.boxes c.self.inside.columns.items c.self.inside.columns.items (Post c.args.component) (Posted (length c.in_ok-items.items.items))
+acted g c =
+    let ps = c.self.inside.processes in
+    let old = c.index_mut-process.result.now in
+    let at = slice_get_read ps.items _ c.args.component old ps.ok.0 (omega (arith, c.if-component-len.false, c.len.ensures, c.self.inside.processes.ok.0)) c.index_mut-process.ensures.value in
+    let mail_is = ap (λ m. m.boxes) c.in_ok-post.ensures.ok ∙ ap (posted c.self.inside.mail.boxes) (c.as_slice.ensures.value ∙ c.in_ok-items.ensures) in
+    let done = post_acted c.self.invariant.0 c.args.component old c.settle.new.self c.clear_outgoing.new.self c.post.new.self.boxes at c.settle.ensures c.clear_outgoing.ensures mail_is in
+    subst (λ l. IsActed g.M.Atomic.meaning (arc_value c.self.inside.network) c.self.inside.until c.self.inside.end c.self.inside.gvt c.self.inside.gvt c.self.inside.processes.items (slice_set c.self.inside.processes.items c.args.component c.clear_outgoing.new.self) c.self.inside.mail.boxes c.post.new.self.boxes c.self.inside.columns.items c.self.inside.columns.items (Post c.args.component) (Posted (length l))) (sym c.in_ok-items.ensures) done
+
+pub invariant_of-self-2 : goal.invariant_of-self-2
+invariant_of-self-2 g c = ((acted g c).held, c.self.invariant.1)
+
+pub returns-clause-done : goal.returns-clause-done
+returns-clause-done g c = ap (λ x. record { network = arc_value c.self.inside.network; until = c.self.inside.until; world = x.1 }) (sym (acted g c).acts) ∙ ap (λ e. after g.M.Atomic.meaning (Post c.args.component) e) c.self.view_is
+
+pub returns-clause-answer : goal.returns-clause-answer
+returns-clause-answer g c =
+    ap (λ e. answer g.M.Atomic.meaning (Post c.args.component) e) (sym c.self.view_is) ∙ ap (λ x. x.0) (acted g c).acts ∙ ap Posted (sym c.in_ok-items.items.ok.0 ∙ sym c.len-2.ensures)

@@ -1,0 +1,3 @@
+pub mod Refusals
+pub mod Actions
+pub mod Running

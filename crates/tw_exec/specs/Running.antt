@@ -1,0 +1,76 @@
+-- What contracts see of an executive, and what its actions answer and make of it.
+--     Running M S      a network, the end tick of the run, and the world of the theory
+--     start meaning n way until      an executive at its start
+--     answer meaning action e, after meaning action e      what an action answers, and the executive after it
+--     IsReason meaning action e why      the theory refuses the action so
+--     IsSoundly meaning e      what is true of every executive
+use Rattle.std.specs.Prelude.{ℕ, ◌≡◌, ◌≤◌, IfSome, List, map, Some, slice_get}
+use Rattle.tw_atomic.specs.Atomic.{Meaning}
+use Rattle.tw_exec.specs.Actions.{reason}
+use Rattle.tw_exec.specs.declared.refused.Refused.{Refused}
+use Rattle.tw_msgs.specs.declared.message.Item.{Item}
+use Rattle.tw_msgs.specs.declared.record.Record.{Record}
+use Rattle.tw_network.specs.Contents.{Contents, network_of}
+use Rattle.tw_process.specs.Process.{Held, IsNew}
+use Rattle.tw_theory.specs.Contents.{Cancel}
+use Rattle.tw_theory.specs.Executive.{World, Action, Answer, Refused as refused_for, act}
+use Rattle.tw_theory.specs.Network.{IsNetwork}
+use Rattle.tw_theory.specs.Soundness.{IsSound, new_world}
+use Rattle.tw_vtime.specs.Stamps.{max_tick, stamp}
+
+pub record Running (M S : Type 0) : Type 0 where
+  pub network : Contents M
+  -- only steps before this tick are made
+  pub until : ℕ
+  pub world : World S
+
+abbrev pub start : {M S : Type 0} → (M → Meaning S) → Contents M → Cancel → ℕ → Running M S
+start meaning n way until = record { network = n; until = until; world = new_world (network_of meaning n) way }
+
+abbrev pub acted : {M S : Type 0} → (M → Meaning S) → Action → Running M S → Answer × World S
+acted meaning action e = act (network_of meaning e.network) e.until e.world action
+
+abbrev pub answer : {M S : Type 0} → (M → Meaning S) → Action → Running M S → Answer
+answer meaning action e = (acted meaning action e).0
+
+abbrev pub after : {M S : Type 0} → (M → Meaning S) → Action → Running M S → Running M S
+after meaning action e = record e { world = (acted meaning action e).1 }
+
+-- where the theory knows this reason, it refuses the action for it
+abbrev pub IsReason : {M S : Type 0} → (M → Meaning S) → Action → Running M S → Refused → Type 0
+IsReason meaning action e why = IfSome (reason why) (λ r. answer meaning action e ≡ refused_for r)
+
+-- its network is one, it ends at a tick that a stamp has, and it is sound
+pub record IsSoundly {M S : Type 0} (meaning : M → Meaning S) (e : Running M S) : Type 0 where
+  pub network : IsNetwork (network_of meaning e.network)
+  pub bound : e.until ≤ max_tick
+  pub sound : IsSound (network_of meaning e.network) e.until e.world
+
+-- ---- how it is held
+
+-- the world of these processes, mailboxes and columns
+abbrev pub shown : {M S : Type 0} → List (Held M S) → List (List Item) → List (List Record) → ℕ → World S
+shown ps mail columns gvt = record {
+  processes = map (λ p. p.process) ps;
+  mail = mail;
+  columns = columns;
+  gvt = gvt;
+}
+
+-- what an executive knows of process c beside its contents
+pub record IsOwn {M S : Type 0} (n : Contents M) (c : ℕ) (p : Held M S) : Type 0 where
+  pub network_is : p.network ≡ n
+  pub component_is : p.component ≡ c
+  -- no step that was committed stands at its line or later
+  pub floor_le : p.floor ≤ p.process.line
+
+pub record IsHeld {M S : Type 0} (meaning : M → Meaning S) (n : Contents M) (until end gvt : ℕ) (ps : List (Held M S)) (mail : List (List Item)) (columns : List (List Record)) : Type 0 where
+  pub network : IsNetwork (network_of meaning n)
+  pub bound : until ≤ max_tick
+  pub end_is : end ≡ stamp until 0 0
+  pub sound : IsSound (network_of meaning n) until (shown ps mail columns gvt)
+  pub own : (c : ℕ) (p : Held M S) → slice_get ps c ≡ Some p → IsOwn n c p
+
+-- each is at the start of its component
+abbrev pub AreNew : {M S : Type 0} → (M → Meaning S) → Contents M → Cancel → List (Held M S) → Type 0
+AreNew {M} {S} meaning n way ps = (c : ℕ) (p : Held M S) → slice_get ps c ≡ Some p → IsNew meaning n way c p

@@ -1,0 +1,182 @@
+//! The actions.
+
+ghost use Rattle.std.specs.Prelude.{◌≡◌, ◌≢◌, ◌++◌, None, IfOk, IfErr, OnOk, OnErr};
+ghost use Rattle.tw_exec.specs.Actions.{answered, meant, reason};
+ghost use Rattle.tw_exec.specs.Running.{answer, after, IsReason};
+ghost use Rattle.tw_theory.specs.Bundles.{antis, overdue};
+ghost use Rattle.tw_theory.specs.Contents.{settle};
+ghost use Rattle.tw_theory.specs.Executive.{Back, Deliver, Harvest, Post, Raise, Step};
+ghost use Rattle.tw_theory.specs.Memory.{TakesMemory};
+
+use crate::action::{Action, Done};
+use crate::executive::Executive;
+use crate::refused::Refused;
+use std::alloc::{AllocError, Global};
+use tw_atomic::Atomic;
+use tw_fossils::harvest;
+use tw_gvt::least_of;
+use tw_msgs::{Item, Message, Sign};
+use tw_process::{Cancel, Process};
+use tw_rollback::{back_to, receive};
+use tw_vtime::Stamp;
+
+impl<M: Atomic> Executive<M> {
+    /// Takes an action, and answers what came of it.
+    ///
+    /// Refused where there is no such component or item (15), where no step of the component is before the end tick (16) or its step
+    /// would pass a limit (2, 3), and where Back would go before global virtual time (14); and for want of memory (4) or of
+    /// nodes (12), but never Back and Raise, which take none. A refused action changes nothing: the item of a refused Deliver
+    /// keeps its place.
+    pub fn act(&mut self, action: Action) -> Result<Done, Refused>
+        ensures done { OnOk result (self.new ≡ after M.meaning (meant action) self.old) }
+        ensures answer { IfOk result (λ done. answer M.meaning (meant action) self.old ≡ answered done) }
+        ensures refused { IfErr result (IsReason M.meaning (meant action) self.old) }
+        ensures memory { IfErr result (λ why. reason why ≡ None → TakesMemory (meant action)) }
+        ensures stays { OnErr result (self.new ≡ self.old) }
+    {
+        match action {
+            Action::Step(component) => self.step(component),
+            Action::Post(component) => self.post(component),
+            Action::Deliver(receiver, place) => self.deliver(receiver, place),
+            Action::Back(component, stamp) => self.back(component, stamp),
+            Action::Raise => Ok(self.raise()),
+            Action::Harvest(component) => self.harvest(component),
+        }
+    }
+
+    // The next step of a component is made.
+    fn step(&mut self, component: usize) -> Result<Done, Refused>
+        ensures done { OnOk result (self.new ≡ after M.meaning (Step component) self.old) }
+        ensures answer { IfOk result (λ done. answer M.meaning (Step component) self.old ≡ answered done) }
+        ensures refused { IfErr result (IsReason M.meaning (Step component) self.old) }
+        ensures stays { OnErr result (self.new ≡ self.old) }
+    {
+        if component >= self.processes.len() {
+            return Err(Refused::NoSuch);
+        }
+        let process = &mut self.processes[component];
+        if process.next() >= self.end {
+            return Err(Refused::NothingDue);
+        }
+        let (stamp, kind) = process.step(self.alloc)?;
+        Ok(Done::Stepped(stamp, kind))
+    }
+
+    // What a component sends goes to the mailboxes.
+    fn post(&mut self, component: usize) -> Result<Done, Refused>
+        ensures done { OnOk result (self.new ≡ after M.meaning (Post component) self.old) }
+        ensures answer { IfOk result (λ done. answer M.meaning (Post component) self.old ≡ answered done) }
+        ensures refused { IfErr result (IsReason M.meaning (Post component) self.old) }
+        ensures stays { OnErr result (self.new ≡ self.old) }
+    {
+        if component >= self.processes.len() {
+            return Err(Refused::NoSuch);
+        }
+        let process = &mut self.processes[component];
+        let items = to_post(self.alloc, process)?;
+        self.mail.post(items.as_slice())?;
+        process.settle();
+        process.clear_outgoing();
+        Ok(Done::Posted(items.len() as u64))
+    }
+
+    // A component receives an item of its mailbox; a refused one goes back to its place.
+    fn deliver(&mut self, receiver: usize, place: usize) -> Result<Done, Refused>
+        ensures done { OnOk result (self.new ≡ after M.meaning (Deliver receiver place) self.old) }
+        ensures answer { IfOk result (λ done. answer M.meaning (Deliver receiver place) self.old ≡ answered done) }
+        ensures refused { IfErr result (IsReason M.meaning (Deliver receiver place) self.old) }
+        ensures stays { OnErr result (self.new ≡ self.old) }
+    {
+        if receiver >= self.processes.len() {
+            return Err(Refused::NoSuch);
+        }
+        let Some(item) = self.mail.take(receiver, place) else {
+            return Err(Refused::NoSuch);
+        };
+        match receive(&mut self.processes[receiver], item) {
+            Ok(came) => Ok(Done::Delivered(came)),
+            Err((item, refused)) => {
+                self.mail.put_back(receiver, place, item);
+                Err(refused.into())
+            }
+        }
+    }
+
+    // The steps of a component at or after a stamp are taken back.
+    fn back(&mut self, component: usize, stamp: Stamp) -> Result<Done, Refused>
+        ensures done { OnOk result (self.new ≡ after M.meaning (Back component stamp) self.old) }
+        ensures answer { IfOk result (λ done. answer M.meaning (Back component stamp) self.old ≡ answered done) }
+        ensures refused { IfErr result (IsReason M.meaning (Back component stamp) self.old) }
+        ensures known { IfErr result (λ why. reason why ≢ None) }
+        ensures stays { OnErr result (self.new ≡ self.old) }
+    {
+        if component >= self.processes.len() {
+            return Err(Refused::NoSuch);
+        }
+        if stamp < self.gvt {
+            return Err(Refused::BeforeGvt);
+        }
+        let undone = back_to(&mut self.processes[component], stamp);
+        Ok(Done::Undone(undone))
+    }
+
+    // Global virtual time rises.
+    fn raise(&mut self) -> Done
+        ensures done { self.new ≡ after M.meaning Raise self.old }
+        ensures answer { answer M.meaning Raise self.old ≡ answered result }
+    {
+        let gvt = least_of(self.processes.as_slice(), &self.mail);
+        self.gvt = gvt;
+        Done::Raised(gvt)
+    }
+
+    // The records of a component from before global virtual time go to its column.
+    fn harvest(&mut self, component: usize) -> Result<Done, Refused>
+        ensures done { OnOk result (self.new ≡ after M.meaning (Harvest component) self.old) }
+        ensures answer { IfOk result (λ done. answer M.meaning (Harvest component) self.old ≡ answered done) }
+        ensures refused { IfErr result (IsReason M.meaning (Harvest component) self.old) }
+        ensures stays { OnErr result (self.new ≡ self.old) }
+    {
+        if component >= self.processes.len() {
+            return Err(Refused::NoSuch);
+        }
+        let count = self.processes[component].steps_before(self.gvt);
+        let Some(records) = self.records.checked_add(count as u64) else {
+            return Err(Refused::OutOfMemory);
+        };
+        let column = &mut self.columns[component];
+        let committed = harvest(&mut self.processes[component], column, self.gvt)?;
+        self.records = records;
+        Ok(Done::Harvested(committed))
+    }
+}
+
+// What a post moves: the outgoing items, and the anti-messages of what is owed from before the next step.
+fn to_post<M: Atomic>(alloc: Global, process: &Process<M>) -> Result<Vec<Item>, AllocError>
+    ensures { IfOk result (λ items. items.items ≡ (settle process.now.process).outgoing) }
+{
+    let mut items = process.outgoing(alloc)?;
+    match process.cancel() {
+        Cancel::Aggressive => Ok(items),
+        Cancel::Lazy => {
+            let owed = process.owed(alloc)?;
+            push_overdue(&mut items, owed.as_slice(), process.next())?;
+            Ok(items)
+        }
+    }
+}
+
+// The anti-messages of those messages that were sent before a stamp go to the end of a list.
+fn push_overdue(items: &mut Vec<Item>, owed: &[Message], next: Stamp) -> Result<(), AllocError>
+    ensures { OnOk result (items.new.items ≡ items.old.items ++ antis (overdue next owed.now)) }
+{
+    for message in owed {
+        if message.stamp.pack().saturating_sub(1) < next.pack() {
+            items.push(Item {
+                sign: Sign::Anti,
+                message: *message,
+            })?;
+        }
+    }
+    Ok(())
+}

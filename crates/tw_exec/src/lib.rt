@@ -1,0 +1,23 @@
+//! The executive of Time Warp: processes that run ahead of one another, their mailboxes, and what they have committed
+//! (Jefferson 1985).
+//!
+//! An [`Executive`] takes one [`Action`] after another, in whatever order its owner likes: steps of any process, posts of
+//! what it sent, deliveries of any item in transit, rollbacks, rises of global virtual time, harvests. Contracts see a
+//! network, an end tick and the world of the theory; each action makes of that world, and answers, what the theory's
+//! `act` does. Whatever was done, what a component has committed is what the sequential simulator does up to its commit
+//! line: `committed` says so, by the soundness that every executive keeps (`facts`).
+//!
+//! | File | Calls |
+//! |---|---|
+//! | `executive` | making one, and what is read of it |
+//! | `acting` | `act`: an action, its answer ([`Done`]) or why it is refused ([`Refused`]) |
+#![tactic(auto)]
+
+mod acting;
+mod action;
+mod executive;
+mod refused;
+
+pub use action::{Action, Done};
+pub use executive::Executive;
+pub use refused::{Refused, StartRefused};

@@ -7,6 +7,9 @@ pub mod Acts
 pub mod Kept
 pub mod Deliveries
 pub mod Commits
+pub mod Marks
+pub mod Rewinds
+pub mod Replays
 -- the start
 pub mod Starts
 -- what a post moves

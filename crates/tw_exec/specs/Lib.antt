@@ -1,3 +1,4 @@
 pub mod Refusals
 pub mod Actions
 pub mod Running
+pub mod Rewinding

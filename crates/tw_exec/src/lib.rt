@@ -11,13 +11,16 @@
 //! |---|---|
 //! | `executive` | making one, and what is read of it |
 //! | `acting` | `act`: an action, its answer ([`Done`]) or why it is refused ([`Refused`]) |
+//! | `marking` | `mark` and `rewind` ([`Mark`]); `replay`: a list of actions |
 #![tactic(auto)]
 
 mod acting;
 mod action;
 mod executive;
+mod marking;
 mod refused;
 
 pub use action::{Action, Done};
 pub use executive::Executive;
+pub use marking::Mark;
 pub use refused::{Refused, StartRefused};

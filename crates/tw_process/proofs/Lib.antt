@@ -5,6 +5,7 @@ pub mod Commits
 pub mod Starts
 pub mod Outcomes
 pub mod Copies
+pub mod Between
 pub mod ChainSteps
 pub mod Installs
 pub mod Installations

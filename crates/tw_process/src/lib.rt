@@ -25,6 +25,7 @@ mod committing;
 mod entry;
 mod finished;
 mod installing;
+mod marked;
 mod posting;
 pub mod process;
 mod reading;

@@ -1,0 +1,83 @@
+-- What a rewind answers and makes of the world, where the code has found out what is the case; and that the columns of an executive rise, all before global virtual time.
+use Rattle.std.proofs.Common.{◌≡◌, ◌≢◌, ℕ, suc, ◌==◌, ◌+◌, ◌&&◌, ◌<◌, List, [], ◌∷◌, length, map, filter, not, Some, true, false, refl, sym, ap, ◌∙◌, subst, arith}
+use Rattle.std.specs.List.{AllByRecursion as Each}
+use Rattle.std.specs.Prelude.{nat_lt, slice_get}
+use Rattle.std.proofs.lemmas.Bool.{and_parts, cond-true, cond-false, cond_both, eq-eqb, ne_eqb, eqb-true, ltb-true}
+use Rattle.std.proofs.lemmas.Option.{get_or_from_slice_get, slice_get_within}
+use Rattle.tw_atomic.specs.Atomic.{Meaning}
+use Rattle.std.proofs.lemmas.List.{length-map}
+use Rattle.tw_exec.specs.Rewinding.{at_marks}
+use Rattle.tw_exec.specs.Running.{shown, IsHeld, IsOwn}
+use Rattle.tw_exec.proofs.Kept.{as_many_columns, cut_own}
+use Rattle.tw_exec.proofs.Marks.{each_cut, rewound_contents}
+use Rattle.tw_exec.proofs.Worlds.{process_at, there}
+use Rattle.tw_fossils.proofs.Joining.{is_column}
+use Rattle.tw_fossils.specs.Columns.{IsRising}
+use Rattle.tw_laws.proofs.Rewinding.{rewind_keeps}
+use Rattle.tw_laws.proofs.Traces.{sequential_trace}
+use Rattle.tw_msgs.specs.declared.message.Item.{Item}
+use Rattle.tw_msgs.specs.declared.record.Record.{Record}
+use Rattle.tw_network.specs.Contents.{Contents, network_of}
+use Rattle.tw_process.specs.Process.{Held, with_cut}
+use Rattle.tw_theory.proofs.Elements.{each_weaker}
+use Rattle.tw_theory.specs.Executive.{Committed, NoSuch, Refused, Undone, World}
+use Rattle.tw_theory.specs.Marks.{any_committed, rewind, rewound, rewound_steps}
+use Rattle.tw_theory.specs.Simulator.{records_before, sequential, up_to}
+use Rattle.tw_theory.specs.Soundness.{IsSound}
+
+module _ {S : Type 0} (w : World S) (ss : List ℕ) where
+  pub wrong : length ss ≢ length w.processes → rewind w ss ≡ (Refused NoSuch, w)
+  unfolding rewind
+  wrong other = cond-true (not (length ss == length w.processes)) _ _ (ap not (ne_eqb (length ss) (length w.processes) other))
+
+  pub since : length ss ≡ length w.processes → any_committed w.gvt ss w.processes w.columns ≡ true → rewind w ss ≡ (Refused Committed, w)
+  unfolding rewind
+  since same any = cond-false (not (length ss == length w.processes)) _ _ (ap not (eq-eqb (length ss) (length w.processes) same)) ∙ cond-true (any_committed w.gvt ss w.processes w.columns) _ _ any
+
+  pub taken : length ss ≡ length w.processes → any_committed w.gvt ss w.processes w.columns ≡ false → rewind w ss ≡ (Undone (rewound_steps ss w.processes), record w { processes = rewound ss w.processes })
+  unfolding rewind
+  taken same none = cond-false (not (length ss == length w.processes)) _ _ (ap not (eq-eqb (length ss) (length w.processes) same)) ∙ cond-false (any_committed w.gvt ss w.processes w.columns) _ _ none
+
+each_from_get : {X : Type 0} (P : X → Type 0) (xs : List X) → ((c : ℕ) (x : X) → slice_get xs c ≡ Some x → P x) → Each P xs
+each_from_get P [] h = tt
+each_from_get P (x ∷ xs) h = (h 0 x refl, each_from_get P xs (λ c y at. h (suc c) y at))
+
+-- the records before a stamp of a list
+below : (c u : ℕ) (rs : List Record) → Each (λ r. r.stamp < u) (filter (λ r. (r.component == c) && nat_lt r.stamp u) rs)
+below c u [] = tt
+below c u (r ∷ rs) =
+    cond_both ((r.component == c) && nat_lt r.stamp u) (r ∷ filter (λ r. (r.component == c) && nat_lt r.stamp u) rs) (filter (λ r. (r.component == c) && nat_lt r.stamp u) rs) (Each (λ r. r.stamp < u))
+    (λ e. (ltb-true r.stamp u (and_parts (r.component == c) (nat_lt r.stamp u) e).1, below c u rs)) (λ e. below c u rs)
+
+module _ {M S : Type 0} {meaning : M → Meaning S} {n : Contents M} {until end gvt : ℕ} {ps : List (Held M S)} {mail : List (List Item)} {columns : List (List Record)} (h : IsHeld meaning n until end gvt ps mail columns) where
+  pub columns_rise : Each (λ column. IsRising column × Each (λ r. r.stamp < gvt) column) columns
+  columns_rise = each_from_get (λ (column : List Record). IsRising column × Each (λ (r : Record). r.stamp < gvt) column) columns (λ c column at. one c column at)
+    where
+      one : (c : ℕ) (column : List Record) → slice_get columns c ≡ Some column → IsRising column × Each (λ (r : Record). r.stamp < gvt) column
+      one c column at =
+          let p = there ps c (omega (arith, slice_get_within columns c column at, as_many_columns h)) in
+          let sound = h.sound.each c p.0.process (process_at ps mail columns gvt c p.0 p.1) in
+          let net = network_of meaning n in
+          let limit = up_to until p.0.process.line in
+          let is : column ≡ records_before net until c p.0.process.line = sym (get_or_from_slice_get columns c column [] at) ∙ sound.column_is in
+          let rs = (sequential net until).records in
+          let rising = (is_column c (λ r. (r.component == c) && nat_lt r.stamp limit) (λ r t. eqb-true r.component c (and_parts (r.component == c) (nat_lt r.stamp limit) t).0) rs (sequential_trace net until h.network h.bound).0).rising in
+          let low = each_weaker (λ (r : Record). r.stamp < limit) (λ (r : Record). r.stamp < gvt) (λ r l. omega (arith, l, sound.line_le)) (filter (λ r. (r.component == c) && nat_lt r.stamp limit) rs) (below c limit rs) in
+          subst (λ l. IsRising l × Each (λ (r : Record). r.stamp < gvt) l) (sym is) (rising, low)
+
+  -- processes that were cut at their marks, none of whose steps since then may be committed
+  pub rewound_world : (ss : List ℕ) (qs : List (Held M S)) → length ss ≡ length ps → any_committed gvt ss (map (λ p. p.process) ps) columns ≡ false → qs ≡ at_marks ss ps
+      → rewind (shown ps mail columns gvt) ss ≡ (Undone (rewound_steps ss (map (λ p. p.process) ps)), shown qs mail columns gvt)
+  rewound_world ss qs same none is =
+      taken (shown ps mail columns gvt) ss (same ∙ sym (length-map ps (λ (p : Held M S). p.process))) none
+      ∙ ap (λ rs. (Undone (rewound_steps ss (map (λ p. p.process) ps)), record { processes = rs; mail = mail; columns = columns; gvt = gvt })) (sym (rewound_contents ss ps) ∙ ap (map (λ p. p.process)) (sym is))
+
+  pub rewound_held : (ss : List ℕ) (qs : List (Held M S)) → length ss ≡ length ps → any_committed gvt ss (map (λ p. p.process) ps) columns ≡ false → qs ≡ at_marks ss ps → IsHeld meaning n until end gvt qs mail columns
+  rewound_held ss qs same none is = record {
+    network = h.network;
+    bound = h.bound;
+    end_is = h.end_is;
+    sound = subst (IsSound (network_of meaning n) until) (ap (λ x. x.1) (rewound_world ss qs same none is)) (rewind_keeps (network_of meaning n) until h.network h.bound (shown ps mail columns gvt) ss h.sound);
+    own = λ c p at. (let from_start : (d : ℕ) → 0 + d ≡ d = λ d. omega arith in
+        subst (λ k. IsOwn n k p) (from_start c) (each_cut (IsOwn n) (λ d s q o. cut_own h d s q (with_cut s q) refl o) 0 ss ps (λ d q q_at. subst (λ k. IsOwn n k q) (sym (from_start d)) (h.own d q q_at)) c p (ap (λ l. slice_get l c) (sym is) ∙ at)));
+  }

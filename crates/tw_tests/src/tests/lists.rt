@@ -3,7 +3,7 @@
 ghost use Rattle.std.specs.Prelude.{◌≡◌, ◌≤◌, OnOk};
 
 use super::process::stamp;
-use std::alloc::Global;
+use std::alloc::{AllocError, Global};
 use std::process::Abort;
 use tw_lists::{Cancel, EventLists};
 use tw_msgs::{Item, Message, Sign};
@@ -61,11 +61,27 @@ fn pending_messages_stand_in_order(rt: HostRuntime) {
     assert!(rt; lists.heap().first().expect(&rt, "an entry").key == first);
 }
 
+/// The bag of a stamp is consumed, and pending again; answers how many messages it has.
+fn there_and_back(
+    alloc: Global,
+    lists: &mut EventLists,
+    stamp: Stamp,
+) -> Result<usize, AllocError> {
+    lists.order_law();
+    let bag = lists.consume_bag(alloc, stamp)?;
+    let count = bag.len();
+    lists.restore(count);
+    Ok(count)
+}
+
 #[test]
 fn a_bag_is_consumed_and_pending_again(rt: HostRuntime) {
     let alloc = rt.alloc();
     let mut lists = three_pending(&rt, alloc);
     let now = stamp(&rt, 2, 0, 1);
+    assert!(rt; there_and_back(alloc, &mut lists, now) == Ok(2));
+    assert!(rt; lists.pending_len() == 3 && lists.pool().len(1) == 0);
+    assert!(rt; lists.first() == Some(message(&rt, 2, 0, 9)));
     let bag = lists.consume_bag(alloc, now).expect(&rt, "memory");
     assert!(rt; bag.as_slice() == [(0, 9), (1, 4)].as_slice());
     assert!(rt; lists.pending_len() == 1 && lists.pool().len(1) == 2);
@@ -168,7 +184,4 @@ fn the_oldest_are_forgotten(rt: HostRuntime) {
     assert!(rt; lists.pool().len(1) == 1 && lists.pool().len(2) == 0);
     assert!(rt; !lists.has_consumed(&message(&rt, 2, 0, 9)));
     assert!(rt; lists.has_consumed(&message(&rt, 2, 1, 4)));
-    lists.order_law();
-    lists.restore(0);
-    assert!(rt; lists.pending_len() == 1);
 }

@@ -1,6 +1,6 @@
 //! One process by worked examples: its steps, the way back, and each call once.
 
-ghost use Rattle.std.specs.Prelude.{◌≡◌, Some, slice_get};
+ghost use Rattle.std.specs.Prelude.{◌≡◌, Some, [], slice_get};
 
 use std::alloc::Global;
 use std::process::Abort;
@@ -44,7 +44,10 @@ fn first_process(
     alloc: Global,
     network: Arc<Network<Model>>,
     cancel: Cancel,
-) -> Process<Model> {
+) -> Process<Model>
+    ensures floor { result.floor ≡ 0 }
+    ensures no_step { result.process.history ≡ [] }
+{
     assert!(rt; 0 < network.len());
     Process::with_cancel(alloc, network, 0, cancel).expect(rt, "a process")
 }
@@ -135,7 +138,10 @@ fn a_hop_external_and_back(rt: HostRuntime) {
 }
 
 /// A relay with delay 1 in front of two tallies, with 0=8 at tick 3; it sends to the second.
-fn relay_process(rt: &impl Abort, alloc: Global, cancel: Cancel) -> Process<Model> {
+fn relay_process(rt: &impl Abort, alloc: Global, cancel: Cancel) -> Process<Model>
+    ensures floor { result.floor ≡ 0 }
+    ensures no_step { result.process.history ≡ [] }
+{
     let mut models = Vec::new(alloc);
     models
         .push(Model::relay(1).expect(rt, "a relay"))
@@ -292,6 +298,26 @@ fn messages_come_and_go(rt: HostRuntime) {
     assert!(rt; !process.has_consumed(&message));
 }
 
+/// One more message is pending, before a step is made; room is made first, or with it.
+fn put(rt: &impl Abort, process: &mut Process<Model>, message: Message, room_first: bool)
+    requires floor { process.old.floor ≡ 0 }
+    requires no_step { process.old.process.history ≡ [] }
+    ensures floor { process.new.floor ≡ 0 }
+    ensures no_step { process.new.process.history ≡ [] }
+{
+    assert!(rt; message.to == process.component());
+    assert!(rt; message.stamp.pack() < u64::MAX);
+    assert!(rt; message.stamp.phase() == 1);
+    let _port = message.port;
+    let _value = message.value;
+    if room_first {
+        process.reserve().expect(rt, "room");
+        process.put_reserved(&message);
+    } else {
+        process.put(message).expect(rt, "room");
+    }
+}
+
 #[test]
 fn messages_are_put_and_lie_in_the_lists(rt: HostRuntime) {
     let alloc = rt.alloc();
@@ -302,9 +328,8 @@ fn messages_are_put_and_lie_in_the_lists(rt: HostRuntime) {
         value: 5,
         to: 0,
     };
-    process.put(early).expect(&rt, "room");
-    process.reserve().expect(&rt, "room");
-    process.put_reserved(&Message { value: 4, ..early });
+    put(&rt, &mut process, early, false);
+    put(&rt, &mut process, Message { value: 4, ..early }, true);
     process.count_law();
     let pending = process.pending(alloc).expect(&rt, "memory");
     assert!(rt; pending.len() == 3);
@@ -356,7 +381,10 @@ fn the_second_of_two_chains_is_stale(rt: HostRuntime) {
     let mut process = relay_process(&rt, alloc, Cancel::Aggressive);
     let first = prepared(&rt, alloc, &process);
     let second = prepared(&rt, alloc, &process);
-    assert!(rt; first.len() == 1);
+    assert!(rt; first.len() == 1 && first.cause() == Cause::All);
+    assert!(rt; first.start_times() == (Stamp::START, Stamp::END));
+    let step = first.steps().first().expect(&rt, "a step");
+    assert!(rt; step.done.stamp == stamp(&rt, 3, 0, 1));
     let finished = process.install(alloc, first);
     assert!(rt; finished.installed == 1 && finished.stop == Stop::Ended(Cause::All));
     assert!(rt; process.history_len() == 1 && process.due() == stamp(&rt, 4, 0, 0));

@@ -1,10 +1,11 @@
 //! A process, how it begins, and what is read of it.
 
-ghost use Rattle.std.specs.Prelude.{◌≡◌, ◌+◌, ◌<◌, length, IfOk, IfSome};
+ghost use Rattle.std.specs.Prelude.{◌≡◌, ◌+◌, ◌<◌, ◌≤◌, length, IfOk, IfSome};
 ghost use Rattle.std.specs.Arc.{arc_value};
 ghost use Rattle.tw_lists.specs.Ways.{way_of};
 ghost use Rattle.tw_process.specs.Process.{IsNew, last_stamp_of};
 ghost use Rattle.tw_theory.specs.Contents.{next, Aggressive};
+ghost use Rattle.tw_theory.specs.Memory.{live, max_nodes};
 ghost use Rattle.tw_theory.specs.Soundness.{AllBefore};
 
 use crate::entry::Entry;
@@ -94,6 +95,13 @@ impl<M: Atomic> Process<M> {
             history: VecDeque::new(alloc),
             lists,
         })
+    }
+
+    /// Its lists have at most 1,048,576 nodes. The call does nothing: its contract gives a caller this fact.
+    pub fn count_law(&self)
+        ensures { live self.now.process ≤ max_nodes }
+    {
+        self.lists.count_law();
     }
 
     /// The stamp of the next step, or the end: the lesser of `due` and the least pending stamp.

@@ -1,7 +1,8 @@
 //! The next step of a process.
 
-ghost use Rattle.std.specs.Prelude.{◌≡◌, ◌<◌, IfErr, IfOk, OnErr, OnOk};
+ghost use Rattle.std.specs.Prelude.{◌≡◌, ◌≢◌, ◌↔◌, ◌<◌, Err, IfErr, IfOk, OnErr, OnOk};
 ghost use Rattle.tw_process.specs.Process.{IsStepped, IsStop, with_spare};
+ghost use Rattle.tw_process.specs.declared.refused.StepRefused.TheVariants.{NothingDue};
 ghost use Rattle.tw_theory.specs.Contents.{next};
 ghost use Rattle.tw_vtime.specs.Stamps.{never, phase_of};
 
@@ -25,6 +26,7 @@ impl<M: Atomic> Process<M> {
         ensures stepped { IfOk result (λ done. IsStepped M.meaning self.old self.new done.0 done.1) }
         ensures stays { OnErr result (self.new ≡ with_spare self.new.spare self.old) }
         ensures stop { IfErr result (IsStop M.meaning self.old) }
+        ensures nothing_due { next self.old.process ≡ never ↔ result ≡ Err NothingDue }
     {
         let stamp = self.next();
         if stamp.is_end() {
@@ -46,6 +48,7 @@ impl<M: Atomic> Process<M> {
         ensures stepped { OnOk result (IsStepped M.meaning self.old self.new stamp RecordKind.Out) }
         ensures stays { OnErr result (self.new ≡ with_spare self.new.spare self.old) }
         ensures stop { IfErr result (IsStop M.meaning self.old) }
+        ensures due { result ≢ Err NothingDue }
     {
         let network = &*self.network;
         let bag = output_bag(alloc, network.model(self.component), &self.state)?;
@@ -81,6 +84,7 @@ impl<M: Atomic> Process<M> {
         ensures stepped { IfOk result (λ kind. IsStepped M.meaning self.old self.new stamp kind) }
         ensures stays { OnErr result (self.new ≡ with_spare self.new.spare self.old) }
         ensures stop { IfErr result (IsStop M.meaning self.old) }
+        ensures due { result ≢ Err NothingDue }
     {
         self.history.reserve(1)?;
         let bag = self.lists.consume_bag(alloc, stamp)?;

@@ -1,12 +1,14 @@
 -- What comes of an item, case by case.
-use Rattle.std.proofs.Common.{◌≡◌, ◌≢◌, ℕ, ◌≤◌, ◌==◌, ◌++◌, ◌∷◌, [], Bool, true, false, List, length, ap, ◌∙◌, arith, Result, Ok, Err}
-use Rattle.std.specs.Result.{OnErr}
+use Rattle.std.proofs.Common.{◌≡◌, ◌≢◌, ◌↔◌, ℕ, ◌≤◌, ◌==◌, ◌++◌, ◌∷◌, [], Bool, true, false, List, length, refl, ap, sym, subst, ◌∙◌, arith, Result, Ok, Err}
+use Rattle.std.specs.Prelude.{cond}
+use Rattle.std.specs.Result.{OnErr, IsErr, IsErrAnd}
 use Rattle.std.proofs.lemmas.Bool.{cond-true, cond-false, eq-eqb, ne_eqb}
 use Rattle.tw_msgs.specs.Messages.{has, without}
 use Rattle.tw_msgs.specs.declared.message.Message.{Message}
-use Rattle.tw_theory.specs.Contents.{Process, Placed, Straggler, Annihilated, Waiting, placed, removed, with_waiting, with_pending, receive_message, receive_anti, steps_from, steps_before, cut, back_to_first, consumed_by}
+use Rattle.tw_theory.specs.Contents.{Process, Received, Placed, Straggler, Annihilated, Waiting, placed, removed, with_waiting, with_pending, receive_message, receive_anti, steps_from, steps_before, cut, back_to_first, consumed_by}
 use Rattle.tw_theory.specs.LocalRun.{Step}
-use Rattle.tw_process.specs.Process.{Held, with_cleared, with_removed}
+use Rattle.tw_theory.specs.Memory.{need_of_received}
+use Rattle.tw_process.specs.Process.{Held, IsFullBy, with_cleared, with_removed}
 use Rattle.tw_msgs.proofs.MessageLists.{without_absent}
 use Rattle.tw_process.proofs.Histories.{nothing_back}
 
@@ -28,6 +30,35 @@ module _ {S : Type 0} (p : Process S) (m : Message) where
 
   pub anti_waits : has m p.pending ≡ false → has m (consumed_by p.history) ≡ false → receive_anti p m ≡ (Waiting, with_waiting p (p.waiting ++ m ∷ []))
   anti_waits is none = cond-false (has m p.pending) _ _ is ∙ cond-false (has m (consumed_by p.history)) _ _ none
+
+  -- what is pending, or waits, takes a node
+  pub message_needs : has m p.waiting ≡ false → need_of_received (receive_message p m).0 ≡ 1
+  message_needs is = ap (λ (r : Received × Process S). need_of_received r.0) (cond-false (has m p.waiting) _ _ is) ∙ either (steps_from m.stamp p == 0)
+    where
+      either : (b : Bool) → need_of_received (cond {A = Received × Process S} b (Placed, placed p m) (Straggler (steps_from m.stamp p), placed (cut m.stamp p) m)).0 ≡ 1
+      either true = refl
+      either false = refl
+
+  pub anti_needs : has m p.pending ≡ false → has m (consumed_by p.history) ≡ false → need_of_received (receive_anti p m).0 ≡ 1
+  anti_needs is none = ap (λ (r : Received × Process S). need_of_received r.0) (anti_waits is none)
+
+error_is : {T E : Type 0} (s : Result T E) (e : E) → IsErr s → IsErrAnd s (λ y. y ≡ e) → s ≡ Err e
+error_is (Ok x) e is same = absurd (cc is)
+error_is (Err y) e is same = ap Err same
+
+-- an item that takes n nodes, where the room for one was asked of q with the answer r
+module _ {S E A : Type 0} (p q : Process S) (n : ℕ) (full : E) (r : Result A E) (same : q ≡ p) (one : n ≡ 1) (limit : IsFullBy 1 q ↔ (r ≡ Err full)) where
+  asked : IsFullBy n p ↔ (r ≡ Err full)
+  asked = subst (λ k. IsFullBy k p ↔ (r ≡ Err full)) (sym one) (subst (λ x. IsFullBy 1 x ↔ (r ≡ Err full)) same limit)
+
+  pub limit_refused : {B : Type 0} (e : E) (s : Result B E) → r ≡ Err e → IsErr s × IsErrAnd s (λ y. y ≡ e) → IsFullBy n p ↔ (s ≡ Err full)
+  limit_refused e s was given =
+      let is = error_is s e given.0 given.1 in
+      let same_error : (r ≡ Err full) ↔ (s ≡ Err full) = (λ h. cc (h, was, is), λ h. cc (h, was, is)) in
+      (λ h. same_error.0 (asked.0 h), λ h. asked.1 (same_error.1 h))
+
+  pub limit_given : {B : Type 0} (x : A) (y : B) → r ≡ Ok x → IsFullBy n p ↔ (Ok y ≡ Err full)
+  limit_given x y was = (λ h. let refused = asked.0 h in absurd (cc (refused, was)), λ h. absurd (cc h))
 
 within : {S : Type 0} (s : ℕ) (steps : List (Step S)) → steps_before s steps ≤ length steps
 within s [] = omega arith

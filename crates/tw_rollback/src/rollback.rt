@@ -1,9 +1,11 @@
 //! Rollback and receipt, by the calls of a process alone.
 
-ghost use Rattle.std.specs.Prelude.{◌≡◌, ◌≤◌, IfOk, IfErr, OnErr};
-ghost use Rattle.tw_process.specs.Process.{with_cut, with_spare};
-ghost use Rattle.tw_rollback.specs.Received.{IsCame};
+ghost use Rattle.std.specs.Prelude.{◌≡◌, ◌≤◌, ◌↔◌, Err, IfOk, IfErr, IsOk, OnErr};
+ghost use Rattle.tw_pool.specs.declared.refused.PoolRefused.TheVariants.{Full};
+ghost use Rattle.tw_process.specs.Process.{IsFullBy, with_cut, with_spare};
+ghost use Rattle.tw_rollback.specs.Received.{IsCame, need};
 ghost use Rattle.tw_theory.specs.Contents.{steps_from, receive, receive_message, receive_anti};
+ghost use Rattle.tw_theory.specs.Memory.{need_of_received};
 ghost use Rattle.tw_theory.specs.Standing.{CanTake};
 
 use crate::received::Received;
@@ -34,8 +36,8 @@ pub fn back_to<M: Atomic>(process: &mut Process<M>, stamp: Stamp) -> u64
 /// step at or after it is taken back; and the message is pending. An anti-message takes one equal message away, of those that are
 /// pending; or, where a step consumed it, the steps from its stamp on are taken back first. Else it waits for its message.
 ///
-/// It is refused for want of memory (4), or where the lists would have more than 1,048,576 nodes (12): then the item is handed
-/// back, and the process is as it was.
+/// Only an item that takes a node can be refused, and none that is annihilated: for want of memory (4), or exactly where the lists
+/// would have more than 1,048,576 nodes (12). Then it is handed back, and the process is as it was.
 pub fn receive<M: Atomic>(
     process: &mut Process<M>,
     item: Item,
@@ -45,6 +47,8 @@ pub fn receive<M: Atomic>(
     ensures received { IfOk result (IsCame process.old process.new (receive process.old.process item)) }
     ensures stays { OnErr result (process.new ≡ with_spare process.new.spare process.old) }
     ensures handed_back { IfErr result (λ refused. refused.0 ≡ item) }
+    ensures limit { IsFullBy (need process.old.process item) process.old.process ↔ result ≡ Err (item, Full) }
+    ensures succeeds { need process.old.process item ≡ 0 → IsOk result }
 {
     let came = match item.sign {
         Sign::Positive => receive_message(process, &item.message),
@@ -65,7 +69,10 @@ fn receive_message<M: Atomic>(
     requires after { process.old.floor ≤ message.now.stamp }
     ensures received { IfOk result (IsCame process.old process.new (receive_message process.old.process message.now)) }
     ensures stays { OnErr result (process.new ≡ with_spare process.new.spare process.old) }
+    ensures limit { IsFullBy (need_of_received (receive_message process.old.process message.now).0) process.old.process ↔ result ≡ Err Full }
+    ensures succeeds { need_of_received (receive_message process.old.process message.now).0 ≡ 0 → IsOk result }
 {
+    process.count_law();
     if process.clear_orphan(message) {
         return Ok(Received::Annihilated(0));
     }
@@ -85,7 +92,10 @@ fn receive_anti<M: Atomic>(
 ) -> Result<Received, PoolRefused>
     ensures received { IfOk result (IsCame process.old process.new (receive_anti process.old.process message.now)) }
     ensures stays { OnErr result (process.new ≡ with_spare process.new.spare process.old) }
+    ensures limit { IsFullBy (need_of_received (receive_anti process.old.process message.now).0) process.old.process ↔ result ≡ Err Full }
+    ensures succeeds { need_of_received (receive_anti process.old.process message.now).0 ≡ 0 → IsOk result }
 {
+    process.count_law();
     if process.withdraw(message) {
         return Ok(Received::Annihilated(0));
     }

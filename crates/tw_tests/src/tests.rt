@@ -3,6 +3,7 @@ mod fossils;
 mod gvt;
 mod heap;
 mod lines;
+mod lists;
 mod mail;
 mod models;
 mod msgs;

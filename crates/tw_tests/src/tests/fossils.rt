@@ -122,3 +122,28 @@ fn committed_records_become_one_trace(rt: HostRuntime) {
     let trace = into_trace(alloc, columns, Stamp::END).expect(&rt, "memory");
     assert!(rt; all_show(trace.as_slice(), &lines));
 }
+
+#[test]
+fn a_column_has_its_records(rt: HostRuntime) {
+    let alloc = rt.alloc();
+    let network = in_a_row(&rt, alloc, true);
+    let mut relay = process_of(&rt, alloc, &network, 1);
+    step(
+        &rt,
+        alloc,
+        &mut relay,
+        (stamp(&rt, 3, 0, 1), RecordKind::Ext),
+    );
+    let mut column = Column::new(alloc);
+    assert!(rt; column.is_empty());
+    let done = relay.commit_oldest().expect(&rt, "a step");
+    assert!(rt; column.push(done).is_ok());
+    assert!(rt; column.len() == 1 && !column.is_empty());
+    let records = column.into_records();
+    assert!(rt;
+        all_show(
+            records.as_slice(),
+            &[Line(3, 0, 1, RecordKind::Ext, &[(0, 8)], &[0, 8])]
+        )
+    );
+}

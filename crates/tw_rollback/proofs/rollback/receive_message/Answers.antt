@@ -1,9 +1,10 @@
 use Rattle.std.proofs.Common.{◌≡◌, ◌≢◌, false, ap, sym, subst, ◌∙◌}
 use Rattle.tw_msgs.specs.Messages.{has}
-use Rattle.tw_theory.specs.Contents.{placed, cut, steps_from, Straggler as straggler}
+use Rattle.tw_theory.specs.Contents.{placed, cut, steps_from, receive_message, Straggler as straggler}
+use Rattle.tw_theory.specs.Memory.{need_of_received}
 use Rattle.tw_process.specs.Process.{with_spare, with_placed, with_cut, CanCome}
 use Rattle.tw_rollback.proofs.Cutting.{floor_low, cut_before}
-use Rattle.tw_rollback.proofs.Receiving.{cleared_same, message_straggles, message_placed, cut_none, on_err_always}
+use Rattle.tw_rollback.proofs.Receiving.{cleared_same, message_straggles, message_placed, message_needs, limit_refused, limit_given, cut_none, on_err_always}
 use Rattle.tw_rollback.proofs.rollback.receive_message.Given.{Over}
 use Rattle.tw_rollback.proofs.rollback.receive_message.Goals.{Else-clear_orphan, After-back_to-overtaken}
 use Rattle.tw_rollback.proofs.rollback.receive_message.Goals as goal
@@ -64,3 +65,24 @@ returns-clause-received g c =
     let some : steps_from m.stamp p.process ≢ 0 = λ zero. c.if-overtaken-eq0.false (count ∙ zero) in
     let came = message_straggles p.process m none some in
     record { process = all ∙ sym (ap (λ x. record p { process = x.1; spare = n.spare }) came); answer = ap straggler count ∙ sym (ap (λ x. x.0) came) }
+
+same_process : (g : Over) (c : Else-clear_orphan g) → c.clear_orphan.new.self.process ≡ c.args.process.now.process
+same_process g c = ap (λ x. x.process) (c.clear_orphan.ensures.contents ∙ ap (with_spare c.clear_orphan.new.self.spare) (cleared_same c.args.process.now c.args.message.now (none_waits g c)))
+
+needs : (g : Over) (c : Else-clear_orphan g) → need_of_received (receive_message c.args.process.now.process c.args.message.now).0 ≡ 1
+needs g c = message_needs c.args.process.now.process c.args.message.now (none_waits g c)
+
+pub returns-in_err-reserve-clause-limit : goal.returns-in_err-reserve-clause-limit
+returns-in_err-reserve-clause-limit g c =
+    let at = (goal.at.returns-in_err-reserve-clause-limit g c).Else-clear_orphan in
+    limit_refused _ _ _ _ c.reserve.result (same_process g at) (needs g at) c.reserve.ensures.limit c.in_err-reserve.field-0.0 c.from_residual.result c.in_err-reserve.was c.from_residual.ensures
+
+pub returns-then-overtaken-eq0-clause-limit : goal.returns-then-overtaken-eq0-clause-limit
+returns-then-overtaken-eq0-clause-limit g c =
+    let at = (goal.at.returns-then-overtaken-eq0-clause-limit g c).Else-clear_orphan in
+    limit_given _ _ _ _ c.reserve.result (same_process g at) (needs g at) c.reserve.ensures.limit _ _ c.in_ok-reserve.was
+
+pub returns-clause-limit : goal.returns-clause-limit
+returns-clause-limit g c =
+    let at = (goal.at.returns-clause-limit g c).Else-clear_orphan in
+    limit_given _ _ _ _ c.reserve.result (same_process g at) (needs g at) c.reserve.ensures.limit _ _ c.in_ok-reserve.was

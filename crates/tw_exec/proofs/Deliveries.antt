@@ -5,7 +5,10 @@ use Rattle.std.proofs.lemmas.Bool.{cond_both}
 use Rattle.std.proofs.lemmas.List.{get_or-set_same, set-get_or, set-set}
 use Rattle.std.proofs.lemmas.Option.{same_Some, slice_get_within}
 use Rattle.tw_atomic.specs.Atomic.{Meaning}
-use Rattle.tw_exec.specs.Running.{shown, IsOwn, IsHeld}
+use Rattle.tw_exec.specs.Refusals.{of_pool}
+use Rattle.tw_exec.specs.Running.{shown, IsOwn, IsHeld, IsWanting}
+use Rattle.tw_pool.specs.declared.refused.PoolRefused.{PoolRefused}
+use Rattle.tw_pool.specs.declared.refused.PoolRefused.TheVariants.{Full as full, OutOfMemory as outofmemory}
 use Rattle.tw_exec.proofs.Acts.{deliver_acts}
 use Rattle.tw_exec.proofs.Kept.{IsActed, acted_by, own_set}
 use Rattle.tw_exec.proofs.Worlds.{process_at}
@@ -17,12 +20,13 @@ use Rattle.tw_msgs.specs.declared.message.Sign.{Sign}
 use Rattle.tw_msgs.specs.declared.message.Sign.TheVariants.{Positive, Anti}
 use Rattle.tw_msgs.specs.declared.record.Record.{Record}
 use Rattle.tw_network.specs.Contents.{Contents, network_of}
-use Rattle.tw_process.specs.Process.{Held}
-use Rattle.tw_rollback.specs.Received.{IsCame, meant}
+use Rattle.tw_process.specs.Process.{Held, IsFullBy}
+use Rattle.tw_rollback.specs.Received.{IsCame, meant, need}
 use Rattle.tw_rollback.specs.declared.received.Received.{Received as Came}
 use Rattle.tw_theory.proofs.Elements.{each-get}
 use Rattle.tw_theory.specs.Contents.{Process, Received, back_to_first, consumed_by, receive, receive_signed, steps_from}
 use Rattle.tw_theory.specs.Executive.{Deliver, Delivered, least_of, mail_of}
+use Rattle.tw_theory.specs.Memory.{need_if_there}
 use Rattle.tw_theory.specs.Soundness.{IsFor}
 use Rattle.tw_theory.specs.Standing.{CanTake}
 
@@ -74,3 +78,16 @@ module _ {M S : Type 0} {meaning : M → Meaning S} {n : Contents M} {until end 
       (deliver_acts meaning n until gvt ps mail columns q k old new item at item_at (ap (λ (x : Held M S). x.process) is.process)
       ∙ ap (λ r. (Delivered r, shown (slice_set ps q new) (slice_set mail q (remove (mail_of mail q) k)) columns gvt)) (sym is.answer))
       (own_set h q new (subst (IsOwn n q) (sym is.process) (record { network_is = o.network_is; component_is = o.component_is; floor_le = omega (arith, o.floor_le, line_stays old.process item) })))
+
+  -- where a receipt is refused for want of nodes
+  pub deliver_wants : (q k : ℕ) (old : Held M S) (item : Item) (e : PoolRefused) → slice_get ps q ≡ Some old → slice_get (mail_of mail q) k ≡ Some item → (e ≡ full → IsFullBy (need old.process item) old.process)
+      → IsWanting meaning (Deliver q k) (record { network = n; until = until; world = shown ps mail columns gvt }) (of_pool e)
+  deliver_wants q k old item outofmemory at item_at limit = tt
+  deliver_wants q k old item full at item_at limit =
+      record {
+        component = q;
+        of = refl;
+        process = old.process;
+        at = process_at ps mail columns gvt q old at;
+        passes = (let passed = limit refl in omega (arith, passed, ap (need_if_there old.process) item_at));
+      }

@@ -1,5 +1,5 @@
 -- Every action makes another executive of an executive: what it makes of the world is `act`, so it is sound by the laws; and each process knows its network and component still.
-use Rattle.std.proofs.Common.{◌≡◌, inl, inr, ℕ, ◌<◌, ◌≤◌, ◌-◌, List, [], ◌∷◌, length, Option, None, Some, refl, sym, ap, ◌∙◌, subst, subst₂, arith}
+use Rattle.std.proofs.Common.{◌≡◌, inl, inr, ℕ, ◌<◌, ◌≤◌, ◌-◌, List, [], ◌∷◌, length, Option, None, Some, Ok, refl, sym, ap, ◌∙◌, subst, subst₂, arith}
 use Rattle.std.specs.List.{AllByRecursion as Each}
 use Rattle.std.specs.Prelude.{IfSome, nat_lt, slice_get, slice_set}
 use Rattle.std.proofs.lemmas.Bool.{cond_both}
@@ -7,7 +7,7 @@ use Rattle.std.proofs.lemmas.List.{length-map}
 use Rattle.tw_atomic.specs.Atomic.{Meaning}
 use Rattle.tw_exec.specs.Actions.{reason}
 use Rattle.tw_exec.specs.Refusals.{of_step}
-use Rattle.tw_exec.specs.Running.{shown, IsOwn, IsHeld}
+use Rattle.tw_exec.specs.Running.{shown, IsOwn, IsHeld, IsWanting}
 use Rattle.tw_exec.proofs.Worlds.{process_at, unchanged}
 use Rattle.tw_exec.proofs.Acts.{back_acts, post_acts, step_acts, step_late, step_stops}
 use Rattle.tw_laws.proofs.Harvesting.{acts_soundly}
@@ -25,6 +25,8 @@ use Rattle.tw_theory.specs.Contents.{Aggressive, Cancel, Lazy, Process, back_to_
 use Rattle.tw_theory.specs.Executive.{Action, Answer, Back, Post, Posted, Raise, Raised, Refused, Step, Stepped, Undone, act, column_of, least_of, posted}
 use Rattle.tw_theory.specs.Executive as theory
 use Rattle.tw_theory.specs.LocalRun as local
+use Rattle.tw_theory.specs.LocalRun.{local_step}
+use Rattle.tw_theory.specs.Memory.{need_if_made}
 use Rattle.tw_theory.specs.Network.{Fits}
 use Rattle.tw_theory.specs.Simulator.{records_before}
 use Rattle.tw_theory.specs.Soundness.{IsSound}
@@ -108,6 +110,21 @@ module _ {M S : Type 0} {meaning : M → Meaning S} {n : Contents M} {until end 
   step_refused c old Full at early stop = tt
   step_refused c old NothingDue at early stop = ap (λ x. x.0) (step_stops meaning n until gvt ps mail columns c old local.NothingDue at (h.own c old at) (omega (arith, early, h.end_is)) stop)
   step_refused c old (OverLimit limit) at early stop = ap (λ x. x.0) (step_stops meaning n until gvt ps mail columns c old (local.OverLimit limit) at (h.own c old at) (omega (arith, early, h.end_is)) stop)
+
+  pub step_wants : (c : ℕ) (old : Held M S) (e : StepRefused) → slice_get ps c ≡ Some old → IsStop meaning old e → IsWanting meaning (Step c) (record { network = n; until = until; world = shown ps mail columns gvt }) (of_step e)
+  step_wants c old OutOfMemory at stop = tt
+  step_wants c old Full at stop =
+      let o = h.own c old at in
+      let made : local_step (network_of meaning n) c old.process.now old.process.pending ≡ Ok stop.made = (λ i. local_step (network_of meaning (sym o.network_is i)) (sym o.component_is i) old.process.now old.process.pending) ∙ stop.is in
+      record {
+        component = c;
+        of = refl;
+        process = old.process;
+        at = process_at ps mail columns gvt c old at;
+        passes = omega (arith, stop.passes, ap (need_if_made old.process) made);
+      }
+  step_wants c old NothingDue at stop = tt
+  step_wants c old (OverLimit limit) at stop = tt
 
   -- ---- Back
 

@@ -3,17 +3,20 @@
 --     start meaning n way until      an executive at its start
 --     answer meaning action e, after meaning action e      what an action answers, and the executive after it
 --     IsReason meaning action e why      the theory refuses the action so
+--     IsWanting meaning action e why      where that is want of nodes, its process would hold too many
 --     IsSoundly meaning e      what is true of every executive
-use Rattle.std.specs.Prelude.{ℕ, ◌≡◌, ◌≤◌, IfSome, List, map, Some, slice_get}
+use Rattle.std.specs.Prelude.{ℕ, ◌≡◌, ◌≤◌, IfSome, List, map, Some, slice_get, ⊤}
 use Rattle.tw_atomic.specs.Atomic.{Meaning}
 use Rattle.tw_exec.specs.Actions.{reason}
 use Rattle.tw_exec.specs.declared.refused.Refused.{Refused}
+use Rattle.tw_exec.specs.declared.refused.Refused.TheVariants.{OutOfMemory, Full, NothingDue, OverLimit, NoSuch, BeforeGvt, Committed}
 use Rattle.tw_msgs.specs.declared.message.Item.{Item}
 use Rattle.tw_msgs.specs.declared.record.Record.{Record}
 use Rattle.tw_network.specs.Contents.{Contents, network_of}
 use Rattle.tw_process.specs.Process.{Held, IsNew}
 use Rattle.tw_theory.specs.Contents.{Cancel}
 use Rattle.tw_theory.specs.Executive.{World, Action, Answer, Refused as refused_for, act}
+use Rattle.tw_theory.specs.Memory.{WantsNodes}
 use Rattle.tw_theory.specs.Network.{IsNetwork}
 use Rattle.tw_theory.specs.Soundness.{IsSound, new_world}
 use Rattle.tw_vtime.specs.Stamps.{max_tick, stamp}
@@ -39,6 +42,16 @@ after meaning action e = record e { world = (acted meaning action e).1 }
 -- where the theory knows this reason, it refuses the action for it
 abbrev pub IsReason : {M S : Type 0} → (M → Meaning S) → Action → Running M S → Refused → Type 0
 IsReason meaning action e why = IfSome (reason why) (λ r. answer meaning action e ≡ refused_for r)
+
+-- refused for want of nodes (12): its process would hold more than there may be
+abbrev pub IsWanting : {M S : Type 0} → (M → Meaning S) → Action → Running M S → Refused → Type 0
+IsWanting meaning action e Full = WantsNodes (network_of meaning e.network) e.world action
+IsWanting meaning action e OutOfMemory = ⊤
+IsWanting meaning action e NothingDue = ⊤
+IsWanting meaning action e (OverLimit limit) = ⊤
+IsWanting meaning action e NoSuch = ⊤
+IsWanting meaning action e BeforeGvt = ⊤
+IsWanting meaning action e Committed = ⊤
 
 -- its network is one, it ends at a tick that a stamp has, and it is sound
 pub record IsSoundly {M S : Type 0} (meaning : M → Meaning S) (e : Running M S) : Type 0 where

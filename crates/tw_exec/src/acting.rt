@@ -2,7 +2,7 @@
 
 ghost use Rattle.std.specs.Prelude.{◌≡◌, ◌≢◌, ◌++◌, None, IfOk, IfErr, OnOk, OnErr};
 ghost use Rattle.tw_exec.specs.Actions.{answered, meant, reason};
-ghost use Rattle.tw_exec.specs.Running.{answer, after, IsReason};
+ghost use Rattle.tw_exec.specs.Running.{answer, after, IsReason, IsWanting};
 ghost use Rattle.tw_theory.specs.Bundles.{antis, overdue};
 ghost use Rattle.tw_theory.specs.Contents.{settle};
 ghost use Rattle.tw_theory.specs.Executive.{Back, Deliver, Harvest, Post, Raise, Step};
@@ -24,13 +24,14 @@ impl<M: Atomic> Executive<M> {
     /// Takes an action, and answers what came of it.
     ///
     /// Refused where there is no such component or item (15), where no step of the component is before the end tick (16) or its step
-    /// would pass a limit (2, 3), and where Back would go before global virtual time (14); and for want of memory (4) or of
-    /// nodes (12), but never Back and Raise, which take none. A refused action changes nothing: the item of a refused Deliver
-    /// keeps its place.
+    /// would pass a limit (2, 3), and where Back would go before global virtual time (14); for want of nodes (12) where the lists of
+    /// its process would have more than 1,048,576; and for want of memory (4), but never Back and Raise, which take none. A refused
+    /// action changes nothing: the item of a refused Deliver keeps its place.
     pub fn act(&mut self, action: Action) -> Result<Done, Refused>
         ensures done { OnOk result (self.new ≡ after M.meaning (meant action) self.old) }
         ensures answer { IfOk result (λ done. answer M.meaning (meant action) self.old ≡ answered done) }
         ensures refused { IfErr result (IsReason M.meaning (meant action) self.old) }
+        ensures full { IfErr result (IsWanting M.meaning (meant action) self.old) }
         ensures memory { IfErr result (λ why. reason why ≡ None → TakesMemory (meant action)) }
         ensures stays { OnErr result (self.new ≡ self.old) }
     {
@@ -49,6 +50,7 @@ impl<M: Atomic> Executive<M> {
         ensures done { OnOk result (self.new ≡ after M.meaning (Step component) self.old) }
         ensures answer { IfOk result (λ done. answer M.meaning (Step component) self.old ≡ answered done) }
         ensures refused { IfErr result (IsReason M.meaning (Step component) self.old) }
+        ensures full { IfErr result (IsWanting M.meaning (Step component) self.old) }
         ensures stays { OnErr result (self.new ≡ self.old) }
     {
         if component >= self.processes.len() {
@@ -67,6 +69,7 @@ impl<M: Atomic> Executive<M> {
         ensures done { OnOk result (self.new ≡ after M.meaning (Post component) self.old) }
         ensures answer { IfOk result (λ done. answer M.meaning (Post component) self.old ≡ answered done) }
         ensures refused { IfErr result (IsReason M.meaning (Post component) self.old) }
+        ensures full { IfErr result (IsWanting M.meaning (Post component) self.old) }
         ensures stays { OnErr result (self.new ≡ self.old) }
     {
         if component >= self.processes.len() {
@@ -85,6 +88,7 @@ impl<M: Atomic> Executive<M> {
         ensures done { OnOk result (self.new ≡ after M.meaning (Deliver receiver place) self.old) }
         ensures answer { IfOk result (λ done. answer M.meaning (Deliver receiver place) self.old ≡ answered done) }
         ensures refused { IfErr result (IsReason M.meaning (Deliver receiver place) self.old) }
+        ensures full { IfErr result (IsWanting M.meaning (Deliver receiver place) self.old) }
         ensures stays { OnErr result (self.new ≡ self.old) }
     {
         if receiver >= self.processes.len() {
@@ -107,6 +111,7 @@ impl<M: Atomic> Executive<M> {
         ensures done { OnOk result (self.new ≡ after M.meaning (Back component stamp) self.old) }
         ensures answer { IfOk result (λ done. answer M.meaning (Back component stamp) self.old ≡ answered done) }
         ensures refused { IfErr result (IsReason M.meaning (Back component stamp) self.old) }
+        ensures full { IfErr result (IsWanting M.meaning (Back component stamp) self.old) }
         ensures known { IfErr result (λ why. reason why ≢ None) }
         ensures stays { OnErr result (self.new ≡ self.old) }
     {
@@ -135,6 +140,7 @@ impl<M: Atomic> Executive<M> {
         ensures done { OnOk result (self.new ≡ after M.meaning (Harvest component) self.old) }
         ensures answer { IfOk result (λ done. answer M.meaning (Harvest component) self.old ≡ answered done) }
         ensures refused { IfErr result (IsReason M.meaning (Harvest component) self.old) }
+        ensures full { IfErr result (IsWanting M.meaning (Harvest component) self.old) }
         ensures stays { OnErr result (self.new ≡ self.old) }
     {
         if component >= self.processes.len() {

@@ -1,10 +1,11 @@
-use Rattle.std.proofs.Common.{◌≡◌, ◌<◌, FitsSigned, w64, ap, sym, subst, ◌∙◌, arith, rules}
+use Rattle.std.proofs.Common.{◌≡◌, ◌<◌, Err, FitsSigned, w64, ap, sym, subst, ◌∙◌, arith, rules}
 use Rattle.std.specs.Arc.{arc_value}
 use Rattle.std.specs.Prelude.{slice_set}
 use Rattle.std.proofs.lemmas.Option.{slice_get_read}
-use Rattle.tw_exec.specs.Running.{IsHeld, answer, after, shown}
+use Rattle.tw_exec.specs.Refusals.{of_pool}
+use Rattle.tw_exec.specs.Running.{IsHeld, IsWanting, answer, after, shown}
 use Rattle.tw_exec.proofs.Acts.{deliver_empty, deliver_none}
-use Rattle.tw_exec.proofs.Deliveries.{arrives, deliver_acted, restored}
+use Rattle.tw_exec.proofs.Deliveries.{arrives, deliver_acted, deliver_wants, restored}
 use Rattle.tw_exec.proofs.Kept.{IsActed, as_many_boxes, held_unchanged, same_world}
 use Rattle.tw_rollback.specs.Received.{meant}
 use Rattle.tw_theory.specs.Executive.{Deliver, Delivered}
@@ -77,3 +78,13 @@ returns-in-Ok-clause-done g c = ap (λ x. record { network = arc_value c.self.in
 
 pub returns-in-Ok-clause-answer : goal.returns-in-Ok-clause-answer
 returns-in-Ok-clause-answer g c = ap (λ e. answer g.M.Atomic.meaning (Deliver c.args.receiver c.args.place) e) (sym c.self.view_is) ∙ ap (λ x. x.0) (acted g c).acts
+
+pub returns-in-Err-clause-full : goal.returns-in-Err-clause-full
+returns-in-Err-clause-full g c =
+    let ps = c.self.inside.processes in
+    let old = c.index_mut.result.now in
+    let at = slice_get_read ps.items _ c.args.receiver old ps.ok.0 (omega (arith, c.if-receiver-len.false, c.len.ensures, c.self.inside.processes.ok.0)) c.index_mut.ensures.value in
+    let wants = deliver_wants c.self.invariant.0 c.args.receiver c.args.place old c.in-Some.item c.in-Err.refused at (sym c.take.ensures.item ∙ c.in-Some.is)
+    (λ e. c.receive.ensures.limit.1 (c.in-Err.is ∙ (λ i. Err (c.in-Err.ensures.handed_back i, e i)))) in
+    subst (λ r. IsWanting g.M.Atomic.meaning (Deliver c.args.receiver c.args.place) c.args.self.now r) (sym c.into.ensures)
+    (subst (λ e. IsWanting g.M.Atomic.meaning (Deliver c.args.receiver c.args.place) e (of_pool c.in-Err.refused)) c.self.view_is wants)

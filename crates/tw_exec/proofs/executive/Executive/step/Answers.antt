@@ -5,10 +5,10 @@ use Rattle.std.proofs.lemmas.Option.{slice_get_read}
 use Rattle.std.proofs.lemmas.Result.{err_from_is_err_and}
 use Rattle.tw_exec.specs.Actions.{reason}
 use Rattle.tw_exec.specs.Refusals.{of_step}
-use Rattle.tw_exec.specs.Running.{answer, after}
+use Rattle.tw_exec.specs.Running.{IsWanting, answer, after}
 use Rattle.tw_exec.proofs.Acts.{step_none}
 use Rattle.tw_exec.proofs.Comparing.{ge, not_ge}
-use Rattle.tw_exec.proofs.Kept.{IsActed, held_unchanged, late_step, same_world, step_acted, step_refused}
+use Rattle.tw_exec.proofs.Kept.{IsActed, held_unchanged, late_step, same_world, step_acted, step_refused, step_wants}
 use Rattle.tw_theory.specs.Contents.{next}
 use Rattle.tw_theory.specs.Executive.{Refused, Step, Stepped}
 use Rattle.tw_exec.proofs.executive.Executive.step.Given.{Over}
@@ -69,3 +69,13 @@ returns-clause-done g c = ap (λ x. record { network = arc_value c.self.inside.n
 
 pub returns-clause-answer : goal.returns-clause-answer
 returns-clause-answer g c = ap (λ e. answer g.M.Atomic.meaning (Step c.args.component) e) (sym c.self.view_is) ∙ ap (λ x. x.0) (acted g c).acts
+
+pub returns-in_err-stamp-clause-full : goal.returns-in_err-stamp-clause-full
+returns-in_err-stamp-clause-full g c =
+    let ps = c.self.inside.processes in
+    let old = c.index_mut-process.result.now in
+    let at = slice_get_read ps.items _ c.args.component old ps.ok.0 (omega (arith, c.if-component-len.false, c.len.ensures, c.self.inside.processes.ok.0)) c.index_mut-process.ensures.value in
+    let p = err_from_is_err_and c.from_residual.result c.from_residual.ensures.1 in
+    rw (p.1, p.2)
+    (subst (λ e. IsWanting g.M.Atomic.meaning (Step c.args.component) e (of_step c.in_err-stamp.field-0.0)) c.self.view_is
+    (step_wants c.self.invariant.0 c.args.component old c.in_err-stamp.field-0.0 at c.in_err-stamp.ensures.stop))

@@ -14,8 +14,12 @@ const STEPS: usize = 999_999;
 /// The process of a model whose outputs go to a tally, with inputs at every second tick, so many.
 fn process_of(alloc: Global, model: Model, inputs: usize) -> Option<Process<Model>> {
     let mut components = Vec::new(alloc);
-    components.push((String::from_str(alloc, "a").ok()?, model)).ok()?;
-    components.push((String::from_str(alloc, "b").ok()?, Model::tally().ok()?)).ok()?;
+    components
+        .push((String::from_str(alloc, "a").ok()?, model))
+        .ok()?;
+    components
+        .push((String::from_str(alloc, "b").ok()?, Model::tally().ok()?))
+        .ok()?;
     let mut couplings = Vec::new(alloc);
     couplings.push((0, 0, 1, 0)).ok()?;
     let mut given: Vec<Input> = Vec::new(alloc);

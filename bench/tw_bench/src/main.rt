@@ -14,8 +14,12 @@ const STEPS: usize = 999_999;
 /// The process of a model whose outputs go to a tally, with inputs at every second tick, so many.
 fn process_of(alloc: Global, model: Model, inputs: usize) -> Option<Process<Model>> {
     let mut components = Vec::new(alloc);
-    components.push((String::from_str(alloc, "a").ok()?, model)).ok()?;
-    components.push((String::from_str(alloc, "b").ok()?, Model::tally().ok()?)).ok()?;
+    components
+        .push((String::from_str(alloc, "a").ok()?, model))
+        .ok()?;
+    components
+        .push((String::from_str(alloc, "b").ok()?, Model::tally().ok()?))
+        .ok()?;
     let mut couplings = Vec::new(alloc);
     couplings.push((0, 0, 1, 0)).ok()?;
     let mut given: Vec<Input> = Vec::new(alloc);
@@ -63,9 +67,9 @@ fn print(rt: &HostRuntime, what: &str, steps: usize, micros: u128) -> io::Result
 }
 
 /// Measures a model both ways.
-fn measure(rt: &HostRuntime, name: &str, model: Model, inputs: usize) -> io::Result<()> {
+fn measure(rt: &HostRuntime, name: &str, model: &Model, inputs: usize) -> io::Result<()> {
     let alloc = rt.alloc();
-    let Some(mut process) = process_of(alloc, model, inputs) else {
+    let Some(mut process) = process_of(alloc, *model, inputs) else {
         return println!(rt; "{name}: no process");
     };
     let start = Instant::now(rt)?;
@@ -82,11 +86,11 @@ fn measure(rt: &HostRuntime, name: &str, model: Model, inputs: usize) -> io::Res
 
 fn main(rt: HostRuntime) -> io::Result<()> {
     if let Ok(hop) = Model::hop(0, 1, 4) {
-        measure(&rt, "hop", hop, 0)?;
+        measure(&rt, "hop", &hop, 0)?;
     }
     if let Ok(queue) = Model::queue(1) {
-        measure(&rt, "queue, 1000 pending", queue, 1000)?;
-        measure(&rt, "queue, 65536 pending", queue, 65_536)?;
+        measure(&rt, "queue, 1000 pending", &queue, 1000)?;
+        measure(&rt, "queue, 65536 pending", &queue, 65_536)?;
     }
     Ok(())
 }

@@ -10,6 +10,7 @@ pub mod Commits
 pub mod Marks
 pub mod Rewinds
 pub mod Replays
+pub mod Installs
 -- the start
 pub mod Starts
 -- what a post moves

@@ -12,11 +12,13 @@
 //! | `executive` | making one, and what is read of it |
 //! | `acting` | `act`: an action, its answer ([`Done`]) or why it is refused ([`Refused`]) |
 //! | `marking` | `mark` and `rewind` ([`Mark`]); `replay`: a list of actions |
+//! | `chains` | `start`: what a chain is worked out from; `install`: the steps of a chain made here |
 //! | `laws` | `inverse_law`, `committed_law`: what holds of every executive |
 #![tactic(auto)]
 
 mod acting;
 mod action;
+mod chains;
 mod executive;
 mod laws;
 mod marking;

@@ -1,3 +1,5 @@
+mod actions;
+mod drawn;
 mod executive;
 mod fossils;
 mod gvt;

@@ -18,15 +18,16 @@ pub(crate) fn stamp(rt: &impl Abort, tick: u64, microstep: u32, phase: u8) -> St
     Stamp::new(tick, microstep, phase).expect(rt, "a stamp")
 }
 
-/// A network of these models.
-pub(crate) fn network(
+/// A network of these models, up to eight, named by letters, in which this is the greatest microstep.
+pub(crate) fn network_within(
     rt: &impl Abort,
     alloc: Global,
     models: &[Model],
     couplings: &[Coupling],
     inputs: &[Input],
-) -> Arc<Network<Model>> {
-    let names = ["a", "b", "c"];
+    micro_limit: u64,
+) -> Network<Model> {
+    let names = ["a", "b", "c", "d", "e", "f", "g", "h"];
     let mut components = Vec::new(alloc);
     for (name, model) in names.iter().zip(models.iter()) {
         let name = String::from_str(alloc, name).expect(rt, "a name");
@@ -34,7 +35,18 @@ pub(crate) fn network(
     }
     let couplings = Vec::from_slice(alloc, couplings).expect(rt, "memory");
     let inputs = Vec::from_slice(alloc, inputs).expect(rt, "memory");
-    let network = Network::new(alloc, components, couplings, inputs, 100).expect(rt, "a network");
+    Network::new(alloc, components, couplings, inputs, micro_limit).expect(rt, "a network")
+}
+
+/// A network of these models, shared.
+pub(crate) fn network(
+    rt: &impl Abort,
+    alloc: Global,
+    models: &[Model],
+    couplings: &[Coupling],
+    inputs: &[Input],
+) -> Arc<Network<Model>> {
+    let network = network_within(rt, alloc, models, couplings, inputs, 100);
     Arc::new(alloc, network).expect(rt, "memory")
 }
 
@@ -53,7 +65,7 @@ fn first_process(
 }
 
 /// Asserts the words of the state.
-fn assert_words(
+pub(crate) fn assert_words(
     rt: &impl Abort,
     alloc: Global,
     model: &Model,

@@ -6,6 +6,7 @@ mod lines;
 mod mail;
 mod models;
 mod msgs;
+mod nested;
 mod networks;
 mod pool;
 mod process;

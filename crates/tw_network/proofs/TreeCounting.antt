@@ -17,23 +17,6 @@ pub record StillCounts {M : Type 0} (room : ℕ) (before now : Counts) (whole : 
   pub no_deeper : levels rest ≤ levels whole
   pub levels : levels rest ≤ room → levels whole ≤ room
 
-pub counts_begin : {M : Type 0} (room : ℕ) (before now : Counts) (whole : Parts M) (links : ℕ) → AreFewCounts before → now.atoms ≡ before.atoms → now.coupled ≡ before.coupled → now.couplings ≡ before.couplings + links → now.couplings ≤ 8192 → StillCounts room before now whole links whole
-counts_begin room before now whole links few a c l low = record {
-  few = record { atoms = let f = few.atoms in omega (arith, f, a); coupled = let f = few.coupled in omega (arith, f, c); couplings = low };
-  atoms = omega (arith, a);
-  coupled = omega (arith, c);
-  couplings = omega (arith, l);
-  no_deeper = omega arith;
-  levels = λ le. le;
-}
-
-pub counts_end : {M : Type 0} (room : ℕ) (before now : Counts) (whole : Parts M) (links : ℕ) → StillCounts room before now whole links no_parts → IsCounted before now whole links × FitsAfter room before whole links
-counts_end room before now whole links s =
-    let a = s.atoms in let c = s.coupled in let l = s.couplings in let f = s.few.atoms in let g = s.few.coupled in let h = s.few.couplings in (
-      record { atoms = omega (arith, a); coupled = omega (arith, c); couplings = omega (arith, l) },
-      record { levels = s.levels (omega arith); atoms = omega (arith, a, f); coupled = omega (arith, c, g); couplings = omega (arith, l, h) },
-    )
-
 pub if_none : {A : Type 0} (r : Option A) (P : Type 0) → P → IfNone r P
 if_none (Some x) P at = tt
 if_none None P at = at

@@ -149,7 +149,11 @@ static FAULTS: [(&[Link], &[Link], u8); 10] = [
         &[(End::Part(0), 16, End::Part(1), 0)],
         6,
     ),
-    (&[(End::Here, 4, End::Part(1), 7)], &[(End::Part(2), 0, End::Part(1), 4)], 0),
+    (
+        &[(End::Here, 4, End::Part(1), 7)],
+        &[(End::Part(2), 0, End::Part(1), 4)],
+        0,
+    ),
 ];
 
 #[test]
@@ -174,7 +178,12 @@ fn with_names(alloc: Global, one: &str, other: &str) -> Result<Nested<Model>, Ne
 
 #[test]
 fn names_are_judged_in_their_own_model(rt: HostRuntime) {
-    for (one, other, number) in [("m", "n", 0), ("a", "a", 18), ("a.b", "c", 17), ("", "c", 17)] {
+    for (one, other, number) in [
+        ("m", "n", 0),
+        ("a", "a", 18),
+        ("a.b", "c", 17),
+        ("", "c", 17),
+    ] {
         let root = with_names(rt.alloc(), one, other).expect(&rt, "memory");
         assert!(rt; refusal(made(rt.alloc(), root)) == number);
     }
@@ -209,7 +218,12 @@ fn wide(alloc: Global, relays: usize, models: usize) -> Result<Nested<Model>, Ne
     }
     for i in 0..models {
         let name = format!(in alloc; "m{i}")?;
-        add(alloc, &mut root, name.as_str(), Part::Coupled(model_of(alloc, &[])?))?;
+        add(
+            alloc,
+            &mut root,
+            name.as_str(),
+            Part::Coupled(model_of(alloc, &[])?),
+        )?;
     }
     Ok(root)
 }
@@ -244,7 +258,9 @@ fn a_tree_has_8192_couplings(rt: HostRuntime) {
     let root = many_links(alloc, 512).expect(&rt, "memory");
     assert!(rt; refusal(made(alloc, root)) == 0);
     let mut root = many_links(alloc, 512).expect(&rt, "memory");
-    root.couplings.push((End::Part(0), 0, End::Part(1), 0)).expect(&rt, "memory");
+    root.couplings
+        .push((End::Part(0), 0, End::Part(1), 0))
+        .expect(&rt, "memory");
     assert!(rt; refusal(made(alloc, root)) == 9);
 }
 

@@ -23,10 +23,10 @@ passed_on-no_memory (Err e) o is = λ ne. absurd (ne is)
 -- ---- the first of two
 
 -- where the first is none
-after_none : (a b : Option NetworkRefused) → None ≡ a → option_or a b ≡ b
+pub after_none : (a b : Option NetworkRefused) → None ≡ a → option_or a b ≡ b
 after_none a b e = ap (λ o. option_or o b) (sym e)
 
-at_some : (a b : Option NetworkRefused) (f : NetworkRefused) → a ≡ Some f → option_or a b ≡ Some f
+pub at_some : (a b : Option NetworkRefused) (f : NetworkRefused) → a ≡ Some f → option_or a b ≡ Some f
 at_some a b f e = ap (λ o. option_or o b) e
 
 -- ---- the first fault, after these checks

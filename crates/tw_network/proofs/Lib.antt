@@ -4,3 +4,10 @@ pub mod RouteOrder
 pub mod RouteParts
 pub mod FirstFault
 pub mod Places
+pub mod FirstPart
+pub mod TreeCounting
+pub mod TreeFaulting
+pub mod TreeNames
+pub mod TreeSound
+pub mod FirstTreeFault
+pub mod AtomsOnly

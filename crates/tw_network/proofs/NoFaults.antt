@@ -7,7 +7,7 @@ use Rattle.std.proofs.lemmas.Bool.Decides.{nat_tests}
 use Rattle.std.proofs.lemmas.List.{append-nil, get_or-map, get_or-take, length-map, length-take-le}
 use Rattle.std.proofs.lemmas.List.Elements.{All-map}
 use Rattle.tw_atomic.specs.Atomic.{Meaning}
-use Rattle.tw_network.specs.Contents.{Contents, Input, IsCoupling, IsInput, IsWhole, StartsInTime, handed_in, is_name, message_of, models_of, names_of, network_of}
+use Rattle.tw_network.specs.Contents.{Contents, Input, IsCoupling, IsInput, IsWhole, StartsInTime, IsFlatName, alone, handed_in, is_name, message_of, models_of, names_of, network_of}
 use Rattle.tw_network.specs.Faults.{unless, first_of, first_fault, count_fault, limit_fault, component_fault, components_fault, end_fault, coupling_fault, couplings_fault, has_coupling, has_name, input_fault, inputs_fault, same_coupling, starts_in_time}
 use Rattle.tw_network.specs.declared.refused.NetworkRefused.{NetworkRefused}
 use Rattle.tw_network.proofs.Names.{text_itself}
@@ -16,19 +16,19 @@ use Rattle.tw_vtime.specs.Stamps.{max_tick}
 
 -- ---- tests
 
-neither : (a b : Option NetworkRefused) → option_or a b ≡ None → (a ≡ None) × (b ≡ None)
+pub neither : (a b : Option NetworkRefused) → option_or a b ≡ None → (a ≡ None) × (b ≡ None)
 neither None b e = (refl, e)
 neither (Some f) b e = absurd cc
 
-holds : (b : Bool) (f : NetworkRefused) → unless b f ≡ None → b ≡ true
+pub holds : (b : Bool) (f : NetworkRefused) → unless b f ≡ None → b ≡ true
 holds true f e = refl
 holds false f e = absurd cc
 
-both : (a b : Bool) → (a && b) ≡ true → (a ≡ true) × (b ≡ true)
+pub both : (a b : Bool) → (a && b) ≡ true → (a ≡ true) × (b ≡ true)
 both true b e = (refl, e)
 both false b e = absurd cc
 
-fails : (b : Bool) → not b ≡ true → b ≡ false
+pub fails : (b : Bool) → not b ≡ true → b ≡ false
 fails true e = absurd cc
 fails false e = refl
 
@@ -36,17 +36,17 @@ nor : (a b : Bool) → (a || b) ≡ false → (a ≡ false) × (b ≡ false)
 nor true b e = absurd cc
 nor false b e = (refl, e)
 
-below : (a b : ℕ) → nat_lt a b ≡ true → a < b
+pub below : (a b : ℕ) → nat_lt a b ≡ true → a < b
 below a b e = grind (arith, nat_tests)
 
-upto : (a b : ℕ) → nat_le a b ≡ true → a ≤ b
+pub upto : (a b : ℕ) → nat_le a b ≡ true → a ≤ b
 upto a b e = grind (arith, nat_tests)
 
-apart : (a b : ℕ) → (a == b) ≡ false → a ≢ b
+pub apart : (a b : ℕ) → (a == b) ≡ false → a ≢ b
 apart a b e = grind (arith, nat_tests)
 
 -- what fails at all of a list fails at each of it
-not_any : {A : Type 0} (p : A → Bool) (xs : List A) → list_any p xs ≡ false → (i : ℕ) (d : A) → i < length xs → p (slice_index_or xs i d) ≡ false
+pub not_any : {A : Type 0} (p : A → Bool) (xs : List A) → list_any p xs ≡ false → (i : ℕ) (d : A) → i < length xs → p (slice_index_or xs i d) ≡ false
 not_any p [] e i d lt = absurd (omega (arith, lt))
 not_any p (x ∷ xs) e zero d lt = (nor (p x) (list_any p xs) e).0
 not_any p (x ∷ xs) e (suc i) d lt = not_any p xs (nor (p x) (list_any p xs) e).1 i d (omega (arith, lt))
@@ -57,7 +57,7 @@ same_itself k = grind (arith, nat_tests)
 -- ---- along a list
 
 -- each thing is not at fault after those before it
-none_at_fault : {A : Type 0} (fault : List A → A → Option NetworkRefused) (before xs : List A) → first_of fault before xs ≡ None → (i : ℕ) (d : A) → i < length xs → fault (before ++ take i xs) (slice_index_or xs i d) ≡ None
+pub none_at_fault : {A : Type 0} (fault : List A → A → Option NetworkRefused) (before xs : List A) → first_of fault before xs ≡ None → (i : ℕ) (d : A) → i < length xs → fault (before ++ take i xs) (slice_index_or xs i d) ≡ None
 none_at_fault fault before [] e i d lt = absurd (omega (arith, lt))
 none_at_fault fault before (x ∷ xs) e zero d lt =
     subst (λ b. fault b x ≡ None) (sym (append-nil before)) (neither (fault before x) (first_of fault (before ++ x ∷ []) xs) e).0
@@ -91,7 +91,7 @@ IsInput-no_fault count i e =
       port = upto i.2 15 (holds _ _ q.0);
     }
 
-StartsInTime-no_fault : {S : Type 0} (m : Meaning S) → starts_in_time m ≡ true → StartsInTime m
+pub StartsInTime-no_fault : {S : Type 0} (m : Meaning S) → starts_in_time m ≡ true → StartsInTime m
 StartsInTime-no_fault m e = go (m.ta m.start) e
   where
     go : (o : Option ℕ) → option_map_or (λ ta. nat_le ta max_tick) o true ≡ true → (ta : ℕ) → o ≡ Some ta → ta ≤ max_tick
@@ -143,7 +143,7 @@ sound_coupling count ks e i d lt =
     let p = neither _ _ (none_at_fault (coupling_fault count) [] ks e i d lt) in
     (IsCoupling-no_fault count k p.0, fails (has_coupling (take i ks) k) (holds _ _ p.1))
 
-distinct_couplings : (count : ℕ) (ks : List Coupling) → couplings_fault count ks ≡ None → AllPairs (λ a b. a ≢ b) ks
+pub distinct_couplings : (count : ℕ) (ks : List Coupling) → couplings_fault count ks ≡ None → AllPairs (λ a b. a ≢ b) ks
 distinct_couplings count ks e i j d lt within same =
     let k = slice_index_or ks j d in
     let new = (sound_coupling count ks e j d within).1 in
@@ -152,7 +152,7 @@ distinct_couplings count ks e i j d lt within same =
     let old = get_or-take j ks i d lt in
     true≢false (sym (same_itself k) ∙ ap (same_coupling k) (sym same ∙ sym old) ∙ differs)
 
-sound_input : (count : ℕ) (inputs : List Input) → inputs_fault count inputs ≡ None → All (IsInput count) inputs
+pub sound_input : (count : ℕ) (inputs : List Input) → inputs_fault count inputs ≡ None → All (IsInput count) inputs
 sound_input count inputs e i d lt = IsInput-no_fault count (slice_index_or inputs i d) (none_at_fault (λ before i. input_fault count i) [] inputs e i d lt)
 
 -- ---- all together
@@ -165,7 +165,7 @@ Each-from_All : {A : Type 0} (P : A → Type 0) (xs : List A) → All P xs → E
 Each-from_All P [] all = tt
 Each-from_All P (x ∷ xs) all = (all 0 x (omega arith), Each-from_All P xs (λ i d lt. all (suc i) d (omega (arith, lt))))
 
-is_network : {M S : Type 0} (meaning : M → Meaning S) (n : Contents M) → All (IsCoupling (length n.models)) n.couplings → All (IsInput (length n.models)) n.inputs → IsNetwork (network_of meaning n)
+pub is_network : {M S : Type 0} (meaning : M → Meaning S) (n : Contents M) → All (IsCoupling (length n.models)) n.couplings → All (IsInput (length n.models)) n.inputs → IsNetwork (network_of meaning n)
 is_network meaning n couplings inputs =
     let count = length-map n.models meaning in
     record {
@@ -196,7 +196,7 @@ is_whole {M} {S} meaning components couplings inputs micro_limit e =
     subst (λ m. All (IsInput m) inputs) (sym n) (sound_input (length components) inputs s.1) in
     record {
       all_named = length-map components (λ c. c.0) ∙ sym n;
-      names = All-map (λ name. is_name name ≡ true) (λ c. c.0) components (λ i d lt. (sound_component meaning components r.0 i d lt).name);
+      names = All-map IsFlatName (λ c. c.0) components (λ i d lt. alone (slice_index_or components i d).0 (sound_component meaning components r.0 i d lt).name);
       distinct = distinct_names meaning components r.0;
       starts = All-map (λ m. StartsInTime (meaning m)) (λ c. c.1) components (λ i d lt. (sound_component meaning components r.0 i d lt).starts);
       couplings = each_coupling;

@@ -3,7 +3,7 @@
 --     network_of meaning n      the network of the theory that these contents mean
 --     handed_in components couplings inputs micro_limit      the contents that are made of these
 --     IsWhole meaning n      what is true of the contents of every network
-use Rattle.std.specs.Prelude.{ℕ, ℤ, ◌≡◌, ◌≢◌, ◌<◌, ◌≤◌, List, length, map, Bool, true, ◌&&◌, ◌||◌, ◌==◌, nat_le, String, string_bytes}
+use Rattle.std.specs.Prelude.{ℕ, ℤ, ◌≡◌, ◌≢◌, ◌<◌, ◌≤◌, List, ◌∷◌, ◌++◌, length, map, Bool, true, ◌&&◌, ◌||◌, ◌==◌, nat_le, String, string_bytes}
 use Rattle.std.specs.Char.{is_ascii_alphanumeric}
 use Rattle.std.specs.Global.{Global, Vec}
 use Rattle.std.specs.List.{All, AllPairs, list_all}
@@ -83,6 +83,11 @@ is_name_byte b = is_ascii_alphanumeric b || (b == 95) || (b == 45)
 abbrev pub is_name : List ℕ → Bool
 is_name name = nat_le 1 (length name) && nat_le (length name) 32 && list_all is_name_byte name
 
+-- a name, or names joined by dots: of an atom in a coupled model, the names on its way
+pub data IsFlatName : List ℕ → Type 0 where
+  alone : (name : List ℕ) → is_name name ≡ true → IsFlatName name
+  within : (name rest : List ℕ) → is_name name ≡ true → IsFlatName rest → IsFlatName (name ++ 46 ∷ rest)
+
 -- a start state that is passive, or whose time advance is no later than the last tick
 abbrev pub StartsInTime : {S : Type 0} → Meaning S → Type 0
 StartsInTime m = ForSome (m.ta m.start) (λ ta. ta ≤ max_tick)
@@ -108,7 +113,7 @@ pub record IsInput (count : ℕ) (i : Input) : Type 0 where
 
 pub record IsWhole {M S : Type 0} (meaning : M → Meaning S) (n : Contents M) : Type 0 where
   pub all_named : length n.names ≡ length n.models
-  pub names : All (λ name. is_name name ≡ true) n.names
+  pub names : All IsFlatName n.names
   pub distinct : AllPairs (λ a b. a ≢ b) n.names
   pub starts : All (λ m. StartsInTime (meaning m)) n.models
   pub couplings : All (IsCoupling (length n.models)) n.couplings

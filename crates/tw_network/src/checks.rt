@@ -38,15 +38,15 @@ use std::alloc::{AllocError, Global};
 use tw_atomic::Atomic;
 use tw_vtime::{MAX_MICROSTEP, MAX_TICK};
 
-const MAX_COMPONENTS: usize = 1024;
+pub const MAX_COMPONENTS: usize = 1024;
 
-const MAX_COUPLINGS: usize = 8192;
+pub const MAX_COUPLINGS: usize = 8192;
 
-const MAX_INPUTS: usize = 65536;
+pub const MAX_INPUTS: usize = 65536;
 
 const MAX_NAME: usize = 32;
 
-const MAX_PORT: u8 = 15;
+pub const MAX_PORT: u8 = 15;
 
 // Refuses too many of anything.
 pub fn check_counts(
@@ -86,7 +86,7 @@ fn has_bytes_of_name(text: &str) -> bool
 }
 
 // Refuses a text that is not one to 32 of ASCII letters, digits, `_` and `-`.
-fn check_name(text: &str) -> Result<(), NetworkRefused>
+pub fn check_name(text: &str) -> Result<(), NetworkRefused>
     ensures { result_err result ≡ name_fault text.now }
 {
     if text.is_empty() || text.len() > MAX_NAME || !has_bytes_of_name(text) {
@@ -96,7 +96,7 @@ fn check_name(text: &str) -> Result<(), NetworkRefused>
 }
 
 // Whether the start state is passive, or its time advance no later than the last tick.
-fn has_start_in_time<M: Atomic>(alloc: Global, model: &M) -> Result<bool, AllocError>
+pub fn has_start_in_time<M: Atomic>(alloc: Global, model: &M) -> Result<bool, AllocError>
     ensures { IfOk result (λ in_time. in_time ≡ starts_in_time (M.meaning model.now)) }
 {
     let start = model.start(alloc)?;

@@ -11,9 +11,13 @@
 #![tactic(auto)]
 
 mod checks;
+mod counts;
+mod naming;
 pub mod network;
 pub mod refused;
 mod routes;
+mod tree_checks;
 
 pub use network::{Coupling, Input, Network, Place};
 pub use refused::NetworkRefused;
+pub use tw_nested::{End, Link, Nested, Part};

@@ -1,19 +1,27 @@
 //! The network, its maker and its readers.
 
-ghost use Rattle.std.specs.Prelude.{◌≡◌, ◌≢◌, ◌↔◌, ◌<◌, ◌≤◌, [], Contains, IsTrue, IsErrOf, IfOk, IfErr, IfSome, OnOk, IfNone, None, Some, length, slice_get};
+ghost use Rattle.std.specs.Prelude.{ℕ, List, ◌≡◌, ◌≢◌, ◌↔◌, ◌<◌, ◌≤◌, [], Contains, IsTrue, IsErrOf, IfOk, IfErr, IfSome, OnOk, IfNone, None, Some, length, slice_get};
 ghost use Rattle.std.specs.List.{AllByRecursion as Each};
-ghost use Rattle.tw_network.specs.Contents.{made_of, network_of, IsPlace, IsWhole};
-ghost use Rattle.tw_network.specs.Faults.{counts_fault, fault_of, limit_fault};
+ghost use Rattle.tw_network.specs.Contents.{handed_in, made_of, network_of, IsPlace, IsWhole};
+ghost use Rattle.tw_network.specs.Faults.{counts_fault, fault_of, first_fault, inputs_fault, limit_fault};
+ghost use Rattle.tw_network.specs.FlatTrees.{IsFlatTree, IsSameNetwork};
+ghost use Rattle.tw_network.specs.TreeFaults.{IsTreeFault, tree_count_fault, tree_fault};
+ghost use Rattle.tw_nested.specs.Tree.{flat_names, models_in, parts_of};
+ghost use Rattle.tw_nested.specs.Whole.{AreCouplings};
 ghost use Rattle.tw_network.specs.declared.refused.NetworkRefused.TheVariants.{OutOfMemory, TooMany, BadLimit};
 ghost use Rattle.tw_theory.specs.Network.{routes};
 
 use crate::checks::{check_counts, check_couplings, check_inputs, checked_limit, take_components};
+use crate::counts::check_tree_counts;
+use crate::naming::name_set;
 use crate::refused::NetworkRefused;
 use crate::routes::{PORTS, Routes};
+use crate::tree_checks::check_models;
 use indexmap::IndexSet;
 use std::alloc::Global;
 use std::marker::Model;
 use tw_atomic::Atomic;
+use tw_nested::{Flat, Nested, dismantle, flatten};
 
 /// A coupling: source, its port, destination, its port.
 pub type Coupling = (usize, u8, usize, u8);
@@ -27,7 +35,8 @@ pub type Place = (usize, u8);
 /// A flat Parallel DEVS network (Chow and Zeigler 1994).
 ///
 /// It has at most 1,024 components, each with a name of its own and a model, 8,192 couplings and 65,536
-/// inputs. Components are numbered from 0, in the order in which they were handed in; ports are 0 to 15.
+/// inputs. Components are numbered from 0, in the order in which they were handed in, or depth first where a
+/// tree was; ports are 0 to 15.
 #[derive(Drop)]
 pub struct Network<M: Atomic> {
     names: IndexSet<String>,
@@ -92,6 +101,65 @@ impl<M: Atomic> Network<M> {
         })
     }
 
+    /// The flat network of a tree of coupled models, with these inputs and this greatest microstep.
+    ///
+    /// Its components are the tree's atoms, numbered from 0, depth first, in the order of parts; inputs name them
+    /// by these numbers. The name of each is the names on its way from the root, joined by `.`. Two ports of
+    /// atoms are coupled where a path of the tree's couplings leads from one to the other, however many do; the
+    /// couplings stand by source, port, destination and port.
+    ///
+    /// The first fault in this order is answered: more than 16 levels (the root's parts are at level 1), 1,024
+    /// atoms, 1,024 coupled parts, 8,192 couplings over all models or 65,536 inputs (9); `micro_limit` not 1 to
+    /// 8,388,607 (11); for each model, depth first and before the models in it, its parts in order and then its
+    /// couplings in order, with the faults of [`Network::new`], where [`End::Here`] is no end at the root (5)
+    /// and a coupling from `Here` to `Here` leads from a component to itself (7); more than 8,192 couplings of
+    /// atoms (9); then the inputs in order (5, 6, 10). Want of memory (4) may come after the counts and the
+    /// greatest microstep instead. After any of them nothing is left, and a tree of any depth is let go.
+    pub fn nested(
+        alloc: Global,
+        root: Nested<M>,
+        inputs: Vec<Input>,
+        micro_limit: u64,
+    ) -> Result<Network<M>, NetworkRefused>
+        ensures names { IfOk result (λ n. n.names ≡ flat_names [] (parts_of root.parts.items)) }
+        ensures models { IfOk result (λ n. n.models ≡ models_in (parts_of root.parts.items)) }
+        ensures couplings { IfOk result (λ n. AreCouplings (parts_of root.parts.items) root.couplings.items n.couplings) }
+        ensures inputs { IfOk result (λ n. n.inputs ≡ inputs.items) }
+        ensures micro_limit { IfOk result (λ n. n.micro_limit ≡ micro_limit) }
+        ensures tree_sound { OnOk result (tree_fault M.meaning (parts_of root.parts.items) root.couplings.items inputs.items micro_limit ≡ None) }
+        ensures inputs_sound { OnOk result (inputs_fault (length (models_in (parts_of root.parts.items))) inputs.items ≡ None) }
+        ensures first_fault { IfErr result (λ e. e ≢ OutOfMemory → IsTreeFault M.meaning (parts_of root.parts.items) root.couplings.items inputs.items micro_limit e) }
+        ensures counts { tree_count_fault (parts_of root.parts.items) root.couplings.items (length inputs.items) ≡ Some TooMany → IsErrOf result TooMany }
+        ensures made_as_new { (components : List (List ℕ × M)) (couplings : List (ℕ × ℕ × ℕ × ℕ)) → IsFlatTree (parts_of root.parts.items) root.couplings.items components couplings → IfOk result (λ n. IsSameNetwork n (handed_in components couplings inputs.items micro_limit)) }
+        ensures sound_as_new { (components : List (List ℕ × M)) (couplings : List (ℕ × ℕ × ℕ × ℕ)) → IsFlatTree (parts_of root.parts.items) root.couplings.items components couplings → OnOk result (first_fault M.meaning components couplings inputs.items micro_limit ≡ None) }
+        ensures refused_as_new { (components : List (List ℕ × M)) (couplings : List (ℕ × ℕ × ℕ × ℕ)) → IsFlatTree (parts_of root.parts.items) root.couplings.items components couplings → IfErr result (λ e. e ≢ OutOfMemory → first_fault M.meaning components couplings inputs.items micro_limit ≡ Some e) }
+        ensures limit { tree_count_fault (parts_of root.parts.items) root.couplings.items (length inputs.items) ≡ None → limit_fault micro_limit ≡ Some BadLimit → IsErrOf result BadLimit }
+    {
+        if let Err(refused) = check_tree_counts(&root, inputs.len()) {
+            dismantle(root);
+            return Err(refused);
+        }
+        let micro_limit = checked_limit(micro_limit)?;
+        check_models(alloc, &root)?;
+        let Flat {
+            names,
+            models,
+            couplings,
+        } = flatten(alloc, root)?;
+        let count = models.len();
+        check_inputs(count, inputs.as_slice())?;
+        let names = name_set(alloc, names)?;
+        let routes = Routes::new(alloc, count, couplings.as_slice())?;
+        Ok(Network {
+            names,
+            models,
+            couplings,
+            inputs,
+            micro_limit,
+            routes,
+        })
+    }
+
     /// How many components there are.
     pub fn len(&self) -> usize
         ensures { result ≡ length self.now.models }
@@ -138,7 +206,7 @@ impl<M: Atomic> Network<M> {
         self.micro_limit
     }
 
-    /// The couplings, in the order in which they were handed in.
+    /// The couplings, in the order in which they were handed in; of a tree by source, port, destination and port.
     pub fn couplings(&self) -> &[Coupling]
         ensures { result.now ≡ self.now.couplings }
     {

@@ -1,11 +1,12 @@
 //! What the maker of a network refuses.
 
 ghost use Rattle.std.specs.Prelude.{◌≡◌};
-ghost use Rattle.tw_network.specs.Refused.{network_refusal};
+ghost use Rattle.tw_network.specs.Refused.{flat_fault, network_refusal};
 ghost use Rattle.tw_network.specs.declared.refused.NetworkRefused.TheVariants.{OutOfMemory};
 
 use std::alloc::{AllocError, AllocFailed};
 use thiserror::Error;
+use tw_nested::FlatRefused;
 use tw_vtime::Refusal;
 
 /// What was handed in is no network, or there was no memory for one.
@@ -14,7 +15,7 @@ pub enum NetworkRefused {
     /// A growth of memory was refused: refusal 4.
     #[error("out of memory")]
     OutOfMemory,
-    /// A coupling or an input names a component that the network does not have: refusal 5.
+    /// A coupling or an input names a component, a part or an end that is not there: refusal 5.
     #[error("no such component")]
     UnknownComponent,
     /// A port of a coupling or an input is above 15: refusal 6.
@@ -26,7 +27,8 @@ pub enum NetworkRefused {
     /// A coupling stood before: refusal 8.
     #[error("a coupling stands twice")]
     DuplicateRoute,
-    /// There are more than 1,024 components, 8,192 couplings or 65,536 inputs: refusal 9.
+    /// There are more than 1,024 components, 8,192 couplings or 65,536 inputs, or a tree has more than 16
+    /// levels, 1,024 coupled parts or 8,192 couplings, over all its models or flat: refusal 9.
     #[error("too many components, couplings or inputs")]
     TooMany,
     /// An input's tick, or a start state's time advance, is above the last tick: refusal 10.
@@ -56,6 +58,17 @@ impl<T: Drop> From<AllocFailed<T>> for NetworkRefused {
 
     fn from(_failed: AllocFailed<T>) -> NetworkRefused {
         NetworkRefused::OutOfMemory
+    }
+}
+
+impl From<FlatRefused> for NetworkRefused {
+    ghost from_gives = { λ refused fault. fault ≡ flat_fault refused };
+
+    fn from(refused: FlatRefused) -> NetworkRefused {
+        match refused {
+            FlatRefused::OutOfMemory => NetworkRefused::OutOfMemory,
+            FlatRefused::TooMany => NetworkRefused::TooMany,
+        }
     }
 }
 

@@ -9,6 +9,7 @@ mod lists;
 mod mail;
 mod models;
 mod msgs;
+mod nested;
 mod networks;
 mod pool;
 mod process;

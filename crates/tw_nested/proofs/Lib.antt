@@ -1,0 +1,9 @@
+pub mod Passes
+pub mod Collecting
+pub mod TreeViews
+pub mod Taking
+pub mod Leading
+pub mod EdgesMade
+pub mod Numbers
+pub mod Ranges
+pub mod Flattened

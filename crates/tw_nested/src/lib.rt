@@ -1,0 +1,23 @@
+//! Networks as trees of coupled models, and the flat network that such a tree means.
+//!
+//! - [`Nested`]: a coupled model of named parts, each an atomic model or a coupled model again (Chow and Zeigler
+//!   1994; coupled models are closed under coupling).
+//! - [`flatten`]: the atoms of a tree in order, depth first, and the couplings along which its paths lead, each
+//!   once; its time and memory are bounded by the numbers of parts and couplings, and not by that of paths.
+//! - [`dismantle`]: lets a tree of any depth go.
+//!
+//! It goes by numbers: each port of each part has two, for what the part puts out and for where it takes in, and
+//! each coupling of each model leads from one of them to a higher one. So one pass over the sorted couplings
+//! finds all that is reached from a port.
+#![tactic(auto)]
+
+mod collect;
+mod edges;
+mod flattening;
+mod reach;
+mod tables;
+pub mod tree;
+
+pub use collect::{Coupling, FlatRefused};
+pub use flattening::{Flat, flatten};
+pub use tree::{End, Link, Nested, Part, dismantle};

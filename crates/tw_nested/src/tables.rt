@@ -1,0 +1,88 @@
+//! A tree taken apart: each part by its number, depth first.
+
+ghost use Rattle.std.specs.Prelude.{◌≡◌, ◌<◌, ◌+◌, ◌++◌, ◌∷◌, [], map, string_bytes, IfErr, IfOk, OnOk};
+ghost use Rattle.tw_nested.specs.Tree.{parts_of, size, flat_names, models_in, atoms_from, coupled_from, model_at};
+ghost use Rattle.tw_nested.specs.Taken.{model_of};
+
+use crate::collect::FlatRefused;
+use crate::tree::{Link, Nested, Part};
+use std::alloc::{AllocError, Global};
+
+// A coupled model among all of a tree: its number, the numbers of its parts in order, its couplings.
+#[derive(Drop)]
+pub struct Coupled {
+    pub number: usize,
+    pub parts: Vec<usize>,
+    pub links: Vec<Link>,
+}
+
+// How many parts there are so far, the root among them; the atoms' names, models and numbers; the coupled models.
+#[derive(Drop)]
+pub struct Tables<M> {
+    pub count: usize,
+    pub names: Vec<String>,
+    pub models: Vec<M>,
+    pub atoms: Vec<usize>,
+    pub coupled: Vec<Coupled>,
+}
+
+// One text after another.
+fn joined(alloc: Global, one: &str, other: &str) -> Result<String, AllocError>
+    ensures { IfOk result (λ s. string_bytes s ≡ one.now ++ other.now) }
+{
+    let mut joined = String::from_str(alloc, one)?;
+    joined.push_str(other)?;
+    Ok(joined)
+}
+
+// What comes before the names of the parts of a part that has this name.
+fn prefix_within(alloc: Global, prefix: &str, name: &str) -> Result<String, AllocError>
+    ensures { IfOk result (λ s. string_bytes s ≡ prefix.now ++ name.now ++ 46 ∷ []) }
+{
+    let mut within = joined(alloc, prefix, name)?;
+    within.push_str(".")?;
+    Ok(within)
+}
+
+// Adds a coupled model and all in it, each atom's name after this prefix.
+pub fn take<M: Drop>(
+    alloc: Global,
+    nested: Nested<M>,
+    number: usize,
+    prefix: &str,
+    tables: &mut Tables<M>,
+) -> Result<(), FlatRefused>
+    requires fits { tables.old.count + size (parts_of nested.parts.items) < 4096 }
+    ensures count { OnOk result (tables.new.count ≡ tables.old.count + size (parts_of nested.parts.items)) }
+    ensures names { OnOk result (map string_bytes tables.new.names.items ≡ map string_bytes tables.old.names.items ++ flat_names prefix.now (parts_of nested.parts.items)) }
+    ensures models { OnOk result (tables.new.models.items ≡ tables.old.models.items ++ models_in (parts_of nested.parts.items)) }
+    ensures atoms { OnOk result (tables.new.atoms.items ≡ tables.old.atoms.items ++ atoms_from tables.old.count (parts_of nested.parts.items)) }
+    ensures coupled { OnOk result (map model_of tables.new.coupled.items ≡ map model_of tables.old.coupled.items ++ coupled_from tables.old.count (parts_of nested.parts.items) ++ model_at number tables.old.count (parts_of nested.parts.items) nested.couplings.items ∷ []) }
+    ensures memory { IfErr result (λ e. e ≡ FlatRefused.OutOfMemory) }
+{
+    let mut parts = Vec::new(alloc);
+    let links = nested.couplings;
+    for (name, part) in nested.parts {
+        let next = tables.count;
+        tables.count = next + 1;
+        parts.push(next)?;
+        match part {
+            Part::Atom(model) => {
+                let name = joined(alloc, prefix, name.as_str())?;
+                tables.names.push(name)?;
+                tables.models.push(model)?;
+                tables.atoms.push(next)?;
+            }
+            Part::Coupled(inner) => {
+                let prefix = prefix_within(alloc, prefix, name.as_str())?;
+                take(alloc, inner, next, prefix.as_str(), tables)?;
+            }
+        }
+    }
+    tables.coupled.push(Coupled {
+        number,
+        parts,
+        links,
+    })?;
+    Ok(())
+}

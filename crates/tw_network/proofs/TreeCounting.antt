@@ -1,0 +1,70 @@
+-- Counting the parts of a model one by one.
+use Rattle.std.proofs.Common.{◌≡◌, ℕ, ◌+◌, ◌<◌, ◌≤◌, List, [], length, sym, ap, ◌∙◌, arith, length-append, drop, slice_index_or, String, max, Option, Some, None, IfNone}
+use Rattle.std.specs.declared.alloc.Global.{Global}
+use Rattle.std.proofs.lemmas.List.{append-nil}
+use Rattle.tw_nested.specs.declared.tree.Part.{Part}
+use Rattle.tw_nested.specs.Tree.{Parts, Link, no_parts, coupled, levels, coupled_count, link_count, models_in, parts_of, part_view}
+use Rattle.tw_network.specs.declared.counts.Counts.{Counts}
+use Rattle.tw_network.specs.Counts.{AreFewCounts, FitsAfter, IsCounted}
+use Rattle.tw_network.proofs.FirstPart.{part_at}
+
+-- what was counted, and the parts still to come, are together all
+pub record StillCounts {M : Type 0} (room : ℕ) (before now : Counts) (whole : Parts M) (links : ℕ) (rest : Parts M) : Type 0 where
+  pub few : AreFewCounts now
+  pub atoms : now.atoms + length (models_in rest) ≡ before.atoms + length (models_in whole)
+  pub coupled : now.coupled + coupled_count rest ≡ before.coupled + coupled_count whole
+  pub couplings : now.couplings + link_count rest ≡ before.couplings + (links + link_count whole)
+  pub no_deeper : levels rest ≤ levels whole
+  pub levels : levels rest ≤ room → levels whole ≤ room
+
+pub if_none : {A : Type 0} (r : Option A) (P : Type 0) → P → IfNone r P
+if_none (Some x) P at = tt
+if_none None P at = at
+
+-- ---- of one part and the rest
+
+record AreOfFirst {M : Type 0} (all one rest : Parts M) : Type 0 where
+  atoms : length (models_in all) ≡ length (models_in one) + length (models_in rest)
+  coupled : coupled_count all ≡ coupled_count one + coupled_count rest
+  links : link_count all ≡ link_count one + link_count rest
+  levels : levels all ≡ max (levels one) (levels rest)
+
+module _ {M : Type 0} where
+  models_of_coupled : (name : List ℕ) (inner : Parts M) (links : List Link) (rest : Parts M) → length (models_in (coupled name inner links rest)) ≡ length (models_in (coupled [] inner links no_parts)) + length (models_in rest)
+  models_of_coupled name inner links rest = length-append (models_in inner) (models_in rest) ∙ ap (λ (l : List M). length l + length (models_in rest)) (sym (append-nil (models_in inner)))
+
+  at_first : (ps qs : List (String Global × Part M)) (i : ℕ) (p : String Global × Part M) → qs ≡ ps → i < length qs → p ≡ slice_index_or qs i p → AreOfFirst (parts_of {M = M} (drop i ps)) (part_view {M = M} p.1 [] no_parts) (parts_of {M = M} (drop (i + 1) ps))
+  at_first ps qs i p same lt is = record {
+    atoms = part_at (λ (x : Parts M). length (models_in x)) (λ a b. a + b) (λ name m rest. omega arith) models_of_coupled ps qs i p same lt is;
+    coupled = part_at (λ (x : Parts M). coupled_count x) (λ a b. a + b) (λ name m rest. omega arith) (λ name inner links rest. omega arith) ps qs i p same lt is;
+    links = part_at (λ (x : Parts M). link_count x) (λ a b. a + b) (λ name m rest. omega arith) (λ name inner links rest. omega arith) ps qs i p same lt is;
+    levels = part_at (λ (x : Parts M). levels x) (λ a b. max a b) (λ name m rest. omega arith) (λ name inner links rest. omega arith) ps qs i p same lt is;
+  }
+
+  module _ (room : ℕ) (before now : Counts) (whole : Parts M) (links : ℕ) (ps qs : List (String Global × Part M)) (i : ℕ) (p : String Global × Part M) (same : qs ≡ ps) (lt : i < length qs) (is : p ≡ slice_index_or qs i p) (s : StillCounts room before now whole links (parts_of {M = M} (drop i ps))) where
+    first : AreOfFirst (parts_of {M = M} (drop i ps)) (part_view {M = M} p.1 [] no_parts) (parts_of {M = M} (drop (i + 1) ps))
+    first = at_first ps qs i p same lt is
+
+    pub counts_on : (after : Counts) → IsCounted now after (part_view {M = M} p.1 [] no_parts) 0 → FitsAfter room now (part_view {M = M} p.1 [] no_parts) 0 → StillCounts room before after whole links (parts_of {M = M} (drop (i + 1) ps))
+    counts_on after c f =
+        let a = c.atoms in let b = c.coupled in let l = c.couplings in
+        let x = s.atoms in let y = s.coupled in let z = s.couplings in
+        let fa = first.atoms in let fc = first.coupled in let fl = first.links in let fd = first.levels in
+        let ga = f.atoms in let gc = f.coupled in let gl = f.couplings in let gd = f.levels in
+        let nd = s.no_deeper in
+        record {
+          few = record { atoms = omega (arith, a, ga); coupled = omega (arith, b, gc); couplings = omega (arith, l, gl) };
+          atoms = omega (arith, a, x, fa);
+          coupled = omega (arith, b, y, fc);
+          couplings = omega (arith, l, z, fl);
+          no_deeper = omega (arith, nd, fd);
+          levels = λ le. s.levels (omega (arith, le, fd, gd));
+        }
+
+    pub counts_stop : (FitsAfter room now (part_view {M = M} p.1 [] no_parts) 0 → ⊥) → FitsAfter room before whole links → ⊥
+    counts_stop not f =
+        let x = s.atoms in let y = s.coupled in let z = s.couplings in
+        let fa = first.atoms in let fc = first.coupled in let fl = first.links in let fd = first.levels in
+        let ga = f.atoms in let gc = f.coupled in let gl = f.couplings in let gd = f.levels in
+        let nd = s.no_deeper in
+        not (record { levels = omega (arith, nd, gd, fd); atoms = omega (arith, x, fa, ga); coupled = omega (arith, y, fc, gc); couplings = omega (arith, z, fl, gl) })

@@ -1,0 +1,199 @@
+//! The faults of a tree of coupled models: its parts' and its couplings', a model before the models in it.
+
+ghost use Rattle.std.specs.Prelude.{◌≡◌, ◌≢◌, ◌++◌, ◌∷◌, [], true, IfErr, IfOk, OnOk, None, Some, map, string_bytes};
+ghost use Rattle.std.specs.Result.{result_err};
+ghost use Rattle.tw_nested.specs.Tree.{no_parts, part_count, part_view, parts_of};
+ghost use Rattle.tw_network.specs.TreeFaults.{
+  inner_fault,
+  is_end,
+  link_end_fault,
+  link_fault,
+  links_fault,
+  models_fault,
+  own_fault,
+  part_name_fault,
+  parts_fault,
+  same_end,
+  start_fault,
+};
+
+use crate::checks::{MAX_PORT, check_name, has_start_in_time};
+use crate::refused::NetworkRefused;
+use indexmap::IndexSet;
+use std::alloc::Global;
+use tw_atomic::Atomic;
+use tw_nested::{End, Link, Nested, Part};
+
+// Refuses a tree in which a model is at fault.
+pub fn check_models<M: Atomic>(alloc: Global, root: &Nested<M>) -> Result<(), NetworkRefused>
+    ensures ok { OnOk result (models_fault M.meaning (parts_of root.now.parts.items) root.now.couplings.items ≡ None) }
+    ensures err { IfErr result (λ e. e ≢ NetworkRefused.OutOfMemory → models_fault M.meaning (parts_of root.now.parts.items) root.now.couplings.items ≡ Some e) }
+{
+    check_own(alloc, true, root)?;
+    check_inner(alloc, root)
+}
+
+// Refuses a model among or in whose parts a model is at fault.
+#[cycle(models)]
+fn check_inner<M: Atomic>(alloc: Global, nested: &Nested<M>) -> Result<(), NetworkRefused>
+    ensures ok { OnOk result (inner_fault M.meaning (parts_of nested.now.parts.items) ≡ None) }
+    ensures err { IfErr result (λ e. e ≢ NetworkRefused.OutOfMemory → inner_fault M.meaning (parts_of nested.now.parts.items) ≡ Some e) }
+{
+    for (_, part) in &nested.parts {
+        check_part(alloc, part)?;
+    }
+    Ok(())
+}
+
+// Refuses a part that is a model at fault, or has one in it.
+#[cycle(models)]
+fn check_part<M: Atomic>(alloc: Global, part: &Part<M>) -> Result<(), NetworkRefused>
+    ensures ok { OnOk result (inner_fault M.meaning (part_view part.now [] no_parts) ≡ None) }
+    ensures err { IfErr result (λ e. e ≢ NetworkRefused.OutOfMemory → inner_fault M.meaning (part_view part.now [] no_parts) ≡ Some e) }
+{
+    match part {
+        Part::Atom(_) => Ok(()),
+        Part::Coupled(inner) => {
+            check_own(alloc, false, inner)?;
+            check_inner(alloc, inner)
+        }
+    }
+}
+
+// Refuses a model of which a part or a coupling is at fault.
+fn check_own<M: Atomic>(
+    alloc: Global,
+    is_root: bool,
+    nested: &Nested<M>,
+) -> Result<(), NetworkRefused>
+    ensures ok { OnOk result (own_fault M.meaning is_root (parts_of nested.now.parts.items) nested.now.couplings.items ≡ None) }
+    ensures err { IfErr result (λ e. e ≢ NetworkRefused.OutOfMemory → own_fault M.meaning is_root (parts_of nested.now.parts.items) nested.now.couplings.items ≡ Some e) }
+{
+    check_parts(alloc, nested.parts.as_slice())?;
+    check_links(
+        alloc,
+        is_root,
+        nested.parts.len(),
+        nested.couplings.as_slice(),
+    )
+}
+
+// Refuses parts of which one is at fault, alone or beside those before it.
+fn check_parts<M: Atomic>(alloc: Global, parts: &[(String, Part<M>)]) -> Result<(), NetworkRefused>
+    ensures ok { OnOk result (parts_fault M.meaning [] (parts_of parts.now) ≡ None) }
+    ensures err { IfErr result (λ e. e ≢ NetworkRefused.OutOfMemory → parts_fault M.meaning [] (parts_of parts.now) ≡ Some e) }
+{
+    let mut names = IndexSet::new(alloc);
+    for (name, part) in parts {
+        take_part_name(&mut names, String::from_str(alloc, name.as_str())?)?;
+        match part {
+            Part::Atom(model) => check_start(alloc, model)?,
+            Part::Coupled(_) => {}
+        }
+    }
+    Ok(())
+}
+
+// Adds the name of a part that is not at fault.
+#[tactic(auto, using(crate::proofs::Names::has_name_of_keys))]
+fn take_part_name(names: &mut IndexSet<String>, name: String) -> Result<(), NetworkRefused>
+    ensures names { OnOk result (names.new.keys ≡ names.old.keys ++ name ∷ []) }
+    ensures ok { OnOk result (part_name_fault (map string_bytes names.old.keys) (string_bytes name) ≡ None) }
+    ensures err { IfErr result (λ e. e ≢ NetworkRefused.OutOfMemory → part_name_fault (map string_bytes names.old.keys) (string_bytes name) ≡ Some e) }
+{
+    check_name(name.as_str())?;
+    let (_, is_new) = names.insert_full(name)?;
+    if !is_new {
+        return Err(NetworkRefused::DuplicateName);
+    }
+    Ok(())
+}
+
+// Refuses a model whose start state has a time advance above the last tick.
+fn check_start<M: Atomic>(alloc: Global, model: &M) -> Result<(), NetworkRefused>
+    ensures ok { OnOk result (start_fault (M.meaning model.now) ≡ None) }
+    ensures err { IfErr result (λ e. e ≢ NetworkRefused.OutOfMemory → start_fault (M.meaning model.now) ≡ Some e) }
+{
+    if !has_start_in_time(alloc, model)? {
+        return Err(NetworkRefused::BadTick);
+    }
+    Ok(())
+}
+
+// Refuses couplings of which one is at fault, alone or beside those before it.
+fn check_links(
+    alloc: Global,
+    is_root: bool,
+    count: usize,
+    links: &[Link],
+) -> Result<(), NetworkRefused>
+    ensures ok { OnOk result (links_fault is_root count links.now ≡ None) }
+    ensures err { IfErr result (λ e. e ≢ NetworkRefused.OutOfMemory → links_fault is_root count links.now ≡ Some e) }
+{
+    let mut seen = IndexSet::new(alloc);
+    for link in links {
+        take_link(&mut seen, is_root, count, *link)?;
+    }
+    Ok(())
+}
+
+// Adds a coupling that is not at fault.
+fn take_link(
+    seen: &mut IndexSet<Link>,
+    is_root: bool,
+    count: usize,
+    link: Link,
+) -> Result<(), NetworkRefused>
+    ensures seen { OnOk result (seen.new.keys ≡ seen.old.keys ++ link ∷ []) }
+    ensures ok { OnOk result (link_fault is_root count seen.old.keys link ≡ None) }
+    ensures err { IfErr result (λ e. e ≢ NetworkRefused.OutOfMemory → link_fault is_root count seen.old.keys link ≡ Some e) }
+{
+    check_ends(is_root, count, link)?;
+    let (_, is_new) = seen.insert_full(link)?;
+    if !is_new {
+        return Err(NetworkRefused::DuplicateRoute);
+    }
+    Ok(())
+}
+
+// Refuses a coupling that is at fault alone.
+fn check_ends(is_root: bool, count: usize, link: Link) -> Result<(), NetworkRefused>
+    ensures { result_err result ≡ link_end_fault is_root count link }
+{
+    let (source, from, destination, to) = link;
+    if !has_end(is_root, count, source) || !has_end(is_root, count, destination) {
+        return Err(NetworkRefused::UnknownComponent);
+    }
+    if from > MAX_PORT || to > MAX_PORT {
+        return Err(NetworkRefused::BadPort);
+    }
+    if are_same(source, destination) {
+        return Err(NetworkRefused::SelfCoupling);
+    }
+    Ok(())
+}
+
+// Whether a model of this many parts has this end; the root has no ports of its own.
+fn has_end(is_root: bool, count: usize, end: End) -> bool
+    ensures { result ≡ is_end is_root count end }
+{
+    match end {
+        End::Here => !is_root,
+        End::Part(place) => place < count,
+    }
+}
+
+fn are_same(one: End, other: End) -> bool
+    ensures { result ≡ same_end one other }
+{
+    match one {
+        End::Here => match other {
+            End::Here => true,
+            End::Part(_) => false,
+        },
+        End::Part(i) => match other {
+            End::Here => false,
+            End::Part(j) => i == j,
+        },
+    }
+}

@@ -7,6 +7,7 @@ mod heap;
 mod lines;
 mod lists;
 mod mail;
+mod marks;
 mod models;
 mod msgs;
 mod nested;

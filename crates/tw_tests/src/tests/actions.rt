@@ -14,22 +14,27 @@ use tw_rollback::Received;
 use tw_vtime::{Limit, MAX_TICK, Refusal, Stamp};
 
 /// The generator of a row.
-const G: usize = 0;
+pub(crate) const G: usize = 0;
 /// The relay of a row.
-const R: usize = 1;
+pub(crate) const R: usize = 1;
 /// The tally of a row.
-const T: usize = 2;
+pub(crate) const T: usize = 2;
 
 /// A stamp, by its tick, microstep and phase.
-type At = (u64, u32, u8);
+pub(crate) type At = (u64, u32, u8);
 
 /// An item as the examples write it: its sign, its receiver, its value and the tick of its transition.
 #[derive(Clone, Copy)]
-struct Said(Sign, usize, i64, u64);
+pub(crate) struct Said(
+    pub(crate) Sign,
+    pub(crate) usize,
+    pub(crate) i64,
+    pub(crate) u64,
+);
 
 /// An action, as the examples write it.
 #[derive(Clone, Copy)]
-enum Asked {
+pub(crate) enum Asked {
     Step(usize),
     Post(usize),
     Deliver(usize, usize),
@@ -40,7 +45,7 @@ enum Asked {
 
 /// What an action answers, as the examples write it.
 #[derive(Clone, Copy)]
-enum Reply {
+pub(crate) enum Reply {
     Stepped(At, RecordKind),
     Posted(u64),
     Came(Received),
@@ -56,7 +61,7 @@ fn at(rt: &impl Abort, at: At) -> Stamp {
 }
 
 /// The action that is asked for.
-fn meant(rt: &impl Abort, asked: Asked) -> Action {
+pub(crate) fn meant(rt: &impl Abort, asked: Asked) -> Action {
     match asked {
         Asked::Step(component) => Action::Step(component),
         Asked::Post(component) => Action::Post(component),
@@ -81,7 +86,7 @@ fn told(rt: &impl Abort, reply: Reply) -> Result<Done, Refused> {
 }
 
 /// Takes these actions in turn, which answer this.
-fn play(rt: &impl Abort, executive: &mut Executive<Model>, script: &[(Asked, Reply)]) {
+pub(crate) fn play(rt: &impl Abort, executive: &mut Executive<Model>, script: &[(Asked, Reply)]) {
     for (asked, reply) in script {
         let action = meant(rt, *asked);
         let answer = executive.act(action);
@@ -90,18 +95,18 @@ fn play(rt: &impl Abort, executive: &mut Executive<Model>, script: &[(Asked, Rep
 }
 
 /// What is read of a component, as the examples describe it; `None` is the end.
-struct Shown {
-    component: usize,
-    line: At,
-    next: Option<At>,
-    due: Option<At>,
-    last: At,
-    steps: usize,
-    pending: &'static [Said],
-    outgoing: &'static [Said],
-    owed: &'static [Said],
-    mail: &'static [Said],
-    words: &'static [i128],
+pub(crate) struct Shown {
+    pub(crate) component: usize,
+    pub(crate) line: At,
+    pub(crate) next: Option<At>,
+    pub(crate) due: Option<At>,
+    pub(crate) last: At,
+    pub(crate) steps: usize,
+    pub(crate) pending: &'static [Said],
+    pub(crate) outgoing: &'static [Said],
+    pub(crate) owed: &'static [Said],
+    pub(crate) mail: &'static [Said],
+    pub(crate) words: &'static [i128],
 }
 
 /// The stamp with these parts, or the end.
@@ -113,7 +118,12 @@ fn at_or_end(rt: &impl Abort, parts: Option<At>) -> Stamp {
 }
 
 /// Asserts what is read of a component; no anti-message waits.
-fn assert_shown(rt: &impl Abort, alloc: Global, executive: &Executive<Model>, shown: &Shown) {
+pub(crate) fn assert_shown(
+    rt: &impl Abort,
+    alloc: Global,
+    executive: &Executive<Model>,
+    shown: &Shown,
+) {
     let component = shown.component;
     assert!(rt; component < executive.network().len());
     let process = executive.contents(component);
@@ -168,7 +178,7 @@ pub(crate) fn row(
 }
 
 /// The executive of the row in which the generator has period 2 and the relay delay 1 and 0=8 at tick 3.
-fn in_a_row(rt: &impl Abort, alloc: Global, cancel: Cancel) -> Executive<Model> {
+pub(crate) fn in_a_row(rt: &impl Abort, alloc: Global, cancel: Cancel) -> Executive<Model> {
     let network = row(rt, alloc, 2, 1, 3);
     Executive::with_cancel(alloc, network, 10, cancel).expect(rt, "an executive")
 }
@@ -299,7 +309,7 @@ fn three_delivery_orders(rt: HostRuntime) {
 }
 
 /// Global virtual time while a message is outgoing, pending and consumed.
-static SEEN: [(Asked, Reply); 8] = [
+pub(crate) static SEEN: [(Asked, Reply); 8] = [
     (Asked::Step(G), Reply::Stepped((2, 0, 0), RecordKind::Out)),
     (Asked::Step(G), Reply::Stepped((2, 0, 1), RecordKind::Int)),
     (Asked::Raise, Reply::Raised((2, 0, 1))),
@@ -311,7 +321,7 @@ static SEEN: [(Asked, Reply); 8] = [
 ];
 
 /// A step that is cut, and all that is committed then.
-static CUT: [(Asked, Reply); 6] = [
+pub(crate) static CUT: [(Asked, Reply); 6] = [
     (Asked::Step(R), Reply::Stepped((3, 0, 0), RecordKind::Out)),
     (Asked::Back(R, (2, 0, 1)), Reply::Not(Refused::BeforeGvt)),
     (Asked::Back(R, (3, 0, 0)), Reply::Undone(1)),
@@ -321,7 +331,7 @@ static CUT: [(Asked, Reply); 6] = [
 ];
 
 /// The relay after that.
-static HARVESTED: Shown = Shown {
+pub(crate) static HARVESTED: Shown = Shown {
     component: R,
     line: (3, 0, 0),
     next: Some((3, 0, 0)),

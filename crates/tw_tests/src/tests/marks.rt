@@ -84,7 +84,6 @@ fn what_may_be_committed_is_not_rewound(rt: HostRuntime) {
     let mark = marked(&rt, &executive);
     play(&rt, &mut executive, &PASSED);
     assert!(rt; executive.rewind(&mark) == Err(Refused::Committed));
-    assert!(rt; executive.contents(G).history_len() == 1);
     play(
         &rt,
         &mut executive,
@@ -102,9 +101,10 @@ fn a_mark_of_other_components_is_refused(rt: HostRuntime) {
     let alone = Executive::new(alloc, network, 10).expect(&rt, "an executive");
     let mark = marked(&rt, &alone);
     let mut executive = in_a_row(&rt, alloc, Cancel::Aggressive);
+    let own = marked(&rt, &executive);
     play(&rt, &mut executive, &STEPS);
     assert!(rt; executive.rewind(&mark) == Err(Refused::NoSuch));
-    assert!(rt; executive.contents(R).history_len() == 3);
+    assert!(rt; executive.rewind(&own) == Ok(3));
 }
 
 /// The actions of two scripts, one after the other.

@@ -1,4 +1,4 @@
--- Lemmas on the lists that a pool is seen as.
+-- The lists that a pool is seen as: which indices they have, and what an index that comes or goes makes of them.
 use Rattle.std.proofs.Common.{◌≡◌, ◌≢◌, ℕ, zero, suc, ◌==◌, ◌<◌, Bool, true, false, List, [], ◌∷◌, ◌++◌, length, set, Option, Some, None, is_some, refl, sym, ap, inl, inr, arith}
 use Rattle.std.proofs.lemmas.Bool.{cases_eq, eq-eqb, ne_eqb}
 use Rattle.std.specs.Map.{lookup, remove_entry}

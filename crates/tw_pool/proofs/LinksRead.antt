@@ -8,11 +8,11 @@ use Rattle.tw_pool.specs.declared.links.Node.{Node}
 use Rattle.tw_pool.specs.declared.links.Ends.{Ends}
 use Rattle.tw_pool.specs.Lists.{list_at, IsLive, AreBelow, first_of, next_of, backward, live_count, AreDistinct, without_first}
 use Rattle.tw_pool.specs.Links.{no_ends, first_or, last_or, ends_of, list_between, lists_of, IsChain, HasDistinct, Holds, IsLinked, IsPool}
-use Rattle.tw_pool.proofs.ListLemmas.{lacks_append, distinct_right, lacks_before}
-use Rattle.tw_pool.proofs.IndexLemmas.{backward_at, lacks-reverse, next_found, first_is_live, last_is_live, next_is_live, prev_is_live}
-use Rattle.tw_pool.proofs.LinkLemmas.{chain_right}
-use Rattle.tw_pool.proofs.HoldLemmas.{ends_at, holds_is, holds_linked}
-use Rattle.tw_pool.proofs.ChangeLemmas.{spot, others_lack}
+use Rattle.tw_pool.proofs.ListsSeen.{lacks_append, distinct_right, lacks_before}
+use Rattle.tw_pool.proofs.ListsByIndex.{backward_at, lacks-reverse, next_found, first_is_live, last_is_live, next_is_live, prev_is_live}
+use Rattle.tw_pool.proofs.NodeLinks.{chain_right}
+use Rattle.tw_pool.proofs.LinksHold.{ends_at, holds_is, holds_linked}
+use Rattle.tw_pool.proofs.LinkChanges.{spot, others_lack}
 
 ends-empty : (T : Type 0) (n : ℕ) → replicate n no_ends ≡ map (ends_of {T = T}) (replicate n [])
 ends-empty T zero = refl

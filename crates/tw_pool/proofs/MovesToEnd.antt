@@ -3,7 +3,7 @@ use Rattle.std.proofs.Common.{◌≡◌, ◌≢◌, ℕ, ◌+◌, ◌-◌, ◌<�
 use Rattle.std.proofs.lemmas.Bool.{cases_eq}
 use Rattle.std.proofs.lemmas.List.{drop-take, length-set, get_or-set_same, get_or-set_other, reverse-append}
 use Rattle.tw_pool.specs.Lists.{list_at, item_of, IsLive, first_of, next_of, backward, without, with_item_last, with_last_moved, AreDistinct}
-use Rattle.tw_pool.proofs.IndexLemmas.{moved, item_is, item_live, next_is, prev_is}
+use Rattle.tw_pool.proofs.ListsByIndex.{moved, item_is, item_live, next_is, prev_is}
 
 module _ {T : Type 0} where
   -- the (k+1)-th item from the end of a list

@@ -6,7 +6,7 @@ use Rattle.tw_heap.specs.declared.entries.Entry.{Entry}
 use Rattle.tw_heap.specs.Entries.{is_before}
 use Rattle.tw_heap.specs.Heap.{no_entry, at, IsChild, InOrder, IsHeap, IsHeapAbove, IsHeapBelow}
 use Rattle.tw_heap.proofs.EntryOrder.{entries_ordered}
-use Rattle.tw_heap.proofs.OrderLemmas.{asymmetric}
+use Rattle.tw_heap.proofs.RisingLists.{asymmetric}
 
 -- ## The order of entries, where it does not hold
 

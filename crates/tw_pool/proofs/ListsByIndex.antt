@@ -4,7 +4,7 @@ use Rattle.std.proofs.lemmas.Bool.{cases_eq, eq-eqb, ne_eqb}
 use Rattle.std.proofs.lemmas.List.{length-set, get_or-set_same, get_or-set_other, reverse-append, reverse-reverse, length-map}
 use Rattle.std.specs.Map.{lookup, remove_entry}
 use Rattle.tw_pool.specs.Lists.{list_at, item_of, IsLive, first_of, after_in, before_in, next_of, backward, without, without_first, with_item_last, with_item_before, Lacks, AreDistinct}
-use Rattle.tw_pool.proofs.ListLemmas.{lacks_left, lacks_right, lacks_append, stands_in, lookup_lacks, lookup_found, without_found, inserted_found}
+use Rattle.tw_pool.proofs.ListsSeen.{lacks_left, lacks_right, lacks_append, stands_in, lookup_lacks, lookup_found, without_found, inserted_found}
 
 module _ {T : Type 0} where
   -- a list read in the other direction

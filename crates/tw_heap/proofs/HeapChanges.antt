@@ -9,8 +9,8 @@ use Rattle.tw_heap.specs.Order.{insert_by, sort_by}
 use Rattle.tw_heap.specs.Entries.{is_before, entry_of, without, first_of}
 use Rattle.tw_heap.specs.Heap.{no_entry, at, IsChild, InOrder, IsHeap, IsHeapAbove, IsHeapBelow, IsHeapAround, IsPlaced, IsKept}
 use Rattle.tw_heap.proofs.EntryOrder.{entries_ordered}
-use Rattle.tw_heap.proofs.OrderLemmas.{sorted_permutation, sorted_push, sorted_least, IsLeast}
-use Rattle.tw_heap.proofs.HeapLemmas.{child_above, parent_of, not_trans, not_itself, not_less, one_parent}
+use Rattle.tw_heap.proofs.RisingLists.{sorted_permutation, sorted_push, sorted_least, IsLeast}
+use Rattle.tw_heap.proofs.HeapMoves.{child_above, parent_of, not_trans, not_itself, not_less, one_parent}
 
 pub whole : {X : Type 0} (n : ℕ) (xs ys : List X) → length xs ≡ n → take n (xs ++ drop (length xs) ys) ≡ xs
 whole n xs ys len = take-append-le n xs (drop (length xs) ys) (omega (arith, len)) ∙ take_all n xs (omega (arith, len))

@@ -7,7 +7,7 @@ use Rattle.tw_pool.specs.declared.links.Node.{Node}
 use Rattle.tw_pool.specs.declared.links.Ends.{Ends}
 use Rattle.tw_pool.specs.Lists.{list_at, Lacks}
 use Rattle.tw_pool.specs.Links.{no_ends, first_or, last_or, ends_of, walk, list_between, lists_of, IsChain, Holds, IsLinked, edited, with_next, with_prev, joined_nodes, with_first, with_last, joined_ends, with_len, unlinked_ends, linked_ends}
-use Rattle.tw_pool.proofs.LinkLemmas.{edited_at, edited_other, last_or-append}
+use Rattle.tw_pool.proofs.NodeLinks.{edited_at, edited_other, last_or-append}
 
 module _ {T : Type 0} where
   -- ## The lists are what a walk reads

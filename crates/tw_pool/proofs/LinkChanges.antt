@@ -8,9 +8,9 @@ use Rattle.tw_pool.specs.declared.links.Node.{Node}
 use Rattle.tw_pool.specs.declared.links.Ends.{Ends}
 use Rattle.tw_pool.specs.Lists.{list_at, item_of, without, live_count, with_item_last, with_item_before, IsLive, Lacks}
 use Rattle.tw_pool.specs.Links.{no_ends, first_or, last_or, ends_of, list_between, lists_of, IsChain, HasDistinct, Holds, IsLinked, IsPool, IsThere, edited, with_next, with_prev, joined_nodes, joined_ends, unlinked_ends, linked_nodes, linked_ends, stored, SameItems, IsFree}
-use Rattle.tw_pool.proofs.LinkLemmas.{edited_at, edited_other, last_or-append, chain_left, chain_right, Keeps, chain_kept, keeps_next, keeps_prev, chain_joined}
-use Rattle.tw_pool.proofs.ListLemmas.{lacks_none, lacks_left, lacks_right, lacks_append, distinct_left, distinct_right, lacks_before, distinct_out, distinct_in, last_lacks, first_lacks, stands_in, without_found, inserted_found, item_free}
-use Rattle.tw_pool.proofs.HoldLemmas.{IsOf, only_joined, is_of-joined, is_of-last, is_of-first, chain_only, chain_lacks, ends_at, joined_len, unlinked_ends_are, linked_ends_are, holds_is, holds_linked}
+use Rattle.tw_pool.proofs.NodeLinks.{edited_at, edited_other, last_or-append, chain_left, chain_right, Keeps, chain_kept, keeps_next, keeps_prev, chain_joined}
+use Rattle.tw_pool.proofs.ListsSeen.{lacks_none, lacks_left, lacks_right, lacks_append, distinct_left, distinct_right, lacks_before, distinct_out, distinct_in, last_lacks, first_lacks, stands_in, without_found, inserted_found, item_free}
+use Rattle.tw_pool.proofs.LinksHold.{IsOf, only_joined, is_of-joined, is_of-last, is_of-first, chain_only, chain_lacks, ends_at, joined_len, unlinked_ends_are, linked_ends_are, holds_is, holds_linked}
 
 module _ {T : Type 0} where
   keeps_others : (s t : Slab (Node T)) (at : ℕ) (l : List (ℕ × T)) → ((j : ℕ) → j ≢ at → get t j ≡ get s j) → Lacks (Some at) l → Keeps s t l

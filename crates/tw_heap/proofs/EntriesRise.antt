@@ -5,8 +5,8 @@ use Rattle.tw_heap.specs.Order.{insert_by, sort_by}
 use Rattle.tw_heap.specs.Entries.{is_before, entry_of, LeadsTo, IsRising, AreDistinct, AreBelow}
 use Rattle.tw_heap.specs.Heap.{at, IsPlaced}
 use Rattle.tw_heap.proofs.EntryOrder.{entries_ordered}
-use Rattle.tw_heap.proofs.EntryLemmas.{insert-past, insert-here, vacant-first, vacant-behind, distinct-insert, below-insert}
-use Rattle.tw_heap.proofs.EventLemmas.{none_has, none_entry, none_sorted, none_of_entry}
+use Rattle.tw_heap.proofs.EntriesByIndex.{insert-past, insert-here, vacant-first, vacant-behind, distinct-insert, below-insert}
+use Rattle.tw_heap.proofs.HeapChanges.{none_has, none_entry, none_sorted, none_of_entry}
 
 leads-insert : (y e : Entry) (es : List Entry) → is_before y e ≡ true → LeadsTo y es → LeadsTo y (insert_by is_before e es)
 leads-insert y e [] before leads = before

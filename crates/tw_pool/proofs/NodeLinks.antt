@@ -1,4 +1,4 @@
--- Lemmas on the links of a pool's nodes.
+-- The links of a pool's nodes: chains that are split, joined and changed at an end.
 use Rattle.std.proofs.Common.{◌≡◌, ◌≢◌, ℕ, List, [], ◌∷◌, ◌++◌, Option, Some, None, refl, sym, ap, subst, ◌∙◌, inl, inr}
 use Rattle.std.proofs.lemmas.Bool.{cases_eq}
 use Rattle.slab.specs.Slab.{Slab, get, with_value}

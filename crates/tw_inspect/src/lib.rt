@@ -2,7 +2,8 @@
 //! lines of a script, each byte for byte.
 //!
 //! - [`report`]: global virtual time, how many records are committed, and a line for each component.
-//! - [`describe`]: the line of one component, and all its messages.
+//! - [`describe`]: the line of one component, and all its messages. [`components_law`] says that no
+//!   component is left out.
 //! - [`push_reply`]: the line that says what came of an action ([`Reply`]).
 //!
 //! They read an executive and change nothing of it. Each is refused for want of memory alone (4). The
@@ -15,4 +16,4 @@ pub mod replies;
 pub mod reports;
 
 pub use replies::{Reply, push_reply};
-pub use reports::{describe, report};
+pub use reports::{components_law, describe, report};

@@ -1,6 +1,6 @@
 //! The report of an executive, and the description of a component.
 
-ghost use Rattle.std.specs.Prelude.{◌≡◌, ◌<◌, ◌++◌, IfOk, OnOk, length, string_bytes};
+ghost use Rattle.std.specs.Prelude.{ℕ, ◌≡◌, ◌<◌, ◌++◌, IfOk, IsSome, OnOk, length, string_bytes};
 ghost use Rattle.tw_inspect.specs.Reports.{component_line, describe_text, gvt_line, messages_part, report_text, shown_at, text_if};
 ghost use Rattle.tw_msgs.specs.Messages.{Sorted};
 
@@ -66,6 +66,15 @@ pub fn describe<M: Atomic>(
     )?;
     add_messages(alloc, &mut text, network, process, mail)?;
     Ok(text)
+}
+
+/// Every component of an executive is there, so that no line of a report and no description is left out.
+/// The call does nothing.
+pub fn components_law<M: Atomic>(executive: &Executive<M>)
+    ensures { (c : ℕ) → c < length executive.now.network.models → IsSome (shown_at M.meaning executive.now c) }
+{
+    executive.facts();
+    executive.network().facts();
 }
 
 // Global virtual time, and how many records are committed.

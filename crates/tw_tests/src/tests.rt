@@ -4,6 +4,7 @@ mod executive;
 mod fossils;
 mod gvt;
 mod heap;
+mod inspect;
 mod lines;
 mod lists;
 mod mail;

@@ -1,7 +1,10 @@
 //! Replies to the lines of a script.
 
-ghost use Rattle.std.specs.Prelude.{◌≡◌, ◌++◌, OnOk, OnErr, string_bytes};
-ghost use Rattle.tw_inspect.specs.Replies.{received_text, done_text, reply_text, replied};
+ghost use Rattle.std.specs.Prelude.{◌≡◌, ◌++◌, OnOk, OnErr, Some, codes, string_bytes};
+ghost use Rattle.tw_exec.specs.Actions.{answered, reason};
+ghost use Rattle.tw_inspect.specs.Replies.{answer_text, received_text, reply_text, replied};
+ghost use Rattle.tw_rollback.specs.Received.{meant};
+ghost use Rattle.tw_theory.specs.Executive as theory;
 
 use std::alloc::AllocError;
 use tw_exec::{Done, Refused};
@@ -32,7 +35,7 @@ impl From<Result<Done, Refused>> for Reply {
 }
 
 fn add_received(text: &mut String, came: Received) -> Result<(), AllocError>
-    ensures { OnOk result (string_bytes text.new ≡ string_bytes text.old ++ received_text came) }
+    ensures { OnOk result (string_bytes text.new ≡ string_bytes text.old ++ received_text (meant came)) }
 {
     match came {
         Received::Placed => text.push_str("placed"),
@@ -43,7 +46,7 @@ fn add_received(text: &mut String, came: Received) -> Result<(), AllocError>
 }
 
 fn add_done(text: &mut String, done: Done) -> Result<(), AllocError>
-    ensures { OnOk result (string_bytes text.new ≡ string_bytes text.old ++ done_text done) }
+    ensures { OnOk result (string_bytes text.new ≡ string_bytes text.old ++ answer_text (answered done)) }
 {
     match done {
         Done::Stepped(stamp, kind) => {
@@ -87,3 +90,10 @@ pub fn push_reply(text: &mut String, reply: Reply) -> Result<(), AllocError>
     add_reply(&mut piece, reply)?;
     text.push_str(piece.as_str())
 }
+
+/// A reply is the line of what the theory answers to the action, where the theory has an answer: of a
+/// refusal for want of memory or of nodes (4, 12) it knows nothing. The call does nothing.
+pub fn replies_law()
+    ensures done { (done : _) → reply_text (Reply.Done done) ≡ answer_text (answered done) ++ codes "\n" }
+    ensures refused { (why : _) (known : _) → reason why ≡ Some known → reply_text (Reply.Refused why) ≡ answer_text (theory.Refused known) ++ codes "\n" }
+{}

@@ -1,0 +1,51 @@
+use Rattle.std.proofs.Common.{◌≡◌, None, Some, sym, ap, subst, ◌∙◌, refl, true}
+use Rattle.std.specs.Prelude.{IfSome, slice_get, slice_set}
+use Rattle.tw_exec.specs.Chains.{start_at}
+use Rattle.tw_theory.specs.Exchange.{bound_of}
+use Rattle.tw_workers.specs.Exchanged.{IsExact, IsNext, bound_at, busy_in}
+use Rattle.tw_workers.proofs.Drawing.{for_there, if_there}
+use Rattle.tw_workers.proofs.Following.{busy_out, exact_out}
+use Rattle.tw_workers.proofs.exchange.Exchange.draw.Given.{Over}
+use Rattle.tw_workers.proofs.exchange.Exchange.draw.Goals.{After-take_out}
+use Rattle.tw_workers.proofs.exchange.Exchange.draw.Goals as goal
+
+-- the window ends where the bound is
+bound_is : (g : Over) (c : After-take_out g) → c.bound_of-bound.result ≡ bound_at c.args.window c.args.self.now
+bound_is g c = c.bound_of-bound.ensures ∙ (λ i. bound_of (c.until.ensures i) (c.gvt.ensures i) c.args.window) ∙ ap (bound_at c.args.window) c.self.view_is
+
+-- what the order is for
+started : (g : Over) (c : After-take_out g) → c.in-Ok.start ≡ start_at c.bound_of-bound.result c.args.burst c.in-Some.component c.self.inside.executive.network c.in-Some.ensures.next.process
+started g c =
+    let e = c.self.inside.executive in
+    if_there (λ p. c.in-Ok.start ≡ start_at c.bound_of-bound.result c.args.burst c.in-Some.component e.network p) (slice_get e.world.processes c.in-Some.component) c.in-Some.ensures.next.process
+    (ap (λ x. slice_get x.executive.world.processes c.in-Some.component) c.self.view_is ∙ c.in-Some.ensures.next.at) c.in-Ok.ensures.start
+
+same : (g : Over) (c : After-take_out g) → c.in-Ok.start.component ≡ c.in-Some.component
+same g c = ap (λ s. s.component) (started g c)
+
+pub returns-in_default-clause-none : goal.returns-in_default-clause-none
+returns-in_default-clause-none g c = λ _. c.next_before.ensures.none c.in_default.is
+
+pub invariant_of-self : goal.invariant_of-self
+invariant_of-self g c =
+    subst (λ a. IsExact a c.self.inside.executive.world.processes) (sym c.take_out.ensures) (exact_out c.self.inside.agenda c.self.inside.executive.world.processes c.in-Some.component c.self.invariant)
+
+pub returns-clause-drawn : goal.returns-clause-drawn
+returns-clause-drawn g c = subst (IsNext c.args.window c.args.self.now) (sym (same g c)) c.in-Some.ensures.next
+
+pub returns-clause-start : goal.returns-clause-start
+returns-clause-start g c =
+    let now = c.args.self.now in
+    let p = c.in-Some.ensures.next.process in
+    for_there (λ p. c.in-Ok.start ≡ start_at (bound_at c.args.window now) c.args.burst c.in-Ok.start.component now.executive.network p) (slice_get now.executive.world.processes c.in-Ok.start.component) p
+    (ap (slice_get now.executive.world.processes) (same g c) ∙ c.in-Some.ensures.next.at)
+    (started g c ∙ (λ i. start_at (bound_is g c i) c.args.burst (sym (same g c) i) (c.self.view_is i).executive.network p))
+
+pub returns-clause-ready : goal.returns-clause-ready
+returns-clause-ready g c = λ m at.
+    c.in-Ok.ensures.ready m (ap (λ x. slice_get x.executive.network.models c.in-Some.component) c.self.view_is ∙ ap (slice_get c.args.self.now.executive.network.models) (sym (same g c)) ∙ at)
+
+pub returns-clause-busy : goal.returns-clause-busy
+returns-clause-busy g c =
+    let busy = ap busy_in c.take_out.ensures ∙ busy_out c.self.inside.agenda c.in-Some.component ∙ (λ i. slice_set (c.self.view_is i).busy (sym (same g c) i) true) in
+    λ i. record { executive = (c.self.view_is i).executive; busy = busy i }

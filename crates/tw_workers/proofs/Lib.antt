@@ -4,3 +4,9 @@ pub mod Indexing
 pub mod Following
 -- the component that is given out
 pub mod Drawing
+-- what is left of a sweep, and what was done of it
+pub mod UnderWay
+-- whether anything is left to post and deliver
+pub mod Idle
+-- a delivery more, a pass more
+pub mod PassByPass

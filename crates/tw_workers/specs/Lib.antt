@@ -1,3 +1,4 @@
 pub mod Refusals
 pub mod Agenda
 pub mod Exchanged
+pub mod Sweeping

@@ -11,6 +11,7 @@
 //! | `orders` | [`Order`] and [`Prepareds`], which must be spent; `compute`, which takes no part of the exchange |
 //! | `gate` | [`Gate`]: told of each order before it is worked out |
 //! | `giving` | `draw`, `finish`, `give_back` |
+//! | `sweeping` | `sweep` |
 //!
 //! `agenda` finds the component with the least next step without looking at all of them, and `keeping` keeps it so.
 #![tactic(auto)]
@@ -22,8 +23,9 @@ mod giving;
 mod keeping;
 pub mod orders;
 mod refused;
+mod sweeping;
 
 pub use exchange::Exchange;
 pub use gate::{Gate, Open};
 pub use orders::{Order, Prepareds, compute};
-pub use refused::NoSuch;
+pub use refused::{NoSuch, SweepRefused};

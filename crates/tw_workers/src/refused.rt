@@ -1,7 +1,7 @@
 //! What an exchange refuses.
 
 ghost use Rattle.std.specs.Prelude.{◌≡◌};
-ghost use Rattle.tw_workers.specs.Refusals.{no_such};
+ghost use Rattle.tw_workers.specs.Refusals.{no_such, sweep_refusal_of};
 
 use thiserror::Error;
 use tw_vtime::Refusal;
@@ -16,5 +16,27 @@ impl From<NoSuch> for Refusal {
 
     fn from(_refused: NoSuch) -> Refusal {
         Refusal::NoSuch
+    }
+}
+
+/// Why a sweep went no further. What was done of it stays.
+#[derive(Clone, Copy, Debug, PartialEq, Eq, Error)]
+pub enum SweepRefused {
+    /// A growth of memory was refused: refusal 4.
+    #[error("out of memory")]
+    OutOfMemory,
+    /// The lists of a process would have more than 1,048,576 nodes: refusal 12.
+    #[error("the pool is full")]
+    Full,
+}
+
+impl From<SweepRefused> for Refusal {
+    ghost from_gives = { λ refused refusal. refusal ≡ sweep_refusal_of refused };
+
+    fn from(refused: SweepRefused) -> Refusal {
+        match refused {
+            SweepRefused::OutOfMemory => Refusal::OutOfMemory,
+            SweepRefused::Full => Refusal::Full,
+        }
     }
 }

@@ -10,3 +10,7 @@ pub mod UnderWay
 pub mod Idle
 -- a delivery more, a pass more
 pub mod PassByPass
+-- a step at gvt made and taken back
+pub mod Trying
+-- how a run stands, looked at component by component
+pub mod Standing

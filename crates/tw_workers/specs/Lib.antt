@@ -2,3 +2,4 @@ pub mod Refusals
 pub mod Agenda
 pub mod Exchanged
 pub mod Sweeping
+pub mod States

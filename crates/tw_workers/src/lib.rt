@@ -12,6 +12,7 @@
 //! | `gate` | [`Gate`]: told of each order before it is worked out |
 //! | `giving` | `draw`, `finish`, `give_back` |
 //! | `sweeping` | `sweep` |
+//! | `states` | `state`: whether the run is complete, or in a fault ([`State`]) |
 //!
 //! `agenda` finds the component with the least next step without looking at all of them, and `keeping` keeps it so.
 #![tactic(auto)]
@@ -23,9 +24,11 @@ mod giving;
 mod keeping;
 pub mod orders;
 mod refused;
+pub mod states;
 mod sweeping;
 
 pub use exchange::Exchange;
 pub use gate::{Gate, Open};
 pub use orders::{Order, Prepareds, compute};
 pub use refused::{NoSuch, SweepRefused};
+pub use states::State;

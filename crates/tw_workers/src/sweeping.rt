@@ -73,7 +73,7 @@ fn all_idle<M: Atomic>(executive: &Executive<M>) -> bool
 }
 
 // Whether no mailbox holds anything.
-fn all_empty<M: Atomic>(executive: &Executive<M>) -> bool
+pub(crate) fn all_empty<M: Atomic>(executive: &Executive<M>) -> bool
     ensures { result ≡ all_empty executive.now.world.mail }
 {
     executive.facts();

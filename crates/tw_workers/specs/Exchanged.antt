@@ -3,11 +3,14 @@
 --     with_executive e x, with_busy c b x      the same exchange, changed in one part
 --     bound_at window x      the steps of a component that is given out now stand before it
 --     IsNext window x c      c is the component to be given out
+--     IsOrder window burst x order      its order
 --     NoneNext window x      there is none
 --     IsExact stamps ps      each component that is free stands in the agenda under its next stamp
 --     IsExactBut b stamps ps, IsExactUpTo n stamps ps      each but b does; each below n
 use Rattle.std.specs.Prelude.{◌≡◌, ◌≢◌, ◌<◌, ◌+◌, ℕ, nat_le, if◌then◌else◌, Bool, true, false, List, map, length, Option, Some, None, slice_get, slice_set}
+use Rattle.tw_exec.specs.Chains.{start_at}
 use Rattle.tw_exec.specs.Running.{Running}
+use Rattle.tw_theory.specs.Chains.{Start}
 use Rattle.tw_theory.specs.Contents.{Process, next}
 use Rattle.tw_theory.specs.Exchange.{IsDrawn, bound_of}
 use Rattle.tw_vtime.specs.Stamps.{max_tick, never, stamp, tick_of}
@@ -29,6 +32,11 @@ bound_at window x = bound_of x.executive.until x.executive.world.gvt window
 
 abbrev pub IsNext : {M S : Type 0} → ℕ → Exchanged M S → ℕ → Type 0
 IsNext window x c = IsDrawn x.executive.until x.executive.world.gvt window x.busy x.executive.world.processes c
+
+-- an order of that component: from where it stands, for at most burst steps within the window
+pub record IsOrder {M S : Type 0} (window burst : ℕ) (x : Exchanged M S) (order : Start S) : Type 0 where
+  pub next : IsNext window x order.component
+  pub start : order ≡ start_at (bound_at window x) burst order.component x.executive.network next.process
 
 abbrev pub NoneNext : {M S : Type 0} → ℕ → Exchanged M S → Type 0
 NoneNext window x = (c : ℕ) → IsNext window x c → ⊥

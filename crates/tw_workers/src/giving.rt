@@ -1,11 +1,11 @@
 //! Components given out, and handed in.
 
 ghost use Rattle.std.specs.Prelude.{◌≡◌, ◌↔◌, ◌≤◌, true, false, IfOk, IfSome, IsErr, None, OnErr, OnOk, Some, length, slice_get, slice_set};
-ghost use Rattle.tw_exec.specs.Chains.{start_at, IsInstalledOn};
+ghost use Rattle.tw_exec.specs.Chains.{IsInstalledOn};
 ghost use Rattle.tw_theory.specs.Exchange.{bound_of};
 ghost use Rattle.tw_theory.specs.Standing.{IsReady};
 ghost use Rattle.tw_vtime.specs.Stamps.{max_microstep, max_tick, stamp};
-ghost use Rattle.tw_workers.specs.Exchanged.{IsNext, NoneNext, bound_at, window_end, with_busy};
+ghost use Rattle.tw_workers.specs.Exchanged.{IsNext, IsOrder, NoneNext, bound_at, window_end, with_busy};
 
 use crate::exchange::Exchange;
 use crate::keeping::free;
@@ -24,9 +24,7 @@ impl<M: Atomic> Exchange<M> {
     /// Refused for want of memory (4); then nothing changes. It costs as many steps as the logarithm of the number of components,
     /// beside the copies in the order.
     pub fn draw(&mut self, burst: usize, window: u64) -> Result<Option<Order<M>>, AllocError>
-        ensures drawn { IfOk result (λ drawn. IfSome drawn (λ order. IsNext window self.old order.component)) }
-        ensures start { IfOk result (λ drawn. IfSome drawn (λ order. IfSome (slice_get self.old.executive.world.processes order.component)
-            (λ p. order ≡ start_at (bound_at window self.old) burst order.component self.old.executive.network p))) }
+        ensures drawn { IfOk result (λ drawn. IfSome drawn (IsOrder window burst self.old)) }
         ensures ready { IfOk result (λ drawn. IfSome drawn (λ order. (m : M) → slice_get self.old.executive.network.models order.component ≡ Some m
             → IsReady (M.valid m) (M.meaning m) order.component order.now order.messages)) }
         ensures limit { IfOk result (λ drawn. IfSome drawn (λ order. order.micro_limit ≤ max_microstep)) }

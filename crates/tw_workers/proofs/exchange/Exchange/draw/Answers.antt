@@ -1,9 +1,11 @@
-use Rattle.std.proofs.Common.{◌≡◌, None, Some, sym, ap, subst, ◌∙◌, refl, true}
+use Rattle.std.proofs.Common.{◌≡◌, ◌⊎◌, ◌<◌, ◌≤◌, ℕ, None, Some, false, sym, ap, subst, ◌∙◌, refl, true}
 use Rattle.std.specs.Prelude.{IfSome, slice_get, slice_set}
 use Rattle.tw_exec.specs.Chains.{start_at}
-use Rattle.tw_theory.specs.Exchange.{bound_of}
+use Rattle.tw_theory.specs.Contents as Contents
+use Rattle.tw_theory.specs.Contents.{Process}
+use Rattle.tw_theory.specs.Exchange.{MayDraw, bound_of}
 use Rattle.tw_workers.specs.Exchanged.{IsExact, IsNext, bound_at, busy_in}
-use Rattle.tw_workers.proofs.Drawing.{for_there, if_there}
+use Rattle.tw_workers.proofs.Drawing.{if_there}
 use Rattle.tw_workers.proofs.Following.{busy_out, exact_out}
 use Rattle.tw_workers.proofs.exchange.Exchange.draw.Given.{Over}
 use Rattle.tw_workers.proofs.exchange.Exchange.draw.Goals.{After-take_out}
@@ -31,15 +33,20 @@ invariant_of-self g c =
     subst (λ a. IsExact a c.self.inside.executive.world.processes) (sym c.take_out.ensures) (exact_out c.self.inside.agenda c.self.inside.executive.world.processes c.in-Some.component c.self.invariant)
 
 pub returns-clause-drawn : goal.returns-clause-drawn
-returns-clause-drawn g c = subst (IsNext c.args.window c.args.self.now) (sym (same g c)) c.in-Some.ensures.next
-
-pub returns-clause-start : goal.returns-clause-start
-returns-clause-start g c =
+returns-clause-drawn g c =
     let now = c.args.self.now in
-    let p = c.in-Some.ensures.next.process in
-    for_there (λ p. c.in-Ok.start ≡ start_at (bound_at c.args.window now) c.args.burst c.in-Ok.start.component now.executive.network p) (slice_get now.executive.world.processes c.in-Ok.start.component) p
-    (ap (slice_get now.executive.world.processes) (same g c) ∙ c.in-Some.ensures.next.at)
-    (started g c ∙ (λ i. start_at (bound_is g c i) c.args.burst (sym (same g c) i) (c.self.view_is i).executive.network p))
+    let next = c.in-Some.ensures.next in
+    let k = same g c in
+    record {
+      next = record {
+        process = next.process;
+        at = ap (slice_get now.executive.world.processes) k ∙ next.at;
+        free = ap (slice_get now.busy) k ∙ next.free;
+        may = next.may;
+        least = subst (λ b. (d : ℕ) (q : Process _) → slice_get now.executive.world.processes d ≡ Some q → slice_get now.busy d ≡ Some false → MayDraw now.executive.until now.executive.world.gvt c.args.window q → (Contents.next next.process < Contents.next q) ⊎ ((Contents.next next.process ≡ Contents.next q) × (b ≤ d))) (sym k) next.least;
+      };
+      start = started g c ∙ (λ i. start_at (bound_is g c i) c.args.burst (sym k i) (c.self.view_is i).executive.network next.process);
+    }
 
 pub returns-clause-ready : goal.returns-clause-ready
 returns-clause-ready g c = λ m at.

@@ -1,12 +1,12 @@
 -- Which component is given out.
-use Rattle.std.proofs.Common.{◌≡◌, ℕ, ◌<◌, ◌≤◌, ◌⊎◌, List, Option, None, Some, Bool, true, false, refl, sym, ap, subst, ◌∙◌, inl, inr, arith}
+use Rattle.std.proofs.Common.{◌≡◌, ℕ, ◌<◌, ◌≤◌, List, Option, None, Some, true, false, refl, sym, ap, subst, ◌∙◌, inl, inr, arith}
 use Rattle.std.specs.Option.{option_map}
 use Rattle.std.specs.Prelude.{IfSome, slice_get}
 use Rattle.std.proofs.lemmas.Bool.{true≢false}
 use Rattle.std.proofs.lemmas.Option.{none-some, same_Some, slice_get-map, slice_get_within, slice_get_cases}
 use Rattle.tw_laws.proofs.Drawn.{draw_law}
 use Rattle.tw_theory.specs.Contents.{Process, next}
-use Rattle.tw_theory.specs.Exchange.{IsDrawn, MayDraw, bound_of}
+use Rattle.tw_theory.specs.Exchange.{IsDrawn, bound_of}
 use Rattle.tw_vtime.specs.Stamps.{max_tick}
 use Rattle.tw_workers.specs.Agenda.{AllOut, IsLeast}
 use Rattle.tw_workers.specs.Exchanged.{IsExact, busy_in, is_out}

@@ -1,15 +1,14 @@
 -- How the agenda follows the executive: an action changes no process but its component's, and a component that is put under its next stamp stands as it should.
-use Rattle.std.proofs.Common.{◌≡◌, ◌≢◌, ◌⊎◌, ℕ, zero, suc, ◌+◌, ◌<◌, ◌≤◌, Bool, true, false, List, [], ◌∷◌, length, map, Option, None, Some, cond, refl, sym, ap, subst, ◌∙◌, inl, inr, arith}
-use Rattle.std.specs.Option.{option_map}
+use Rattle.std.proofs.Common.{◌≡◌, ◌≢◌, ◌⊎◌, ℕ, zero, suc, ◌+◌, ◌<◌, ◌≤◌, Bool, true, false, List, [], ◌∷◌, length, Option, None, Some, refl, sym, ap, subst, ◌∙◌, inl, inr, arith}
 use Rattle.std.specs.Prelude.{nat_lt, replicate, slice_get, slice_set, Result, Ok, Err}
-use Rattle.std.proofs.lemmas.Bool.{cases_eq, cases_lt, cond_both, true≢false}
+use Rattle.std.proofs.lemmas.Bool.{cases_eq, cases_lt, cond_both}
 use Rattle.std.proofs.lemmas.List.{length-map, length-set, map-set}
-use Rattle.std.proofs.lemmas.Option.{none-some, same_Some, slice_get-map, slice_get_past, slice_get_within}
-use Rattle.tw_laws.proofs.Inverse.{set_here, set_there}
+use Rattle.std.proofs.lemmas.Option.{none-some, same_Some, slice_get_past, slice_get_within}
+use Rattle.tw_laws.proofs.Inverse.{set_there}
 use Rattle.tw_laws.specs.Chains.{steps_of_one}
 use Rattle.tw_msgs.specs.declared.message.Item.{Item}
 use Rattle.tw_theory.specs.Contents.{Process, next, settle, with_outgoing, with_step, cut, receive, harvested}
-use Rattle.tw_theory.specs.Executive.{World, Action, Step, Post, Deliver, Back, Raise, Harvest, Answer, Refused, Undone, NothingDue, BeforeGvt, act, act_step, act_post, act_deliver, act_back, act_harvest, if_made, replay, mail_of, with_process}
+use Rattle.tw_theory.specs.Executive.{World, Action, Step, Post, Deliver, Back, Raise, Harvest, Answer, Refused, NothingDue, BeforeGvt, act, act_step, act_post, act_deliver, act_back, act_harvest, if_made, replay, mail_of}
 use Rattle.tw_theory.specs.LocalRun.{Made, NoStep, local_step}
 use Rattle.tw_theory.specs.Memory.{component_of}
 use Rattle.tw_theory.specs.Network.{Network}

@@ -1,13 +1,12 @@
 -- How the heap of an agenda follows its stamps.
-use Rattle.std.proofs.Common.{◌≡◌, ◌≢◌, ◌⊎◌, ℕ, zero, suc, ◌+◌, ◌<◌, ◌≤◌, ◌==◌, Bool, true, false, List, [], ◌∷◌, length, Option, None, Some, cond, refl, sym, ap, subst, ◌∙◌, inl, inr, arith, pos}
+use Rattle.std.proofs.Common.{◌≡◌, ◌≢◌, ◌⊎◌, ℕ, zero, suc, ◌+◌, ◌<◌, ◌≤◌, ◌==◌, Bool, true, false, List, [], ◌∷◌, length, Option, None, Some, cond, refl, sym, ap, subst, ◌∙◌, inl, inr, arith}
 use Rattle.std.specs.Option.{is_some}
 use Rattle.std.specs.Prelude.{◌&&◌, IfSome, nat_lt, nat_le, slice_get, slice_set, replicate}
 use Rattle.std.proofs.lemmas.Bool.{and_parts, cases_eq, eqb-true, leb-true, ltb-true, or_cases, true≢false}
 use Rattle.std.proofs.lemmas.List.{length-set}
-use Rattle.std.proofs.lemmas.Option.{none-some, same_Some, slice_get_within}
+use Rattle.std.proofs.lemmas.Option.{none-some, same_Some}
 use Rattle.tw_heap.specs.Entries.{Events, IsRising, LeadsTo, entry_of, first_of, is_before}
 use Rattle.tw_heap.specs.declared.entries.Entry.{Entry}
-use Rattle.tw_heap.proofs.EntryLemmas.{entry_of-first}
 use Rattle.tw_heap.proofs.EntryOrder.{before-at_or_before, entries_ordered}
 use Rattle.tw_workers.specs.Agenda.{IsIndexed, IsLeast, AllOut, entry_for, key, out_count}
 use Rattle.tw_laws.proofs.Inverse.{set_here, set_there}

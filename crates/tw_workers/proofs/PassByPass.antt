@@ -1,6 +1,5 @@
 -- What is left of a sweep after a delivery, and after a pass.
-use Rattle.std.proofs.Common.{◌≡◌, ℕ, ◌<◌, ◌≤◌, ◌++◌, ◌∷◌, List, [], suc, Some, false, length, true, arith}
-use Rattle.std.specs.Prelude.{slice_get}
+use Rattle.std.proofs.Common.{◌≡◌, ℕ, ◌<◌, ◌≤◌, ◌++◌, ◌∷◌, [], suc, false, length, true, arith}
 use Rattle.std.proofs.lemmas.List.{length-map}
 use Rattle.tw_atomic.specs.Atomic.{Meaning}
 use Rattle.tw_exec.specs.Running.{IsSoundly, Running, after}
@@ -9,7 +8,7 @@ use Rattle.tw_laws.proofs.Sweeping.{work_falls}
 use Rattle.tw_laws.proofs.Swept.{sweep_law, sweep_steps}
 use Rattle.tw_network.specs.Contents.{network_of}
 use Rattle.tw_theory.specs.Exchange.{is_swept, work}
-use Rattle.tw_theory.specs.Executive.{Action, Deliver, mail_of}
+use Rattle.tw_theory.specs.Executive.{Deliver, mail_of}
 use Rattle.tw_workers.proofs.UnderWay.{first_there, none_there}
 use Rattle.tw_workers.specs.Sweeping.{deliveries_from, pass_of, passes_left, replayed}
 

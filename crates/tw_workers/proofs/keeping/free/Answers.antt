@@ -1,4 +1,4 @@
-use Rattle.std.proofs.Common.{arith, sym, ap, subst, ◌∙◌, length}
+use Rattle.std.proofs.Common.{arith, sym, ap, subst, ◌∙◌}
 use Rattle.std.proofs.lemmas.List.{length-map}
 use Rattle.tw_workers.specs.Exchanged.{IsExact, busy_in, is_out}
 use Rattle.tw_workers.proofs.Following.{busy_past, busy_put, exact_put, exact_without, not_past}

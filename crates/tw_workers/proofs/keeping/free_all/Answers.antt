@@ -1,6 +1,6 @@
-use Rattle.std.proofs.Common.{◌≡◌, ◌+◌, ◌≤◌, arith, sym, ap, subst, ◌∙◌, length}
+use Rattle.std.proofs.Common.{◌+◌, arith, sym, ap, subst, ◌∙◌, length}
 use Rattle.std.proofs.lemmas.List.{length-set}
-use Rattle.tw_workers.specs.Exchanged.{IsExactUpTo, busy_in, is_out}
+use Rattle.tw_workers.specs.Exchanged.{IsExactUpTo}
 use Rattle.tw_workers.proofs.Following.{AreFree, free_all, free_more, up_to_all, up_to_put}
 use Rattle.tw_workers.proofs.keeping.free_all.Goals as goal
 

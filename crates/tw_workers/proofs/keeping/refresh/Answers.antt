@@ -1,4 +1,4 @@
-use Rattle.std.proofs.Common.{◌≡◌, ◌<◌, arith, sym, ap, subst, ◌∙◌, length}
+use Rattle.std.proofs.Common.{arith, ◌∙◌}
 use Rattle.std.proofs.lemmas.Bool.{both_ways}
 use Rattle.tw_workers.proofs.Following.{busy_again, exact_without, not_out, not_past}
 use Rattle.tw_workers.proofs.keeping.refresh.Goals as goal

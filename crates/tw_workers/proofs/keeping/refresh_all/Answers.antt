@@ -1,4 +1,4 @@
-use Rattle.std.proofs.Common.{◌≡◌, ◌+◌, ◌<◌, arith, sym, ap, subst, ◌∙◌, length}
+use Rattle.std.proofs.Common.{◌+◌, ◌<◌, arith, sym, ap, subst, ◌∙◌, length}
 use Rattle.std.proofs.lemmas.Bool.{both_ways}
 use Rattle.std.proofs.lemmas.List.{length-set}
 use Rattle.tw_workers.specs.Exchanged.{IsExactUpTo, busy_in}

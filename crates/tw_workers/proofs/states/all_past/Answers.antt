@@ -1,9 +1,6 @@
-use Rattle.std.proofs.Common.{◌≡◌, ◌<◌, ◌≤◌, false, true, ap, sym, ◌∙◌, inl, inr, arith, length}
-use Rattle.std.specs.Prelude.{slice_get}
-use Rattle.std.proofs.lemmas.Bool.{cases_eq}
-use Rattle.std.proofs.lemmas.Option.{same_Some, slice_get_within}
-use Rattle.tw_exec.proofs.Comparing.{lt, not_lt}
-use Rattle.tw_workers.proofs.Idle.{less_but}
+use Rattle.std.proofs.Common.{ap, sym, ◌∙◌, arith, length}
+use Rattle.std.proofs.lemmas.Option.{slice_get_within}
+use Rattle.tw_exec.proofs.Comparing.{lt}
 use Rattle.tw_workers.proofs.PassByPass.{process_count}
 use Rattle.tw_workers.proofs.Standing.{past_all, past_not}
 use Rattle.tw_workers.proofs.states.all_past.Goals as goal

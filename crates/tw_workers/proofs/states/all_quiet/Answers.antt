@@ -1,9 +1,6 @@
-use Rattle.std.proofs.Common.{◌≡◌, ◌≤◌, false, true, ap, sym, ◌∙◌, inl, inr, arith, length}
-use Rattle.std.specs.Prelude.{slice_get}
-use Rattle.std.proofs.lemmas.Bool.{cases_eq}
-use Rattle.std.proofs.lemmas.Option.{same_Some, slice_get_within}
+use Rattle.std.proofs.Common.{ap, sym, ◌∙◌, arith, length}
+use Rattle.std.proofs.lemmas.Option.{slice_get_within}
 use Rattle.tw_laws.proofs.Changing.{process_from_least}
-use Rattle.tw_workers.proofs.Idle.{less_but}
 use Rattle.tw_workers.proofs.PassByPass.{process_count}
 use Rattle.tw_workers.proofs.Standing.{quiet_all, quiet_not}
 use Rattle.tw_workers.specs.States.{is_quiet}

@@ -1,10 +1,10 @@
-use Rattle.std.proofs.Common.{◌≡◌, ◌<◌, ◌≤◌, ap, sym, subst, ◌∙◌, arith, rules, false, true}
+use Rattle.std.proofs.Common.{◌≡◌, ◌<◌, ap, sym, subst, ◌∙◌, arith, rules}
 use Rattle.std.specs.Prelude.{IfOk}
 use Rattle.tw_exec.proofs.Comparing.{ge, not_ge}
-use Rattle.tw_theory.specs.Outcomes.{all_past, all_quiet}
+use Rattle.tw_theory.specs.Outcomes.{all_past}
 use Rattle.tw_vtime.specs.Stamps.{phase_of, stamp}
 use Rattle.tw_workers.proofs.Standing.{complete, faulting, going, may, not_before, not_empty, not_odd, not_quiet}
-use Rattle.tw_workers.specs.States.{meant, state_of}
+use Rattle.tw_workers.specs.States.{meant}
 use Rattle.tw_workers.proofs.states.find_state.Goals as goal
 
 pub returns-then-all_past-clause-state : goal.returns-then-all_past-clause-state

@@ -1,10 +1,10 @@
-use Rattle.std.proofs.Common.{◌≡◌, ◌+◌, suc, Some, None, ap, sym, subst, ◌∙◌, arith, length}
+use Rattle.std.proofs.Common.{◌≡◌, ◌+◌, suc, Some, None, ap, sym, ◌∙◌, arith, length}
 use Rattle.std.specs.Prelude.{slice_get}
 use Rattle.tw_laws.proofs.Passes.{present}
 use Rattle.tw_theory.specs.Outcomes.{Fault}
 use Rattle.tw_workers.proofs.Drawing.{if_there}
 use Rattle.tw_workers.proofs.PassByPass.{process_count}
-use Rattle.tw_workers.proofs.Standing.{fault_here, no_fault}
+use Rattle.tw_workers.proofs.Standing.{fault_here}
 use Rattle.tw_workers.specs.States.{fault_from, limit_at}
 use Rattle.tw_workers.proofs.states.first_fault.Goals as goal
 

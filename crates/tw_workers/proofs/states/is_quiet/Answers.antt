@@ -1,4 +1,4 @@
-use Rattle.std.proofs.Common.{◌≡◌, not, ap, sym, ◌∙◌, arith}
+use Rattle.std.proofs.Common.{not, ap, sym, ◌∙◌, arith}
 use Rattle.std.specs.Prelude.{◌&&◌, ◌==◌}
 use Rattle.tw_theory.specs.Outcomes.{none_at}
 use Rattle.tw_workers.proofs.Idle.{empty_is}

@@ -1,4 +1,4 @@
-use Rattle.std.proofs.Common.{◌≡◌, ◌<◌, true, false, ap, sym, ◌∙◌, arith, length}
+use Rattle.std.proofs.Common.{ap, sym, ◌∙◌, arith, length}
 use Rattle.tw_workers.proofs.Idle.{empty_all, empty_not, not_empty, some_of}
 use Rattle.tw_workers.proofs.PassByPass.{mail_count}
 use Rattle.tw_theory.specs.Exchange.{is_empty}

@@ -1,5 +1,4 @@
-use Rattle.std.proofs.Common.{◌≡◌, ◌<◌, true, false, ap, sym, ◌∙◌, inl, inr, arith, length}
-use Rattle.std.specs.List.{AllByRecursion as Each}
+use Rattle.std.proofs.Common.{◌<◌, ap, sym, ◌∙◌, inl, inr, arith, length}
 use Rattle.tw_theory.proofs.Elements.{each_weaker}
 use Rattle.tw_msgs.specs.declared.message.Message.{Message}
 use Rattle.tw_network.specs.Contents.{network_of}

@@ -1,5 +1,4 @@
 -- The mailboxes so far are delivered.
-use Rattle.std.proofs.Common.{◌≡◌}
 use Rattle.tw_theory.specs.Exchange.{deliveries}
 use Rattle.tw_workers.specs.Sweeping.{IsUnderWay, deliveries_from}
 use Rattle.tw_workers.proofs.sweeping.deliver_all.Given as goal

@@ -1,5 +1,4 @@
 -- What was delivered so far.
-use Rattle.std.proofs.Common.{◌≡◌}
 use Rattle.tw_exec.specs.Running.{IsSoundly}
 use Rattle.tw_theory.specs.Exchange.{work}
 use Rattle.tw_workers.specs.Sweeping.{IsUnderWay, deliveries_from}

@@ -1,7 +1,7 @@
-use Rattle.std.proofs.Common.{◌≡◌, ◌++◌, length, ap, subst, sym, ◌∙◌}
+use Rattle.std.proofs.Common.{length, ap, subst, sym}
 use Rattle.std.proofs.lemmas.Result.{err_from_is_err_and}
 use Rattle.tw_theory.specs.Exchange.{deliveries, posts}
-use Rattle.tw_workers.proofs.UnderWay.{begun, cut_rest, cut_within, done_rest, finished, joined}
+use Rattle.tw_workers.proofs.UnderWay.{begun, cut_rest, cut_within, done_rest, joined}
 use Rattle.tw_workers.specs.Sweeping.{IsUnderWay, pass_of}
 use Rattle.tw_workers.proofs.sweeping.pass.Given.{Over}
 use Rattle.tw_workers.proofs.sweeping.pass.Goals.{In_ok-post_all}

@@ -1,9 +1,9 @@
-use Rattle.std.proofs.Common.{◌≡◌, ◌<◌, ◌≤◌, ◌++◌, ◌∷◌, List, length, ap, subst, sym, ◌∙◌, refl, arith}
+use Rattle.std.proofs.Common.{◌≡◌, ◌<◌, ◌≤◌, ◌++◌, ◌∷◌, length, ap, subst, sym, ◌∙◌, refl, arith}
 use Rattle.std.proofs.lemmas.List.{append_assoc}
 use Rattle.std.proofs.lemmas.Result.{err_from_is_err_and}
 use Rattle.tw_network.specs.Contents.{network_of}
 use Rattle.tw_theory.specs.Exchange.{harvests, work}
-use Rattle.tw_theory.specs.Executive.{Action, Raise}
+use Rattle.tw_theory.specs.Executive.{Raise}
 use Rattle.tw_workers.proofs.Following.{acts_on_none}
 use Rattle.tw_workers.proofs.PassByPass.{another_pass, no_pass, process_count}
 use Rattle.tw_workers.proofs.UnderWay.{cut, cut_rest, cut_within, done_rest, joined, same_network, stepped}

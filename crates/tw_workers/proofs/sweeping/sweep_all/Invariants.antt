@@ -1,5 +1,5 @@
 -- The passes so far: as many may follow as there was work at first.
-use Rattle.std.proofs.Common.{◌≡◌, ◌≤◌, ◌∷◌, ◌++◌, length}
+use Rattle.std.proofs.Common.{◌≤◌, ◌∷◌, ◌++◌, length}
 use Rattle.tw_exec.specs.Running.{IsSoundly}
 use Rattle.tw_theory.specs.Exchange.{harvests, work}
 use Rattle.tw_theory.specs.Executive.{Raise}

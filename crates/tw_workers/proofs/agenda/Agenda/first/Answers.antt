@@ -1,6 +1,6 @@
-use Rattle.std.proofs.Common.{◌≡◌, sym, subst, ◌∙◌}
+use Rattle.std.proofs.Common.{sym, subst, ◌∙◌}
 use Rattle.tw_workers.proofs.Indexing.{least_is, none_first}
-use Rattle.tw_workers.specs.Agenda.{AllOut, IsLeast}
+use Rattle.tw_workers.specs.Agenda.{AllOut}
 use Rattle.tw_workers.proofs.agenda.Agenda.first.Goals as goal
 
 pub returns-clause-least : goal.returns-clause-least

@@ -1,4 +1,4 @@
-use Rattle.std.proofs.Common.{◌≡◌, sym, ap, subst, ◌∙◌}
+use Rattle.std.proofs.Common.{sym, ap, subst, ◌∙◌}
 use Rattle.tw_exec.specs.Actions.{meant}
 use Rattle.tw_network.specs.Contents.{network_of}
 use Rattle.tw_workers.proofs.Following.{IsSameBut, acts_on_none, acts_on_one, exact_but}

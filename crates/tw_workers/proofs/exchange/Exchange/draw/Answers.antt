@@ -1,10 +1,10 @@
-use Rattle.std.proofs.Common.{◌≡◌, ◌⊎◌, ◌<◌, ◌≤◌, ℕ, None, Some, false, sym, ap, subst, ◌∙◌, refl, true}
-use Rattle.std.specs.Prelude.{IfSome, slice_get, slice_set}
+use Rattle.std.proofs.Common.{◌≡◌, ◌⊎◌, ◌<◌, ◌≤◌, ℕ, Some, false, sym, ap, subst, ◌∙◌, true}
+use Rattle.std.specs.Prelude.{slice_get, slice_set}
 use Rattle.tw_exec.specs.Chains.{start_at}
 use Rattle.tw_theory.specs.Contents as Contents
 use Rattle.tw_theory.specs.Contents.{Process}
 use Rattle.tw_theory.specs.Exchange.{MayDraw, bound_of}
-use Rattle.tw_workers.specs.Exchanged.{IsExact, IsNext, bound_at, busy_in}
+use Rattle.tw_workers.specs.Exchanged.{IsExact, bound_at, busy_in}
 use Rattle.tw_workers.proofs.Drawing.{if_there}
 use Rattle.tw_workers.proofs.Following.{busy_out, exact_out}
 use Rattle.tw_workers.proofs.exchange.Exchange.draw.Given.{Over}

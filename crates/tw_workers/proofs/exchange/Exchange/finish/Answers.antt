@@ -1,4 +1,4 @@
-use Rattle.std.proofs.Common.{◌≡◌, sym, ap, subst, ◌∙◌}
+use Rattle.std.proofs.Common.{sym, ap, subst}
 use Rattle.tw_network.specs.Contents.{network_of}
 use Rattle.tw_workers.proofs.Following.{IsSameBut, exact_but, steps_on_one}
 use Rattle.tw_workers.specs.Exchanged.{IsExactBut}

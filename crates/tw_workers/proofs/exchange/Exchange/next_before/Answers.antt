@@ -1,4 +1,4 @@
-use Rattle.std.proofs.Common.{◌≡◌, ◌<◌, ◌≤◌, None, Some, sym, ap, subst, ◌∙◌, arith}
+use Rattle.std.proofs.Common.{◌<◌, ◌≤◌, sym, ap, subst, arith}
 use Rattle.tw_exec.proofs.Comparing.{ge, not_ge}
 use Rattle.tw_theory.specs.Exchange.{bound_of}
 use Rattle.tw_workers.specs.Exchanged.{IsNext, bound_at}

@@ -1,4 +1,4 @@
-use Rattle.std.proofs.Common.{◌≡◌, length, ap, ◌∙◌, sym, arith}
+use Rattle.std.proofs.Common.{length, ap, ◌∙◌, sym}
 use Rattle.tw_workers.proofs.PassByPass.{process_count}
 use Rattle.tw_workers.proofs.UnderWay.{still_network}
 use Rattle.tw_workers.specs.Sweeping.{sweep_of}

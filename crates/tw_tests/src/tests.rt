@@ -1,5 +1,6 @@
 mod actions;
 mod drawn;
+mod exchange;
 mod executive;
 mod fossils;
 mod gvt;

@@ -1,2 +1,5 @@
 pub mod Exits
 pub mod Runs
+pub mod Scripting
+pub mod Plays
+pub mod Jobs

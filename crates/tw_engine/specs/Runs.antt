@@ -2,7 +2,7 @@
 --     run_text n until      the trace of a network's sequential run, and a line for its fault
 --     IsRun given until exit old new      how a run of the network that a file means ends, and what is then written
 --     IsDone job exit given old new      the same of a job
-use Rattle.std.specs.Prelude.{◌≡◌, ◌<◌, ◌⊎◌, ◌++◌, ℕ, List, [], ◌∷◌, codes, pos, Option, Some, None, Ok, Err, IfSome, slice_get}
+use Rattle.std.specs.Prelude.{◌≡◌, ◌<◌, ◌⊎◌, ◌++◌, ℕ, List, [], ◌∷◌, codes, pos, Option, Some, None, Ok, Err, slice_get}
 use Rattle.std.specs.Io.KnownBytes.{Appends, Keeps}
 use Rattle.tw_vtime.specs.Stamps.{max_tick}
 use Rattle.tw_vtime.specs.declared.limits.Limit.{Limit}
@@ -19,10 +19,8 @@ use Rattle.tw_netfile.specs.Refused.{file_refusal}
 use Rattle.tw_netfile.specs.declared.refused.FileRefused.{FileRefused}
 use Rattle.tw_texts.specs.Texts.{trace_text, fault_line}
 use Rattle.tw_texts.specs.Traces.{AppendsBeginning}
-use Rattle.tw_line.specs.declared.jobs.Job.{Job}
-use Rattle.tw_line.specs.declared.jobs.Job.TheVariants.{Demo, Seq}
 use Rattle.tw_engine.specs.declared.exit.Exit.{Exit}
-use Rattle.tw_engine.specs.declared.exit.Exit.TheVariants.{Done, Bad, Fault, Want, NoWrite}
+use Rattle.tw_engine.specs.declared.exit.Exit.TheVariants.{Done, Bad, BadScript, Fault, Want, NoWrite}
 
 -- ---- the text of a run
 
@@ -63,6 +61,7 @@ IsCause bytes until why =
 abbrev pub IsRun : List ℕ → ℕ → Exit → Option (List ℕ) → Option (List ℕ) → Type 0
 IsRun bytes until Done old new = Means bytes (λ n. (run_fault n until ≡ None) × Appends old new (run_text n until))
 IsRun bytes until Fault old new = Means bytes (λ n. ((fault : ℕ × ℕ × Limit) × (run_fault n until ≡ Some fault)) × Appends old new (run_text n until))
+IsRun bytes until (BadScript line) old new = ⊥
 IsRun bytes until (Bad why) old new = Keeps old new × IsCause bytes until why
 IsRun bytes until (Want why) old new =
     (why ≡ refusal.OutOfMemory) × (Keeps old new ⊎ Means bytes (λ n. AppendsBeginning old new (run_text n until)))
@@ -81,6 +80,7 @@ abbrev pub IsShown : Contents Model → List Record → Option (ℕ × ℕ × Li
 IsShown n records fault Done old new = (fault ≡ None) × Appends old new (text_of n records fault)
 IsShown n records fault Fault old new = ((found : ℕ × ℕ × Limit) × (fault ≡ Some found)) × Appends old new (text_of n records fault)
 IsShown n records fault (Bad why) old new = ⊥
+IsShown n records fault (BadScript line) old new = ⊥
 IsShown n records fault (Want why) old new = (why ≡ refusal.OutOfMemory) × (Keeps old new ⊎ AppendsBeginning old new (text_of n records fault))
 IsShown n records fault NoWrite old new = Unit {0}
 
@@ -104,13 +104,10 @@ abbrev pub IsDemo : Exit → Option (List ℕ) → Option (List ℕ) → Type 0
 IsDemo Done old new = Appends old new (run_text demo_network 5)
 IsDemo Fault old new = ⊥
 IsDemo (Bad why) old new = ⊥
+IsDemo (BadScript line) old new = ⊥
 IsDemo (Want why) old new = (why ≡ refusal.OutOfMemory) × (Keeps old new ⊎ AppendsBeginning old new (run_text demo_network 5))
 IsDemo NoWrite old new = Unit {0}
 
 -- no byte of the file is known to be read, and nothing is written
 abbrev pub IsUnread : Exit → Option (List ℕ) → Option (List ℕ) → Type 0
 IsUnread exit old new = ((exit ≡ Bad refusal.Unreadable) ⊎ (exit ≡ Want refusal.OutOfMemory)) × Keeps old new
-
-abbrev pub IsDone : Job → Exit → Option (List ℕ) → Option (List ℕ) → Option (List ℕ) → Type 0
-IsDone Demo exit given old new = IsDemo exit old new
-IsDone (Seq net until) exit given old new = IsUnread exit old new ⊎ IfSome given (λ bytes. IsRun bytes until exit old new)

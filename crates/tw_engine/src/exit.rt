@@ -15,6 +15,8 @@ pub enum Exit {
     Done,
     /// The command line or a file is refused, for this. Nothing was written.
     Bad(Refusal),
+    /// The line of this number, from 1, of the script says nothing: 22. Nothing was written.
+    BadScript(u64),
     /// A component met a limit: the trace before it was written, and then the line of the fault.
     Fault,
     /// A growth was refused: 4, or 12. A beginning of the text may be written.
@@ -45,14 +47,15 @@ impl Exit {
     {
         match self {
             Exit::Done => 0,
-            Exit::Bad(_) => 2,
+            Exit::Bad(_) | Exit::BadScript(_) => 2,
             Exit::Fault => 3,
             Exit::Want(_) => 4,
             Exit::NoWrite => 5,
         }
     }
 
-    /// Writes the line for standard error: `twarp: `, the number and the name of the refusal. After
+    /// Writes the line for standard error: `twarp: `, the number and the name of the refusal, and for a script
+    /// the number of the line. After
     /// [`Exit::Done`] and [`Exit::Fault`] there is none.
     ///
     /// Refused where the writer fails.
@@ -62,6 +65,10 @@ impl Exit {
         match self {
             Exit::Done | Exit::Fault => Ok(()),
             Exit::Bad(refusal) | Exit::Want(refusal) => writeln!(out, "twarp: {refusal}"),
+            Exit::BadScript(line) => {
+                let refusal = Refusal::BadScript;
+                writeln!(out, "twarp: {refusal} line {line}")
+            }
             Exit::NoWrite => {
                 let refusal = Refusal::WriteFailed;
                 writeln!(out, "twarp: {refusal}")

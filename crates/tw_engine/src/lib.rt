@@ -1,7 +1,7 @@
 //! The engine that the program runs, over any reader and writer.
 //!
-//! - [`engine`]: does a job: reads a network file, simulates its network and writes the trace, or runs the
-//!   demonstration by the executive. Its contract gives the exact bytes written, and what each way to end
+//! - [`engine`]: does a job: reads a network file, simulates its network and writes the trace, drives an
+//!   executive of it by hand, or runs the demonstration by the executive. Its contract gives the exact bytes written, and what each way to end
 //!   means.
 //! - [`demo_law`]: what `demo` prints, in its bytes.
 //! - [`Exit`]: how a run ended, with the status of the process and the line for standard error.
@@ -10,6 +10,7 @@
 mod demonstration;
 mod exit;
 mod names;
+mod plays;
 mod runs;
 
 pub use demonstration::demo_law;

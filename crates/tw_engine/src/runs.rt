@@ -7,40 +7,47 @@ ghost use Rattle.tw_netfile.specs.Meaning.{meaning_of};
 ghost use Rattle.tw_theory.specs.Simulator.{sequential};
 ghost use Rattle.tw_vtime.specs.Stamps.{max_tick};
 ghost use Rattle.tw_vtime.specs.declared.refusal.Refusal.TheVariants as refusal;
-ghost use Rattle.tw_engine.specs.Runs.{IsDemo, IsDone, IsFileExit, IsRun, IsShown, fault_text};
+ghost use Rattle.tw_engine.specs.Jobs.{IsDone, IsPlay};
+ghost use Rattle.tw_engine.specs.Runs.{IsDemo, IsFileExit, IsRun, IsShown, IsUnread, fault_text};
+ghost use Rattle.tw_lists.specs.Ways.{way_of};
 
 use crate::demonstration::{demo_trace, gen_tally};
 use crate::exit::Exit;
 use crate::names::NetworkNames;
+use crate::plays::{play_by_script, play_by_seed};
 use std::alloc::{AllocError, Global};
 use std::io::{ErrorKind, Read, Write};
-use tw_line::Job;
+use tw_line::{Driver, Job};
 use tw_models::Model;
 use tw_netfile::network_of_file;
 use tw_network::Network;
+use tw_process::Cancel;
 use tw_seq::{Seq, simulate};
 use tw_texts::{Names, NotWritten, push_fault, write_trace};
 use tw_vtime::Refusal;
 
 /// Does a job: simulates a network by the sequential abstract simulator and writes its trace, and the
 /// line of its fault if there is one. `demo` runs a network of its own by the executive, with the same
-/// text; it reads nothing. `seq` reads the network's file to its end. No job reads a script yet.
+/// text; it reads nothing. `seq` reads the network's file to its end. `play` drives an executive of the network
+/// by hand: by the commands of a script, which it reads to its end, or by actions that a seed gives. It writes
+/// the answer to each as it comes, and then the trace up to the least commit line.
 ///
-/// Nothing is written before the outcome of the simulation is known. It ends with
+/// Of `demo` and `seq` nothing is written before the outcome of the simulation is known. It ends with
 /// - [`Exit::Done`] or [`Exit::Fault`]: the whole text of the sequential run is written;
-/// - [`Exit::Bad`]: the file cannot be read (19) or is refused (5 to 11, 17, 18, 20 or 21), or the end
-///   tick is above the greatest one (10), and nothing is written;
-/// - [`Exit::Want`]: a growth of memory was refused (4), and a beginning of the text is written;
+/// - [`Exit::Bad`]: a file cannot be read (19), the network's is refused (5 to 11, 17, 18, 20 or 21), the
+///   script has too many lines (9), or the end tick is above the greatest one (10), and nothing is written;
+/// - [`Exit::BadScript`]: a line of the script says nothing (22), and nothing is written;
+/// - [`Exit::Want`]: a growth of memory was refused (4), and a beginning of the text is written; of `play`'s
+///   answers also the line `refused 4 OutOfMemory` after them;
 /// - [`Exit::NoWrite`]: the writer failed, and only it knows what it took.
 pub fn engine<N: Read, S: Read, W: Write>(
     alloc: Global,
     job: &Job<'_>,
     net: &mut N,
-    _script: &mut S,
+    script: &mut S,
     out: &mut W,
 ) -> Exit
-    ensures done { IsDone job.now result (N.remaining net.old) (W.contents out.old) (W.contents out.new) }
-    ensures script { _script.new ≡ _script.old }
+    ensures done { IsDone job.now result (N.remaining net.old) (S.remaining script.old) (W.contents out.old) (W.contents out.new) }
 {
     match job {
         Job::Demo => demo(alloc, out),
@@ -48,6 +55,47 @@ pub fn engine<N: Read, S: Read, W: Write>(
             Ok(bytes) => run(alloc, bytes.as_slice(), *until, out),
             Err(exit) => exit,
         },
+        Job::Play {
+            until,
+            cancel,
+            driver,
+            ..
+        } => play(alloc, net, script, *until, *cancel, driver, out),
+    }
+}
+
+// Drives an executive by hand.
+fn play<N: Read, S: Read, W: Write>(
+    alloc: Global,
+    net: &mut N,
+    script: &mut S,
+    until: u64,
+    cancel: Cancel,
+    driver: &Driver<'_>,
+    out: &mut W,
+) -> Exit
+    ensures { IsUnread result (W.contents out.old) (W.contents out.new)
+        ⊎ IsPlay driver.now until (way_of cancel) result (N.remaining net.old) (S.remaining script.old) (W.contents out.old) (W.contents out.new) }
+{
+    let bytes = match read_all(alloc, net) {
+        Ok(bytes) => bytes,
+        Err(exit) => return exit,
+    };
+    match driver {
+        Driver::Script(_) => match read_all(alloc, script) {
+            Ok(lines) => play_by_script(
+                alloc,
+                bytes.as_slice(),
+                lines.as_slice(),
+                until,
+                cancel,
+                out,
+            ),
+            Err(exit) => exit,
+        },
+        Driver::Seed { seed, steps } => {
+            play_by_seed(alloc, bytes.as_slice(), *seed, *steps, until, cancel, out)
+        }
     }
 }
 
@@ -101,7 +149,7 @@ fn run<W: Write>(alloc: Global, bytes: &[u8], until: u64, out: &mut W) -> Exit
 }
 
 // The network that a file's bytes mean.
-fn network(alloc: Global, bytes: &[u8]) -> Result<Network<Model>, Exit>
+pub(crate) fn network(alloc: Global, bytes: &[u8]) -> Result<Network<Model>, Exit>
     ensures ok { IfOk result (λ n. meaning_of bytes.now ≡ Ok n) }
     ensures err { IfErr result (IsFileExit bytes.now) }
 {

@@ -1,5 +1,5 @@
 -- Harvests: the line that they set stands after all that is committed.
-use Rattle.std.proofs.Common.{◌≡◌, ℕ, suc, ◌+◌, ◌≤◌, List, [], ◌∷◌, ◌++◌, length, take, Some, refl, sym, ap, ◌∙◌, subst, arith}
+use Rattle.std.proofs.Common.{◌≡◌, ℕ, suc, ◌+◌, ◌≤◌, List, [], ◌∷◌, ◌++◌, length, take, Some, sym, ap, ◌∙◌, subst, arith}
 use Rattle.std.specs.Prelude.{nat_lt, slice_get, slice_set}
 use Rattle.std.proofs.lemmas.Bool.{cond_both, ltb-true}
 use Rattle.tw_atomic.specs.Atomic.{Meaning}
@@ -10,6 +10,7 @@ use Rattle.tw_exec.proofs.Worlds.{process_at}
 use Rattle.tw_msgs.specs.declared.message.Item.{Item}
 use Rattle.tw_msgs.specs.declared.record.Record.{Record}
 use Rattle.tw_network.specs.Contents.{Contents}
+use Rattle.tw_process.proofs.Between.{length_records}
 use Rattle.tw_process.specs.Process.{Held, with_harvested, with_spare}
 use Rattle.std.proofs.lemmas.List.{length-append, length-take-le}
 use Rattle.tw_msgs.specs.Counting.{total}
@@ -39,10 +40,6 @@ module _ {M S : Type 0} {meaning : M → Meaning S} {n : Contents M} {until end 
       (harvest_acts meaning n until gvt ps mail columns c old new column at new_is column_is)
       (own_set h c new (subst (IsOwn n c) (sym new_is) (record { network_is = o.network_is; component_is = o.component_is; floor_le = floor })))
 
-length-records : {S : Type 0} (steps : List (Step S)) → length (records_of steps) ≡ length steps
-length-records [] = refl
-length-records (step ∷ steps) = ap suc (length-records steps)
-
 -- how many records the columns have then
 pub counted : {S : Type 0} (columns : List (List Record)) (c n before : ℕ) (old new : List Record) (steps : List (Step S)) → slice_get columns c ≡ Some old → n ≤ length steps
     → new ≡ old ++ records_of (take n steps) → before ≡ total length columns → before + n ≡ total length (slice_set columns c new)
@@ -52,5 +49,5 @@ counted columns c n before old new steps at within new_is is =
       is,
       total-set length columns c old new at,
       ap length new_is ∙ length-append old (records_of (take n steps)),
-      length-records (take n steps) ∙ length-take-le n steps within,
+      length_records (take n steps) ∙ length-take-le n steps within,
     )

@@ -1,12 +1,12 @@
 -- Deliveries: what a receipt asks for, and that it keeps the line.
-use Rattle.std.proofs.Common.{◌≡◌, ℕ, zero, suc, ◌==◌, ◌<◌, ◌≤◌, FitsSigned, w64, List, [], ◌∷◌, length, Some, refl, sym, ap, ◌∙◌, subst, arith}
+use Rattle.std.proofs.Common.{◌≡◌, ℕ, zero, suc, ◌+◌, ◌==◌, ◌<◌, ◌≤◌, FitsSigned, w64, List, [], ◌∷◌, length, Some, refl, sym, ap, ◌∙◌, subst, arith}
 use Rattle.std.specs.Prelude.{insert, remove, slice_get, slice_set}
 use Rattle.std.proofs.lemmas.Bool.{cond_both}
 use Rattle.std.proofs.lemmas.List.{get_or-set_same, set-get_or, set-set}
 use Rattle.std.proofs.lemmas.Option.{same_Some, slice_get_within}
 use Rattle.tw_atomic.specs.Atomic.{Meaning}
 use Rattle.tw_exec.specs.Refusals.{of_pool}
-use Rattle.tw_exec.specs.Running.{shown, IsOwn, IsHeld, IsWanting}
+use Rattle.tw_exec.specs.Running.{shown, IsOwn, IsHeld, IsWanting, WantsRoom}
 use Rattle.tw_pool.specs.declared.refused.PoolRefused.{PoolRefused}
 use Rattle.tw_pool.specs.declared.refused.PoolRefused.TheVariants.{Full as full, OutOfMemory as outofmemory}
 use Rattle.tw_exec.proofs.Acts.{deliver_acts}
@@ -26,7 +26,7 @@ use Rattle.tw_rollback.specs.declared.received.Received.{Received as Came}
 use Rattle.tw_theory.proofs.Elements.{each-get}
 use Rattle.tw_theory.specs.Contents.{Process, Received, back_to_first, consumed_by, receive, receive_signed, steps_from}
 use Rattle.tw_theory.specs.Executive.{Deliver, Delivered, least_of, mail_of}
-use Rattle.tw_theory.specs.Memory.{need_if_there}
+use Rattle.tw_theory.specs.Memory.{live, need_if_there}
 use Rattle.tw_theory.specs.Soundness.{IsFor}
 use Rattle.tw_theory.specs.Standing.{CanTake}
 
@@ -91,3 +91,11 @@ module _ {M S : Type 0} {meaning : M → Meaning S} {n : Contents M} {until end 
         at = process_at ps mail columns gvt q old at;
         passes = (let passed = limit refl in omega (arith, passed, ap (need_if_there old.process) item_at));
       }
+
+  -- where it would hold too many, its receipt is refused for that
+  pub wanted : (q k : ℕ) (old : Held M S) (item : Item) → slice_get ps q ≡ Some old → slice_get (mail_of mail q) k ≡ Some item → WantsRoom meaning (Deliver q k) (record { network = n; until = until; world = shown ps mail columns gvt })
+      → IsFullBy (need old.process item) old.process
+  wanted q k old item at item_at wants =
+      let here = same_Some q wants.component wants.of in
+      let same = same_Some old.process wants.process (sym (process_at ps mail columns gvt q old at) ∙ ap (slice_get (shown ps mail columns gvt).processes) here ∙ wants.at) in
+      omega (arith, wants.passes, ap (λ p. live p + need_if_there p (slice_get (mail_of mail q) k)) same, ap (need_if_there old.process) item_at)

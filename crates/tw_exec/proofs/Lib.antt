@@ -5,6 +5,8 @@ pub mod Worlds
 pub mod Acts
 -- so every action keeps what an executive is
 pub mod Kept
+-- and which refusals come exactly
+pub mod Exactly
 pub mod Deliveries
 pub mod Commits
 pub mod Marks
@@ -16,3 +18,4 @@ pub mod Starts
 -- what a post moves
 pub mod Overdue
 pub mod Comparing
+pub mod LeastLines

@@ -1,9 +1,9 @@
 -- What a rewind answers and makes of the world, where the code has found out what is the case; and that the columns of an executive rise, all before global virtual time.
-use Rattle.std.proofs.Common.{◌≡◌, ◌≢◌, ℕ, suc, ◌==◌, ◌+◌, ◌&&◌, ◌<◌, List, [], ◌∷◌, length, map, filter, not, Some, true, false, refl, sym, ap, ◌∙◌, subst, arith}
+use Rattle.std.proofs.Common.{◌≡◌, ◌≢◌, ℕ, zero, suc, ◌==◌, ◌+◌, ◌&&◌, ◌<◌, List, [], ◌∷◌, length, map, filter, not, Some, true, false, refl, sym, ap, ◌∙◌, subst, arith}
 use Rattle.std.specs.List.{AllByRecursion as Each}
 use Rattle.std.specs.Prelude.{nat_lt, slice_get}
-use Rattle.std.proofs.lemmas.Bool.{and_parts, cond-true, cond-false, cond_both, eq-eqb, ne_eqb, eqb-true, ltb-true}
-use Rattle.std.proofs.lemmas.Option.{get_or_from_slice_get, slice_get_within}
+use Rattle.std.proofs.lemmas.Bool.{and_parts, cond-true, cond-false, cond_both, eq-eqb, ne_eqb, ltb-true}
+use Rattle.std.proofs.lemmas.Option.{get_or_from_slice_get, none-some, same_Some, slice_get_within}
 use Rattle.tw_atomic.specs.Atomic.{Meaning}
 use Rattle.std.proofs.lemmas.List.{length-map}
 use Rattle.tw_exec.specs.Rewinding.{at_marks}
@@ -11,10 +11,9 @@ use Rattle.tw_exec.specs.Running.{shown, IsHeld, IsOwn}
 use Rattle.tw_exec.proofs.Kept.{as_many_columns, cut_own}
 use Rattle.tw_exec.proofs.Marks.{each_cut, rewound_contents}
 use Rattle.tw_exec.proofs.Worlds.{process_at, there}
-use Rattle.tw_fossils.proofs.Joining.{is_column}
-use Rattle.tw_fossils.specs.Columns.{IsRising}
+use Rattle.tw_fossils.proofs.Joining.{sound_columns}
+use Rattle.tw_fossils.specs.Columns.{AreColumns, IsRising}
 use Rattle.tw_laws.proofs.Rewinding.{rewind_keeps}
-use Rattle.tw_laws.proofs.Traces.{sequential_trace}
 use Rattle.tw_msgs.specs.declared.message.Item.{Item}
 use Rattle.tw_msgs.specs.declared.record.Record.{Record}
 use Rattle.tw_network.specs.Contents.{Contents, network_of}
@@ -49,6 +48,11 @@ below c u (r ∷ rs) =
     cond_both ((r.component == c) && nat_lt r.stamp u) (r ∷ filter (λ r. (r.component == c) && nat_lt r.stamp u) rs) (filter (λ r. (r.component == c) && nat_lt r.stamp u) rs) (Each (λ r. r.stamp < u))
     (λ e. (ltb-true r.stamp u (and_parts (r.component == c) (nat_lt r.stamp u) e).1, below c u rs)) (λ e. below c u rs)
 
+rising_at : (b k : ℕ) (columns : List (List Record)) (column : List Record) → AreColumns b columns → slice_get columns k ≡ Some column → IsRising column
+rising_at b k [] column are at = absurd (none-some column at)
+rising_at b zero (first ∷ columns) column are at = subst IsRising (same_Some first column at) are.0.rising
+rising_at b (suc k) (first ∷ columns) column are at = rising_at (suc b) k columns column are.1 at
+
 module _ {M S : Type 0} {meaning : M → Meaning S} {n : Contents M} {until end gvt : ℕ} {ps : List (Held M S)} {mail : List (List Item)} {columns : List (List Record)} (h : IsHeld meaning n until end gvt ps mail columns) where
   pub columns_rise : Each (λ column. IsRising column × Each (λ r. r.stamp < gvt) column) columns
   columns_rise = each_from_get (λ (column : List Record). IsRising column × Each (λ (r : Record). r.stamp < gvt) column) columns (λ c column at. one c column at)
@@ -61,9 +65,8 @@ module _ {M S : Type 0} {meaning : M → Meaning S} {n : Contents M} {until end 
           let limit = up_to until p.0.process.line in
           let is : column ≡ records_before net until c p.0.process.line = sym (get_or_from_slice_get columns c column [] at) ∙ sound.column_is in
           let rs = (sequential net until).records in
-          let rising = (is_column c (λ r. (r.component == c) && nat_lt r.stamp limit) (λ r t. eqb-true r.component c (and_parts (r.component == c) (nat_lt r.stamp limit) t).0) rs (sequential_trace net until h.network h.bound).0).rising in
           let low = each_weaker (λ (r : Record). r.stamp < limit) (λ (r : Record). r.stamp < gvt) (λ r l. omega (arith, l, sound.line_le)) (filter (λ r. (r.component == c) && nat_lt r.stamp limit) rs) (below c limit rs) in
-          subst (λ l. IsRising l × Each (λ (r : Record). r.stamp < gvt) l) (sym is) (rising, low)
+          (rising_at 0 c columns column (sound_columns net until (shown ps mail columns gvt) h.network h.bound h.sound) at, subst (Each (λ (r : Record). r.stamp < gvt)) (sym is) low)
 
   -- processes that were cut at their marks, none of whose steps since then may be committed
   pub rewound_world : (ss : List ℕ) (qs : List (Held M S)) → length ss ≡ length ps → any_committed gvt ss (map (λ p. p.process) ps) columns ≡ false → qs ≡ at_marks ss ps

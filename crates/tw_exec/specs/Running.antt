@@ -3,11 +3,15 @@
 --     start meaning n way until      an executive at its start
 --     answer meaning action e, after meaning action e      what an action answers, and the executive after it
 --     IsReason meaning action e why      the theory refuses the action so
---     IsWanting meaning action e why      where that is want of nodes, its process would hold too many
+--     AreExact meaning action e result      no such component or item, a stamp before global virtual time, no step due: exactly where the theory says so
+--     WantsRoom meaning action e      its process would hold too many nodes
+--     IsWanting meaning action e why      where that is why, it would
+--     IsDelivery action      want of nodes is found before want of memory
 --     IsSoundly meaning e      what is true of every executive
-use Rattle.std.specs.Prelude.{ℕ, ◌≡◌, ◌≤◌, IfSome, List, map, Some, slice_get, ⊤}
+use Rattle.std.specs.Prelude.{ℕ, ◌≡◌, ◌≤◌, ◌↔◌, IfSome, IsErrOf, List, map, Result, Some, slice_get, ⊤}
 use Rattle.tw_atomic.specs.Atomic.{Meaning}
 use Rattle.tw_exec.specs.Actions.{reason}
+use Rattle.tw_exec.specs.declared.action.Done.{Done}
 use Rattle.tw_exec.specs.declared.refused.Refused.{Refused}
 use Rattle.tw_exec.specs.declared.refused.Refused.TheVariants.{OutOfMemory, Full, NothingDue, OverLimit, NoSuch, BeforeGvt, Committed}
 use Rattle.tw_msgs.specs.declared.message.Item.{Item}
@@ -15,6 +19,7 @@ use Rattle.tw_msgs.specs.declared.record.Record.{Record}
 use Rattle.tw_network.specs.Contents.{Contents, network_of}
 use Rattle.tw_process.specs.Process.{Held, IsNew}
 use Rattle.tw_theory.specs.Contents.{Cancel}
+use Rattle.tw_theory.specs.Executive as theory
 use Rattle.tw_theory.specs.Executive.{World, Action, Answer, Refused as refused_for, act}
 use Rattle.tw_theory.specs.Memory.{WantsNodes}
 use Rattle.tw_theory.specs.Network.{IsNetwork}
@@ -43,15 +48,34 @@ after meaning action e = record e { world = (acted meaning action e).1 }
 abbrev pub IsReason : {M S : Type 0} → (M → Meaning S) → Action → Running M S → Refused → Type 0
 IsReason meaning action e why = IfSome (reason why) (λ r. answer meaning action e ≡ refused_for r)
 
--- refused for want of nodes (12): its process would hold more than there may be
+-- these three are found before memory or nodes can be wanting: each comes exactly where the theory refuses the action so
+pub record AreExact {M S : Type 0} (meaning : M → Meaning S) (action : Action) (e : Running M S) (result : Result Done Refused) : Type 0 where
+  pub no_such : answer meaning action e ≡ refused_for theory.NoSuch ↔ IsErrOf result NoSuch
+  pub before_gvt : answer meaning action e ≡ refused_for theory.BeforeGvt ↔ IsErrOf result BeforeGvt
+  pub nothing_due : answer meaning action e ≡ refused_for theory.NothingDue ↔ IsErrOf result NothingDue
+
+-- its process would hold more nodes than there may be
+abbrev pub WantsRoom : {M S : Type 0} → (M → Meaning S) → Action → Running M S → Type 0
+WantsRoom meaning action e = WantsNodes (network_of meaning e.network) e.world action
+
+-- where it is refused for want of nodes (12)
 abbrev pub IsWanting : {M S : Type 0} → (M → Meaning S) → Action → Running M S → Refused → Type 0
-IsWanting meaning action e Full = WantsNodes (network_of meaning e.network) e.world action
+IsWanting meaning action e Full = WantsRoom meaning action e
 IsWanting meaning action e OutOfMemory = ⊤
 IsWanting meaning action e NothingDue = ⊤
 IsWanting meaning action e (OverLimit limit) = ⊤
 IsWanting meaning action e NoSuch = ⊤
 IsWanting meaning action e BeforeGvt = ⊤
 IsWanting meaning action e Committed = ⊤
+
+-- a receipt looks for nodes before it asks for memory; a step asks for memory first
+abbrev pub IsDelivery : Action → Type 0
+IsDelivery (theory.Step c) = ⊥
+IsDelivery (theory.Post c) = ⊥
+IsDelivery (theory.Deliver q i) = ⊤
+IsDelivery (theory.Back c s) = ⊥
+IsDelivery theory.Raise = ⊥
+IsDelivery (theory.Harvest c) = ⊥
 
 -- its network is one, it ends at a tick that a stamp has, and it is sound
 pub record IsSoundly {M S : Type 0} (meaning : M → Meaning S) (e : Running M S) : Type 0 where

@@ -1,8 +1,9 @@
 //! The actions.
 
-ghost use Rattle.std.specs.Prelude.{◌≡◌, ◌≢◌, ◌++◌, None, IfOk, IfErr, OnOk, OnErr};
+ghost use Rattle.std.specs.Prelude.{◌≡◌, ◌≢◌, ◌↔◌, ◌++◌, None, IfOk, IfErr, IsErrOf, OnOk, OnErr};
 ghost use Rattle.tw_exec.specs.Actions.{answered, meant, reason};
-ghost use Rattle.tw_exec.specs.Running.{answer, after, IsReason, IsWanting};
+ghost use Rattle.tw_exec.specs.Running.{answer, after, AreExact, IsDelivery, IsReason, IsWanting, WantsRoom};
+ghost use Rattle.tw_exec.specs.declared.refused.Refused.TheVariants as refused;
 ghost use Rattle.tw_theory.specs.Bundles.{antis, overdue};
 ghost use Rattle.tw_theory.specs.Contents.{settle};
 ghost use Rattle.tw_theory.specs.Executive.{Back, Deliver, Harvest, Post, Raise, Step};
@@ -23,15 +24,18 @@ use tw_vtime::Stamp;
 impl<M: Atomic> Executive<M> {
     /// Takes an action, and answers what came of it.
     ///
-    /// Refused where there is no such component or item (15), where no step of the component is before the end tick (16) or its step
-    /// would pass a limit (2, 3), and where Back would go before global virtual time (14); for want of nodes (12) where the lists of
-    /// its process would have more than 1,048,576; and for want of memory (4), but never Back and Raise, which take none. A refused
-    /// action changes nothing: the item of a refused Deliver keeps its place.
+    /// Refused exactly where there is no such component or item (15), where no step of the component is before the end tick (16), and
+    /// where Back would go before global virtual time (14). Else where its step would pass a limit (2, 3); for want of nodes (12)
+    /// where the lists of its process would have more than 1,048,576, Deliver exactly then; and for want of memory (4), which can
+    /// come of Step in place of 2, 3 and 12, and never of Back and Raise, which take none. A refused action changes nothing: the
+    /// item of a refused Deliver keeps its place.
     pub fn act(&mut self, action: Action) -> Result<Done, Refused>
         ensures done { OnOk result (self.new ≡ after M.meaning (meant action) self.old) }
         ensures answer { IfOk result (λ done. answer M.meaning (meant action) self.old ≡ answered done) }
         ensures refused { IfErr result (IsReason M.meaning (meant action) self.old) }
+        ensures exact { AreExact M.meaning (meant action) self.old result }
         ensures full { IfErr result (IsWanting M.meaning (meant action) self.old) }
+        ensures limit { IsDelivery (meant action) → (WantsRoom M.meaning (meant action) self.old ↔ IsErrOf result refused.Full) }
         ensures memory { IfErr result (λ why. reason why ≡ None → TakesMemory (meant action)) }
         ensures stays { OnErr result (self.new ≡ self.old) }
     {
@@ -50,6 +54,7 @@ impl<M: Atomic> Executive<M> {
         ensures done { OnOk result (self.new ≡ after M.meaning (Step component) self.old) }
         ensures answer { IfOk result (λ done. answer M.meaning (Step component) self.old ≡ answered done) }
         ensures refused { IfErr result (IsReason M.meaning (Step component) self.old) }
+        ensures exact { AreExact M.meaning (Step component) self.old result }
         ensures full { IfErr result (IsWanting M.meaning (Step component) self.old) }
         ensures stays { OnErr result (self.new ≡ self.old) }
     {
@@ -69,6 +74,7 @@ impl<M: Atomic> Executive<M> {
         ensures done { OnOk result (self.new ≡ after M.meaning (Post component) self.old) }
         ensures answer { IfOk result (λ done. answer M.meaning (Post component) self.old ≡ answered done) }
         ensures refused { IfErr result (IsReason M.meaning (Post component) self.old) }
+        ensures exact { AreExact M.meaning (Post component) self.old result }
         ensures full { IfErr result (IsWanting M.meaning (Post component) self.old) }
         ensures stays { OnErr result (self.new ≡ self.old) }
     {
@@ -88,12 +94,15 @@ impl<M: Atomic> Executive<M> {
         ensures done { OnOk result (self.new ≡ after M.meaning (Deliver receiver place) self.old) }
         ensures answer { IfOk result (λ done. answer M.meaning (Deliver receiver place) self.old ≡ answered done) }
         ensures refused { IfErr result (IsReason M.meaning (Deliver receiver place) self.old) }
+        ensures exact { AreExact M.meaning (Deliver receiver place) self.old result }
         ensures full { IfErr result (IsWanting M.meaning (Deliver receiver place) self.old) }
+        ensures limit { WantsRoom M.meaning (Deliver receiver place) self.old ↔ IsErrOf result refused.Full }
         ensures stays { OnErr result (self.new ≡ self.old) }
     {
         if receiver >= self.processes.len() {
             return Err(Refused::NoSuch);
         }
+        self.processes[receiver].count_law();
         let Some(item) = self.mail.take(receiver, place) else {
             return Err(Refused::NoSuch);
         };
@@ -111,6 +120,7 @@ impl<M: Atomic> Executive<M> {
         ensures done { OnOk result (self.new ≡ after M.meaning (Back component stamp) self.old) }
         ensures answer { IfOk result (λ done. answer M.meaning (Back component stamp) self.old ≡ answered done) }
         ensures refused { IfErr result (IsReason M.meaning (Back component stamp) self.old) }
+        ensures exact { AreExact M.meaning (Back component stamp) self.old result }
         ensures full { IfErr result (IsWanting M.meaning (Back component stamp) self.old) }
         ensures known { IfErr result (λ why. reason why ≢ None) }
         ensures stays { OnErr result (self.new ≡ self.old) }
@@ -140,6 +150,7 @@ impl<M: Atomic> Executive<M> {
         ensures done { OnOk result (self.new ≡ after M.meaning (Harvest component) self.old) }
         ensures answer { IfOk result (λ done. answer M.meaning (Harvest component) self.old ≡ answered done) }
         ensures refused { IfErr result (IsReason M.meaning (Harvest component) self.old) }
+        ensures exact { AreExact M.meaning (Harvest component) self.old result }
         ensures full { IfErr result (IsWanting M.meaning (Harvest component) self.old) }
         ensures stays { OnErr result (self.new ≡ self.old) }
     {

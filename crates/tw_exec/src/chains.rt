@@ -1,6 +1,6 @@
 //! Chains: worked out apart from the executive, and installed.
 
-ghost use Rattle.std.specs.Prelude.{◌≡◌, ◌↔◌, ◌≤◌, Err, Some, IfOk, IfSome, IsErr, OnErr, length, slice_get};
+ghost use Rattle.std.specs.Prelude.{◌≡◌, ◌↔◌, ◌≤◌, Err, Some, IfErr, IfOk, IfSome, OnErr, length, slice_get};
 ghost use Rattle.tw_exec.specs.Chains.{start_at, IsInstalledOn};
 ghost use Rattle.tw_exec.specs.declared.refused.Refused.TheVariants.{NoSuch};
 ghost use Rattle.tw_theory.specs.Standing.{IsReady};
@@ -46,7 +46,8 @@ impl<M: Atomic> Executive<M> {
         requires bound { chain.run.start.before ≤ stamp self.old.until 0 0 }
         requires meaning { (m : M) → slice_get self.old.network.models component ≡ Some m → M.meaning m ≡ M.meaning chain.model }
         ensures installed { IfOk result (IsInstalledOn M.meaning chain self.old self.new) }
-        ensures no_such { IsErr result ↔ length self.old.network.models ≤ component }
+        ensures no_such { result ≡ Err NoSuch ↔ length self.old.network.models ≤ component }
+        ensures only { IfErr result (λ why. why ≡ NoSuch) }
         ensures stays { OnErr result (self.new ≡ self.old) }
     {
         if component >= self.processes.len() {

@@ -13,6 +13,7 @@
 //! | `acting` | `act`: an action, its answer ([`Done`]) or why it is refused ([`Refused`]) |
 //! | `marking` | `mark` and `rewind` ([`Mark`]); `replay`: a list of actions |
 //! | `chains` | `start`: what a chain is worked out from; `install`: the steps of a chain made here |
+//! | `traces` | `trace`: what all components have committed, merged |
 //! | `laws` | `inverse_law`, `committed_law`: what holds of every executive |
 #![tactic(auto)]
 
@@ -23,6 +24,7 @@ mod executive;
 mod laws;
 mod marking;
 mod refused;
+mod traces;
 
 pub use action::{Action, Done};
 pub use executive::Executive;

@@ -1,6 +1,6 @@
-pub mod OrderLemmas
+pub mod RisingLists
 pub mod EntryOrder
-pub mod EntryLemmas
-pub mod HeapLemmas
-pub mod EventLemmas
-pub mod LawLemmas
+pub mod EntriesByIndex
+pub mod HeapMoves
+pub mod HeapChanges
+pub mod EntriesRise

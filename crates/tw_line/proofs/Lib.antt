@@ -1,2 +1,3 @@
+pub mod Missing
 pub mod Reading
 pub mod Refusing

@@ -1,13 +1,11 @@
 -- From clap's matches to the options of a job.
-use Rattle.std.proofs.Common.{◌≡◌, ◌∙◌, ◌<◌, ◌^◌, ℕ, List, sym, refl, arith, subst, codes}
+use Rattle.std.proofs.Common.{◌≡◌, ◌∙◌, ◌<◌, ◌^◌, ℕ, List, sym, refl, arith, subst}
 use Rattle.std.specs.Prelude.{Option, Some, None, Result, Ok, Err}
 use Rattle.std.specs.Str.Parse.{ParsesUnsigned, IsNumeral, digits_value, without_leading_plus}
-use Rattle.clap.specs.Words.{Row, Text, ReadsOne, first_of, one_of, one_text, rows_of}
+use Rattle.clap.specs.Words.{Text, ReadsOne, one_of, one_text, rows_of}
 use Rattle.clap.specs.declared.parser.matches.Found.{Found}
 use Rattle.clap.proofs.WalkLemmas.{one_text-rows}
-use Rattle.tw_line.specs.Lines.{HasNumber, IsJobOf}
-use Rattle.tw_line.specs.declared.jobs.Job.{Job}
-use Rattle.tw_line.specs.declared.jobs.Job.TheVariants.{Demo, Seq}
+use Rattle.tw_line.specs.Lines.{HasNumber}
 
 -- the number that `get_one` answers is the one that the row's text writes
 pub number_read : {E : Type 0} (G : List ℕ → Result ℕ E → Type 0) (f : Found) (id : Text) (r : Option ℕ) (n : ℕ)
@@ -44,10 +42,3 @@ number_same G f id r m least most parses value is n has =
     let (t, stands, numeral, writes, low, high) = has in
     let read = parses t (Ok m) (subst (λ (o : Option ℕ). ReadsOne G t o) is (value t (one_text-rows f id ∙ stands))) in
     read.1 ∙ writes
-
--- no job stands where the name is not `demo` and one of the options of `seq` is missing
-pub no_seq : (name : Text) (rows : List Row) → ¬ (name ≡ codes "demo")
-    → ((net : Text) (n : ℕ) → first_of (codes "net") rows ≡ Some net → HasNumber (codes "until") 0 1099511627774 rows n → ⊥)
-    → (j : Job) → ¬ (IsJobOf name rows j)
-no_seq name rows no_demo missing Demo is = no_demo is
-no_seq name rows no_demo missing (Seq net until) is = missing net.now until is.1 is.2

@@ -10,8 +10,12 @@ use Rattle.clap.specs.declared.error.kind.ErrorKind.{ErrorKind}
 use Rattle.clap.specs.declared.error.kind.ErrorKind.TheVariants as kind
 use Rattle.tw_vtime.specs.declared.refusal.Refusal.{Refusal}
 use Rattle.tw_vtime.specs.declared.refusal.Refusal.TheVariants as refusal
+use Rattle.tw_lists.specs.declared.cancel.Cancel.{Cancel}
+use Rattle.tw_lists.specs.declared.cancel.Cancel.TheVariants.{Aggressive, Lazy}
+use Rattle.tw_line.specs.declared.jobs.Driver.{Driver}
+use Rattle.tw_line.specs.declared.jobs.Driver.TheVariants.{Script, Seed}
 use Rattle.tw_line.specs.declared.jobs.Job.{Job}
-use Rattle.tw_line.specs.declared.jobs.Job.TheVariants.{Demo, Seq}
+use Rattle.tw_line.specs.declared.jobs.Job.TheVariants.{Demo, Seq, Play}
 use Rattle.tw_line.specs.declared.jobs.NoJob.{NoJob}
 use Rattle.tw_line.specs.declared.jobs.NoJob.TheVariants.{Help, BadLine, OutOfMemory}
 
@@ -25,21 +29,39 @@ net_rule = record (new_rule (codes "net")) { required = true; value_names = 1 }
 abbrev pub number_rule : Text → ℕ → ℕ → Rule
 number_rule id least most = record (new_rule id) { long = Some id; parser = Some (Unsigned least most); value_names = 1 }
 
+-- an option that takes a text
+abbrev pub text_rule : Text → Rule
+text_rule id = record (new_rule id) { long = Some id; value_names = 1 }
+
 abbrev pub until_rule : Rule
 until_rule = record (number_rule (codes "until") 0 1099511627774) { required = true }
 
 abbrev pub demo_app : App
 demo_app = new_app (codes "demo")
 
+-- a subcommand over a network, up to an end tick
+abbrev pub network_app : Text → App
+network_app name = with_rule (with_rule (new_app name) net_rule) until_rule
+
 abbrev pub seq_app : App
-seq_app = with_rule (with_rule (new_app (codes "seq")) net_rule) until_rule
+seq_app = network_app (codes "seq")
+
+-- `play` and what may drive it; any number of 64 bits is a seed
+abbrev pub driven_app : App
+driven_app = with_rule (with_rule (with_rule (network_app (codes "play"))
+    (text_rule (codes "script")))
+    (number_rule (codes "seed") 0 18446744073709551615))
+    (number_rule (codes "steps") 0 1000000)
+
+abbrev pub play_app : App
+play_app = with_rule driven_app (text_rule (codes "cancel"))
 
 -- twarp alone, which wants a subcommand
 abbrev pub bare_app : App
 bare_app = record { top = record (new_app (codes "twarp")).top { subcommand_required = true }; subs = [] }
 
 abbrev pub twarp_app : App
-twarp_app = with_subcommand (with_subcommand bare_app demo_app.top) seq_app.top
+twarp_app = with_subcommand (with_subcommand (with_subcommand bare_app demo_app.top) seq_app.top) play_app.top
 
 -- ---- the job
 
@@ -49,12 +71,29 @@ HasNumber id least most rows n =
     (text : Text) × (one_of id rows ≡ Some text) × IsNumeral 10 (without_leading_plus text)
     × (digits_value 10 (without_leading_plus text) ≡ n) × (least ≤ n) × (n ≤ most)
 
+-- the way of cancelling: that of the option's word, and the aggressive one where no option stands
+abbrev pub IsCancelIn : List Row → Cancel → Type 0
+IsCancelIn rows Aggressive = (first_of (codes "cancel") rows ≡ None) ⊎ (first_of (codes "cancel") rows ≡ Some (codes "aggressive"))
+IsCancelIn rows Lazy = first_of (codes "cancel") rows ≡ Some (codes "lazy")
+
+-- what drives it: a script alone, or a seed and a number of steps with no script
+abbrev pub IsDriverIn : List Row → Driver → Type 0
+IsDriverIn rows (Script path) =
+    (first_of (codes "script") rows ≡ Some path.now)
+    × (first_of (codes "seed") rows ≡ None) × (first_of (codes "steps") rows ≡ None)
+IsDriverIn rows (Seed seed steps) =
+    (first_of (codes "script") rows ≡ None)
+    × HasNumber (codes "seed") 0 18446744073709551615 rows seed × HasNumber (codes "steps") 0 1000000 rows steps
+
 -- the job of a subcommand's name and its options
 abbrev pub IsJobOf : Text → List Row → Job → Type 0
 IsJobOf name rows Demo = name ≡ codes "demo"
 IsJobOf name rows (Seq net until) =
     (name ≡ codes "seq") × (first_of (codes "net") rows ≡ Some net.now)
     × HasNumber (codes "until") 0 1099511627774 rows until
+IsJobOf name rows (Play net until cancel driver) =
+    (name ≡ codes "play") × (first_of (codes "net") rows ≡ Some net.now)
+    × HasNumber (codes "until") 0 1099511627774 rows until × IsCancelIn rows cancel × IsDriverIn rows driver
 
 -- of no subcommand there is none
 abbrev pub IsJob : Option (Text × List Row) → Job → Type 0

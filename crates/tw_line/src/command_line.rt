@@ -1,14 +1,15 @@
 //! From the words of a line to a job.
 
-ghost use Rattle.std.specs.Prelude.{◌≡◌, [], IfOk, IfErr, IfSome, IfNone, map, string_bytes};
-ghost use Rattle.clap.specs.Words.{rows_of, found_of, fault_of, kind_of, subcommand_of, subcommand_rows_of};
-ghost use Rattle.tw_line.specs.Lines.{twarp_app, IsJob, IsJobOf, HasNumber, IsReason, IsMadeOf};
+ghost use Rattle.std.specs.Prelude.{◌≡◌, [], codes, IfOk, IfErr, IfSome, IfNone, is_some, map, option_map, string_bytes};
+ghost use Rattle.clap.specs.Words.{rows_of, found_of, first_of, fault_of, kind_of, subcommand_of, subcommand_rows_of};
+ghost use Rattle.tw_line.specs.Lines.{twarp_app, IsCancelIn, IsDriverIn, IsJob, IsJobOf, HasNumber, IsReason, IsMadeOf};
 
 use crate::commands::command;
-use crate::jobs::{Job, NoJob};
+use crate::jobs::{Driver, Job, MAX_STEPS, NoJob};
 use clap::error::ErrorKind;
 use clap::{ArgMatches, Error};
 use std::alloc::Global;
+use tw_process::Cancel;
 use tw_vtime::MAX_TICK;
 
 /// A number among the options, in a range.
@@ -23,7 +24,81 @@ fn number_in(options: &ArgMatches<'_>, id: &str, least: u64, most: u64) -> Optio
     Some(number)
 }
 
-/// The job of a subcommand and its options.
+/// The text of an option, or none where it is left out.
+fn text_in<'a>(options: &ArgMatches<'a>, id: &str) -> Option<&'a str>
+    ensures { option_map (λ s. s.now) result ≡ first_of id.now (rows_of (found_of options.now)) }
+{
+    options.get_str(id)
+}
+
+/// Whether an option stands on the line.
+fn has(options: &ArgMatches<'_>, id: &str) -> bool
+    ensures { result ≡ is_some (first_of id.now (rows_of (found_of options.now))) }
+{
+    text_in(options, id).is_some()
+}
+
+/// The way of cancelling among the options.
+fn cancel_in(options: &ArgMatches<'_>) -> Option<Cancel>
+    ensures some { IfSome result (IsCancelIn (rows_of (found_of options.now))) }
+    ensures none { IfNone result ((c : _) → ¬ (IsCancelIn (rows_of (found_of options.now)) c)) }
+{
+    let Some(way) = text_in(options, "cancel") else {
+        return Some(Cancel::Aggressive);
+    };
+    if way == "aggressive" {
+        return Some(Cancel::Aggressive);
+    }
+    if way == "lazy" {
+        return Some(Cancel::Lazy);
+    }
+    None
+}
+
+/// What drives an executive, among the options.
+fn driver_in<'a>(options: &ArgMatches<'a>) -> Option<Driver<'a>>
+    ensures some { IfSome result (IsDriverIn (rows_of (found_of options.now))) }
+    ensures none { IfNone result ((d : _) → ¬ (IsDriverIn (rows_of (found_of options.now)) d)) }
+{
+    if let Some(script) = text_in(options, "script") {
+        if has(options, "seed") || has(options, "steps") {
+            return None;
+        }
+        return Some(Driver::Script(script));
+    }
+    let seed = number_in(options, "seed", 0, u64::MAX)?;
+    let steps = number_in(options, "steps", 0, MAX_STEPS)?;
+    Some(Driver::Seed { seed, steps })
+}
+
+/// The job of `seq` and its options.
+fn seq_in<'a>(options: &ArgMatches<'a>) -> Option<Job<'a>>
+    ensures some { IfSome result (IsJobOf (codes "seq") (rows_of (found_of options.now))) }
+    ensures none { IfNone result ((j : _) → ¬ (IsJobOf (codes "seq") (rows_of (found_of options.now)) j)) }
+{
+    let net = text_in(options, "net")?;
+    let until = number_in(options, "until", 0, MAX_TICK)?;
+    Some(Job::Seq { net, until })
+}
+
+/// The job of `play` and its options.
+fn play_in<'a>(options: &ArgMatches<'a>) -> Option<Job<'a>>
+    ensures some { IfSome result (IsJobOf (codes "play") (rows_of (found_of options.now))) }
+    ensures none { IfNone result ((j : _) → ¬ (IsJobOf (codes "play") (rows_of (found_of options.now)) j)) }
+{
+    let net = text_in(options, "net")?;
+    let until = number_in(options, "until", 0, MAX_TICK)?;
+    let cancel = cancel_in(options)?;
+    let driver = driver_in(options)?;
+    Some(Job::Play {
+        net,
+        until,
+        cancel,
+        driver,
+    })
+}
+
+/// The job of a subcommand, by its name, and its options.
 fn job_named<'a>(name: &str, options: &ArgMatches<'a>) -> Option<Job<'a>>
     ensures some { IfSome result (IsJobOf name.now (rows_of (found_of options.now))) }
     ensures none { IfNone result ((j : _) → ¬ (IsJobOf name.now (rows_of (found_of options.now)) j)) }
@@ -31,12 +106,13 @@ fn job_named<'a>(name: &str, options: &ArgMatches<'a>) -> Option<Job<'a>>
     if name == "demo" {
         return Some(Job::Demo);
     }
-    if name != "seq" {
-        return None;
+    if name == "seq" {
+        return seq_in(options);
     }
-    let net = options.get_str("net")?;
-    let until = number_in(options, "until", 0, MAX_TICK)?;
-    Some(Job::Seq { net, until })
+    if name == "play" {
+        return play_in(options);
+    }
+    None
 }
 
 /// The job of a command line that has been read.
@@ -61,9 +137,11 @@ fn no_job(error: Error) -> NoJob
 
 /// The job that a command line asks for. The first word is the program's name.
 ///
-/// The jobs are `demo` and `seq NET --until T`, T a number of ticks, 0 to 1,099,511,627,774; numbers are
+/// The jobs are `demo`, `seq NET --until T`, and `play NET --until T` with what drives it, either `--script FILE`
+/// alone or both `--seed S` and `--steps N`, and with `--cancel aggressive` (also where it is left out) or
+/// `--cancel lazy`. T is a number of ticks, 0 to 1,099,511,627,774, S any u64, N at most 1,000,000; numbers are
 /// those that clap's reader of a u64 takes, `+5` and `007` among them. Every other line is refused by
-/// [`NoJob::BadLine`] (23), also one with no subcommand. Where `--help`, `-h` or `help` is met first,
+/// [`NoJob::BadLine`] (23), also one with no subcommand, one with two drivers and one with half of one. Where `--help`, `-h` or `help` is met first,
 /// [`NoJob::Help`] has clap's text; where memory is wanting, it is [`NoJob::OutOfMemory`] (4).
 ///
 /// In the contract, `twarp_app` is the command in clap's own words, `subcommand_of` the subcommand that

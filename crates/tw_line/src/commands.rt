@@ -1,10 +1,11 @@
 //! The command as clap takes it, with its help.
 
-ghost use Rattle.std.specs.Prelude.{◌≡◌, IfOk, false};
+ghost use Rattle.std.specs.Prelude.{◌≡◌, IfOk, codes, false};
 ghost use Rattle.clap.specs.Words.{app_of, rule_of};
 ghost use Rattle.clap.specs.declared.builder.command.Command.TheViews.{out-Command};
-ghost use Rattle.tw_line.specs.Lines.{net_rule, number_rule, until_rule, demo_app, seq_app, twarp_app};
+ghost use Rattle.tw_line.specs.Lines.{net_rule, number_rule, text_rule, until_rule, demo_app, driven_app, network_app, play_app, seq_app, twarp_app};
 
+use crate::jobs::MAX_STEPS;
 use clap::builder::ValueParser;
 use clap::{Arg, Command};
 use std::alloc::{AllocError, Global};
@@ -32,6 +33,14 @@ fn number<'a>(alloc: Global, id: &'a str, value_name: &'a str, least: u64, most:
         .value_parser(ValueParser::unsigned(least, most))
 }
 
+/// An option that takes a text.
+fn text<'a>(alloc: Global, id: &'a str, value_name: &'a str) -> Arg<'a>
+    ensures rule { rule_of result ≡ text_rule id.entry.now }
+    ensures local { result.global ≡ false }
+{
+    Arg::new(alloc, id).long(id).value_name(value_name)
+}
+
 fn until<'a>(alloc: Global) -> Arg<'a>
     ensures rule { rule_of result ≡ until_rule }
     ensures local { result.global ≡ false }
@@ -50,14 +59,88 @@ fn demo_command<'a>(alloc: Global) -> Command<'a>
     )
 }
 
+/// A subcommand over a network, up to an end.
+fn network_command<'a>(
+    alloc: Global,
+    name: &'a str,
+    about: &'a str,
+) -> Result<Command<'a>, AllocError>
+    ensures app { IfOk result (λ c. app_of c ≡ network_app name.entry.now) }
+    ensures local { IfOk result (λ c. (out-Command c).has_globals ≡ false) }
+{
+    Command::new(alloc, name)
+        .about(about)
+        .arg(net(alloc))?
+        .arg(until(alloc))
+}
+
 fn seq_command<'a>(alloc: Global) -> Result<Command<'a>, AllocError>
     ensures app { IfOk result (λ c. app_of c ≡ seq_app) }
     ensures local { IfOk result (λ c. (out-Command c).has_globals ≡ false) }
 {
-    Command::new(alloc, "seq")
-        .about("Simulate a network one step after another and write its trace")
-        .arg(net(alloc))?
-        .arg(until(alloc))
+    network_command(
+        alloc,
+        "seq",
+        "Simulate a network one step after another and write its trace",
+    )
+}
+
+fn script<'a>(alloc: Global) -> Arg<'a>
+    ensures rule { rule_of result ≡ text_rule (codes "script") }
+    ensures local { result.global ≡ false }
+{
+    text(alloc, "script", "FILE").help(
+        "The actions: the path of a script, one action on each line; without --seed and --steps",
+    )
+}
+
+fn seed<'a>(alloc: Global) -> Arg<'a>
+    ensures rule { rule_of result ≡ number_rule (codes "seed") 0 18446744073709551615 }
+    ensures local { result.global ≡ false }
+{
+    number(alloc, "seed", "S", 0, u64::MAX).help(
+        "The seed of random actions, 0 to 18446744073709551615; together with --steps",
+    )
+}
+
+fn steps<'a>(alloc: Global) -> Arg<'a>
+    ensures rule { rule_of result ≡ number_rule (codes "steps") 0 1000000 }
+    ensures local { result.global ≡ false }
+{
+    number(alloc, "steps", "N", 0, MAX_STEPS).help(
+        "How many random actions, 0 to 1000000; together with --seed",
+    )
+}
+
+fn cancel<'a>(alloc: Global) -> Arg<'a>
+    ensures rule { rule_of result ≡ text_rule (codes "cancel") }
+    ensures local { result.global ≡ false }
+{
+    text(alloc, "cancel", "WAY").help(
+        "How the messages of steps taken back are cancelled: aggressive (at once, where the option is left out) or lazy (only those not sent again)",
+    )
+}
+
+/// `play` with what drives it.
+fn driven_command<'a>(alloc: Global) -> Result<Command<'a>, AllocError>
+    ensures app { IfOk result (λ c. app_of c ≡ driven_app) }
+    ensures local { IfOk result (λ c. (out-Command c).has_globals ≡ false) }
+{
+    network_command(
+        alloc,
+        "play",
+        "Drive a network by hand: make, take back and commit steps in any order, write a reply to each action, then the trace of what is committed",
+    )?
+    .arg(script(alloc))?
+    .arg(seed(alloc))?
+    .arg(steps(alloc))
+}
+
+fn play_command<'a>(alloc: Global) -> Result<Command<'a>, AllocError>
+    ensures app { IfOk result (λ c. app_of c ≡ play_app) }
+    ensures local { IfOk result (λ c. (out-Command c).has_globals ≡ false) }
+{
+    driven_command(alloc)?.arg(cancel(alloc))
 }
 
 /// The whole command.
@@ -66,9 +149,11 @@ pub(crate) fn command<'a>(alloc: Global) -> Result<Command<'a>, AllocError>
 {
     let demo = demo_command(alloc);
     let seq = seq_command(alloc)?;
+    let play = play_command(alloc)?;
     let first = Command::new(alloc, "twarp")
         .about("Simulate networks of Parallel DEVS models")
         .subcommand_required(true)
         .subcommand(demo)?;
-    first.subcommand(seq)
+    let second = first.subcommand(seq)?;
+    second.subcommand(play)
 }

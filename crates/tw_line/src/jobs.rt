@@ -5,7 +5,11 @@ ghost use Rattle.tw_line.specs.Lines.{refusal_of, refused_for_memory};
 
 use std::alloc::AllocError;
 use thiserror::Error;
+use tw_process::Cancel;
 use tw_vtime::Refusal;
+
+/// The most actions that a seed may be asked for.
+pub(crate) const MAX_STEPS: u64 = 1_000_000;
 
 /// What the program is asked to do.
 #[derive(Debug, Drop)]
@@ -18,6 +22,32 @@ pub enum Job<'a> {
         net: &'a str,
         /// The end tick, 0 to 1,099,511,627,774: only steps before it are made.
         until: u64,
+    },
+    /// Drive a network's executive by hand, action by action: write a reply to each, then the trace of what is
+    /// committed.
+    Play {
+        /// The path of the network file.
+        net: &'a str,
+        /// The end tick, 0 to 1,099,511,627,774: only steps before it are made.
+        until: u64,
+        /// How steps that are taken back are cancelled.
+        cancel: Cancel,
+        /// What drives it.
+        driver: Driver<'a>,
+    },
+}
+
+/// What drives an executive by hand.
+#[derive(Clone, Copy, Debug, PartialEq, Eq)]
+pub enum Driver<'a> {
+    /// The script in the file of this path.
+    Script(&'a str),
+    /// So many actions that a seed gives.
+    Seed {
+        /// The seed, any u64.
+        seed: u64,
+        /// The number of actions, 0 to 1,000,000.
+        steps: u64,
     },
 }
 

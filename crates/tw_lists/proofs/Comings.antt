@@ -4,11 +4,11 @@ use Rattle.std.proofs.lemmas.Bool.{cases_eq, leb-true, cond-true, cond-false, le
 use Rattle.std.proofs.lemmas.List.{map-append, length-set, get_or-set_same, get_or-set_other}
 use Rattle.std.specs.Map.{lookup}
 use Rattle.tw_pool.specs.Lists.{list_at, IsLive, without as without_node, with_item_last, AreDistinct, without_first}
-use Rattle.tw_pool.proofs.ListLemmas.{lookup_lacks, lookup_found, lacks_left, without_found}
-use Rattle.tw_pool.proofs.IndexLemmas.{item_is, item_live, lookup_other}
+use Rattle.tw_pool.proofs.ListsSeen.{lookup_lacks, lookup_found, lacks_left, without_found}
+use Rattle.tw_pool.proofs.ListsByIndex.{item_is, item_live, lookup_other}
 use Rattle.tw_heap.specs.Order.{insert_by}
 use Rattle.tw_heap.specs.Entries.{Events, is_before, entry_of, message_of, without}
-use Rattle.tw_heap.proofs.EntryLemmas.{messages-insert, messages-without}
+use Rattle.tw_heap.proofs.EntriesByIndex.{messages-insert, messages-without}
 use Rattle.tw_msgs.specs.Messages.{Sorted, has}
 use Rattle.tw_msgs.specs.declared.message.Message.{Message}
 use Rattle.tw_msgs.specs.declared.message.Item.{Item}

@@ -3,7 +3,7 @@ use Rattle.std.proofs.Common.{◌≡◌, ℕ, ◌+◌, ◌==◌, ◌<◌, ◌≤
 use Rattle.std.proofs.lemmas.Bool.{cases_eq, eq-eqb, ne_eqb}
 use Rattle.std.specs.Map.{lookup}
 use Rattle.tw_pool.specs.Lists.{list_at, item_of, first_of, next_of, AreDistinct}
-use Rattle.tw_pool.proofs.IndexLemmas.{item_is, next_is}
+use Rattle.tw_pool.proofs.ListsByIndex.{item_is, next_is}
 use Rattle.tw_heap.specs.declared.entries.Entry.{Entry}
 use Rattle.tw_heap.specs.Entries.{entry_of, message_of, AreDistinct as AreDistinctEntries}
 use Rattle.tw_msgs.specs.Messages.{same_message, has, without}

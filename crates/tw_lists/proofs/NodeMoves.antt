@@ -4,12 +4,12 @@ use Rattle.std.proofs.lemmas.Bool.{cases_eq}
 use Rattle.std.proofs.lemmas.List.{map-append}
 use Rattle.std.specs.Map.{lookup}
 use Rattle.tw_pool.specs.Lists.{list_at, item_of, IsLive, first_of, backward, without as without_node, with_item_last, AreDistinct}
-use Rattle.tw_pool.proofs.ListLemmas.{stands, lookup_lacks, lookup_found}
-use Rattle.tw_pool.proofs.IndexLemmas.{moved, item_is, item_live, lookup_other, last_of}
+use Rattle.tw_pool.proofs.ListsSeen.{stands, lookup_lacks, lookup_found}
+use Rattle.tw_pool.proofs.ListsByIndex.{moved, item_is, item_live, lookup_other, last_of}
 use Rattle.tw_heap.specs.declared.entries.Entry.{Entry}
 use Rattle.tw_heap.specs.Order.{insert_by}
 use Rattle.tw_heap.specs.Entries.{Events, is_before, entry_of, without, message_of}
-use Rattle.tw_heap.proofs.EntryLemmas.{entry_of-first, without-first, messages-insert}
+use Rattle.tw_heap.proofs.EntriesByIndex.{entry_of-first, without-first, messages-insert}
 use Rattle.tw_msgs.specs.Messages.{Sorted}
 use Rattle.tw_msgs.proofs.Messages.{place-first}
 use Rattle.tw_msgs.specs.declared.message.Item.{Item}

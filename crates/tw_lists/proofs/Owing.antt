@@ -3,7 +3,7 @@ use Rattle.std.proofs.Common.{◌≡◌, ℕ, zero, suc, ◌+◌, ◌-◌, ◌<�
 use Rattle.std.proofs.lemmas.List.{map-append}
 use Rattle.std.proofs.lemmas.Bool.{cond-true, cond-false, le-leb, lt-leb}
 use Rattle.tw_pool.specs.Lists.{list_at, item_of, IsLive, first_of, next_of, without as without_node, with_item_last, AreDistinct}
-use Rattle.tw_pool.proofs.IndexLemmas.{moved, item_is, next_is}
+use Rattle.tw_pool.proofs.ListsByIndex.{moved, item_is, next_is}
 use Rattle.tw_heap.specs.Entries.{Events, message_of}
 use Rattle.tw_msgs.specs.Counting.{total, one_at}
 use Rattle.tw_msgs.specs.Messages.{has, without, same_message}

@@ -7,7 +7,7 @@ use Rattle.std.proofs.lemmas.Bool.{lt-ltb, ltb-true, ltb-false, eqb-false}
 use Rattle.std.proofs.lemmas.List.Sums.{take_while-cons}
 use Rattle.tw_heap.specs.declared.entries.Entry.{Entry}
 use Rattle.tw_heap.specs.Entries.{message_of, first_of, without}
-use Rattle.tw_heap.proofs.EntryLemmas.{behind_first, without-first}
+use Rattle.tw_heap.proofs.EntriesByIndex.{behind_first, without-first}
 use Rattle.tw_msgs.specs.declared.message.Message.{Message}
 use Rattle.tw_msgs.specs.declared.message.Item.{Item}
 use Rattle.tw_theory.specs.Bundles.{least_owed, least_stamp}

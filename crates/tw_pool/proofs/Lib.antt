@@ -1,7 +1,7 @@
-pub mod ListLemmas
-pub mod IndexLemmas
-pub mod MoveLemmas
-pub mod LinkLemmas
-pub mod HoldLemmas
-pub mod ChangeLemmas
-pub mod ReadLemmas
+pub mod ListsSeen
+pub mod ListsByIndex
+pub mod MovesToEnd
+pub mod NodeLinks
+pub mod LinksHold
+pub mod LinkChanges
+pub mod LinksRead

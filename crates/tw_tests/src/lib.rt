@@ -1,4 +1,5 @@
-//! Tests of the crates from stamps to the executive: worked examples, and each public function once.
+//! Tests of the crates from stamps to the executive and what is shown of it: worked examples, and each
+//! public function once.
 #![tactic(auto)]
 
 #[cfg(test)]

@@ -1,6 +1,6 @@
 -- The texts of times, bags, words, records and faults.
 --     time_text s      the time of a stamp, or `end`
---     bag_text bag, words_text words      parts of a line
+--     bag_text bag, words_text words, kind_text kind      parts of a line
 --     record_line name r, fault_line name at limit      whole lines, each with its newline
 --     trace_text name_of rs      the lines of records, one after another
 use Rattle.std.specs.Prelude.{◌==◌, ◌++◌, ◌∷◌, [], ℕ, ℤ, List, codes, flat_map, if◌then◌else◌}
@@ -29,6 +29,13 @@ bag_text (x ∷ xs) = join_by item_text (codes " ") (x ∷ xs)
 -- the numbers with a space between each two
 abbrev pub words_text : List ℤ → List ℕ
 words_text words = join_by signed_decimal (codes " ") words
+
+-- the kinds of steps
+abbrev pub kind_text : RecordKind → List ℕ
+kind_text Out = codes "out"
+kind_text Int = codes "int"
+kind_text Ext = codes "ext"
+kind_text Con = codes "con"
 
 -- what a component did: its bag, the words of its new state
 abbrev pub step_text : RecordKind → List (ℕ × ℤ) → List ℤ → List ℕ

@@ -5,13 +5,14 @@ ghost use Rattle.tw_texts.specs.Texts.{
   time_text,
   bag_text,
   words_text,
+  kind_text,
   record_line,
   fault_line,
 };
 
 use crate::lines::{add_bag, add_fault, add_record, add_time, add_words};
 use std::alloc::AllocError;
-use tw_msgs::Record;
+use tw_msgs::{Record, RecordKind};
 use tw_vtime::{Limit, Stamp};
 
 /// Adds the time of a stamp: its tick and its microstep with a dot between, as `3.0`; or `end`.
@@ -49,6 +50,18 @@ pub fn push_words(text: &mut String, words: &[i128]) -> Result<(), AllocError>
     let mut piece = String::new(*text.allocator());
     add_words(&mut piece, words)?;
     text.push_str(piece.as_str())
+}
+
+/// The kind of a step, as lines name it: `out`, `int`, `ext` or `con`.
+pub fn kind_name(kind: RecordKind) -> &'static str
+    ensures { result.now ≡ kind_text kind }
+{
+    match kind {
+        RecordKind::Out => "out",
+        RecordKind::Int => "int",
+        RecordKind::Ext => "ext",
+        RecordKind::Con => "con",
+    }
 }
 
 /// Adds the line of a record of the component with this name: its time, the name and what it did, as

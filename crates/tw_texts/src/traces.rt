@@ -51,8 +51,8 @@ impl fmt::Display for NotWritten {
 
 impl Error for NotWritten {}
 
-/// Hands a text to a writer and empties it.
-fn write_out<W: Write>(text: &mut String, out: &mut W) -> Result<(), NotWritten>
+/// Hands a text to a writer and empties it. Refused where the writer fails (24), and then only the writer knows what it took.
+pub fn write_out<W: Write>(text: &mut String, out: &mut W) -> Result<(), NotWritten>
     ensures ok { OnOk result (Appends (W.contents out.old) (W.contents out.new) (string_bytes text.old)) }
     ensures emptied { OnOk result (string_bytes text.new ≡ []) }
     ensures err { IfErr result (λ e. e ≡ NotWritten.WriteFailed) }
@@ -64,8 +64,8 @@ fn write_out<W: Write>(text: &mut String, out: &mut W) -> Result<(), NotWritten>
     Ok(())
 }
 
-/// Hands a text to a writer once it is a portion long.
-fn write_portion<W: Write>(text: &mut String, out: &mut W) -> Result<(), NotWritten>
+/// Hands a text to a writer and empties it, once it is a portion of 65,536 bytes long. Refused as [`write_out`] is.
+pub fn write_portion<W: Write>(text: &mut String, out: &mut W) -> Result<(), NotWritten>
     ensures ok { OnOk result (MovesBytes (W.contents out.old) (W.contents out.new) (string_bytes text.old) (string_bytes text.new)) }
     ensures err { IfErr result (λ e. e ≡ NotWritten.WriteFailed) }
 {

@@ -1,7 +1,7 @@
 //! The program: its words, its file and its standard streams.
 //!
 //! What it does is [`tw_line::job`] and [`tw_engine::engine`]; here they only get the process's arguments,
-//! the file and the streams.
+//! the files and the streams.
 #![tactic(auto)]
 
 mod source;
@@ -12,7 +12,7 @@ use std::io::ErrorKind;
 use std::process::ExitCode;
 use std::{env, io};
 use tw_engine::{Exit, engine};
-use tw_line::{Job, NoJob, job};
+use tw_line::{Driver, Job, NoJob, job};
 use tw_vtime::Refusal;
 
 // The status of the process. An error is one of standard output, which could not take the text of the help.
@@ -44,13 +44,19 @@ fn exit_of(error: &io::Error) -> Exit {
     }
 }
 
-// Does a job on its file and standard output. No job has a script yet.
+// Does a job on its files and standard output.
 fn do_job(rt: &HostRuntime, job: &Job<'_>) -> Exit {
     let mut net = match job {
         Job::Demo => Source::Missing(ErrorKind::NotFound),
-        Job::Seq { net, .. } => Source::from(File::open(rt, *net)),
+        Job::Seq { net, .. } | Job::Play { net, .. } => Source::from(File::open(rt, *net)),
     };
-    let mut script = io::empty();
+    let mut script = match job {
+        Job::Play {
+            driver: Driver::Script(path),
+            ..
+        } => Source::from(File::open(rt, *path)),
+        _ => Source::Missing(ErrorKind::NotFound),
+    };
     let mut out = io::writer(rt);
     engine(rt.alloc(), job, &mut net, &mut script, &mut out)
 }

@@ -2,6 +2,7 @@
 
 mod examples;
 mod failing;
+mod played;
 
 use crate::tests::jobs::examples::{Example, REFUSED, runs};
 use std::alloc::Global;
@@ -16,10 +17,11 @@ const DEMO_TEXT: &str =
     "2.0 g out 0=5\n2.0 g int | 1\n2.0 t ext 0=5 | 1 5 5\n4.0 g out 0=5\n4.0 g int | 2\n4.0 t ext 0=5 | 2 10 5\n";
 
 /// The exits, each with its status and its line.
-static EXITS: [(Exit, u8, &str); 6] = [
+static EXITS: [(Exit, u8, &str); 7] = [
     (Exit::Done, 0, ""),
     (Exit::Bad(Refusal::BadTick), 2, "twarp: 10 BadTick\n"),
     (Exit::Bad(Refusal::BadLine), 2, "twarp: 23 BadLine\n"),
+    (Exit::BadScript(3), 2, "twarp: 22 BadScript line 3\n"),
     (Exit::Fault, 3, ""),
     (
         Exit::Want(Refusal::OutOfMemory),

@@ -3,11 +3,11 @@
 use std::alloc::{AllocError, Global};
 use std::process::Abort;
 use std::test::Fail;
-use tw_line::{Job, NoJob, job};
+use tw_line::{Driver, Job, NoJob, job};
 use tw_vtime::Refusal;
 
 /// Lines that are taken, and what is answered to each.
-static TAKEN: [(&str, &str); 9] = [
+static TAKEN: [(&str, &str); 16] = [
     ("twarp demo", "demo"),
     ("twarp seq n.json --until 5", "seq of n.json until 5"),
     ("twarp seq n.json --until=5", "seq of n.json until 5"),
@@ -20,10 +20,38 @@ static TAKEN: [(&str, &str); 9] = [
         "twarp seq n.json --until 1099511627774",
         "seq of n.json until 1099511627774",
     ),
+    (
+        "twarp play n.json --until 5 --script s",
+        "play of n.json until 5 by s, Aggressive",
+    ),
+    (
+        "twarp play n.json --until 5 --seed 1 --steps 2",
+        "play of n.json until 5 by 2 of seed 1, Aggressive",
+    ),
+    (
+        "twarp play n.json --until 0 --script=s --cancel aggressive",
+        "play of n.json until 0 by s, Aggressive",
+    ),
+    (
+        "twarp play --cancel lazy --script s --until 5 n.json",
+        "play of n.json until 5 by s, Lazy",
+    ),
+    (
+        "twarp play n.json --until=5 --steps=007 --seed=+7 --cancel=lazy",
+        "play of n.json until 5 by 7 of seed 7, Lazy",
+    ),
+    (
+        "twarp play n.json --until 1099511627774 --seed 18446744073709551615 --steps 1000000",
+        "play of n.json until 1099511627774 by 1000000 of seed 18446744073709551615, Aggressive",
+    ),
+    (
+        "twarp play n.json --until 5 --seed 0 --steps 0",
+        "play of n.json until 5 by 0 of seed 0, Aggressive",
+    ),
 ];
 
 /// Lines that are refused.
-static REFUSED: [&str; 28] = [
+static REFUSED: [&str; 47] = [
     "twarp",
     "twarp walk",
     "twarp --version",
@@ -47,16 +75,35 @@ static REFUSED: [&str; 28] = [
     "twarp run n.json --until 5",
     "twarp run n.json --until 5 --workers 65",
     "twarp run n.json --until 5 --workers 0",
-    "twarp play n.json --until 5 --script s",
+    "twarp play",
+    "twarp play n.json --until 5",
+    "twarp play n.json --until 5 --cancel lazy",
+    "twarp play n.json --script s",
+    "twarp play n.json --seed 1 --steps 1",
+    "twarp play --until 5 --script s",
+    "twarp play n.json --until 1099511627775 --script s",
+    "twarp play n.json --until 5 --script",
     "twarp play n.json --until 5 --seed 1",
     "twarp play n.json --until 5 --steps 5",
+    "twarp play n.json --until 5 --script s --seed 1",
+    "twarp play n.json --until 5 --script s --steps 1",
     "twarp play n.json --until 5 --script s --seed 1 --steps 1",
+    "twarp play n.json --until 5 --script s --script r",
     "twarp play n.json --until 5 --seed 1 --steps 1000001",
+    "twarp play n.json --until 5 --seed 18446744073709551616 --steps 1",
+    "twarp play n.json --until 5 --seed -1 --steps 1",
+    "twarp play n.json --until 5 --seed one --steps 1",
+    "twarp play n.json --until 5 --script s --cancel eager",
+    "twarp play n.json --until 5 --script s --cancel Lazy",
+    "twarp play n.json --until 5 --script s --cancel=",
+    "twarp play n.json --until 5 --script s --cancel lazy --cancel lazy",
+    "twarp seq n.json --until 5 --cancel lazy",
+    "twarp seq n.json --until 5 --script s",
 ];
 
 /// Lines that ask for help, and parts of what is answered to each.
-static HELPS: [(&str, [&str; 3]); 7] = [
-    ("twarp --help", ["Usage: twarp <COMMAND>", "demo", "seq"]),
+static HELPS: [(&str, [&str; 3]); 9] = [
+    ("twarp --help", ["Usage: twarp <COMMAND>", "seq", "play"]),
     ("twarp -h", ["Usage: twarp <COMMAND>", "demo", "seq"]),
     ("twarp help", ["Usage: twarp <COMMAND>", "demo", "seq"]),
     (
@@ -75,6 +122,14 @@ static HELPS: [(&str, [&str; 3]); 7] = [
         "twarp demo --help",
         ["Usage: twarp demo", "tally", "tick 5"],
     ),
+    (
+        "twarp help play",
+        ["<NET>", "--script <FILE>", "0 to 1000000"],
+    ),
+    (
+        "twarp play --help",
+        ["18446744073709551615", "aggressive", "lazy"],
+    ),
 ];
 
 /// The words of a line, which have one space between each two.
@@ -92,6 +147,22 @@ fn answer(alloc: Global, line: &str) -> Result<String, AllocError> {
     match job(alloc, words.as_slice()) {
         Ok(Job::Demo) => String::from_str(alloc, "demo"),
         Ok(Job::Seq { net, until }) => format!(in alloc; "seq of {net} until {until}"),
+        Ok(
+            Job::Play {
+                net,
+                until,
+                cancel,
+                driver: Driver::Script(script),
+            },
+        ) => format!(in alloc; "play of {net} until {until} by {script}, {cancel:?}"),
+        Ok(
+            Job::Play {
+                net,
+                until,
+                cancel,
+                driver: Driver::Seed { seed, steps },
+            },
+        ) => format!(in alloc; "play of {net} until {until} by {steps} of seed {seed}, {cancel:?}"),
         Err(no_job) => match no_job.refusal() {
             None => String::from_str(alloc, "help"),
             Some(refusal) => format!(in alloc; "{refusal}"),
@@ -106,7 +177,7 @@ fn assert_answer(rt: &impl Abort, alloc: Global, line: &str, want: &str) -> Resu
 }
 
 #[test]
-fn takes_the_lines_of_demo_and_seq(rt: HostRuntime) -> Result<(), Fail> {
+fn takes_the_lines_of_demo_seq_and_play(rt: HostRuntime) -> Result<(), Fail> {
     for (line, want) in TAKEN.iter() {
         assert_answer(&rt, rt.alloc(), line, want)?;
     }

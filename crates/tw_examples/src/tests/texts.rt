@@ -4,8 +4,10 @@ use crate::tests::records::record;
 use std::alloc::{AllocError, Global};
 use std::process::Abort;
 use std::test::Fail;
-use tw_msgs::{Record, RecordKind};
-use tw_texts::{push_bag, push_fault, push_record, push_time, push_words};
+use tw_msgs::{Message, Record, RecordKind, Sign};
+use tw_texts::{
+    kind_name, push_bag, push_fault, push_message, push_record, push_time, push_words, sign_name,
+};
 use tw_vtime::{Limit, Stamp};
 
 /// The ticks, microsteps and phases of stamps, and the text of each after `at `.
@@ -90,6 +92,54 @@ fn writes_words(rt: HostRuntime) -> Result<(), Fail> {
     )?;
     assert!(rt; text.as_str() == "| 2 -9223372036854775808 13525302890751722018");
     Ok(())
+}
+
+/// Asserts what is written of a message to component 2.
+fn assert_message(
+    rt: &impl Abort,
+    alloc: Global,
+    stamp: Stamp,
+    port: u8,
+    value: i64,
+    want: &str,
+) -> Result<(), AllocError> {
+    let mut text = String::from_str(alloc, "owed t ")?;
+    let message = Message {
+        stamp,
+        port,
+        value,
+        to: 2,
+    };
+    push_message(&mut text, &message)?;
+    assert!(rt; text.as_str() == want);
+    Ok(())
+}
+
+#[test]
+fn writes_messages(rt: HostRuntime) -> Result<(), Fail> {
+    let sent = Stamp::new(4, 0, 1)?;
+    assert_message(&rt, rt.alloc(), sent, 0, 8, "owed t 0=8 at 4.0.1")?;
+    let last = Stamp::new(1_099_511_627_774, 8_388_607, 1)?;
+    assert_message(
+        &rt,
+        rt.alloc(),
+        last,
+        255,
+        i64::MIN,
+        "owed t 255=-9223372036854775808 at 1099511627774.8388607.1",
+    )?;
+    assert_message(&rt, rt.alloc(), Stamp::END, 15, -1, "owed t 15=-1 at end")?;
+    Ok(())
+}
+
+#[test]
+fn names_signs_and_kinds(rt: HostRuntime) {
+    assert!(rt; sign_name(Sign::Positive) == "+");
+    assert!(rt; sign_name(Sign::Anti) == "-");
+    assert!(rt; kind_name(RecordKind::Out) == "out");
+    assert!(rt; kind_name(RecordKind::Int) == "int");
+    assert!(rt; kind_name(RecordKind::Ext) == "ext");
+    assert!(rt; kind_name(RecordKind::Con) == "con");
 }
 
 /// Asserts the line of a record of a component of this name.

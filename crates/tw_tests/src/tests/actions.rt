@@ -73,7 +73,7 @@ pub(crate) fn meant(rt: &impl Abort, asked: Asked) -> Action {
 }
 
 /// The answer that a reply tells of.
-fn told(rt: &impl Abort, reply: Reply) -> Result<Done, Refused> {
+pub(crate) fn told(rt: &impl Abort, reply: Reply) -> Result<Done, Refused> {
     match reply {
         Reply::Stepped(made, kind) => Ok(Done::Stepped(at(rt, made), kind)),
         Reply::Posted(count) => Ok(Done::Posted(count)),
@@ -184,7 +184,7 @@ pub(crate) fn in_a_row(rt: &impl Abort, alloc: Global, cancel: Cancel) -> Execut
 }
 
 /// Three steps of the relay, and then a message from before them.
-static STRAGGLER: [(Asked, Reply); 6] = [
+pub(crate) static STRAGGLER: [(Asked, Reply); 6] = [
     (Asked::Step(R), Reply::Stepped((3, 0, 1), RecordKind::Ext)),
     (Asked::Step(R), Reply::Stepped((4, 0, 0), RecordKind::Out)),
     (Asked::Step(R), Reply::Stepped((4, 0, 1), RecordKind::Int)),

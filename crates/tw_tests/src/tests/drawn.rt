@@ -104,7 +104,7 @@ fn is_fair(answer: Result<Done, Refused>) -> bool {
 }
 
 /// Asserts that each component has committed its sequential records before its line.
-fn assert_columns(rt: &impl Abort, executive: &Executive<Model>, records: &[Record]) {
+pub(crate) fn assert_columns(rt: &impl Abort, executive: &Executive<Model>, records: &[Record]) {
     for component in 0..executive.network().len() {
         let line = executive.line(component);
         let committed = executive.committed(component);

@@ -14,7 +14,7 @@ const NAMES: [&str; 4] = ["a", "b", "c", "d"];
 
 /// A model's maker and its numbers.
 #[derive(Clone, Copy)]
-enum Made {
+pub(crate) enum Made {
     Generator(u64, i64),
     Tally,
     Relay(u64),
@@ -35,20 +35,20 @@ impl Made {
 }
 
 /// A network, an end tick, and its run.
-struct Example {
-    name: &'static str,
-    models: &'static [Made],
-    couplings: &'static [Coupling],
-    inputs: &'static [Input],
-    micro_limit: u64,
-    until: u64,
-    lines: &'static [Line<'static>],
+pub(crate) struct Example {
+    pub(crate) name: &'static str,
+    pub(crate) models: &'static [Made],
+    pub(crate) couplings: &'static [Coupling],
+    pub(crate) inputs: &'static [Input],
+    pub(crate) micro_limit: u64,
+    pub(crate) until: u64,
+    pub(crate) lines: &'static [Line<'static>],
     /// The component, the tick and microstep, and the limit that it met.
-    fault: Option<(usize, u64, u32, Limit)>,
+    pub(crate) fault: Option<(usize, u64, u32, Limit)>,
 }
 
 /// Runs that are made to their ends.
-static RUNS: [Example; 14] = [
+pub(crate) static RUNS: [Example; 14] = [
     Example {
         name: "gen-tally",
         models: &[Made::Generator(2, 5), Made::Tally],
@@ -259,6 +259,17 @@ static RUNS: [Example; 14] = [
     },
 ];
 
+/// The network of an example.
+pub(crate) fn network_of(alloc: Global, example: &Example) -> Result<Network<Model>, Refusal> {
+    network(
+        alloc,
+        example.models,
+        example.couplings,
+        example.inputs,
+        example.micro_limit,
+    )
+}
+
 /// The network of these models, up to four, in this order.
 fn network(
     alloc: Global,
@@ -284,13 +295,7 @@ fn components_of(alloc: Global, models: &[Made]) -> Result<Vec<(String, Model)>,
 
 /// The run of an example.
 fn run_of(alloc: Global, example: &Example) -> Result<Seq, Refusal> {
-    let network = network(
-        alloc,
-        example.models,
-        example.couplings,
-        example.inputs,
-        example.micro_limit,
-    )?;
+    let network = network_of(alloc, example)?;
     Ok(simulate(alloc, &network, example.until)?)
 }
 

@@ -13,9 +13,9 @@ use tw_vtime::Refusal;
 
 /// A reader that gives one byte a call, and fails where none of its calls is left.
 #[derive(Drop)]
-struct OneByteReader<'a> {
-    left: &'a [u8],
-    calls: u32,
+pub(crate) struct OneByteReader<'a> {
+    pub(crate) left: &'a [u8],
+    pub(crate) calls: u32,
 }
 
 impl Read for OneByteReader<'_> {

@@ -1,7 +1,7 @@
 use Rattle.std.proofs.Common.{◌≡◌, ◌+◌, length, true, arith, sym, subst, ◌∙◌}
 use Rattle.tw_heap.specs.Entries.{is_before}
 use Rattle.tw_heap.specs.Heap.{at, InOrder}
-use Rattle.tw_heap.proofs.HeapLemmas.{child_cases, not_back, not_itself, not_child_of}
+use Rattle.tw_heap.proofs.HeapMoves.{child_cases, not_back, not_itself, not_child_of}
 use Rattle.tw_heap.proofs.sifting.first_child.Goals.{else-right-entries-via-then-right-entries+else-before, else-right-entries-via-else-right-entries}
 use Rattle.tw_heap.proofs.sifting.first_child.Goals as goal
 

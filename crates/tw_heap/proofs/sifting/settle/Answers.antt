@@ -1,6 +1,6 @@
 use Rattle.std.proofs.Common.{◌-◌, ◌/◌, sym, ◌∙◌}
-use Rattle.tw_heap.proofs.HeapLemmas.{parent_of}
-use Rattle.tw_heap.proofs.EventLemmas.{goes_up, goes_down, only_parent, no_parent}
+use Rattle.tw_heap.proofs.HeapMoves.{parent_of}
+use Rattle.tw_heap.proofs.HeapChanges.{goes_up, goes_down, only_parent, no_parent}
 use Rattle.tw_heap.proofs.sifting.settle.Goals.{else-place-gt0-via-then-place-gt0+else-before, else-place-gt0-via-else-place-gt0}
 use Rattle.tw_heap.proofs.sifting.settle.Goals as goal
 

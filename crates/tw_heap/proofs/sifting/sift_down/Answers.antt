@@ -2,7 +2,7 @@ use Rattle.std.proofs.Common.{◌≡◌, length, true, sym, ◌∙◌}
 use Rattle.std.proofs.lemmas.List.Sorted.{IsPermutation-trans}
 use Rattle.tw_heap.specs.Entries.{is_before}
 use Rattle.tw_heap.specs.Heap.{at}
-use Rattle.tw_heap.proofs.HeapLemmas.{down_step, down_done, not_trans}
+use Rattle.tw_heap.proofs.HeapMoves.{down_step, down_done, not_trans}
 use Rattle.tw_heap.proofs.sifting.sift_down.Goals as goal
 
 pub loop-place-preserved : goal.loop-place-preserved

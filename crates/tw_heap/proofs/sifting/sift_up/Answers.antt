@@ -2,7 +2,7 @@ use Rattle.std.proofs.Common.{◌≡◌, ◌-◌, ◌/◌, length, true, arith, 
 use Rattle.std.proofs.lemmas.List.Sorted.{IsPermutation-trans}
 use Rattle.tw_heap.specs.Entries.{is_before}
 use Rattle.tw_heap.specs.Heap.{at, IsChild}
-use Rattle.tw_heap.proofs.HeapLemmas.{up_step, up_done, parent_of}
+use Rattle.tw_heap.proofs.HeapMoves.{up_step, up_done, parent_of}
 use Rattle.tw_heap.proofs.sifting.sift_up.Goals as goal
 
 pub loop-place-preserved : goal.loop-place-preserved

@@ -17,6 +17,13 @@ returns-in-Some-clause-taken c =
     sym (ap (λ a. fault_of a words) c.in_ok-command.ensures.app)
     ∙ c.in-Ok.ensures.kinds (ap is_simple_and_free c.in_ok-command.ensures.app ∙ is_twarp_free)
 
+pub returns-in-Some-clause-ok : goal.returns-in-Some-clause-ok
+returns-in-Some-clause-ok c =
+    let words = map string_bytes c.args.words.now in
+    let read = c.in-Ok.ensures.matches (ap is_simple c.in_ok-command.ensures.app ∙ is_twarp_simple) in
+    subst (λ (o : Option (Text × List Row)). IsJob o c.in-Some.job)
+    (read.1 ∙ ap (λ a. subcommand_of a words) c.in_ok-command.ensures.app) c.in-Some.ensures.some
+
 pub returns-in-Ok-clause-err : goal.returns-in-Ok-clause-err
 returns-in-Ok-clause-err c =
     let words = map string_bytes c.args.words.now in

@@ -1,4 +1,4 @@
-use Rattle.tw_pool.proofs.LinkLemmas.{IsThere-next}
+use Rattle.tw_pool.proofs.NodeLinks.{IsThere-next}
 use Rattle.tw_pool.proofs.links.join.Goals as goal
 
 pub set_prev-requires-clause-there : goal.set_prev-requires-clause-there

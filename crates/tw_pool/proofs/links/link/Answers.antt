@@ -1,6 +1,6 @@
 use Rattle.std.proofs.Common.{Some}
 use Rattle.tw_pool.specs.Links.{IsThere}
-use Rattle.tw_pool.proofs.LinkLemmas.{IsThere-edited, IsThere-by}
+use Rattle.tw_pool.proofs.NodeLinks.{IsThere-edited, IsThere-by}
 use Rattle.tw_pool.proofs.links.link.Goals as goal
 
 pub join-requires-clause-left : goal.join-requires-clause-left

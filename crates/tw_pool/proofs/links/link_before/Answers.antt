@@ -1,6 +1,6 @@
 use Rattle.std.proofs.Common.{arith, refl}
-use Rattle.tw_pool.proofs.ChangeLemmas.{inserting, spot}
-use Rattle.tw_pool.proofs.HoldLemmas.{holds_is, holds_linked}
+use Rattle.tw_pool.proofs.LinkChanges.{inserting, spot}
+use Rattle.tw_pool.proofs.LinksHold.{holds_is, holds_linked}
 use Rattle.tw_pool.proofs.links.link_before.Goals as goal
 
 pub index-node-requires : goal.index-node-requires

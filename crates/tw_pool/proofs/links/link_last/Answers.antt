@@ -1,6 +1,6 @@
 use Rattle.std.proofs.Common.{arith}
-use Rattle.tw_pool.proofs.ChangeLemmas.{arriving}
-use Rattle.tw_pool.proofs.HoldLemmas.{holds_is, holds_linked}
+use Rattle.tw_pool.proofs.LinkChanges.{arriving}
+use Rattle.tw_pool.proofs.LinksHold.{holds_is, holds_linked}
 use Rattle.tw_pool.proofs.links.link_last.Goals as goal
 
 pub link-requires-clause-left : goal.link-requires-clause-left

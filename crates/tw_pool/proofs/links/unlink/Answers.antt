@@ -1,7 +1,7 @@
 use Rattle.std.proofs.Common.{Some, arith, refl, ◌∙◌}
-use Rattle.tw_pool.proofs.ChangeLemmas.{leaving, leaving_free, leaving_fewer, stored_spot, spot, same_joined}
-use Rattle.tw_pool.proofs.LinkLemmas.{IsThere-joined}
-use Rattle.tw_pool.proofs.HoldLemmas.{holds_is, holds_linked}
+use Rattle.tw_pool.proofs.LinkChanges.{leaving, leaving_free, leaving_fewer, stored_spot, spot, same_joined}
+use Rattle.tw_pool.proofs.NodeLinks.{IsThere-joined}
+use Rattle.tw_pool.proofs.LinksHold.{holds_is, holds_linked}
 use Rattle.tw_pool.proofs.links.unlink.Goals as goal
 
 pub index-node-requires : goal.index-node-requires

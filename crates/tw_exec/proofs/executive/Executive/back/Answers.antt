@@ -1,4 +1,4 @@
-use Rattle.std.proofs.Common.{ap, sym, subst, ◌∙◌, arith}
+use Rattle.std.proofs.Common.{refl, ap, sym, subst, ◌∙◌, arith}
 use Rattle.std.specs.Arc.{arc_value}
 use Rattle.std.specs.Prelude.{slice_set}
 use Rattle.std.proofs.lemmas.Option.{slice_get_read}
@@ -7,6 +7,10 @@ use Rattle.tw_exec.proofs.Acts.{back_early, back_none}
 use Rattle.tw_exec.proofs.Comparing.{lt, not_lt}
 use Rattle.tw_exec.proofs.Kept.{IsActed, back_acted}
 use Rattle.tw_theory.specs.Executive.{Back, Undone}
+use Rattle.tw_exec.proofs.Exactly.{exact_known, exact_taken}
+use Rattle.tw_exec.specs.declared.refused.Refused.TheVariants as refused
+use Rattle.tw_theory.specs.Executive as theory
+use Rattle.tw_exec.specs.declared.action.Done.TheVariants as done
 use Rattle.tw_exec.proofs.executive.Executive.back.Given.{Over}
 use Rattle.tw_exec.proofs.executive.Executive.back.Goals as goal
 
@@ -36,3 +40,12 @@ returns-clause-done g c = ap (λ x. record { network = arc_value c.self.inside.n
 
 pub returns-clause-answer : goal.returns-clause-answer
 returns-clause-answer g c = ap (λ e. answer g.M.Atomic.meaning (Back c.args.component c.args.stamp) e) (sym c.self.view_is) ∙ ap (λ x. x.0) (acted g c).acts
+
+pub returns-then-component-len-clause-exact : goal.returns-then-component-len-clause-exact
+returns-then-component-len-clause-exact g c = exact_known g.M.Atomic.meaning (Back c.args.component c.args.stamp) c.args.self.now refused.NoSuch theory.NoSuch refl (returns-then-component-len-clause-refused g c)
+
+pub returns-then-lt-clause-exact : goal.returns-then-lt-clause-exact
+returns-then-lt-clause-exact g c = exact_known g.M.Atomic.meaning (Back c.args.component c.args.stamp) c.args.self.now refused.BeforeGvt theory.BeforeGvt refl (returns-then-lt-clause-refused g c)
+
+pub returns-clause-exact : goal.returns-clause-exact
+returns-clause-exact g c = exact_taken g.M.Atomic.meaning (Back c.args.component c.args.stamp) c.args.self.now (done.Undone c.back_to-undone.result) (returns-clause-answer g c)

@@ -1,14 +1,19 @@
-use Rattle.std.proofs.Common.{◌≡◌, ◌<◌, Err, FitsSigned, w64, ap, sym, subst, ◌∙◌, arith, rules}
+use Rattle.std.proofs.Common.{◌≡◌, ◌<◌, Err, FitsSigned, w64, refl, ap, sym, subst, ◌∙◌, arith, rules}
 use Rattle.std.specs.Arc.{arc_value}
 use Rattle.std.specs.Prelude.{slice_set}
 use Rattle.std.proofs.lemmas.Option.{slice_get_read}
 use Rattle.tw_exec.specs.Refusals.{of_pool}
-use Rattle.tw_exec.specs.Running.{IsHeld, IsWanting, answer, after, shown}
+use Rattle.tw_exec.specs.Running.{AreExact, IsHeld, IsWanting, WantsRoom, answer, after, shown}
 use Rattle.tw_exec.proofs.Acts.{deliver_empty, deliver_none}
-use Rattle.tw_exec.proofs.Deliveries.{arrives, deliver_acted, deliver_wants, restored}
+use Rattle.tw_exec.proofs.Deliveries.{arrives, deliver_acted, deliver_wants, restored, wanted}
 use Rattle.tw_exec.proofs.Kept.{IsActed, as_many_boxes, held_unchanged, same_world}
+use Rattle.tw_pool.specs.declared.refused.PoolRefused.TheVariants.{Full as full}
 use Rattle.tw_rollback.specs.Received.{meant}
 use Rattle.tw_theory.specs.Executive.{Deliver, Delivered}
+use Rattle.tw_exec.proofs.Exactly.{deliver_exact, exact_known, exact_taken, none_of_pool, ok_err, same_Err}
+use Rattle.tw_exec.specs.declared.refused.Refused.TheVariants as refused
+use Rattle.tw_theory.specs.Executive as theory
+use Rattle.tw_exec.specs.declared.action.Done.TheVariants as done
 use Rattle.tw_exec.proofs.executive.Executive.deliver.Given.{Over}
 use Rattle.tw_exec.proofs.executive.Executive.deliver.Goals as goal
 
@@ -88,3 +93,41 @@ returns-in-Err-clause-full g c =
     (λ e. c.receive.ensures.limit.1 (c.in-Err.is ∙ (λ i. Err (c.in-Err.ensures.handed_back i, e i)))) in
     subst (λ r. IsWanting g.M.Atomic.meaning (Deliver c.args.receiver c.args.place) c.args.self.now r) (sym c.into.ensures)
     (subst (λ e. IsWanting g.M.Atomic.meaning (Deliver c.args.receiver c.args.place) e (of_pool c.in-Err.refused)) c.self.view_is wants)
+
+pub returns-then-receiver-len-clause-exact : goal.returns-then-receiver-len-clause-exact
+returns-then-receiver-len-clause-exact g c = exact_known g.M.Atomic.meaning (Deliver c.args.receiver c.args.place) c.args.self.now refused.NoSuch theory.NoSuch refl (returns-then-receiver-len-clause-refused g c)
+
+pub returns-in_default-clause-exact : goal.returns-in_default-clause-exact
+returns-in_default-clause-exact g c = exact_known g.M.Atomic.meaning (Deliver c.args.receiver c.args.place) c.args.self.now refused.NoSuch theory.NoSuch refl (returns-in_default-clause-refused g c)
+
+pub returns-in-Ok-clause-exact : goal.returns-in-Ok-clause-exact
+returns-in-Ok-clause-exact g c = exact_taken g.M.Atomic.meaning (Deliver c.args.receiver c.args.place) c.args.self.now (done.Delivered c.in-Ok.came) (returns-in-Ok-clause-answer g c)
+
+pub returns-in-Err-clause-exact : goal.returns-in-Err-clause-exact
+returns-in-Err-clause-exact g c =
+    let ps = c.self.inside.processes in
+    let old = c.index_mut.result.now in
+    let at = slice_get_read ps.items _ c.args.receiver old ps.ok.0 (omega (arith, c.if-receiver-len.false, c.len.ensures, c.self.inside.processes.ok.0)) c.index_mut.ensures.value in
+    subst (λ r. AreExact g.M.Atomic.meaning (Deliver c.args.receiver c.args.place) c.args.self.now (Err r)) (sym c.into.ensures)
+    (subst (λ e. AreExact g.M.Atomic.meaning (Deliver c.args.receiver c.args.place) e (Err (of_pool c.in-Err.refused))) c.self.view_is
+    (deliver_exact c.self.invariant.0 (of_pool c.in-Err.refused) (none_of_pool c.in-Err.refused) c.args.receiver c.args.place old c.in-Some.item at (sym c.take.ensures.item ∙ c.in-Some.is)))
+
+pub returns-in-Ok-clause-limit : goal.returns-in-Ok-clause-limit
+returns-in-Ok-clause-limit g c =
+    let ps = c.self.inside.processes in
+    let old = c.index_mut.result.now in
+    let at = slice_get_read ps.items _ c.args.receiver old ps.ok.0 (omega (arith, c.if-receiver-len.false, c.len.ensures, c.self.inside.processes.ok.0)) c.index_mut.ensures.value in
+    let refused : WantsRoom g.M.Atomic.meaning (Deliver c.args.receiver c.args.place) c.args.self.now → c.receive.result ≡ Err (c.in-Some.item, full) =
+    λ wants. c.receive.ensures.limit.0 (wanted c.self.invariant.0 c.args.receiver c.args.place old c.in-Some.item at (sym c.take.ensures.item ∙ c.in-Some.is) (subst (WantsRoom g.M.Atomic.meaning (Deliver c.args.receiver c.args.place)) (sym c.self.view_is) wants)) in
+    (λ wants. absurd (ok_err (sym c.in-Ok.is ∙ refused wants)), λ is. absurd (ok_err is))
+
+pub returns-in-Err-clause-limit : goal.returns-in-Err-clause-limit
+returns-in-Err-clause-limit g c =
+    let ps = c.self.inside.processes in
+    let old = c.index_mut.result.now in
+    let at = slice_get_read ps.items _ c.args.receiver old ps.ok.0 (omega (arith, c.if-receiver-len.false, c.len.ensures, c.self.inside.processes.ok.0)) c.index_mut.ensures.value in
+    let refused : WantsRoom g.M.Atomic.meaning (Deliver c.args.receiver c.args.place) c.args.self.now → c.receive.result ≡ Err (c.in-Some.item, full) =
+    λ wants. c.receive.ensures.limit.0 (wanted c.self.invariant.0 c.args.receiver c.args.place old c.in-Some.item at (sym c.take.ensures.item ∙ c.in-Some.is) (subst (WantsRoom g.M.Atomic.meaning (Deliver c.args.receiver c.args.place)) (sym c.self.view_is) wants)) in (
+      λ wants. ap Err (c.into.ensures ∙ ap of_pool (ap (λ x. x.1) (same_Err _ _ (sym c.in-Err.is ∙ refused wants)))),
+      λ is. subst (IsWanting g.M.Atomic.meaning (Deliver c.args.receiver c.args.place) c.args.self.now) (same_Err _ _ is) (returns-in-Err-clause-full g c),
+    )

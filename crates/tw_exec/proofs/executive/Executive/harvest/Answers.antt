@@ -1,15 +1,19 @@
-use Rattle.std.proofs.Common.{◌≡◌, ◌<◌, ◌≤◌, ◌+◌, ◌++◌, [], Some, length, take, ap, sym, subst, ◌∙◌, arith, rules}
+use Rattle.std.proofs.Common.{◌≡◌, ◌<◌, ◌≤◌, ◌+◌, ◌++◌, [], Some, Err, length, take, refl, ap, sym, subst, ◌∙◌, arith, rules}
 use Rattle.std.specs.Arc.{arc_value}
 use Rattle.std.specs.Prelude.{slice_get, slice_set}
 use Rattle.std.proofs.lemmas.Option.{get_or_from_slice_get, same_Some, slice_get_read}
 use Rattle.std.proofs.lemmas.Result.{err_from_is_err_and}
-use Rattle.tw_exec.specs.Running.{answer, after, shown}
+use Rattle.tw_exec.specs.Running.{AreExact, answer, after, shown}
 use Rattle.tw_exec.proofs.Acts.{harvest_none}
 use Rattle.tw_exec.proofs.Commits.{counted, harvest_acted}
 use Rattle.tw_exec.proofs.Kept.{IsActed, as_many_columns}
 use Rattle.tw_exec.proofs.Worlds.{set_back}
 use Rattle.tw_theory.specs.Contents.{records_of, steps_before}
 use Rattle.tw_theory.specs.Executive.{Harvest, Harvested}
+use Rattle.tw_exec.proofs.Exactly.{exact_known, exact_taken, harvest_exact}
+use Rattle.tw_exec.specs.declared.refused.Refused.TheVariants as refused
+use Rattle.tw_theory.specs.Executive as theory
+use Rattle.tw_exec.specs.declared.action.Done.TheVariants as done
 use Rattle.tw_exec.proofs.executive.Executive.harvest.Given.{Over}
 use Rattle.tw_exec.proofs.executive.Executive.harvest.Goals as goal
 
@@ -66,3 +70,21 @@ returns-clause-done g c = ap (λ x. record { network = arc_value c.self.inside.n
 
 pub returns-clause-answer : goal.returns-clause-answer
 returns-clause-answer g c = ap (λ e. answer g.M.Atomic.meaning (Harvest c.args.component) e) (sym c.self.view_is) ∙ ap (λ x. x.0) (acted g c).acts
+
+pub returns-then-component-len-clause-exact : goal.returns-then-component-len-clause-exact
+returns-then-component-len-clause-exact g c = exact_known g.M.Atomic.meaning (Harvest c.args.component) c.args.self.now refused.NoSuch theory.NoSuch refl (returns-then-component-len-clause-refused g c)
+
+pub returns-clause-exact : goal.returns-clause-exact
+returns-clause-exact g c = exact_taken g.M.Atomic.meaning (Harvest c.args.component) c.args.self.now (done.Harvested c.in_ok-committed.committed) (returns-clause-answer g c)
+
+pub returns-in_default-clause-exact : goal.returns-in_default-clause-exact
+returns-in_default-clause-exact g c =
+    subst (λ e. AreExact g.M.Atomic.meaning (Harvest c.args.component) e (Err refused.OutOfMemory)) c.self.view_is
+    (harvest_exact c.self.invariant.0 refused.OutOfMemory refl c.args.component (omega (arith, c.if-component-len.false, c.len.ensures, c.self.inside.processes.ok.0)))
+
+pub returns-in_err-committed-clause-exact : goal.returns-in_err-committed-clause-exact
+returns-in_err-committed-clause-exact g c =
+    let p = err_from_is_err_and c.from_residual.result c.from_residual.ensures.1 in
+    rw (p.1, p.2)
+    (subst (λ e. AreExact g.M.Atomic.meaning (Harvest c.args.component) e (Err refused.OutOfMemory)) c.self.view_is
+    (harvest_exact c.self.invariant.0 refused.OutOfMemory refl c.args.component (omega (arith, c.if-component-len.false, c.len.ensures, c.self.inside.processes.ok.0))))

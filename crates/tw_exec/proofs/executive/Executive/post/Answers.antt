@@ -1,12 +1,17 @@
-use Rattle.std.proofs.Common.{◌<◌, ap, sym, subst, ◌∙◌, arith, length}
+use Rattle.std.proofs.Common.{◌<◌, Err, refl, ap, sym, subst, ◌∙◌, arith, length}
 use Rattle.std.specs.Arc.{arc_value}
 use Rattle.std.specs.List.{AllByRecursion as Each}
 use Rattle.std.specs.Prelude.{slice_set}
 use Rattle.std.proofs.lemmas.Option.{slice_get_read}
-use Rattle.tw_exec.specs.Running.{answer, after}
+use Rattle.std.proofs.lemmas.Result.{err_from_is_err_and}
+use Rattle.tw_exec.specs.Running.{AreExact, answer, after}
 use Rattle.tw_exec.proofs.Acts.{post_none}
 use Rattle.tw_exec.proofs.Kept.{IsActed, all_near, post_acted}
 use Rattle.tw_theory.specs.Executive.{Post, Posted, posted}
+use Rattle.tw_exec.proofs.Exactly.{exact_known, exact_taken, post_exact}
+use Rattle.tw_exec.specs.declared.refused.Refused.TheVariants as refused
+use Rattle.tw_theory.specs.Executive as theory
+use Rattle.tw_exec.specs.declared.action.Done.TheVariants as done
 use Rattle.tw_exec.proofs.executive.Executive.post.Given.{Over}
 use Rattle.tw_exec.proofs.executive.Executive.post.Goals as goal
 
@@ -40,3 +45,23 @@ returns-clause-done g c = ap (λ x. record { network = arc_value c.self.inside.n
 pub returns-clause-answer : goal.returns-clause-answer
 returns-clause-answer g c =
     ap (λ e. answer g.M.Atomic.meaning (Post c.args.component) e) (sym c.self.view_is) ∙ ap (λ x. x.0) (acted g c).acts ∙ ap Posted (sym c.in_ok-items.items.ok.0 ∙ sym c.len-2.ensures)
+
+pub returns-then-component-len-clause-exact : goal.returns-then-component-len-clause-exact
+returns-then-component-len-clause-exact g c = exact_known g.M.Atomic.meaning (Post c.args.component) c.args.self.now refused.NoSuch theory.NoSuch refl (returns-then-component-len-clause-refused g c)
+
+pub returns-clause-exact : goal.returns-clause-exact
+returns-clause-exact g c = exact_taken g.M.Atomic.meaning (Post c.args.component) c.args.self.now (done.Posted c.len-2.result) (returns-clause-answer g c)
+
+pub returns-in_err-items-clause-exact : goal.returns-in_err-items-clause-exact
+returns-in_err-items-clause-exact g c =
+    let p = err_from_is_err_and c.from_residual.result c.from_residual.ensures.1 in
+    rw (p.1, p.2)
+    (subst (λ e. AreExact g.M.Atomic.meaning (Post c.args.component) e (Err refused.OutOfMemory)) c.self.view_is
+    (post_exact c.self.invariant.0 refused.OutOfMemory refl c.args.component (omega (arith, c.if-component-len.false, c.len.ensures, c.self.inside.processes.ok.0))))
+
+pub returns-in_err-post-clause-exact : goal.returns-in_err-post-clause-exact
+returns-in_err-post-clause-exact g c =
+    let p = err_from_is_err_and c.from_residual-in_err-post.result c.from_residual-in_err-post.ensures.1 in
+    rw (p.1, p.2)
+    (subst (λ e. AreExact g.M.Atomic.meaning (Post c.args.component) e (Err refused.OutOfMemory)) c.self.view_is
+    (post_exact c.self.invariant.0 refused.OutOfMemory refl c.args.component (omega (arith, c.if-component-len.false, c.len.ensures, c.self.inside.processes.ok.0))))

@@ -1,16 +1,20 @@
-use Rattle.std.proofs.Common.{◌≡◌, ◌<◌, ◌≤◌, ap, sym, subst, ◌∙◌, arith}
+use Rattle.std.proofs.Common.{◌≡◌, ◌<◌, ◌≤◌, Err, refl, ap, sym, subst, ◌∙◌, arith}
 use Rattle.std.specs.Arc.{arc_value}
 use Rattle.std.specs.Prelude.{IfSome, slice_set}
 use Rattle.std.proofs.lemmas.Option.{slice_get_read}
 use Rattle.std.proofs.lemmas.Result.{err_from_is_err_and}
 use Rattle.tw_exec.specs.Actions.{reason}
 use Rattle.tw_exec.specs.Refusals.{of_step}
-use Rattle.tw_exec.specs.Running.{IsWanting, answer, after}
+use Rattle.tw_exec.specs.Running.{AreExact, IsWanting, answer, after}
 use Rattle.tw_exec.proofs.Acts.{step_none}
 use Rattle.tw_exec.proofs.Comparing.{ge, not_ge}
 use Rattle.tw_exec.proofs.Kept.{IsActed, held_unchanged, late_step, same_world, step_acted, step_refused, step_wants}
 use Rattle.tw_theory.specs.Contents.{next}
 use Rattle.tw_theory.specs.Executive.{Refused, Step, Stepped}
+use Rattle.tw_exec.proofs.Exactly.{exact_known, exact_taken, step_exact}
+use Rattle.tw_exec.specs.declared.refused.Refused.TheVariants as refused
+use Rattle.tw_theory.specs.Executive as theory
+use Rattle.tw_exec.specs.declared.action.Done.TheVariants as done
 use Rattle.tw_exec.proofs.executive.Executive.step.Given.{Over}
 use Rattle.tw_exec.proofs.executive.Executive.step.Goals as goal
 
@@ -79,3 +83,23 @@ returns-in_err-stamp-clause-full g c =
     rw (p.1, p.2)
     (subst (λ e. IsWanting g.M.Atomic.meaning (Step c.args.component) e (of_step c.in_err-stamp.field-0.0)) c.self.view_is
     (step_wants c.self.invariant.0 c.args.component old c.in_err-stamp.field-0.0 at c.in_err-stamp.ensures.stop))
+
+pub returns-then-component-len-clause-exact : goal.returns-then-component-len-clause-exact
+returns-then-component-len-clause-exact g c = exact_known g.M.Atomic.meaning (Step c.args.component) c.args.self.now refused.NoSuch theory.NoSuch refl (returns-then-component-len-clause-refused g c)
+
+pub returns-then-ge-clause-exact : goal.returns-then-ge-clause-exact
+returns-then-ge-clause-exact g c = exact_known g.M.Atomic.meaning (Step c.args.component) c.args.self.now refused.NothingDue theory.NothingDue refl (returns-then-ge-clause-refused g c)
+
+pub returns-in_err-stamp-clause-exact : goal.returns-in_err-stamp-clause-exact
+returns-in_err-stamp-clause-exact g c =
+    let ps = c.self.inside.processes in
+    let old = c.index_mut-process.result.now in
+    let at = slice_get_read ps.items _ c.args.component old ps.ok.0 (omega (arith, c.if-component-len.false, c.len.ensures, c.self.inside.processes.ok.0)) c.index_mut-process.ensures.value in
+    let early : next old.process < c.self.inside.end = omega (arith, not_ge c.next.result c.self.inside.end c.if-ge.ensures, c.next.ensures) in
+    let p = err_from_is_err_and c.from_residual.result c.from_residual.ensures.1 in
+    rw (p.1, p.2)
+    (subst (λ e. AreExact g.M.Atomic.meaning (Step c.args.component) e (Err (of_step c.in_err-stamp.field-0.0))) c.self.view_is
+    (step_exact c.self.invariant.0 c.args.component old c.in_err-stamp.field-0.0 at early c.in_err-stamp.ensures.stop))
+
+pub returns-clause-exact : goal.returns-clause-exact
+returns-clause-exact g c = exact_taken g.M.Atomic.meaning (Step c.args.component) c.args.self.now (done.Stepped c.in_ok-stamp.stamp c.in_ok-stamp.kind) (returns-clause-answer g c)

@@ -1,5 +1,5 @@
-use Rattle.tw_heap.proofs.EntryLemmas.{rising-Sorted}
-use Rattle.tw_heap.proofs.LawLemmas.{rising-sorted, distinct-sorted, below-sorted, placed-distinct, placed-below}
+use Rattle.tw_heap.proofs.EntriesByIndex.{rising-Sorted}
+use Rattle.tw_heap.proofs.EntriesRise.{rising-sorted, distinct-sorted, below-sorted, placed-distinct, placed-below}
 use Rattle.tw_heap.proofs.heap.EventHeap.entries_law.Goals as goal
 
 pub returns-clause-rising : goal.returns-clause-rising

@@ -1,7 +1,7 @@
 use Rattle.std.proofs.Common.{◌≡◌, IfSome, Some, sym, ap, subst, ◌∙◌, slice_get}
 use Rattle.tw_heap.specs.Entries.{entry_of}
-use Rattle.tw_heap.proofs.EntryLemmas.{first_of-there}
-use Rattle.tw_heap.proofs.EventLemmas.{first_is, first_of-get}
+use Rattle.tw_heap.proofs.EntriesByIndex.{first_of-there}
+use Rattle.tw_heap.proofs.HeapChanges.{first_is, first_of-get}
 use Rattle.tw_heap.proofs.heap.EventHeap.first.Goals as goal
 
 pub returns-clause-value : goal.returns-clause-value

@@ -1,8 +1,8 @@
 use Rattle.std.proofs.Common.{◌≡◌, length, set, arith, sym, ap, ◌∙◌}
 use Rattle.tw_heap.specs.declared.entries.Entry.{Entry}
 use Rattle.tw_heap.specs.Entries.{entry_of}
-use Rattle.tw_heap.proofs.EntryLemmas.{entry_of-insert, entry_of-insert_other}
-use Rattle.tw_heap.proofs.EventLemmas.{whole, coming}
+use Rattle.tw_heap.proofs.EntriesByIndex.{entry_of-insert, entry_of-insert_other}
+use Rattle.tw_heap.proofs.HeapChanges.{whole, coming}
 use Rattle.tw_heap.proofs.heap.EventHeap.insert.Goals as goal
 use Rattle.tw_heap.proofs.heap.EventHeap.insert.Goals.{Start, After-as_mut_slice-2}
 

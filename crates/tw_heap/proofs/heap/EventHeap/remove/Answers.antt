@@ -4,8 +4,8 @@ use Rattle.std.specs.List.Sorted.{IsPermutation}
 use Rattle.std.proofs.lemmas.List.Sorted.{IsPermutation-refl}
 use Rattle.tw_heap.specs.declared.entries.Entry.{Entry}
 use Rattle.tw_heap.specs.Entries.{entry_of}
-use Rattle.tw_heap.proofs.EntryLemmas.{entry_of-without_other}
-use Rattle.tw_heap.proofs.EventLemmas.{whole, leaving, place_of, gone, Gone}
+use Rattle.tw_heap.proofs.EntriesByIndex.{entry_of-without_other}
+use Rattle.tw_heap.proofs.HeapChanges.{whole, leaving, place_of, gone, Gone}
 use Rattle.tw_heap.proofs.heap.EventHeap.remove.Goals as goal
 use Rattle.tw_heap.proofs.heap.EventHeap.remove.Goals.{After-pop}
 

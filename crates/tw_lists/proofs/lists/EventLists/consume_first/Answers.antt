@@ -1,6 +1,6 @@
 use Rattle.std.proofs.Common.{arith, rules, ap, ◌∙◌, length, subst}
 use Rattle.tw_heap.specs.Entries.{AreBelow}
-use Rattle.tw_heap.proofs.EntryLemmas.{behind_first}
+use Rattle.tw_heap.proofs.EntriesByIndex.{behind_first}
 use Rattle.tw_pool.specs.Lists.{list_at}
 use Rattle.tw_lists.specs.Lists.{first_consumed}
 use Rattle.tw_lists.specs.Nodes.{contents, spare_of}

@@ -1,7 +1,7 @@
 use Rattle.std.proofs.Common.{◌++◌, ◌-◌, drop, length, map, ap, subst, sym, ◌∙◌}
 use Rattle.tw_msgs.specs.Messages.{Sorted}
 use Rattle.tw_pool.specs.Lists.{list_at}
-use Rattle.tw_pool.proofs.IndexLemmas.{last_none}
+use Rattle.tw_pool.proofs.ListsByIndex.{last_none}
 use Rattle.tw_lists.specs.Lists.{restored}
 use Rattle.tw_lists.specs.Nodes.{contents, spare_of}
 use Rattle.tw_lists.specs.Lists.{message_at}

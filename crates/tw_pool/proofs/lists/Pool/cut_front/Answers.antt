@@ -1,6 +1,6 @@
 use Rattle.std.proofs.Common.{arith, rules, sym, ◌∙◌}
-use Rattle.tw_pool.proofs.IndexLemmas.{without_first_is}
-use Rattle.tw_pool.proofs.ReadLemmas.{shorter}
+use Rattle.tw_pool.proofs.ListsByIndex.{without_first_is}
+use Rattle.tw_pool.proofs.LinksRead.{shorter}
 use Rattle.tw_pool.proofs.lists.Pool.cut_front.Goals.{in-Some, in_default}
 use Rattle.tw_pool.proofs.lists.Pool.cut_front.Goals as goal
 

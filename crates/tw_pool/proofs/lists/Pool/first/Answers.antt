@@ -1,5 +1,5 @@
 use Rattle.std.proofs.Common.{arith}
-use Rattle.tw_pool.proofs.ReadLemmas.{first_read, first_read_live}
+use Rattle.tw_pool.proofs.LinksRead.{first_read, first_read_live}
 use Rattle.tw_pool.proofs.lists.Pool.first.Goals as goal
 
 pub returns-clause-value : goal.returns-clause-value

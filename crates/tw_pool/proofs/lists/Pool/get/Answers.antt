@@ -1,5 +1,5 @@
 use Rattle.std.proofs.Common.{refl, sym, ◌∙◌}
-use Rattle.tw_pool.proofs.ChangeLemmas.{spot, stored_spot, stored_is}
+use Rattle.tw_pool.proofs.LinkChanges.{spot, stored_spot, stored_is}
 use Rattle.tw_pool.proofs.lists.Pool.get.Goals as goal
 
 pub index-requires : goal.index-requires

@@ -1,9 +1,9 @@
 use Rattle.std.proofs.Common.{arith, sym, ap, ◌∙◌}
 use Rattle.tw_pool.specs.Lists.{live_count, item_of, AreDistinct, with_item_before, IsLive}
-use Rattle.tw_pool.proofs.ChangeLemmas.{inserted}
+use Rattle.tw_pool.proofs.LinkChanges.{inserted}
 use Rattle.tw_pool.specs.Links.{lists_of}
-use Rattle.tw_pool.proofs.IndexLemmas.{item_of-with_item_before, item_of-with_item_before_other}
-use Rattle.tw_pool.proofs.ReadLemmas.{linked_distinct}
+use Rattle.tw_pool.proofs.ListsByIndex.{item_of-with_item_before, item_of-with_item_before_other}
+use Rattle.tw_pool.proofs.LinksRead.{linked_distinct}
 use Rattle.tw_pool.proofs.lists.Pool.insert_before.Goals as goal
 
 pub link_before-requires-clause-linked : goal.link_before-requires-clause-linked

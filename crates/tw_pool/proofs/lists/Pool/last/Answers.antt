@@ -1,5 +1,5 @@
 use Rattle.std.proofs.Common.{arith}
-use Rattle.tw_pool.proofs.ReadLemmas.{last_read, last_read_live}
+use Rattle.tw_pool.proofs.LinksRead.{last_read, last_read_live}
 use Rattle.tw_pool.proofs.lists.Pool.last.Goals as goal
 
 pub returns-clause-value : goal.returns-clause-value

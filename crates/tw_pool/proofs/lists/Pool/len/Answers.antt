@@ -1,5 +1,5 @@
 use Rattle.std.proofs.Common.{arith}
-use Rattle.tw_pool.proofs.ReadLemmas.{len_read, len_limited}
+use Rattle.tw_pool.proofs.LinksRead.{len_read, len_limited}
 use Rattle.tw_pool.proofs.lists.Pool.len.Goals as goal
 
 pub returns-clause-value : goal.returns-clause-value

@@ -1,4 +1,4 @@
-use Rattle.tw_pool.proofs.ReadLemmas.{linked_distinct}
+use Rattle.tw_pool.proofs.LinksRead.{linked_distinct}
 use Rattle.tw_pool.proofs.lists.Pool.lists_law.Goals as goal
 
 pub returns-clause-distinct : goal.returns-clause-distinct

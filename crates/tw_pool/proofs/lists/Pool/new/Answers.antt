@@ -1,5 +1,5 @@
-use Rattle.tw_pool.proofs.HoldLemmas.{holds_is}
-use Rattle.tw_pool.proofs.ReadLemmas.{empty_pool, empty_holds}
+use Rattle.tw_pool.proofs.LinksHold.{holds_is}
+use Rattle.tw_pool.proofs.LinksRead.{empty_pool, empty_holds}
 use Rattle.tw_pool.proofs.lists.Pool.new.Goals as goal
 
 pub invariant_of-result : goal.invariant_of-result

@@ -1,6 +1,6 @@
 use Rattle.std.proofs.Common.{refl}
-use Rattle.tw_pool.proofs.ChangeLemmas.{spot}
-use Rattle.tw_pool.proofs.ReadLemmas.{next_read, next_read_live}
+use Rattle.tw_pool.proofs.LinkChanges.{spot}
+use Rattle.tw_pool.proofs.LinksRead.{next_read, next_read_live}
 use Rattle.tw_pool.proofs.lists.Pool.next.Goals as goal
 
 pub index-requires : goal.index-requires

@@ -1,6 +1,6 @@
 use Rattle.std.proofs.Common.{refl}
-use Rattle.tw_pool.proofs.ChangeLemmas.{spot}
-use Rattle.tw_pool.proofs.ReadLemmas.{prev_read, prev_read_live}
+use Rattle.tw_pool.proofs.LinkChanges.{spot}
+use Rattle.tw_pool.proofs.LinksRead.{prev_read, prev_read_live}
 use Rattle.tw_pool.proofs.lists.Pool.prev.Goals as goal
 
 pub index-requires : goal.index-requires

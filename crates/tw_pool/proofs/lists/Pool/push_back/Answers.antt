@@ -1,8 +1,8 @@
 use Rattle.std.proofs.Common.{◌<◌, length, arith, sym, ap, ◌∙◌}
 use Rattle.tw_pool.specs.Lists.{live_count, item_of, with_item_last}
-use Rattle.tw_pool.proofs.ChangeLemmas.{inserted}
-use Rattle.tw_pool.proofs.IndexLemmas.{item_of-with_item_last, item_of-with_item_last_other}
-use Rattle.tw_pool.proofs.ReadLemmas.{within_lists, linked_distinct}
+use Rattle.tw_pool.proofs.LinkChanges.{inserted}
+use Rattle.tw_pool.proofs.ListsByIndex.{item_of-with_item_last, item_of-with_item_last_other}
+use Rattle.tw_pool.proofs.LinksRead.{within_lists, linked_distinct}
 use Rattle.tw_pool.proofs.lists.Pool.push_back.Goals as goal
 
 pub link_last-requires-clause-linked : goal.link_last-requires-clause-linked

@@ -1,7 +1,7 @@
 use Rattle.std.proofs.Common.{◌<◌, length, rules, arith}
-use Rattle.tw_pool.proofs.IndexLemmas.{items_moved}
-use Rattle.tw_pool.proofs.ListLemmas.{stands_in}
-use Rattle.tw_pool.proofs.ReadLemmas.{within_lists, linked_distinct}
+use Rattle.tw_pool.proofs.ListsByIndex.{items_moved}
+use Rattle.tw_pool.proofs.ListsSeen.{stands_in}
+use Rattle.tw_pool.proofs.LinksRead.{within_lists, linked_distinct}
 use Rattle.tw_pool.proofs.lists.Pool.relink.Goals as goal
 
 pub returns-clause-lists : goal.returns-clause-lists

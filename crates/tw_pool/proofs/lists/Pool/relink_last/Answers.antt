@@ -1,6 +1,6 @@
 use Rattle.tw_pool.specs.Lists.{item_of}
 use Rattle.std.proofs.Common.{rules, ◌+◌, arith, sym, subst, ap, ◌∙◌}
-use Rattle.tw_pool.proofs.MoveLemmas.{Walked, Spliced, walk_live, walk_step, walk_never, splice_live, splice_step, splice_never, splice_done}
+use Rattle.tw_pool.proofs.MovesToEnd.{Walked, Spliced, walk_live, walk_step, walk_never, splice_live, splice_step, splice_never, splice_done}
 use Rattle.tw_pool.proofs.lists.Pool.relink_last.Goals.{in-Some, in_default, in-Some-first, in_default-first}
 use Rattle.tw_pool.proofs.lists.Pool.relink_last.Goals as goal
 

@@ -1,6 +1,6 @@
 use Rattle.std.proofs.Common.{ℕ, ◌≡◌}
 use Rattle.tw_pool.specs.Lists.{item_of}
-use Rattle.tw_pool.proofs.MoveLemmas.{Walked, Spliced}
+use Rattle.tw_pool.proofs.MovesToEnd.{Walked, Spliced}
 use Rattle.tw_pool.proofs.lists.Pool.relink_last.Given as goal
 
 abbrev pub invariant-loop : goal.invariant-loop

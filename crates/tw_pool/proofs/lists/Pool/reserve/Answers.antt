@@ -1,6 +1,6 @@
 use Rattle.std.proofs.Common.{◌+◌, ◌≤◌, ap, arith, rules}
 use Rattle.slab.specs.Slab.{slab_len}
-use Rattle.tw_pool.proofs.ChangeLemmas.{grown_pool}
+use Rattle.tw_pool.proofs.LinkChanges.{grown_pool}
 use Rattle.tw_pool.proofs.lists.Pool.reserve.Goals as goal
 use Rattle.tw_pool.proofs.lists.Pool.reserve.Goals.{in-Ok, in-Err}
 

@@ -1,9 +1,9 @@
 use Rattle.std.proofs.Common.{arith, refl, ap, ◌∙◌}
 use Rattle.tw_pool.specs.Lists.{live_count, item_of}
-use Rattle.tw_pool.proofs.ChangeLemmas.{others_holds}
-use Rattle.tw_pool.proofs.HoldLemmas.{holds_is, holds_linked}
-use Rattle.tw_pool.proofs.IndexLemmas.{item_of-without_other}
-use Rattle.tw_pool.proofs.ListLemmas.{item_free}
+use Rattle.tw_pool.proofs.LinkChanges.{others_holds}
+use Rattle.tw_pool.proofs.LinksHold.{holds_is, holds_linked}
+use Rattle.tw_pool.proofs.ListsByIndex.{item_of-without_other}
+use Rattle.tw_pool.proofs.ListsSeen.{item_free}
 use Rattle.tw_pool.proofs.lists.Pool.take.Goals as goal
 
 pub invariant_of-self : goal.invariant_of-self

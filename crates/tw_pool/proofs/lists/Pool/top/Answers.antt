@@ -1,4 +1,4 @@
-use Rattle.tw_pool.proofs.ReadLemmas.{live_below}
+use Rattle.tw_pool.proofs.LinksRead.{live_below}
 use Rattle.tw_pool.proofs.lists.Pool.top.Goals as goal
 
 pub returns-clause-below : goal.returns-clause-below

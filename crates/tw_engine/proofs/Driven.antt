@@ -1,0 +1,53 @@
+-- From what is played and then traced to what is said of the files' bytes.
+use Rattle.std.proofs.Common.{◌≡◌, ℕ, List, inl, inr, refl, subst}
+use Rattle.std.specs.Prelude.{Option, Ok}
+use Rattle.tw_engine.specs.Plays.{first, IsScripted, IsSeeded, IsTraced}
+use Rattle.tw_engine.specs.declared.exit.Exit.{Exit}
+use Rattle.tw_engine.specs.declared.exit.Exit.TheVariants.{Done, Bad, BadScript, Fault, Want, NoWrite}
+use Rattle.tw_engine.specs.Exits.{exit_of}
+use Rattle.tw_exec.specs.Running.{Running}
+use Rattle.tw_models.specs.Model.{model_meaning}
+use Rattle.tw_models.specs.declared.model.Model.{Model}
+use Rattle.tw_models.specs.declared.model.State.{State}
+use Rattle.tw_netfile.specs.Meaning.{meaning_of}
+use Rattle.tw_network.specs.Contents.{Contents}
+use Rattle.tw_play.specs.Playing.{Played}
+use Rattle.tw_play.specs.Telling.{IsDrawnShort, IsPlayed, IsWhollyDrawn}
+use Rattle.tw_script.specs.Schedules.{seeded}
+use Rattle.tw_script.specs.Scripts.{IsScript}
+use Rattle.tw_script.specs.declared.command.Command.{Command}
+use Rattle.tw_texts.specs.Refusals.{not_written_refusal}
+use Rattle.tw_texts.specs.declared.traces.NotWritten.{NotWritten}
+use Rattle.tw_texts.specs.declared.traces.NotWritten.TheVariants.{OutOfMemory, WriteFailed}
+use Rattle.tw_theory.specs.Contents.{Cancel}
+
+module _ (bytes : List ℕ) (n : Contents Model) (means : meaning_of bytes ≡ Ok n) (until : ℕ) (way : Cancel) (begun p : Played Model State) (is : begun ≡ first n way until) (e : Running Model State) (at : e ≡ p.executive)
+    (old mid new : Option (List ℕ)) where
+  pub scripted : (script : List ℕ) (commands : List Command) → IsScript n.names script commands → IsPlayed model_meaning commands begun p old mid → (exit : Exit) → IsTraced e exit mid new → IsScripted bytes script until way exit old new
+  scripted script commands says whole exit traced =
+      go exit (subst (λ b. IsPlayed model_meaning commands b p old mid) is whole) (subst (λ r. IsTraced r exit mid new) at traced)
+    where
+      go : (exit : Exit) → IsPlayed model_meaning commands (first n way until) p old mid → IsTraced p.executive exit mid new → IsScripted bytes script until way exit old new
+      go Done w t = (n, means, (commands, says, (p, mid, w, t)))
+      go Fault w t = t
+      go (Bad why) w t = absurd t
+      go (BadScript line) w t = absurd t
+      go (Want why) w t = inr (n, means, (commands, says, inr (p, mid, w, t)))
+      go NoWrite w t = t
+
+  pub seed_drawn : (seed steps : ℕ) → IsWhollyDrawn model_meaning (seeded seed) steps begun p old mid → (exit : Exit) → IsTraced e exit mid new → IsSeeded bytes seed steps until way exit old new
+  seed_drawn seed steps whole exit traced =
+      go exit (subst (λ b. IsWhollyDrawn model_meaning (seeded seed) steps b p old mid) is whole) (subst (λ r. IsTraced r exit mid new) at traced)
+    where
+      go : (exit : Exit) → IsWhollyDrawn model_meaning (seeded seed) steps (first n way until) p old mid → IsTraced p.executive exit mid new → IsSeeded bytes seed steps until way exit old new
+      go Done w t = (n, means, (p, mid, w, t))
+      go Fault w t = t
+      go (Bad why) w t = absurd t
+      go (BadScript line) w t = t
+      go (Want why) w t = inr (n, means, inr (p, mid, w, t))
+      go NoWrite w t = t
+
+  -- what ends for want of memory, or for a failed writer
+  pub seed_short : (seed steps : ℕ) (why : NotWritten) → (why ≡ OutOfMemory → IsDrawnShort model_meaning (seeded seed) steps begun old new) → IsSeeded bytes seed steps until way (exit_of (not_written_refusal why)) old new
+  seed_short seed steps OutOfMemory h = inr (n, means, inl (refl, subst (λ b. IsDrawnShort model_meaning (seeded seed) steps b old new) is (h refl)))
+  seed_short seed steps WriteFailed h = tt

@@ -1,0 +1,85 @@
+-- What the engine writes where an executive is driven by hand, and how that ends.
+--     committed_text p      the trace up to the least commit line
+--     IsScripted bytes script until way exit old new      driven by a script
+--     IsSeeded bytes seed steps until way exit old new      driven by the actions that a seed gives
+use Rattle.std.specs.Prelude.{ℕ, ◌≡◌, ◌⊎◌, List, Option}
+use Rattle.std.specs.Io.KnownBytes.{Appends, Keeps}
+use Rattle.tw_engine.specs.Runs.{Means, IsCause, name_in}
+use Rattle.tw_engine.specs.declared.exit.Exit.{Exit}
+use Rattle.tw_engine.specs.declared.exit.Exit.TheVariants.{Done, Bad, BadScript, Fault, Want, NoWrite}
+use Rattle.tw_exec.specs.Running.{Running, start}
+use Rattle.tw_models.specs.Model.{model_meaning}
+use Rattle.tw_models.specs.declared.model.Model.{Model}
+use Rattle.tw_models.specs.declared.model.State.{State}
+use Rattle.tw_network.specs.Contents.{Contents, network_of}
+use Rattle.tw_play.specs.Playing.{Played, begun}
+use Rattle.tw_play.specs.Telling.{IsCutShort, IsDrawnShort, IsPlayed, IsWhollyDrawn}
+use Rattle.tw_script.specs.Schedules.{seeded}
+use Rattle.tw_script.specs.Scripts.{IsRefusedFor, IsScript}
+use Rattle.tw_script.specs.declared.command.Command.{Command}
+use Rattle.tw_script.specs.declared.refused.ScriptRefused.TheVariants.{TooMany, BadLine}
+use Rattle.tw_texts.specs.Texts.{trace_text}
+use Rattle.tw_texts.specs.Traces.{AppendsBeginning}
+use Rattle.tw_theory.specs.Contents.{Cancel}
+use Rattle.tw_theory.specs.Simulator.{sequential}
+use Rattle.tw_theory.specs.Traces.{before, least_line}
+use Rattle.tw_vtime.specs.declared.refusal.Refusal.TheVariants as refusal
+
+-- ---- the trace at the end
+
+-- the lines of what the simulator records before the least commit line
+abbrev pub committed_text : Running Model State → List ℕ
+committed_text e = trace_text (name_in e.network.names) (before (least_line e.world.processes) (sequential (network_of model_meaning e.network) e.until).records)
+
+-- it is written, or memory was wanting, or the writer failed
+abbrev pub IsTraced : Running Model State → Exit → Option (List ℕ) → Option (List ℕ) → Type 0
+IsTraced e Done old new = Appends old new (committed_text e)
+IsTraced e Fault old new = ⊥
+IsTraced e (Bad why) old new = ⊥
+IsTraced e (BadScript line) old new = ⊥
+IsTraced e (Want why) old new = (why ≡ refusal.OutOfMemory) × AppendsBeginning old new (committed_text e)
+IsTraced e NoWrite old new = Unit {0}
+
+-- ---- answers, and then the trace
+
+-- all is played (Whole says what went out, and where it ended), and then the trace is written; or memory was wanting before (Short)
+abbrev pub IsDriven : (Played Model State → Option (List ℕ) → Option (List ℕ) → Type 0) → (Option (List ℕ) → Option (List ℕ) → Type 0) → Exit → Option (List ℕ) → Option (List ℕ) → Type 0
+IsDriven Whole Short Done old new = (p : Played Model State) × (mid : Option (List ℕ)) × Whole p old mid × IsTraced p.executive Done mid new
+IsDriven Whole Short Fault old new = ⊥
+IsDriven Whole Short (Bad why) old new = ⊥
+IsDriven Whole Short (BadScript line) old new = ⊥
+IsDriven Whole Short (Want why) old new = ((why ≡ refusal.OutOfMemory) × Short old new) ⊎ ((p : Played Model State) × (mid : Option (List ℕ)) × Whole p old mid × IsTraced p.executive (Want why) mid new)
+IsDriven Whole Short NoWrite old new = Unit {0}
+
+-- the executive of a network at its start, driven by hand
+abbrev pub first : Contents Model → Cancel → ℕ → Played Model State
+first n way until = begun (start model_meaning n way until)
+
+abbrev pub IsDrivenBy : Contents Model → List Command → Cancel → ℕ → Exit → Option (List ℕ) → Option (List ℕ) → Type 0
+IsDrivenBy n commands way until exit old new = IsDriven (IsPlayed model_meaning commands (first n way until)) (IsCutShort model_meaning commands (first n way until)) exit old new
+
+abbrev pub IsDrawnBy : Contents Model → ℕ → ℕ → Cancel → ℕ → Exit → Option (List ℕ) → Option (List ℕ) → Type 0
+IsDrawnBy n seed steps way until exit old new = IsDriven (IsWhollyDrawn model_meaning (seeded seed) steps (first n way until)) (IsDrawnShort model_meaning (seeded seed) steps (first n way until)) exit old new
+
+-- ---- by the bytes of the files
+
+-- the script says commands to the network, and they are played
+abbrev pub IsScriptPlayed : List ℕ → List ℕ → ℕ → Cancel → Exit → Option (List ℕ) → Option (List ℕ) → Type 0
+IsScriptPlayed bytes script until way exit old new = Means bytes (λ n. (commands : List Command) × IsScript n.names script commands × IsDrivenBy n commands way until exit old new)
+
+-- nothing is written where the end tick or the network is refused, and then where the script is
+abbrev pub IsScripted : List ℕ → List ℕ → ℕ → Cancel → Exit → Option (List ℕ) → Option (List ℕ) → Type 0
+IsScripted bytes script until way Done old new = IsScriptPlayed bytes script until way Done old new
+IsScripted bytes script until way Fault old new = ⊥
+IsScripted bytes script until way (Bad why) old new = Keeps old new × (IsCause bytes until why ⊎ Means bytes (λ n. (why ≡ refusal.TooMany) × IsRefusedFor n.names script TooMany))
+IsScripted bytes script until way (BadScript line) old new = Keeps old new × Means bytes (λ n. IsRefusedFor n.names script (BadLine line))
+IsScripted bytes script until way (Want why) old new = ((why ≡ refusal.OutOfMemory) × Keeps old new) ⊎ IsScriptPlayed bytes script until way (Want why) old new
+IsScripted bytes script until way NoWrite old new = Unit {0}
+
+abbrev pub IsSeeded : List ℕ → ℕ → ℕ → ℕ → Cancel → Exit → Option (List ℕ) → Option (List ℕ) → Type 0
+IsSeeded bytes seed steps until way Done old new = Means bytes (λ n. IsDrawnBy n seed steps way until Done old new)
+IsSeeded bytes seed steps until way Fault old new = ⊥
+IsSeeded bytes seed steps until way (Bad why) old new = Keeps old new × IsCause bytes until why
+IsSeeded bytes seed steps until way (BadScript line) old new = ⊥
+IsSeeded bytes seed steps until way (Want why) old new = ((why ≡ refusal.OutOfMemory) × Keeps old new) ⊎ Means bytes (λ n. IsDrawnBy n seed steps way until (Want why) old new)
+IsSeeded bytes seed steps until way NoWrite old new = Unit {0}

@@ -1,0 +1,81 @@
+-- Which commands a line can be the line of, by its first word and what follows it.
+use Rattle.std.proofs.Common.{◌≡◌, ◌<◌, ◌≤◌, ◌++◌, ◌∷◌, [], ◌∙◌, ℕ, List, codes, decimal, length, sym, ap, true, true≢false, refl, append_assoc, not, eqb}
+use Rattle.std.specs.Prelude.{Some, slice_get}
+use Rattle.std.specs.List.{list_all, Contains}
+use Rattle.std.proofs.lemmas.Bool.{eq-eqb}
+use Rattle.std.proofs.lemmas.List.Sums.{AllPass-from_list_all}
+use Rattle.std.proofs.lemmas.Option.{get_or_from_slice_get, slice_get-get_or, slice_get_within}
+use Rattle.tw_exec.specs.declared.action.Action.TheVariants.{Step, Post, Deliver, Back, Raise, Harvest}
+use Rattle.tw_script.proofs.Cuts.{cut_once, no_cut}
+use Rattle.tw_script.specs.Scripts.{Says, name_of}
+use Rattle.tw_script.specs.Words.{IsFree}
+use Rattle.tw_script.specs.declared.command.Command.{Command}
+use Rattle.tw_script.specs.declared.command.Command.TheVariants.{Act, Mark, Rewind, Show, Describe}
+use Rattle.tw_vtime.specs.Stamps.{IsStamp, stamp_text}
+
+free_by : (c : ℕ) (word : List ℕ) → list_all (λ b. not (eqb b c)) word ≡ true → IsFree c word
+free_by c word h i l e = true≢false (sym (AllPass-from_list_all (λ b. not (eqb b c)) word h i 0 l) ∙ ap (λ b. not (eqb b c)) e ∙ ap not (eq-eqb c c refl))
+
+-- a line of one word, that is none of these four
+pub no_word : (names : List (List ℕ)) (word : List ℕ) → IsFree 32 word
+    → (word ≡ codes "raise" → ⊥) → (word ≡ codes "mark" → ⊥) → (word ≡ codes "rewind" → ⊥) → (word ≡ codes "show" → ⊥)
+    → (command : Command) → Says names command word → ⊥
+no_word names word f raise mark rewind show (Act (Step p)) s = no_cut 32 (codes "step") _ word s.is_line f
+no_word names word f raise mark rewind show (Act (Post p)) s = no_cut 32 (codes "post") _ word s.is_line f
+no_word names word f raise mark rewind show (Act (Deliver q i)) s = no_cut 32 (codes "deliver") _ word s.is_line f
+no_word names word f raise mark rewind show (Act (Back p at)) s = no_cut 32 (codes "back") _ word s.is_line f
+no_word names word f raise mark rewind show (Act Raise) s = raise s.is_line
+no_word names word f raise mark rewind show (Act (Harvest p)) s = no_cut 32 (codes "harvest") _ word s.is_line f
+no_word names word f raise mark rewind show Mark s = mark s.is_line
+no_word names word f raise mark rewind show Rewind s = rewind s.is_line
+no_word names word f raise mark rewind show Show s = show s.is_line
+no_word names word f raise mark rewind show (Describe p) s = no_cut 32 (codes "show") _ word s.is_line f
+
+first_is : (us vs verb operands : List ℕ) → list_all (λ b. not (eqb b 32)) us ≡ true → IsFree 32 verb → verb ++ 32 ∷ operands ≡ us ++ 32 ∷ vs → (verb ≡ us) × (operands ≡ vs)
+first_is us vs verb operands h f e = cut_once 32 verb operands us vs f (free_by 32 us h) e
+
+alone : (us verb operands : List ℕ) → list_all (λ b. not (eqb b 32)) us ≡ true → verb ++ 32 ∷ operands ≡ us → ⊥
+alone us verb operands h e = no_cut 32 verb operands us (sym e) (free_by 32 us h)
+
+-- a line of more words, whose first is none of these six
+pub no_verb : (names : List (List ℕ)) (verb operands : List ℕ) → IsFree 32 verb
+    → (verb ≡ codes "step" → ⊥) → (verb ≡ codes "post" → ⊥) → (verb ≡ codes "harvest" → ⊥) → (verb ≡ codes "show" → ⊥) → (verb ≡ codes "deliver" → ⊥) → (verb ≡ codes "back" → ⊥)
+    → (command : Command) → Says names command (verb ++ 32 ∷ operands) → ⊥
+no_verb names verb operands f step post harvest show deliver back (Act (Step p)) s = step (first_is (codes "step") _ verb operands refl f s.is_line).0
+no_verb names verb operands f step post harvest show deliver back (Act (Post p)) s = post (first_is (codes "post") _ verb operands refl f s.is_line).0
+no_verb names verb operands f step post harvest show deliver back (Act (Deliver q i)) s = deliver (first_is (codes "deliver") _ verb operands refl f s.is_line).0
+no_verb names verb operands f step post harvest show deliver back (Act (Back p at)) s = back (first_is (codes "back") _ verb operands refl f s.is_line).0
+no_verb names verb operands f step post harvest show deliver back (Act Raise) s = alone (codes "raise") verb operands refl s.is_line
+no_verb names verb operands f step post harvest show deliver back (Act (Harvest p)) s = harvest (first_is (codes "harvest") _ verb operands refl f s.is_line).0
+no_verb names verb operands f step post harvest show deliver back Mark s = alone (codes "mark") verb operands refl s.is_line
+no_verb names verb operands f step post harvest show deliver back Rewind s = alone (codes "rewind") verb operands refl s.is_line
+no_verb names verb operands f step post harvest show deliver back Show s = alone (codes "show") verb operands refl s.is_line
+no_verb names verb operands f step post harvest show deliver back (Describe p) s = show (first_is (codes "show") _ verb operands refl f s.is_line).0
+
+-- the first of two operands, and the second
+pub operands_are : (names : List (List ℕ)) (q : ℕ) (first second last : List ℕ) → IsFree 32 first → IsFree 32 (name_of names q) → first ++ 32 ∷ second ≡ name_of names q ++ 32 ∷ last → (first ≡ name_of names q) × (second ≡ last)
+operands_are names q first second last f g e = cut_once 32 first second (name_of names q) last f g e
+
+pub named : (names : List (List ℕ)) (q : ℕ) (name : List ℕ) → slice_get names q ≡ Some name → (q < length names) × (name ≡ name_of names q)
+named names q name h = (slice_get_within names q name h, sym (get_or_from_slice_get names q name [] h))
+
+pub is_named : (names : List (List ℕ)) (q : ℕ) (name : List ℕ) → q < length names → name ≡ name_of names q → Contains names name
+is_named names q name l e = (q, l, get_or_from_slice_get names q (name_of names q) name (slice_get-get_or names q [] l) ∙ sym e)
+
+two_operands : (verb first second : List ℕ) → verb ++ (first ++ 32 ∷ second) ≡ verb ++ first ++ codes " " ++ second
+two_operands verb first second =
+    ap (λ l. verb ++ l) (sym (append_assoc first (codes " ") second)) ∙ sym (append_assoc verb (first ++ codes " ") second) ∙ ap (λ l. l ++ second) (sym (append_assoc verb first (codes " ")))
+
+pub delivery_said : (names : List (List ℕ)) (q i : ℕ) (operands receiver place : List ℕ) → operands ≡ receiver ++ 32 ∷ place → slice_get names q ≡ Some receiver → place ≡ decimal i → i ≤ 18446744073709551615
+    → Says names (Act (Deliver q i)) (codes "deliver " ++ operands)
+delivery_said names q i operands receiver place e h number small = record {
+  fits = ((named names q receiver h).0, small);
+  is_line = ap (λ l. codes "deliver " ++ l) (e ∙ (λ k. (named names q receiver h).1 k ++ 32 ∷ number k)) ∙ two_operands (codes "deliver ") (name_of names q) (decimal i);
+}
+
+pub rollback_said : (names : List (List ℕ)) (p s : ℕ) (operands component at : List ℕ) → operands ≡ component ++ 32 ∷ at → slice_get names p ≡ Some component → at ≡ stamp_text s → IsStamp s
+    → Says names (Act (Back p s)) (codes "back " ++ operands)
+rollback_said names p s operands component at e h text is = record {
+  fits = ((named names p component h).0, is);
+  is_line = ap (λ l. codes "back " ++ l) (e ∙ (λ k. (named names p component h).1 k ++ 32 ∷ text k)) ∙ two_operands (codes "back ") (name_of names p) (stamp_text s);
+}

@@ -1,0 +1,4 @@
+pub mod Refusals
+pub mod Words
+pub mod Scripts
+pub mod Schedules

@@ -1,0 +1,14 @@
+-- What was delivered so far.
+use Rattle.tw_exec.specs.Running.{IsSoundly}
+use Rattle.tw_theory.specs.Exchange.{work}
+use Rattle.tw_workers.specs.Sweeping.{IsUnderWay, deliveries_from}
+use Rattle.tw_workers.proofs.sweeping.deliver_to.Given as goal
+
+abbrev pub invariant-loop-executive : goal.invariant-loop-executive
+invariant-loop-executive g l = record {
+  sound : IsSoundly g.M.Atomic.meaning l.executive;
+  under : IsUnderWay g.M.Atomic.meaning (deliveries_from l.receiver l.fn.executive) (deliveries_from l.receiver l.executive) l.fn.executive l.executive;
+}
+
+abbrev pub decreases-loop-executive : goal.decreases-loop-executive
+decreases-loop-executive g l = work l.executive.world

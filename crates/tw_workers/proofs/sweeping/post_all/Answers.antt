@@ -1,0 +1,39 @@
+use Rattle.std.proofs.Common.{◌≡◌, ◌+◌, ◌-◌, suc, length, ap, subst, ◌∙◌, arith}
+use Rattle.std.proofs.lemmas.Result.{err_from_is_err_and}
+use Rattle.tw_theory.specs.Exchange.{posts}
+use Rattle.tw_theory.specs.Executive.{Post}
+use Rattle.tw_workers.proofs.PassByPass.{process_count}
+use Rattle.tw_workers.proofs.UnderWay.{cut, finished, next_post, no_post, stepped}
+use Rattle.tw_workers.specs.Sweeping.{IsUnderWay}
+use Rattle.tw_workers.proofs.sweeping.post_all.Goals as goal
+
+pub loop-component-preserved : goal.loop-component-preserved
+loop-component-preserved g c =
+    let m = g.M.Atomic.meaning in
+    let e = c.args.executive.now in
+    let n = length e.world.processes in
+    let k = c.loop-component.component in
+    let end : c.len-component-end.result ≡ n = omega (arith, c.len-component-end.ensures, ap (λ x. length x.models) (c.deref.ensures ∙ c.network.ensures), process_count m e c.facts.ensures) in
+    let u = subst (λ l. IsUnderWay m (posts 0 n) l e c.loop-component.executive) (next_post k n (omega (arith, c.loop-component-test.true, end))) c.loop-component.invariant in
+    let more : suc k ≡ k + 1 = omega arith in
+    subst (λ j. IsUnderWay m (posts 0 n) (posts j (n - j)) e c.take.new.executive) more (stepped m (Post k) (posts (suc k) (n - suc k)) u c.in_ok-take.ensures.done)
+
+pub returns-in_err-take-clause-cut_short : goal.returns-in_err-take-clause-cut_short
+returns-in_err-take-clause-cut_short g c =
+    let m = g.M.Atomic.meaning in
+    let e = c.args.executive.now in
+    let n = length e.world.processes in
+    let k = c.loop-component.component in
+    let end : c.len-component-end.result ≡ n = omega (arith, c.len-component-end.ensures, ap (λ x. length x.models) (c.deref.ensures ∙ c.network.ensures), process_count m e c.facts.ensures) in
+    let u = subst (λ l. IsUnderWay m (posts 0 n) l e c.loop-component.executive) (next_post k n (omega (arith, c.loop-component-test.true, end))) c.loop-component.invariant in
+    let p = err_from_is_err_and c.from_residual.result c.from_residual.ensures.1 in
+    rw (p.1, p.2) (cut m (Post k) (posts (suc k) (n - suc k)) c.in_err-take.field-0.0 u c.in_err-take.ensures.stays c.in_err-take.ensures.wanting)
+
+pub returns-clause-done : goal.returns-clause-done
+returns-clause-done g c =
+    let m = g.M.Atomic.meaning in
+    let e = c.args.executive.now in
+    let n = length e.world.processes in
+    let k = c.loop-component.component in
+    let end : c.len-component-end.result ≡ n = omega (arith, c.len-component-end.ensures, ap (λ x. length x.models) (c.deref.ensures ∙ c.network.ensures), process_count m e c.facts.ensures) in
+    finished m (subst (λ l. IsUnderWay m (posts 0 n) l e c.loop-component.executive) (no_post k n (omega (arith, c.loop-component-test.false, end))) c.loop-component.invariant)

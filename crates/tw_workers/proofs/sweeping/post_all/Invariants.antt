@@ -1,0 +1,8 @@
+-- The components so far are posted.
+use Rattle.std.proofs.Common.{◌-◌, length}
+use Rattle.tw_theory.specs.Exchange.{posts}
+use Rattle.tw_workers.specs.Sweeping.{IsUnderWay}
+use Rattle.tw_workers.proofs.sweeping.post_all.Given as goal
+
+abbrev pub invariant-loop-component : goal.invariant-loop-component
+invariant-loop-component g l = IsUnderWay g.M.Atomic.meaning (posts 0 (length l.fn.executive.world.processes)) (posts l.component (length l.fn.executive.world.processes - l.component)) l.fn.executive l.executive

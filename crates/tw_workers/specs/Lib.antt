@@ -1,0 +1,5 @@
+pub mod Refusals
+pub mod Agenda
+pub mod Exchanged
+pub mod Sweeping
+pub mod States

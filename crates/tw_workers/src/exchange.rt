@@ -1,8 +1,9 @@
 //! An exchange, how it begins and ends, and the executive's own actions.
 
-ghost use Rattle.std.specs.Prelude.{◌≡◌, ◌≢◌, None, IfOk, IfErr, OnOk, OnErr, false, length, replicate};
+ghost use Rattle.std.specs.Prelude.{◌≡◌, ◌≢◌, ◌↔◌, None, IfOk, IfErr, IsErrOf, OnOk, OnErr, false, length, replicate};
 ghost use Rattle.tw_exec.specs.Actions.{answered, meant, reason};
-ghost use Rattle.tw_exec.specs.Running.{answer, after, IsReason, IsSoundly, IsWanting};
+ghost use Rattle.tw_exec.specs.Running.{answer, after, AreExact, IsDelivery, IsReason, IsSoundly, IsWanting, WantsRoom};
+ghost use Rattle.tw_exec.specs.declared.refused.Refused.TheVariants as refusals;
 ghost use Rattle.tw_theory.specs.Memory.{TakesMemory};
 ghost use Rattle.tw_workers.specs.Exchanged.{with_executive};
 
@@ -87,7 +88,9 @@ impl<M: Atomic> Exchange<M> {
         ensures done { OnOk result (self.new ≡ with_executive (after M.meaning (meant action) self.old.executive) self.old) }
         ensures answer { IfOk result (λ done. answer M.meaning (meant action) self.old.executive ≡ answered done) }
         ensures refused { IfErr result (IsReason M.meaning (meant action) self.old.executive) }
+        ensures exact { AreExact M.meaning (meant action) self.old.executive result }
         ensures full { IfErr result (IsWanting M.meaning (meant action) self.old.executive) }
+        ensures limit { IsDelivery (meant action) → (WantsRoom M.meaning (meant action) self.old.executive ↔ IsErrOf result refusals.Full) }
         ensures memory { IfErr result (λ why. reason why ≡ None → TakesMemory (meant action)) }
         ensures stays { OnErr result (self.new ≡ self.old) }
     {

@@ -1,13 +1,11 @@
--- The numbers of components by name, counted from the last to the first.
-use Rattle.std.proofs.Common.{◌≡◌, ◌∙◌, ◌<◌, ◌≤◌, ◌+◌, ◌-◌, ℕ, suc, List, ◌∷◌, Bool, true, false, not, cond, length, drop, get_or, sym, ap, refl, arith, drop-cons, true≢false}
+-- Numbers by name, counted from the last to the first.
+use Rattle.std.proofs.Common.{◌≡◌, ◌∙◌, ◌<◌, ◌≤◌, ◌+◌, ◌-◌, ℕ, suc, List, ◌∷◌, map, Bool, true, false, not, cond, length, drop, get_or, sym, ap, refl, arith, drop-cons, true≢false}
 use Rattle.std.proofs.lemmas.Map.Text.{hash_map_updates_str}
 use Rattle.std.proofs.lemmas.Slice.Eq.{bytes_eq-Decides}
 use Rattle.std.specs.Prelude.{Option, Some, unwrap_or}
 use Rattle.std.specs.Str.{bytes_eq}
 use Rattle.std.specs.HashMap.{HashMap, get_by, UpdatesBy}
-use Rattle.tw_netfile.specs.Draft.{components_view}
-use Rattle.tw_netfile.specs.Numbers.{names_of, number_of}
-use Rattle.tw_netfile.specs.declared.draft.ComponentDraft.{ComponentDraft}
+use Rattle.tw_netfile.specs.Numbers.{number_of}
 use denote.Ref.{Bor}
 
 -- bytes are compared alike both ways
@@ -31,26 +29,30 @@ chosen : (b : Bool) (i n : ℕ) (o : Option ℕ) → unwrap_or (cond b (Some i) 
 chosen true i n o = refl
 chosen false i n o = refl
 
-module _ {S : Type 0} (components : List ComponentDraft) (old new : HashMap (Bor (List ℕ)) ℕ S) (name : List ℕ) where
-  -- the component at i is counted after those from i + 1 on
-  at_last : (i : ℕ) (c : ComponentDraft) → i < length components
-      → UpdatesBy (λ x y. bytes_eq x.now y.now) (λ k. bytes_eq (get_or components i c).name.now k.now) old new (Some i)
-      → unwrap_or (get_by (λ k. bytes_eq name k.now) old) (length components) ≡ suc i + number_of (names_of (components_view (drop (suc i) components))) name
-      → unwrap_or (get_by (λ k. bytes_eq name k.now) new) (length components) ≡ i + number_of (names_of (components_view (drop i components))) name
-  at_last i c within updates before =
-      let first = (get_or components i c).name.now in
-      ap (λ o. unwrap_or o (length components)) (hash_map_updates_str first old new (Some i) updates name)
-      ∙ chosen (bytes_eq first name) i (length components) (get_by (λ k. bytes_eq name k.now) old)
-      ∙ ap (λ n. cond (bytes_eq first name) i n) before
-      ∙ sym (one_more i name first (names_of (components_view (drop (suc i) components))))
-      ∙ ap (λ cs. i + number_of (names_of (components_view cs)) name) (sym (drop-cons components i c within))
+-- the names that are lent
+abbrev texts : List (Bor (List ℕ)) → List (List ℕ)
+texts names = map (λ n. n.now) names
 
-  -- the component before those that are counted is counted
-  pub counted_more : (j : ℕ) (c : ComponentDraft) → 0 < j → j ≤ length components
-      → UpdatesBy (λ x y. bytes_eq x.now y.now) (λ k. bytes_eq (get_or components (j - 1) c).name.now k.now) old new (Some (j - 1))
-      → unwrap_or (get_by (λ k. bytes_eq name k.now) old) (length components) ≡ j + number_of (names_of (components_view (drop j components))) name
-      → unwrap_or (get_by (λ k. bytes_eq name k.now) new) (length components) ≡ j - 1 + number_of (names_of (components_view (drop (j - 1) components))) name
+module _ {S : Type 0} (names : List (Bor (List ℕ))) (old new : HashMap (Bor (List ℕ)) ℕ S) (name : List ℕ) where
+  -- the name at i is counted after those from i + 1 on
+  at_last : (i : ℕ) (c : Bor (List ℕ)) → i < length names
+      → UpdatesBy (λ x y. bytes_eq x.now y.now) (λ k. bytes_eq (get_or names i c).now k.now) old new (Some i)
+      → unwrap_or (get_by (λ k. bytes_eq name k.now) old) (length names) ≡ suc i + number_of (texts (drop (suc i) names)) name
+      → unwrap_or (get_by (λ k. bytes_eq name k.now) new) (length names) ≡ i + number_of (texts (drop i names)) name
+  at_last i c within updates before =
+      let first = (get_or names i c).now in
+      ap (λ o. unwrap_or o (length names)) (hash_map_updates_str first old new (Some i) updates name)
+      ∙ chosen (bytes_eq first name) i (length names) (get_by (λ k. bytes_eq name k.now) old)
+      ∙ ap (λ n. cond (bytes_eq first name) i n) before
+      ∙ sym (one_more i name first (texts (drop (suc i) names)))
+      ∙ ap (λ cs. i + number_of (texts cs) name) (sym (drop-cons names i c within))
+
+  -- the name before those that are counted is counted
+  pub counted_more : (j : ℕ) (c : Bor (List ℕ)) → 0 < j → j ≤ length names
+      → UpdatesBy (λ x y. bytes_eq x.now y.now) (λ k. bytes_eq (get_or names (j - 1) c).now k.now) old new (Some (j - 1))
+      → unwrap_or (get_by (λ k. bytes_eq name k.now) old) (length names) ≡ j + number_of (texts (drop j names)) name
+      → unwrap_or (get_by (λ k. bytes_eq name k.now) new) (length names) ≡ j - 1 + number_of (texts (drop (j - 1) names)) name
   counted_more j c some within updates before =
       let next : j ≡ suc (j - 1) = omega (arith, some) in
       at_last (j - 1) c (omega (arith, some, within)) updates
-      (before ∙ ap (λ n. n + number_of (names_of (components_view (drop n components))) name) next)
+      (before ∙ ap (λ n. n + number_of (texts (drop n names)) name) next)

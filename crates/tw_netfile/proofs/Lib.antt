@@ -1,4 +1,7 @@
+pub mod AtomNumbers
 pub mod Counting
 pub mod Loops
 pub mod Making
 pub mod Networks
+pub mod PartsInOrder
+pub mod TreeOfFile

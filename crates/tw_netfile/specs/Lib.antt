@@ -5,3 +5,6 @@ pub mod Numbering
 pub mod Numbers
 pub mod Refused
 pub mod Shape
+pub mod TreeDraft
+pub mod TreeMeaning
+pub mod TreeShape

@@ -4,6 +4,7 @@ ghost use Rattle.std.specs.Prelude.{◌≡◌};
 ghost use Rattle.tw_netfile.specs.Components.{model_of};
 
 use tw_models::{BadModel, Model};
+use tw_network::Nested;
 
 /// A model with its parameters, which may still be out of range.
 #[derive(Clone, Copy, Debug, PartialEq, Eq)]
@@ -65,5 +66,14 @@ pub struct Draft<'a> {
     pub micro_limit: u64,
     pub components: Vec<ComponentDraft<'a>>,
     pub couplings: Vec<CouplingDraft<'a>>,
+    pub inputs: Vec<InputDraft<'a>>,
+}
+
+/// A network file of format `tw-2`, each of whose members has its type; inputs name atoms by their names from
+/// the root on.
+#[derive(Drop)]
+pub struct TreeDraft<'a> {
+    pub micro_limit: u64,
+    pub root: Nested<ModelDraft>,
     pub inputs: Vec<InputDraft<'a>>,
 }

@@ -8,7 +8,7 @@ ghost use Rattle.tw_netfile.specs.Meaning.{json_of, meaning_of, network_made, ne
 
 use crate::components::components_made;
 use crate::draft::Draft;
-use crate::numbers::Numbers;
+use crate::numbers::{Numbers, names_of};
 use crate::refused::FileRefused;
 use crate::shape::draft_of;
 use serde_json::Value;
@@ -36,7 +36,7 @@ pub fn network_of_file(alloc: Global, bytes: &[u8]) -> Result<Network<Model>, Fi
 }
 
 // The JSON value that the bytes write.
-fn json_of(alloc: Global, bytes: &[u8]) -> Result<Value, FileRefused>
+pub fn json_of(alloc: Global, bytes: &[u8]) -> Result<Value, FileRefused>
     ensures ok { IfOk result (λ v. json_of bytes.now ≡ Ok (view v)) }
     ensures err { IfErr result (λ e. e ≢ FileRefused.OutOfMemory → json_of bytes.now ≡ Err e) }
 {
@@ -48,13 +48,14 @@ fn json_of(alloc: Global, bytes: &[u8]) -> Result<Value, FileRefused>
 }
 
 // The network that a draft means.
-fn network_of(alloc: Global, draft: &Draft) -> Result<Network<Model>, FileRefused>
+pub fn network_of(alloc: Global, draft: &Draft) -> Result<Network<Model>, FileRefused>
     ensures ok { IfOk result (λ n. network_of (draft_view draft.now) ≡ Ok n) }
     ensures err { IfErr result (λ e. e ≢ FileRefused.OutOfMemory → network_of (draft_view draft.now) ≡ Err e) }
 {
     let drafts = draft.components.as_slice();
     let components = components_made(alloc, drafts)?;
-    let numbers = Numbers::new(alloc, drafts)?;
+    let names = names_of(alloc, drafts)?;
+    let numbers = Numbers::new(alloc, names.as_slice())?;
     let couplings = numbers.couplings(alloc, draft.couplings.as_slice())?;
     let inputs = numbers.inputs(alloc, draft.inputs.as_slice())?;
     network_made(alloc, components, couplings, inputs, draft.micro_limit)

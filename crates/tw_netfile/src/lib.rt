@@ -15,6 +15,10 @@ mod file;
 mod numbers;
 mod refused;
 mod shape;
+mod tree_models;
+mod tree_shape;
+mod trees;
 
 pub use file::network_of_file;
 pub use refused::FileRefused;
+pub use trees::network_of_any_file;

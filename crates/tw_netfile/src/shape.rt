@@ -83,7 +83,7 @@ fn components_of<'a>(
     Ok(components)
 }
 
-fn couplings_of<'a>(
+pub fn couplings_of<'a>(
     alloc: Global,
     values: &'a [Value],
 ) -> Result<Vec<CouplingDraft<'a>>, FileRefused>
@@ -100,7 +100,7 @@ fn couplings_of<'a>(
     Ok(couplings)
 }
 
-fn inputs_of<'a>(alloc: Global, values: &'a [Value]) -> Result<Vec<InputDraft<'a>>, FileRefused>
+pub fn inputs_of<'a>(alloc: Global, values: &'a [Value]) -> Result<Vec<InputDraft<'a>>, FileRefused>
     ensures ok { IfOk result (λ v. all_read input_of (items_view values.now) ≡ Some (inputs_view v.items)) }
     ensures err { IfErr result (λ e. e ≢ FileRefused.OutOfMemory → (e ≡ FileRefused.BadShape) × (all_read input_of (items_view values.now) ≡ None)) }
 {
@@ -114,7 +114,7 @@ fn inputs_of<'a>(alloc: Global, values: &'a [Value]) -> Result<Vec<InputDraft<'a
     Ok(inputs)
 }
 
-fn component_of<'a>(value: &'a Value) -> Option<ComponentDraft<'a>>
+pub fn component_of<'a>(value: &'a Value) -> Option<ComponentDraft<'a>>
     ensures { option_map component_view result ≡ component_of (view value.now) }
 {
     let name = text_at(value, "name")?;
@@ -235,7 +235,7 @@ fn is_format(value: &Value) -> bool
     }
 }
 
-fn has_members(value: &Value, count: usize) -> bool
+pub fn has_members(value: &Value, count: usize) -> bool
     ensures { result ≡ has_members count (view value.now) }
 {
     match value.as_object() {
@@ -253,13 +253,13 @@ fn has_items(value: &Value, count: usize) -> bool
     }
 }
 
-fn text_at<'a>(value: &'a Value, name: &str) -> Option<&'a str>
+pub fn text_at<'a>(value: &'a Value, name: &str) -> Option<&'a str>
     ensures { option_map (λ t. t.now) result ≡ text_at name.now (view value.now) }
 {
     value.get(name)?.as_str()
 }
 
-fn count_at(value: &Value, name: &str) -> Option<u64>
+pub fn count_at(value: &Value, name: &str) -> Option<u64>
     ensures { result ≡ count_at name.now (view value.now) }
 {
     value.get(name)?.as_u64()

@@ -1,0 +1,144 @@
+-- Parts one by one: those that are read or made so far, and those still to come.
+use Rattle.std.proofs.Common.{◌≡◌, ◌≢◌, ◌∙◌, ◌+◌, ◌<◌, ◌++◌, ◌∷◌, [], ℕ, suc, List, refl, sym, ap, subst, length, drop, get_or, add-one, drop-cons, arith, String, string_bytes, append_assoc}
+use Rattle.std.proofs.Math.ListN.{drop_of_length-le}
+use Rattle.std.specs.Prelude.{◌≤◌, codes, Option, Some, None, option_and_then, option_map, Result, Ok, Err}
+use Rattle.std.specs.Result.{IfErr, IsErrAnd}
+use Rattle.std.specs.declared.alloc.Global.{Global}
+use Rattle.serde_json.specs.Data.{Data, Items}
+use Rattle.serde_json.specs.Find.{get, as_array}
+use Rattle.serde_json.specs.View.{view, items_view}
+use Rattle.serde_json.specs.declared.value.Value.{Value}
+use Rattle.tw_models.specs.declared.model.Model.{Model}
+use Rattle.tw_nested.specs.declared.tree.Nested.{Nested}
+use Rattle.tw_nested.specs.declared.tree.Part.{Part, roll-Part, out-Part, fold-roll-Part, roll-out-Part}
+use Rattle.tw_nested.specs.declared.tree.Part.TheOpen.{Part-F}
+use Rattle.tw_nested.specs.Tree.{Parts, Link, no_parts, part_view, parts_of, part_step, nested_step}
+use Rattle.tw_netfile.specs.Components.{after}
+use Rattle.tw_netfile.specs.Shape.{FileCoupling, all_read, array_at, coupling_of, of_two}
+use Rattle.tw_netfile.specs.TreeShape.{FileTree, links_named, part_names, part_read, parts_read, tree_made, tree_read}
+use Rattle.tw_netfile.specs.declared.draft.ModelDraft.{ModelDraft}
+use Rattle.tw_netfile.specs.declared.refused.FileRefused.{FileRefused}
+use Rattle.tw_netfile.specs.declared.refused.FileRefused.TheVariants.{OutOfMemory}
+
+-- these parts, and then the rest
+abbrev pub parts_then : {M : Type 0} → List (String Global × Part M) → Parts M → Parts M
+parts_then [] rest = rest
+parts_then {M} (p ∷ ps) rest = part_view {M = M} p.1 (string_bytes p.0) (parts_then {M = M} ps rest)
+
+pub all_parts : {M : Type 0} (ps : List (String Global × Part M)) → parts_then {M = M} ps no_parts ≡ parts_of {M = M} ps
+all_parts [] = refl
+all_parts {M} (p ∷ ps) = ap (part_view {M = M} p.1 (string_bytes p.0)) (all_parts {M = M} ps)
+
+pub one_part_more : {M : Type 0} (ps : List (String Global × Part M)) (p : String Global × Part M) (rest : Parts M) → parts_then {M = M} ps (part_view {M = M} p.1 (string_bytes p.0) rest) ≡ parts_then {M = M} (ps ++ p ∷ []) rest
+one_part_more [] p rest = refl
+one_part_more {M} (q ∷ ps) p rest = ap (part_view {M = M} q.1 (string_bytes q.0)) (one_part_more {M = M} ps p rest)
+
+-- the list from a place on, by what stands there
+at_place : {A : Type 0} (ps qs : List A) (i : ℕ) (q : A) → qs ≡ ps → i < length qs → q ≡ get_or qs i q → drop i ps ≡ q ∷ drop (i + 1) ps
+at_place {A} ps qs i q same lt is =
+    let inside : i < length ps = subst (λ (xs : List A). i < length xs) same lt in
+    let here : get_or ps i q ≡ q = sym (is ∙ ap (λ (xs : List A). get_or xs i q) same) in
+    let next : suc i ≡ i + 1 = omega arith in
+    drop-cons ps i q inside ∙ (λ j. here j ∷ drop (next j) ps)
+
+-- past the end nothing is left
+pub none_left : {A : Type 0} (ps qs : List A) (i : ℕ) → qs ≡ ps → length qs ≤ i → drop i ps ≡ []
+none_left {A} ps qs i same past = drop_of_length-le ps (subst (λ (xs : List A). length xs ≤ i) same past)
+
+-- ---- an error that is passed on
+
+pub passed_on : {A : Type 0} (r : Result A FileRefused) (f : FileRefused) (P : FileRefused → Type 0) → IsErrAnd r (λ e. e ≡ f) → (f ≢ OutOfMemory → P f) → IfErr r (λ e. e ≢ OutOfMemory → P e)
+passed_on (Ok x) f P is at = tt
+passed_on (Err e) f P is at = λ other. subst P (sym is) (at (λ same. other (is ∙ same)))
+
+-- ---- reading
+
+-- what the values from i on read, after the parts that were read before
+abbrev pub parts_left : (Data → Option FileTree) → List Value → List (String Global × Part ModelDraft) → ℕ → Option (Parts ModelDraft)
+parts_left tree vs done i = option_map (parts_then {M = ModelDraft} done) (parts_read tree (items_view (drop i vs)))
+
+regroup : (done : List (String Global × Part ModelDraft)) (p : String Global × Part ModelDraft) (o : Option (Parts ModelDraft))
+    → option_map (parts_then {M = ModelDraft} done) (option_map (part_view {M = ModelDraft} p.1 (string_bytes p.0)) o) ≡ option_map (parts_then {M = ModelDraft} (done ++ p ∷ [])) o
+regroup done p None = refl
+regroup done p (Some rest) = ap (λ (x : Parts ModelDraft). Some x) (one_part_more {M = ModelDraft} done p rest)
+
+pub part_more : (tree : Data → Option FileTree) (vs : List Value) (done : List (String Global × Part ModelDraft)) (i : ℕ) (v : Value) (p : String Global × Part ModelDraft)
+    → i < length vs → part_read tree (view (get_or vs i v)) ≡ Some (part_view {M = ModelDraft} p.1 (string_bytes p.0)) → parts_left tree vs done i ≡ parts_left tree vs (done ++ p ∷ []) (i + 1)
+part_more tree vs done i v p h is = rw (add-one, drop-cons vs i v h, is) (regroup done p (parts_read tree (items_view (drop (suc i) vs))))
+
+pub no_part : (tree : Data → Option FileTree) (vs : List Value) (done : List (String Global × Part ModelDraft)) (i : ℕ) (v : Value)
+    → i < length vs → part_read tree (view (get_or vs i v)) ≡ None → parts_left tree vs done i ≡ None
+no_part tree vs done i v h is = rw (drop-cons vs i v h, is) refl
+
+pub all_read_parts : (tree : Data → Option FileTree) (vs : List Value) (done : List (String Global × Part ModelDraft)) (i : ℕ) → length vs ≤ i → parts_left tree vs done i ≡ Some (parts_of {M = ModelDraft} done)
+all_read_parts tree vs done i past =
+    ap (λ (xs : List Value). option_map (parts_then {M = ModelDraft} done) (parts_read tree (items_view xs))) (none_left vs vs i refl past)
+    ∙ ap (λ (x : Parts ModelDraft). Some x) (all_parts {M = ModelDraft} done)
+
+-- a model is read as its parts and couplings are
+module _ (room r : ℕ) (above : room ≡ suc r) (d : Data) (ds : Items) (components : Some ds ≡ option_and_then as_array (get (codes "components") d)) where
+  of_parts : (o : Option (Parts ModelDraft)) → parts_read (tree_read r) ds ≡ o → tree_read room d ≡ of_two (λ parts couplings. (parts, links_named parts couplings)) o (array_at coupling_of (codes "couplings") d)
+  of_parts o is =
+      ap (λ n. tree_read n d) above
+      ∙ ap (λ (x : Option Items). of_two (λ parts couplings. (parts, links_named parts couplings)) (option_and_then (parts_read (tree_read r)) x) (array_at coupling_of (codes "couplings") d)) (sym components)
+      ∙ ap (λ (x : Option (Parts ModelDraft)). of_two (λ parts couplings. (parts, links_named parts couplings)) x (array_at coupling_of (codes "couplings") d)) is
+
+  pub no_tree : parts_read (tree_read r) ds ≡ None → tree_read room d ≡ None
+  no_tree is = of_parts None is
+
+  pub whole_tree : (parts : Parts ModelDraft) (ks : Items) (couplings : List FileCoupling) → parts_read (tree_read r) ds ≡ Some parts
+      → Some ks ≡ option_and_then as_array (get (codes "couplings") d) → all_read coupling_of ks ≡ Some couplings → tree_read room d ≡ Some (parts, links_named parts couplings)
+  whole_tree parts ks couplings is there read =
+      of_parts (Some parts) is
+      ∙ ap (λ (x : Option Items). of_two (λ parts couplings. (parts, links_named parts couplings)) (Some parts) (option_and_then (all_read coupling_of) x)) (sym there)
+      ∙ ap (λ (x : Option (List FileCoupling)). of_two (λ parts couplings. (parts, links_named parts couplings)) (Some parts) x) read
+
+-- ---- names
+
+name_open : {M : Type 0} (d : Part-F M (Part M) (Nested M)) (name : List ℕ) (rest : Parts M) → part_names (part_view {M = M} (roll-Part M d) name rest) ≡ name ∷ part_names rest
+name_open {M} (Part-F.Atom m) name rest = ap (λ (f : List ℕ → Parts M → Parts M). part_names (f name rest)) (fold-roll-Part M (List ℕ → Parts M → Parts M) (Parts M × List Link) part_step nested_step (Part-F.Atom m))
+name_open {M} (Part-F.Coupled n) name rest = ap (λ (f : List ℕ → Parts M → Parts M). part_names (f name rest)) (fold-roll-Part M (List ℕ → Parts M → Parts M) (Parts M × List Link) part_step nested_step (Part-F.Coupled n))
+
+first_name : {M : Type 0} (q : Part M) (name : List ℕ) (rest : Parts M) → part_names (part_view {M = M} q name rest) ≡ name ∷ part_names rest
+first_name {M} q name rest = subst (λ (p : Part M). part_names (part_view {M = M} p name rest) ≡ name ∷ part_names rest) (roll-out-Part M q) (name_open {M = M} (out-Part M q) name rest)
+
+pub name_more : {M : Type 0} (ps : List (String Global × Part M)) (done : List (List ℕ)) (i : ℕ) (p : String Global × Part M) (name : List ℕ)
+    → i < length ps → name ≡ string_bytes (get_or ps i p).0 → done ++ part_names (parts_of {M = M} (drop i ps)) ≡ (done ++ name ∷ []) ++ part_names (parts_of {M = M} (drop (i + 1) ps))
+name_more {M} ps done i p name h is =
+    let next : suc i ≡ i + 1 = omega arith in
+    ap (λ (xs : List (String Global × Part M)). done ++ part_names (parts_of {M = M} xs)) (drop-cons ps i p h)
+    ∙ ap (λ (xs : List (List ℕ)). done ++ xs) (first_name {M = M} (get_or ps i p).1 (string_bytes (get_or ps i p).0) (parts_of {M = M} (drop (suc i) ps)))
+    ∙ (λ j. done ++ sym is j ∷ part_names (parts_of {M = M} (drop (next j) ps)))
+    ∙ sym (append_assoc done (name ∷ []) (part_names (parts_of {M = M} (drop (i + 1) ps))))
+
+-- ---- models
+
+-- what the parts from i on make, after those that were made before
+abbrev pub models_left : List (String Global × Part ModelDraft) → List (String Global × Part Model) → ℕ → Result (Parts Model) FileRefused
+models_left ps done i = after (λ more. Ok (parts_then {M = Model} done more)) (tree_made (parts_of {M = ModelDraft} (drop i ps)))
+
+remade : (done : List (String Global × Part Model)) (p : String Global × Part Model) (r : Result (Parts Model) FileRefused)
+    → after (λ more. Ok (parts_then {M = Model} done more)) (after (λ more. Ok (part_view {M = Model} p.1 (string_bytes p.0) more)) r) ≡ after (λ more. Ok (parts_then {M = Model} (done ++ p ∷ []) more)) r
+remade done p (Err e) = refl
+remade done p (Ok more) = ap (λ (x : Parts Model). Ok x) (one_part_more {M = Model} done p more)
+
+module _ (ps qs : List (String Global × Part ModelDraft)) (done : List (String Global × Part Model)) (i : ℕ) (q : String Global × Part ModelDraft) (same : qs ≡ ps) (lt : i < length qs) (is : q ≡ get_or qs i q) where
+  at_part : models_left ps done i ≡ after (λ more. Ok (parts_then {M = Model} done more)) (tree_made (part_view {M = ModelDraft} q.1 (string_bytes q.0) (parts_of {M = ModelDraft} (drop (i + 1) ps))))
+  at_part = ap (λ (xs : List (String Global × Part ModelDraft)). after (λ more. Ok (parts_then {M = Model} done more)) (tree_made (parts_of {M = ModelDraft} xs))) (at_place ps qs i q same lt is)
+
+  pub model_more : (p : String Global × Part Model) → string_bytes p.0 ≡ string_bytes q.0
+      → ((name : List ℕ) (rest : Parts ModelDraft) → tree_made (part_view {M = ModelDraft} q.1 name rest) ≡ after (λ more. Ok (part_view {M = Model} p.1 name more)) (tree_made rest))
+      → models_left ps done i ≡ models_left ps (done ++ p ∷ []) (i + 1)
+  model_more p named makes =
+      at_part
+      ∙ ap (λ (r : Result (Parts Model) FileRefused). after (λ more. Ok (parts_then {M = Model} done more)) r) (makes (string_bytes q.0) (parts_of {M = ModelDraft} (drop (i + 1) ps)))
+      ∙ (λ j. after (λ more. Ok (parts_then {M = Model} done more)) (after (λ more. Ok (part_view {M = Model} p.1 (sym named j) more)) (tree_made (parts_of {M = ModelDraft} (drop (i + 1) ps)))))
+      ∙ remade done p (tree_made (parts_of {M = ModelDraft} (drop (i + 1) ps)))
+
+  pub no_model : (e : FileRefused) → ((name : List ℕ) (rest : Parts ModelDraft) → tree_made (part_view {M = ModelDraft} q.1 name rest) ≡ Err e) → models_left ps done i ≡ Err e
+  no_model e fails = at_part ∙ ap (λ (r : Result (Parts Model) FileRefused). after (λ more. Ok (parts_then {M = Model} done more)) r) (fails (string_bytes q.0) (parts_of {M = ModelDraft} (drop (i + 1) ps)))
+
+pub all_models : (ps qs : List (String Global × Part ModelDraft)) (done : List (String Global × Part Model)) (i : ℕ) → qs ≡ ps → length qs ≤ i → models_left ps done i ≡ Ok (parts_of {M = Model} done)
+all_models ps qs done i same past =
+    ap (λ (xs : List (String Global × Part ModelDraft)). after (λ more. Ok (parts_then {M = Model} done more)) (tree_made (parts_of {M = ModelDraft} xs))) (none_left ps qs i same past)
+    ∙ ap (λ (x : Parts Model). Ok x) (all_parts {M = Model} done)

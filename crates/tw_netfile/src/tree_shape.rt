@@ -1,0 +1,156 @@
+//! What the JSON value of a file of format `tw-2` says: a tree of components.
+
+ghost use Rattle.std.specs.Prelude.{◌≡◌, ◌≢◌, Some, None, Ok, Err, IfOk, IfErr, codes, map, option_and_then, option_map, string_bytes};
+ghost use Rattle.serde_json.specs.Find.{as_array, get};
+ghost use Rattle.serde_json.specs.View.{view, items_view};
+ghost use Rattle.tw_nested.specs.Tree.{part_view, parts_of};
+ghost use Rattle.tw_netfile.specs.Draft.{couplings_view};
+ghost use Rattle.tw_netfile.specs.Shape.{text_at};
+ghost use Rattle.tw_netfile.specs.TreeDraft.{tree_view};
+ghost use Rattle.tw_netfile.specs.TreeShape.{
+  is_tree_format,
+  links_named,
+  part_names,
+  part_read,
+  parts_read,
+  tree_file_of,
+  tree_read,
+};
+
+use crate::draft::{CouplingDraft, ModelDraft, TreeDraft};
+use crate::numbers::Numbers;
+use crate::refused::FileRefused;
+use crate::shape::{component_of, count_at, couplings_of, has_members, inputs_of, text_at};
+use serde_json::Value;
+use std::alloc::{AllocError, Global};
+use tw_network::{Link, Nested, Part};
+
+/// More levels than a JSON text of 127 levels can have: a level of parts takes two, an object and an array.
+const ROOM: usize = 64;
+
+// Whether the value is that of a file of this format.
+pub fn is_tree(value: &Value) -> bool
+    ensures { result ≡ is_tree_format (text_at (codes "format") (view value.now)) }
+{
+    match text_at(value, "format") {
+        Some(format) => format == "tw-2",
+        None => false,
+    }
+}
+
+// What the file's value says, where it has the shape of a file of this format.
+pub fn tree_draft_of<'a>(alloc: Global, value: &'a Value) -> Result<TreeDraft<'a>, FileRefused>
+    ensures ok { IfOk result (λ d. tree_file_of (view value.now) ≡ Some (tree_view d)) }
+    ensures err { IfErr result (λ e. e ≢ FileRefused.OutOfMemory → (e ≡ FileRefused.BadShape) × (tree_file_of (view value.now) ≡ None)) }
+{
+    if !has_members(value, 5) || !is_tree(value) {
+        return Err(FileRefused::BadShape);
+    }
+    let Some(micro_limit) = count_at(value, "micro_limit") else {
+        return Err(FileRefused::BadShape);
+    };
+    let root = tree_read(alloc, value, ROOM)?;
+    let Some(inputs) = items_at(value, "inputs") else {
+        return Err(FileRefused::BadShape);
+    };
+    let inputs = inputs_of(alloc, inputs)?;
+    Ok(TreeDraft {
+        micro_limit,
+        root,
+        inputs,
+    })
+}
+
+// The parts and couplings of a model of no more levels than there is room for.
+#[cycle(trees)]
+fn tree_read(alloc: Global, value: &Value, room: usize) -> Result<Nested<ModelDraft>, FileRefused>
+    ensures ok { IfOk result (λ n. tree_read room (view value.now) ≡ Some (parts_of n.parts.items, n.couplings.items)) }
+    ensures err { IfErr result (λ e. e ≢ FileRefused.OutOfMemory → (e ≡ FileRefused.BadShape) × (tree_read room (view value.now) ≡ None)) }
+{
+    if room == 0 {
+        return Err(FileRefused::BadShape);
+    }
+    let Some(components) = items_at(value, "components") else {
+        return Err(FileRefused::BadShape);
+    };
+    let parts = parts_read(alloc, components, room - 1)?;
+    let Some(couplings) = items_at(value, "couplings") else {
+        return Err(FileRefused::BadShape);
+    };
+    let drafts = couplings_of(alloc, couplings)?;
+    let couplings = links_named(alloc, parts.as_slice(), drafts.as_slice())?;
+    Ok(Nested { parts, couplings })
+}
+
+#[cycle(trees)]
+fn parts_read(
+    alloc: Global,
+    values: &[Value],
+    room: usize,
+) -> Result<Vec<(String, Part<ModelDraft>)>, FileRefused>
+    ensures ok { IfOk result (λ v. parts_read (tree_read room) (items_view values.now) ≡ Some (parts_of v.items)) }
+    ensures err { IfErr result (λ e. e ≢ FileRefused.OutOfMemory → (e ≡ FileRefused.BadShape) × (parts_read (tree_read room) (items_view values.now) ≡ None)) }
+{
+    let mut parts = Vec::new(alloc);
+    for value in values {
+        parts.push(part_read(alloc, value, room)?)?;
+    }
+    Ok(parts)
+}
+
+#[cycle(trees)]
+fn part_read(
+    alloc: Global,
+    value: &Value,
+    room: usize,
+) -> Result<(String, Part<ModelDraft>), FileRefused>
+    ensures ok { IfOk result (λ p. part_read (tree_read room) (view value.now) ≡ Some (part_view p.1 (string_bytes p.0))) }
+    ensures err { IfErr result (λ e. e ≢ FileRefused.OutOfMemory → (e ≡ FileRefused.BadShape) × (part_read (tree_read room) (view value.now) ≡ None)) }
+{
+    if let Some(component) = component_of(value) {
+        let name = String::from_str(alloc, component.name)?;
+        return Ok((name, Part::Atom(component.model)));
+    }
+    if !has_members(value, 3) {
+        return Err(FileRefused::BadShape);
+    }
+    let Some(name) = text_at(value, "name") else {
+        return Err(FileRefused::BadShape);
+    };
+    let inner = tree_read(alloc, value, room)?;
+    let name = String::from_str(alloc, name)?;
+    Ok((name, Part::Coupled(inner)))
+}
+
+// The couplings of a model, by the places of its parts.
+fn links_named(
+    alloc: Global,
+    parts: &[(String, Part<ModelDraft>)],
+    drafts: &[CouplingDraft<'_>],
+) -> Result<Vec<Link>, AllocError>
+    ensures { IfOk result (λ v. v.items ≡ links_named (parts_of parts.now) (couplings_view drafts.now)) }
+{
+    let names = part_names(alloc, parts)?;
+    let numbers = Numbers::new(alloc, names.as_slice())?;
+    numbers.links(alloc, drafts)
+}
+
+fn part_names<'a>(
+    alloc: Global,
+    parts: &'a [(String, Part<ModelDraft>)],
+) -> Result<Vec<&'a str>, AllocError>
+    ensures { IfOk result (λ v. map (λ n. n.now) v.items ≡ part_names (parts_of parts.now)) }
+{
+    let mut names = Vec::with_capacity(alloc, parts.len())?;
+    for (name, _) in parts {
+        names.push(name.as_str())?;
+    }
+    Ok(names)
+}
+
+// The items of a member that is an array.
+fn items_at<'a>(value: &'a Value, name: &str) -> Option<&'a [Value]>
+    ensures { option_map (λ vs. items_view vs.now) result ≡ option_and_then as_array (get name.now (view value.now)) }
+{
+    Some(value.get(name)?.as_array()?.as_slice())
+}

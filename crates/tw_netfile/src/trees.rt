@@ -1,0 +1,105 @@
+//! Network files of either format to the networks that they mean.
+
+ghost use Rattle.std.specs.Prelude.{◌≡◌, ◌≢◌, IfOk, IfErr, length, map};
+ghost use Rattle.tw_nested.specs.Tree.{parts_of};
+ghost use Rattle.tw_netfile.specs.Draft.{input_view, inputs_view};
+ghost use Rattle.tw_netfile.specs.Numbers.{number_of, numbered_input};
+ghost use Rattle.tw_netfile.specs.TreeDraft.{tree_view};
+ghost use Rattle.tw_netfile.specs.TreeMeaning.{IsFault, IsMeaning, IsNetworkOfTree, IsRefusedTree, IsTreeFileFault, IsTreeMeaning};
+
+use crate::draft::{InputDraft, TreeDraft};
+use crate::file::{json_of, network_of};
+use crate::numbers::port_of;
+use crate::refused::FileRefused;
+use crate::shape::draft_of;
+use crate::tree_models::tree_made;
+use crate::tree_shape::{is_tree, tree_draft_of};
+use std::alloc::{AllocError, Global};
+use tw_models::Model;
+use tw_network::{Input, Nested, Network, NetworkRefused};
+
+/// As many inputs as a network may have.
+const MAX_INPUTS: usize = 65_536;
+
+/// The network that a file's bytes mean, a JSON text of format `tw-1` or `tw-2`.
+///
+/// A file of format `tw-1` means what [`network_of_file`](crate::network_of_file) says, with its faults. One of
+/// format `tw-2` says a tree of coupled models (Chow and Zeigler 1994) and means the flat network of it: its
+/// components are the tree's atoms, numbered from 0, depth first, in the order of the file; the name of each is
+/// the names on its way from the root, joined by `.`. The first fault in this order is answered: 20 and 21 as
+/// there; for each atom in order, a parameter of its model is out of range (6 or 10, a hop's ports before its
+/// spread); then the faults of [`Network::nested`] in its order, where a coupling's name that no part has, and an
+/// input's that no atom has, is an unknown component (5), and a port above 255 is a port above 15 (6). Want of
+/// memory (4) may come at any point instead. After any of them nothing is left. Nothing is said of an object that
+/// has a member twice.
+pub fn network_of_any_file(alloc: Global, bytes: &[u8]) -> Result<Network<Model>, FileRefused>
+    ensures network { IfOk result (IsMeaning bytes.now) }
+    ensures first_fault { IfErr result (λ e. e ≢ FileRefused.OutOfMemory → IsFault bytes.now e) }
+{
+    let value = json_of(alloc, bytes)?;
+    if is_tree(&value) {
+        let tree = tree_draft_of(alloc, &value)?;
+        return network_of_tree(alloc, &tree);
+    }
+    let draft = draft_of(alloc, &value)?;
+    network_of(alloc, &draft)
+}
+
+// The network that a tree means. Without its inputs it is made first: that network finds atoms by name, and it is
+// no larger than a network may be.
+fn network_of_tree(alloc: Global, tree: &TreeDraft) -> Result<Network<Model>, FileRefused>
+    ensures ok { IfOk result (IsTreeMeaning (tree_view tree.now)) }
+    ensures err { IfErr result (λ e. e ≢ FileRefused.OutOfMemory → IsTreeFileFault (tree_view tree.now) e) }
+{
+    let root = tree_made(alloc, &tree.root)?;
+    if tree.inputs.len() > MAX_INPUTS {
+        return Err(FileRefused::Network(NetworkRefused::TooMany));
+    }
+    let named = nested(alloc, root, Vec::new(alloc), tree.micro_limit)?;
+    let inputs = inputs_named(alloc, &named, tree.inputs.as_slice())?;
+    let root = tree_made(alloc, &tree.root)?;
+    nested(alloc, root, inputs, tree.micro_limit)
+}
+
+// The network of a tree with these inputs, or its first fault.
+fn nested(
+    alloc: Global,
+    root: Nested<Model>,
+    inputs: Vec<Input>,
+    micro_limit: u64,
+) -> Result<Network<Model>, FileRefused>
+    ensures ok { IfOk result (IsNetworkOfTree (parts_of root.parts.items) root.couplings.items inputs.items micro_limit) }
+    ensures err { IfErr result (λ e. e ≢ FileRefused.OutOfMemory → IsRefusedTree (parts_of root.parts.items) root.couplings.items inputs.items micro_limit e) }
+{
+    match Network::nested(alloc, root, inputs, micro_limit) {
+        Ok(network) => Ok(network),
+        Err(fault) => Err(FileRefused::from(fault)),
+    }
+}
+
+// Inputs by the numbers of the components that they name.
+fn inputs_named(
+    alloc: Global,
+    network: &Network<Model>,
+    drafts: &[InputDraft],
+) -> Result<Vec<Input>, AllocError>
+    ensures { IfOk result (λ v. v.items ≡ map (numbered_input (number_of network.now.names)) (inputs_view drafts.now)) }
+{
+    let mut inputs = Vec::with_capacity(alloc, drafts.len())?;
+    for draft in drafts {
+        let component = number_in(network, draft.to);
+        inputs.push((draft.tick, component, port_of(draft.port), draft.value))?;
+    }
+    Ok(inputs)
+}
+
+// The number of the component that has the name, or one that no component has.
+fn number_in(network: &Network<Model>, name: &str) -> usize
+    ensures { result ≡ number_of network.now.names name.now }
+{
+    network.facts();
+    match network.find(name) {
+        Some(component) => component,
+        None => network.len(),
+    }
+}

@@ -6,5 +6,6 @@ pub mod Numbers
 pub mod Refused
 pub mod Shape
 pub mod TreeDraft
+pub mod TreeExamples
 pub mod TreeMeaning
 pub mod TreeShape

@@ -1,6 +1,6 @@
 -- From what is played and then traced to what is said of the files' bytes.
 use Rattle.std.proofs.Common.{◌≡◌, ℕ, List, inl, inr, refl, subst}
-use Rattle.std.specs.Prelude.{Option, Ok}
+use Rattle.std.specs.Prelude.{Option}
 use Rattle.tw_engine.specs.Plays.{first, IsScripted, IsSeeded, IsTraced}
 use Rattle.tw_engine.specs.declared.exit.Exit.{Exit}
 use Rattle.tw_engine.specs.declared.exit.Exit.TheVariants.{Done, Bad, BadScript, Fault, Want, NoWrite}
@@ -9,7 +9,7 @@ use Rattle.tw_exec.specs.Running.{Running}
 use Rattle.tw_models.specs.Model.{model_meaning}
 use Rattle.tw_models.specs.declared.model.Model.{Model}
 use Rattle.tw_models.specs.declared.model.State.{State}
-use Rattle.tw_netfile.specs.Meaning.{meaning_of}
+use Rattle.tw_netfile.specs.TreeMeaning.{IsMeaning}
 use Rattle.tw_network.specs.Contents.{Contents}
 use Rattle.tw_play.specs.Playing.{Played}
 use Rattle.tw_play.specs.Telling.{IsDrawnShort, IsPlayed, IsWhollyDrawn}
@@ -21,7 +21,7 @@ use Rattle.tw_texts.specs.declared.traces.NotWritten.{NotWritten}
 use Rattle.tw_texts.specs.declared.traces.NotWritten.TheVariants.{OutOfMemory, WriteFailed}
 use Rattle.tw_theory.specs.Contents.{Cancel}
 
-module _ (bytes : List ℕ) (n : Contents Model) (means : meaning_of bytes ≡ Ok n) (until : ℕ) (way : Cancel) (begun p : Played Model State) (is : begun ≡ first n way until) (e : Running Model State) (at : e ≡ p.executive)
+module _ (bytes : List ℕ) (n : Contents Model) (means : IsMeaning bytes n) (until : ℕ) (way : Cancel) (begun p : Played Model State) (is : begun ≡ first n way until) (e : Running Model State) (at : e ≡ p.executive)
     (old mid new : Option (List ℕ)) where
   pub scripted : (script : List ℕ) (commands : List Command) → IsScript n.names script commands → IsPlayed model_meaning commands begun p old mid → (exit : Exit) → IsTraced e exit mid new → IsScripted bytes script until way exit old new
   scripted script commands says whole exit traced =

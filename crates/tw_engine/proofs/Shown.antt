@@ -1,6 +1,6 @@
 -- From the text that is written to what it says of the bytes of the file.
 use Rattle.std.proofs.Common.{◌≡◌, ◌≤◌, ◌++◌, ◌∙◌, ℕ, List, [], length, refl, sym, ap, subst, append_assoc, inl, inr}
-use Rattle.std.specs.Prelude.{Option, None, Some, Ok}
+use Rattle.std.specs.Prelude.{Option, None, Some}
 use Rattle.std.proofs.lemmas.Option.{slice_get_past}
 use Rattle.tw_vtime.specs.declared.limits.Limit.{Limit}
 use Rattle.tw_msgs.specs.declared.record.Record.{Record}
@@ -9,7 +9,7 @@ use Rattle.tw_models.specs.Model.{model_meaning}
 use Rattle.tw_network.specs.Contents.{Contents, network_of}
 use Rattle.tw_theory.specs.Transitions.{output, moved, transition}
 use Rattle.tw_theory.specs.Simulator.{sequential, rounds, round}
-use Rattle.tw_netfile.specs.Meaning.{meaning_of}
+use Rattle.tw_netfile.specs.TreeMeaning.{IsMeaning}
 use Rattle.tw_texts.specs.Traces.{AppendsBeginning}
 use Rattle.tw_engine.specs.declared.exit.Exit.{Exit}
 use Rattle.tw_engine.specs.declared.exit.Exit.TheVariants.{Done, Bad, BadScript, Fault, Want, NoWrite}
@@ -27,7 +27,7 @@ beginning_of_more old new text more b = (
   sym (append_assoc b.0 b.1 more) ∙ ap (λ l. l ++ more) b.3,
 )
 
-run_of_shown : (bytes : List ℕ) (until : ℕ) (n : Contents Model) (exit : Exit) (old new : Option (List ℕ)) → meaning_of bytes ≡ Ok n
+run_of_shown : (bytes : List ℕ) (until : ℕ) (n : Contents Model) (exit : Exit) (old new : Option (List ℕ)) → IsMeaning bytes n
     → IsShown n (sequential (network_of model_meaning n) until).records (run_fault n until) exit old new → IsRun bytes until exit old new
 run_of_shown bytes until n Done old new means shown = (n, means, shown)
 run_of_shown bytes until n Fault old new means shown = (n, means, shown)
@@ -39,7 +39,7 @@ run_of_shown bytes until n NoWrite old new means shown = shown
 
 -- what is shown of the records and the fault of the sequential run
 pub shown_run : (bytes : List ℕ) (until : ℕ) (n : Contents Model) (records : List Record) (fault : Option (ℕ × ℕ × Limit)) (exit : Exit) (old new : Option (List ℕ))
-    → meaning_of bytes ≡ Ok n → records ≡ (sequential (network_of model_meaning n) until).records → fault ≡ run_fault n until
+    → IsMeaning bytes n → records ≡ (sequential (network_of model_meaning n) until).records → fault ≡ run_fault n until
     → IsShown n records fault exit old new → IsRun bytes until exit old new
 shown_run bytes until n records fault exit old new means all met shown =
     run_of_shown bytes until n exit old new means

@@ -2,7 +2,7 @@
 --     run_text n until      the trace of a network's sequential run, and a line for its fault
 --     IsRun given until exit old new      how a run of the network that a file means ends, and what is then written
 --     IsDone job exit given old new      the same of a job
-use Rattle.std.specs.Prelude.{◌≡◌, ◌<◌, ◌⊎◌, ◌++◌, ℕ, List, [], ◌∷◌, codes, pos, Option, Some, None, Ok, Err, slice_get}
+use Rattle.std.specs.Prelude.{◌≡◌, ◌<◌, ◌⊎◌, ◌++◌, ℕ, List, [], ◌∷◌, codes, pos, Option, Some, None, slice_get}
 use Rattle.std.specs.Io.KnownBytes.{Appends, Keeps}
 use Rattle.tw_vtime.specs.Stamps.{max_tick}
 use Rattle.tw_vtime.specs.declared.limits.Limit.{Limit}
@@ -14,8 +14,8 @@ use Rattle.tw_models.specs.declared.model.Model.TheVariants.{Gen, Tally}
 use Rattle.tw_models.specs.Model.{model_meaning}
 use Rattle.tw_network.specs.Contents.{Contents, network_of}
 use Rattle.tw_theory.specs.Simulator.{sequential}
-use Rattle.tw_netfile.specs.Meaning.{meaning_of}
 use Rattle.tw_netfile.specs.Refused.{file_refusal}
+use Rattle.tw_netfile.specs.TreeMeaning.{IsFault, IsMeaning}
 use Rattle.tw_netfile.specs.declared.refused.FileRefused.{FileRefused}
 use Rattle.tw_texts.specs.Texts.{trace_text, fault_line}
 use Rattle.tw_texts.specs.Traces.{AppendsBeginning}
@@ -50,13 +50,13 @@ run_text n until = text_of n (sequential (network_of model_meaning n) until).rec
 
 -- the bytes mean a network of which this is true
 abbrev pub Means : List ℕ → (Contents Model → Type 0) → Type 0
-Means bytes Holds = (n : Contents Model) × (meaning_of bytes ≡ Ok n) × Holds n
+Means bytes Holds = (n : Contents Model) × IsMeaning bytes n × Holds n
 
 -- the end tick is too late, or the file is refused for this
 abbrev pub IsCause : List ℕ → ℕ → Refusal → Type 0
 IsCause bytes until why =
     ((why ≡ refusal.BadTick) × (max_tick < until))
-    ⊎ ((fault : FileRefused) × (meaning_of bytes ≡ Err fault) × (why ≡ file_refusal fault))
+    ⊎ ((fault : FileRefused) × IsFault bytes fault × (why ≡ file_refusal fault))
 
 abbrev pub IsRun : List ℕ → ℕ → Exit → Option (List ℕ) → Option (List ℕ) → Type 0
 IsRun bytes until Done old new = Means bytes (λ n. (run_fault n until ≡ None) × Appends old new (run_text n until))
@@ -73,7 +73,7 @@ IsRun bytes until NoWrite old new = Unit {0}
 abbrev pub IsFileExit : List ℕ → Exit → Type 0
 IsFileExit bytes exit =
     (exit ≡ Want refusal.OutOfMemory)
-    ⊎ ((fault : FileRefused) × (meaning_of bytes ≡ Err fault) × (exit ≡ Bad (file_refusal fault)))
+    ⊎ ((fault : FileRefused) × IsFault bytes fault × (exit ≡ Bad (file_refusal fault)))
 
 -- what is written of records and a fault
 abbrev pub IsShown : Contents Model → List Record → Option (ℕ × ℕ × Limit) → Exit → Option (List ℕ) → Option (List ℕ) → Type 0

@@ -1,9 +1,9 @@
 //! From a job and the bytes of its file to the bytes written.
 
-ghost use Rattle.std.specs.Prelude.{◌≡◌, ◌⊎◌, ◌<◌, Ok, Err, IfOk, IfErr, IfSome, string_bytes};
+ghost use Rattle.std.specs.Prelude.{◌≡◌, ◌⊎◌, ◌<◌, IfOk, IfErr, IfSome, string_bytes};
 ghost use Rattle.tw_models.specs.Model.{model_meaning};
 ghost use Rattle.tw_network.specs.Contents.{network_of};
-ghost use Rattle.tw_netfile.specs.Meaning.{meaning_of};
+ghost use Rattle.tw_netfile.specs.TreeMeaning.{IsMeaning};
 ghost use Rattle.tw_theory.specs.Simulator.{sequential};
 ghost use Rattle.tw_vtime.specs.Stamps.{max_tick};
 ghost use Rattle.tw_vtime.specs.declared.refusal.Refusal.TheVariants as refusal;
@@ -19,7 +19,7 @@ use std::alloc::{AllocError, Global};
 use std::io::{ErrorKind, Read, Write};
 use tw_line::{Driver, Job};
 use tw_models::Model;
-use tw_netfile::network_of_file;
+use tw_netfile::network_of_any_file;
 use tw_network::Network;
 use tw_process::Cancel;
 use tw_seq::{Seq, simulate};
@@ -150,10 +150,10 @@ fn run<W: Write>(alloc: Global, bytes: &[u8], until: u64, out: &mut W) -> Exit
 
 // The network that a file's bytes mean.
 pub(crate) fn network(alloc: Global, bytes: &[u8]) -> Result<Network<Model>, Exit>
-    ensures ok { IfOk result (λ n. meaning_of bytes.now ≡ Ok n) }
+    ensures ok { IfOk result (IsMeaning bytes.now) }
     ensures err { IfErr result (IsFileExit bytes.now) }
 {
-    match network_of_file(alloc, bytes) {
+    match network_of_any_file(alloc, bytes) {
         Ok(network) => Ok(network),
         Err(refused) => Err(Exit::from(Refusal::from(refused))),
     }

@@ -4,4 +4,5 @@ mod lines;
 mod records;
 mod texts;
 mod traces;
+mod trees;
 mod writers;

@@ -3,7 +3,7 @@
 use std::alloc::{AllocError, Global};
 use std::process::Abort;
 use tw_models::{BadModel, Model};
-use tw_netfile::network_of_file;
+use tw_netfile::{network_of_any_file, network_of_file};
 use tw_vtime::Refusal;
 
 /// A generator that sends 5 each 2 ticks, and a tally of what it sends.
@@ -63,7 +63,7 @@ static MEMBERS: [(&str, u8); 11] = [
         21,
     ),
     (
-        r#"{"format":"tw-2","micro_limit":1,"components":[],"couplings":[],"inputs":[]}"#,
+        r#"{"format":"tw-3","micro_limit":1,"components":[],"couplings":[],"inputs":[]}"#,
         21,
     ),
     (
@@ -221,9 +221,18 @@ fn repeated(alloc: Global, text: &str, count: usize) -> Result<String, AllocErro
     Ok(repeated)
 }
 
-/// Asserts what is answered to a text.
+/// The same of a file of any format.
+fn any_answer(alloc: Global, bytes: &[u8]) -> u8 {
+    match network_of_any_file(alloc, bytes) {
+        Ok(_) => 0,
+        Err(refused) => Refusal::from(refused).number(),
+    }
+}
+
+/// Asserts what is answered to a text, which says no file of format `tw-2`.
 fn assert_answer(rt: &impl Abort, alloc: Global, text: &str, number: u8) {
     assert!(rt; answer(alloc, text.as_bytes()) == number, "at {text}");
+    assert!(rt; any_answer(alloc, text.as_bytes()) == number, "at {text}");
 }
 
 /// Asserts what is answered to a file of these items.
@@ -344,6 +353,13 @@ fn assert_nested(rt: &impl Abort, alloc: Global, depth: usize, number: u8) {
 fn arrays_in_arrays(rt: HostRuntime) {
     assert_nested(&rt, rt.alloc(), 127, 21);
     assert_nested(&rt, rt.alloc(), 128, 20);
+}
+
+#[test]
+fn a_tree_is_another_shape_for_the_flat_format(rt: HostRuntime) {
+    let text = r#"{"format":"tw-2","micro_limit":1,"components":[],"couplings":[],"inputs":[]}"#;
+    assert!(rt; answer(rt.alloc(), text.as_bytes()) == 21);
+    assert!(rt; any_answer(rt.alloc(), text.as_bytes()) == 0);
 }
 
 #[test]

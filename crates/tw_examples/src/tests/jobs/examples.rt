@@ -23,7 +23,7 @@ pub(crate) fn runs() -> &'static [Example] {
     &RUNS
 }
 
-static RUNS: [Example; 2] = [
+static RUNS: [Example; 4] = [
     Example {
         name: "gen-tally",
         until: 5,
@@ -53,10 +53,42 @@ static RUNS: [Example; 2] = [
 fault: microstep limit: b at 3.3\n",
         exit: Exit::Fault,
     },
+    Example {
+        name: "nested",
+        until: 3,
+        file: r#"{"format": "tw-2", "micro_limit": 100, "components": [{"name": "g", "model": "gen", "period": 2, "value": 5},
+{"name": "X", "components": [{"name": "r", "model": "relay", "delay": 0}, {"name": "t", "model": "tally"}],
+"couplings": [["", 3, "r", 0], ["r", 0, "t", 0], ["r", 0, "", 1]]}, {"name": "u", "model": "tally"}],
+"couplings": [["g", 0, "X", 3], ["X", 1, "u", 0]], "inputs": []}"#,
+        text: "2.0 g out 0=5\n\
+2.0 g int | 1\n\
+2.0 X.r ext 0=5 | 0 5\n\
+2.1 X.r out 0=5\n\
+2.1 X.r int | 0\n\
+2.1 X.t ext 0=5 | 1 5 5\n\
+2.1 u ext 0=5 | 1 5 5\n",
+        exit: Exit::Done,
+    },
+    Example {
+        name: "nested-two-paths",
+        until: 3,
+        file: r#"{"format": "tw-2", "micro_limit": 100, "components": [{"name": "g", "model": "gen", "period": 2, "value": 5},
+{"name": "X", "components": [{"name": "r", "model": "relay", "delay": 0}, {"name": "t", "model": "tally"}],
+"couplings": [["", 3, "r", 0], ["r", 0, "t", 0], ["r", 0, "", 1], ["r", 0, "", 2]]}, {"name": "u", "model": "tally"}],
+"couplings": [["g", 0, "X", 3], ["X", 1, "u", 0], ["X", 2, "u", 0]], "inputs": []}"#,
+        text: "2.0 g out 0=5\n\
+2.0 g int | 1\n\
+2.0 X.r ext 0=5 | 0 5\n\
+2.1 X.r out 0=5\n\
+2.1 X.r int | 0\n\
+2.1 X.t ext 0=5 | 1 5 5\n\
+2.1 u ext 0=5 | 1 5 5\n",
+        exit: Exit::Done,
+    },
 ];
 
 /// A file and an end tick that are refused: nothing is written.
-pub(crate) static REFUSED: [Example; 2] = [
+pub(crate) static REFUSED: [Example; 6] = [
     Example {
         name: "file-cut-short",
         until: 5,
@@ -70,5 +102,45 @@ pub(crate) static REFUSED: [Example; 2] = [
         file: GEN_TALLY,
         text: "",
         exit: Exit::Bad(Refusal::BadTick),
+    },
+    Example {
+        name: "a part coupled to itself",
+        until: 3,
+        file: r#"{"format": "tw-2", "micro_limit": 100, "components": [{"name": "g", "model": "gen", "period": 2, "value": 5},
+{"name": "X", "components": [{"name": "r", "model": "relay", "delay": 0}, {"name": "t", "model": "tally"}],
+"couplings": [["", 3, "r", 0], ["r", 0, "t", 0], ["r", 0, "", 1]]}, {"name": "u", "model": "tally"}],
+"couplings": [["g", 0, "X", 3], ["X", 1, "u", 0], ["X", 1, "X", 3]], "inputs": []}"#,
+        text: "",
+        exit: Exit::Bad(Refusal::SelfCoupling),
+    },
+    Example {
+        name: "a model coupled to itself",
+        until: 3,
+        file: r#"{"format": "tw-2", "micro_limit": 100, "components": [{"name": "g", "model": "gen", "period": 2, "value": 5},
+{"name": "X", "components": [{"name": "r", "model": "relay", "delay": 0}, {"name": "t", "model": "tally"}],
+"couplings": [["", 3, "r", 0], ["r", 0, "t", 0], ["r", 0, "", 1], ["", 3, "", 1]]}, {"name": "u", "model": "tally"}],
+"couplings": [["g", 0, "X", 3], ["X", 1, "u", 0]], "inputs": []}"#,
+        text: "",
+        exit: Exit::Bad(Refusal::SelfCoupling),
+    },
+    Example {
+        name: "a port of the root",
+        until: 3,
+        file: r#"{"format": "tw-2", "micro_limit": 100, "components": [{"name": "g", "model": "gen", "period": 2, "value": 5},
+{"name": "X", "components": [{"name": "r", "model": "relay", "delay": 0}, {"name": "t", "model": "tally"}],
+"couplings": [["", 3, "r", 0], ["r", 0, "t", 0], ["r", 0, "", 1]]}, {"name": "u", "model": "tally"}],
+"couplings": [["g", 0, "X", 3], ["X", 1, "u", 0], ["", 0, "g", 0]], "inputs": []}"#,
+        text: "",
+        exit: Exit::Bad(Refusal::UnknownComponent),
+    },
+    Example {
+        name: "a part of a part",
+        until: 3,
+        file: r#"{"format": "tw-2", "micro_limit": 100, "components": [{"name": "g", "model": "gen", "period": 2, "value": 5},
+{"name": "X", "components": [{"name": "r", "model": "relay", "delay": 0}, {"name": "t", "model": "tally"}],
+"couplings": [["", 3, "r", 0], ["r", 0, "t", 0], ["r", 0, "", 1]]}, {"name": "u", "model": "tally"}],
+"couplings": [["g", 0, "X", 3], ["X", 1, "u", 0], ["g", 0, "X.r", 0]], "inputs": []}"#,
+        text: "",
+        exit: Exit::Bad(Refusal::UnknownComponent),
     },
 ];

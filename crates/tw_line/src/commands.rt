@@ -19,7 +19,7 @@ fn net<'a>(alloc: Global) -> Arg<'a>
     Arg::new(alloc, "net")
         .required(true)
         .value_name("NET")
-        .help("The network: the path of a JSON file of the format tw-1")
+        .help("The network: the path of a JSON file of the format tw-1 or tw-2")
 }
 
 /// An option that takes a number in a range.

@@ -1,5 +1,6 @@
 pub mod AtomNumbers
 pub mod Counting
+pub mod Formats
 pub mod Loops
 pub mod Making
 pub mod Networks

@@ -24,4 +24,4 @@ mod trees;
 
 pub use file::network_of_file;
 pub use refused::FileRefused;
-pub use trees::network_of_any_file;
+pub use trees::{formats_law, network_of_any_file};

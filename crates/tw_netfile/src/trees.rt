@@ -1,11 +1,14 @@
 //! Network files of either format to the networks that they mean.
 
-ghost use Rattle.std.specs.Prelude.{◌≡◌, ◌≢◌, IfOk, IfErr, length, map};
+ghost use Rattle.std.specs.Prelude.{◌≡◌, ◌≢◌, ℕ, List, Some, Err, IfOk, IfErr, length, map};
 ghost use Rattle.tw_nested.specs.Tree.{parts_of};
 ghost use Rattle.tw_netfile.specs.Draft.{input_view, inputs_view};
 ghost use Rattle.tw_netfile.specs.Numbers.{number_of, numbered_input};
+ghost use Rattle.tw_netfile.specs.Meaning.{meaning_of};
 ghost use Rattle.tw_netfile.specs.TreeDraft.{tree_view};
-ghost use Rattle.tw_netfile.specs.TreeMeaning.{IsFault, IsMeaning, IsNetworkOfTree, IsRefusedTree, IsTreeFileFault, IsTreeMeaning};
+ghost use Rattle.tw_netfile.specs.TreeShape.{TreeFile};
+ghost use Rattle.tw_netfile.specs.declared.refused.FileRefused.TheVariants.{BadShape};
+ghost use Rattle.tw_netfile.specs.TreeMeaning.{IsFault, IsMeaning, IsNetworkOfTree, IsRefusedTree, IsTreeFileFault, IsTreeMeaning, tree_in};
 
 use crate::draft::{InputDraft, TreeDraft};
 use crate::file::{json_of, network_of};
@@ -44,6 +47,11 @@ pub fn network_of_any_file(alloc: Global, bytes: &[u8]) -> Result<Network<Model>
     let draft = draft_of(alloc, &value)?;
     network_of(alloc, &draft)
 }
+
+/// No file is of both formats: for format `tw-1`, one that says a tree has another shape. It does nothing.
+pub fn formats_law()
+    ensures { (bytes : List ℕ) (file : TreeFile) → tree_in bytes ≡ Some file → meaning_of bytes ≡ Err BadShape }
+{}
 
 // The network that a tree means. Without its inputs it is made first: that network finds atoms by name, and it is
 // no larger than a network may be.

@@ -16,10 +16,9 @@ fn net<'a>(alloc: Global) -> Arg<'a>
     ensures rule { rule_of result ≡ net_rule }
     ensures local { result.global ≡ false }
 {
-    Arg::new(alloc, "net")
-        .required(true)
-        .value_name("NET")
-        .help("The network: the path of a JSON file of the format tw-1 or tw-2")
+    Arg::new(alloc, "net").required(true).value_name("NET").help(
+        "The network: the path of a JSON file of the format tw-1 or tw-2",
+    )
 }
 
 /// An option that takes a number in a range.

@@ -1,11 +1,13 @@
 -- Items that come and go, and what of the least stamp is known.
 use Rattle.std.proofs.Common.{◌≡◌, ◌≢◌, ◌⊎◌, ℕ, zero, suc, ◌+◌, ◌-◌, ◌<◌, ◌≤◌, ◌==◌, min, List, [], ◌∷◌, ◌++◌, length, take, drop, Some, refl, sym, ap, ◌∙◌, arith, inl, inr, eq-eqb, subst, drop_of_length-le, drop-drop, rules, if◌then◌else◌}
+use Rattle.std.specs.List.{copy_within}
 use Rattle.std.specs.Prelude.{insert, remove, slice_get, slice_set, IsTrue}
 use Rattle.std.proofs.lemmas.Bool.{cases_eq, ne_eqb}
 use Rattle.std.proofs.lemmas.List.{take_more}
 use Rattle.std.proofs.lemmas.Option.{get_or_from_slice_get, slice_get_within}
 use Rattle.std.proofs.lemmas.List.Sums.{sum_by-cons}
 use Rattle.tw_msgs.specs.declared.message.Item.{Item}
+use Rattle.tw_mail.proofs.Boxes.{take_here}
 use Rattle.tw_mail.specs.Mail.{count_at, IsLeastOf, IsWith}
 use Rattle.tw_theory.specs.Bundles.{least_stamp}
 
@@ -96,5 +98,22 @@ get_behind f k items = go f (f + k) items refl
     go (suc f) zero (x ∷ items) e = absurd (omega (arith, e))
     go (suc f) (suc n) (x ∷ items) e = go f n items (omega (arith, e))
 
-pub first_behind : (f : ℕ) (items : List Item) → remove (drop f items) 0 ≡ drop (f + 1) items
-first_behind f items = drop-drop 1 f items
+drop_taken : (n : ℕ) (xs ys zs : List Item) → n ≤ length xs → drop n (take n xs ++ ys ++ zs) ≡ ys ++ zs
+drop_taken zero xs ys zs le = refl
+drop_taken (suc n) [] ys zs le = absurd (omega (arith, le))
+drop_taken (suc n) (x ∷ xs) ys zs le = drop_taken n xs ys zs (omega (arith, le))
+
+-- the items in front of one move over it
+pub copied_behind : (f k : ℕ) (items : List Item) → f + k < length items → drop (f + 1) (copy_within items f (f + k) (f + 1)) ≡ remove (drop f items) k
+copied_behind f k items near =
+    let count : f + k - f ≡ k = omega arith in
+    let rest : drop (f + 1 + k) items ≡ drop (suc k) (drop f items) = sym (drop-drop (suc k) f items ∙ ap (λ n. drop n items) (omega arith)) in
+    ap (λ n. drop (f + 1) (copy items f n)) count
+    ∙ drop_taken (f + 1) items (take k (drop f items)) (drop (f + 1 + k) items) (omega (arith, near))
+    ∙ ap (λ l. take k (drop f items) ++ l) rest
+  where
+    copy : List Item → ℕ → ℕ → List Item
+    copy items f n = take (f + 1) items ++ take n (drop f items) ++ drop (f + 1 + n) items
+
+pub written_back : (n : ℕ) (new rest : List Item) → n ≡ length new → take n (new ++ rest) ≡ new
+written_back n new rest e = ap (λ k. take k (new ++ rest)) e ∙ take_here new rest

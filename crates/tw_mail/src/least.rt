@@ -9,7 +9,7 @@ use tw_msgs::Item;
 use tw_vtime::Stamp;
 
 // The least stamp of some items, as far as it is known.
-#[derive(Clone, Copy, Debug)]
+#[derive(Drop)]
 pub struct Least {
     pub stamp: Stamp,
     // Of how many items, at least, it is the stamp. Where of none, the least stamp is not known.

@@ -99,7 +99,7 @@ impl Mailbox {
         self.items.pop();
     }
 
-    // Takes an item out; later items close up. The places in front are given up where they are more than the items.
+    // Takes an item out; the items on its shorter side close up. The places in front are given up where they are more than the items.
     pub fn take(&mut self, place: usize) -> Item
         requires { place < length self.old.items }
         ensures item { slice_get self.old.items place ≡ Some result }
@@ -109,15 +109,19 @@ impl Mailbox {
         if self.first > self.items.len() - self.first {
             self.close_up();
         }
-        if place > 0 {
+        if place > (self.items.len() - self.first) / 2 {
             let item = self.items.remove(self.first + place);
             self.least.remove(stamp_of(&item));
             self.least
                 .keep_up(behind(self.items.as_slice(), self.first));
             return item;
         }
-        self.first += 1;
-        let item = self.items[self.first - 1];
+        let item = self.items[self.first + place];
+        let to = self.first + 1;
+        self.items
+            .as_mut_slice()
+            .copy_within(self.first..self.first + place, to);
+        self.first = to;
         self.least.remove(stamp_of(&item));
         self.least
             .keep_up(behind(self.items.as_slice(), self.first));

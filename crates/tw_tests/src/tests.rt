@@ -1,4 +1,5 @@
 mod actions;
+mod board;
 mod drawn;
 mod exchange;
 mod executive;

@@ -67,6 +67,10 @@ IsRun bytes until (Want why) old new =
     (why ≡ refusal.OutOfMemory) × (Keeps old new ⊎ Means bytes (λ n. AppendsBeginning old new (run_text n until)))
 IsRun bytes until NoWrite old new = Unit {0}
 
+-- by workers, who may also want nodes (12) before anything is written
+abbrev pub IsRunByWorkers : List ℕ → ℕ → Exit → Option (List ℕ) → Option (List ℕ) → Type 0
+IsRunByWorkers bytes until exit old new = IsRun bytes until exit old new ⊎ ((exit ≡ Want refusal.Full) × Keeps old new)
+
 -- ---- its parts
 
 -- why a file gave no network

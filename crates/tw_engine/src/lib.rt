@@ -1,6 +1,6 @@
 //! The engine that the program runs, over any reader and writer.
 //!
-//! - [`engine`]: does a job: reads a network file, simulates its network and writes the trace, drives an
+//! - [`engine`]: does a job: reads a network file, simulates its network, alone or by workers, and writes the trace, drives an
 //!   executive of it by hand, or runs the demonstration by the executive. Its contract gives the exact bytes written, and what each way to end
 //!   means.
 //! - [`demo_law`]: what `demo` prints, in its bytes.
@@ -12,6 +12,7 @@ mod exit;
 mod names;
 mod plays;
 mod runs;
+mod workers;
 
 pub use demonstration::demo_law;
 pub use exit::Exit;

@@ -15,8 +15,11 @@ use crate::demonstration::{demo_trace, gen_tally};
 use crate::exit::Exit;
 use crate::names::NetworkNames;
 use crate::plays::{play_by_script, play_by_seed};
+use crate::workers::run_by_workers;
 use std::alloc::{AllocError, Global};
 use std::io::{ErrorKind, Read, Write};
+use std::sync::Wait;
+use std::thread::Threads;
 use tw_line::{Driver, Job};
 use tw_models::Model;
 use tw_netfile::network_of_any_file;
@@ -28,19 +31,21 @@ use tw_vtime::Refusal;
 
 /// Does a job: simulates a network by the sequential abstract simulator and writes its trace, and the
 /// line of its fault if there is one. `demo` runs a network of its own by the executive, with the same
-/// text; it reads nothing. `seq` reads the network's file to its end. `play` drives an executive of the network
+/// text; it reads nothing. `seq` reads the network's file to its end. `run` reads it too, and runs the network by
+/// workers in threads of their own, with the same text, whatever the setting. `play` drives an executive of the network
 /// by hand: by the commands of a script, which it reads to its end, or by actions that a seed gives. It writes
 /// the answer to each as it comes, and then the trace up to the least commit line.
 ///
-/// Of `demo` and `seq` nothing is written before the outcome of the simulation is known. It ends with
+/// Of `demo`, `seq` and `run` nothing is written before the outcome of the simulation is known. It ends with
 /// - [`Exit::Done`] or [`Exit::Fault`]: the whole text of the sequential run is written;
 /// - [`Exit::Bad`]: a file cannot be read (19), the network's is refused (5 to 11, 17, 18, 20 or 21), the
 ///   script has too many lines (9), or the end tick is above the greatest one (10), and nothing is written;
 /// - [`Exit::BadScript`]: a line of the script says nothing (22), and nothing is written;
-/// - [`Exit::Want`]: a growth of memory was refused (4), and a beginning of the text is written; of `play`'s
+/// - [`Exit::Want`]: of `run`, a process would hold too many nodes (12), and nothing is written; or a growth of memory was refused (4), and a beginning of the text is written; of `play`'s
 ///   answers also the line `refused 4 OutOfMemory` after them;
 /// - [`Exit::NoWrite`]: the writer failed, and only it knows what it took.
-pub fn engine<N: Read, S: Read, W: Write>(
+pub fn engine<R: Threads + Wait + Sync, N: Read, S: Read, W: Write>(
+    rt: &R,
     alloc: Global,
     job: &Job<'_>,
     net: &mut N,
@@ -53,6 +58,23 @@ pub fn engine<N: Read, S: Read, W: Write>(
         Job::Demo => demo(alloc, out),
         Job::Seq { until, .. } => match read_all(alloc, net) {
             Ok(bytes) => run(alloc, bytes.as_slice(), *until, out),
+            Err(exit) => exit,
+        },
+        Job::Run {
+            until,
+            cancel,
+            setting,
+            ..
+        } => match read_all(alloc, net) {
+            Ok(bytes) => run_by_workers(
+                rt,
+                alloc,
+                bytes.as_slice(),
+                *until,
+                *cancel,
+                *setting,
+                out,
+            ),
             Err(exit) => exit,
         },
         Job::Play {
@@ -183,7 +205,12 @@ fn last_line(alloc: Global, names: &NetworkNames<'_>, seq: &Seq) -> Result<Strin
 }
 
 // Writes the trace of a run and the line of its fault.
-fn write_run<W: Write>(alloc: Global, network: &Network<Model>, seq: &Seq, out: &mut W) -> Exit
+pub(crate) fn write_run<W: Write>(
+    alloc: Global,
+    network: &Network<Model>,
+    seq: &Seq,
+    out: &mut W,
+) -> Exit
     ensures { IsShown network.now seq.now.records.items seq.now.fault result (W.contents out.old) (W.contents out.new) }
 {
     let names = NetworkNames { network };

@@ -19,3 +19,5 @@ pub mod Starts
 pub mod Overdue
 pub mod Comparing
 pub mod LeastLines
+-- an executive may go to another thread
+pub mod Sent

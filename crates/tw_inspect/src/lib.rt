@@ -9,6 +9,9 @@
 //!
 //! They read an executive and change nothing of it. Each is refused for want of memory alone (4). The
 //! texts of stamps, times, words and messages are those of tw_texts.
+//!
+//! What can be seen of a run while it goes on is the [`Board`], of the crate tw_board: a [`Publisher`] posts to
+//! it, and each [`Reader`] looks.
 #![tactic(auto)]
 
 mod components;
@@ -18,3 +21,4 @@ pub mod reports;
 
 pub use replies::{Reply, push_reply, replies_law};
 pub use reports::{components_law, describe, report};
+pub use tw_board::{Board, Publisher, Reader};

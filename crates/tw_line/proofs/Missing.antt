@@ -3,11 +3,12 @@ use Rattle.std.proofs.Common.{◌≡◌, ◌∙◌, ℕ, List, ap, arith, codes,
 use Rattle.std.specs.Prelude.{Some, None}
 use Rattle.clap.specs.Words.{Row, Text, first_of}
 use Rattle.tw_lists.specs.declared.cancel.Cancel.{Cancel}
-use Rattle.tw_line.specs.Lines.{HasNumber, IsCancelIn, IsDriverIn, IsJobOf}
+use Rattle.tw_line.specs.Lines.{HasNumber, IsCancelIn, IsDriverIn, IsJobOf, IsSettingIn}
 use Rattle.tw_line.specs.declared.jobs.Driver.{Driver}
 use Rattle.tw_line.specs.declared.jobs.Driver.TheVariants.{Script, Seed}
 use Rattle.tw_line.specs.declared.jobs.Job.{Job}
-use Rattle.tw_line.specs.declared.jobs.Job.TheVariants.{Demo, Seq, Play}
+use Rattle.tw_line.specs.declared.jobs.Job.TheVariants.{Demo, Seq, Run, Play}
+use Rattle.tw_line.specs.declared.jobs.Setting.{Setting}
 
 -- with no script there are both a seed and a number of steps
 pub no_seeded : (rows : List Row) → first_of (codes "script") rows ≡ None
@@ -21,7 +22,17 @@ pub no_seq : (rows : List Row)
     → (j : Job) → ¬ (IsJobOf (codes "seq") rows j)
 no_seq rows missing Demo is = let bad : codes "seq" ≡ codes "demo" = is in cc
 no_seq rows missing (Seq net until) is = missing net.now until is.1 is.2
+no_seq rows missing (Run net until cancel setting) is = let bad : 115 ≡ 114 = ap (λ t. slice_index t 0) is.0 in absurd (omega (arith, bad))
 no_seq rows missing (Play net until cancel driver) is = let bad : codes "seq" ≡ codes "play" = is.0 in cc
+
+pub no_run : (rows : List Row)
+    → ((net : Text) (n : ℕ) (c : Cancel) (s : Setting) → first_of (codes "net") rows ≡ Some net
+    → HasNumber (codes "until") 0 1099511627774 rows n → IsCancelIn rows c → IsSettingIn rows s → ⊥)
+    → (j : Job) → ¬ (IsJobOf (codes "run") rows j)
+no_run rows missing Demo is = let bad : codes "run" ≡ codes "demo" = is in cc
+no_run rows missing (Seq net until) is = let bad : 114 ≡ 115 = ap (λ t. slice_index t 0) is.0 in absurd (omega (arith, bad))
+no_run rows missing (Run net until cancel setting) is = missing net.now until cancel setting is.1 is.2 is.3 is.4
+no_run rows missing (Play net until cancel driver) is = let bad : codes "run" ≡ codes "play" = is.0 in cc
 
 pub no_play : (rows : List Row)
     → ((net : Text) (n : ℕ) (c : Cancel) (d : Driver) → first_of (codes "net") rows ≡ Some net
@@ -29,4 +40,5 @@ pub no_play : (rows : List Row)
     → (j : Job) → ¬ (IsJobOf (codes "play") rows j)
 no_play rows missing Demo is = let bad : 112 ≡ 100 = ap (λ t. slice_index t 0) is in absurd (omega (arith, bad))
 no_play rows missing (Seq net until) is = let bad : codes "play" ≡ codes "seq" = is.0 in cc
+no_play rows missing (Run net until cancel setting) is = let bad : codes "play" ≡ codes "run" = is.0 in cc
 no_play rows missing (Play net until cancel driver) is = missing net.now until cancel driver is.1 is.2 is.3 is.4

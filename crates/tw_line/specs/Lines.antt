@@ -2,7 +2,7 @@
 --     twarp_app      the command in clap's own words
 --     IsJob sub j      the job of a subcommand and its options
 --     IsReason words e      why there is no job
-use Rattle.std.specs.Prelude.{◌≡◌, ◌≢◌, ◌≤◌, ◌⊎◌, [], ℕ, List, Option, Some, None, codes, true}
+use Rattle.std.specs.Prelude.{◌≡◌, ◌≢◌, ◌≤◌, ◌⊎◌, [], ◌∷◌, ℕ, List, Option, Some, None, codes, true}
 use Rattle.std.specs.Str.Parse.{IsNumeral, digits_value, without_leading_plus}
 use Rattle.clap.specs.Words.{App, IsAmong, Kinds, Row, Rule, Text, fault_of, first_of, kind_of, new_app, new_rule, one_of, subcommand_of, with_rule, with_subcommand}
 use Rattle.clap.specs.declared.builder.value_parser.ValueParser.TheVariants.{Unsigned}
@@ -15,9 +15,10 @@ use Rattle.tw_lists.specs.declared.cancel.Cancel.TheVariants.{Aggressive, Lazy}
 use Rattle.tw_line.specs.declared.jobs.Driver.{Driver}
 use Rattle.tw_line.specs.declared.jobs.Driver.TheVariants.{Script, Seed}
 use Rattle.tw_line.specs.declared.jobs.Job.{Job}
-use Rattle.tw_line.specs.declared.jobs.Job.TheVariants.{Demo, Seq, Play}
+use Rattle.tw_line.specs.declared.jobs.Job.TheVariants.{Demo, Seq, Run, Play}
 use Rattle.tw_line.specs.declared.jobs.NoJob.{NoJob}
 use Rattle.tw_line.specs.declared.jobs.NoJob.TheVariants.{Help, BadLine, OutOfMemory}
+use Rattle.tw_line.specs.declared.jobs.Setting.{Setting}
 
 -- ---- the command
 
@@ -28,6 +29,10 @@ net_rule = record (new_rule (codes "net")) { required = true; value_names = 1 }
 -- an option that takes a number in a range
 abbrev pub number_rule : Text → ℕ → ℕ → Rule
 number_rule id least most = record (new_rule id) { long = Some id; parser = Some (Unsigned least most); value_names = 1 }
+
+-- a number in a range that stands there as this text where the option is left out
+abbrev pub preset_rule : Text → ℕ → ℕ → Text → Rule
+preset_rule id least most left_out = record (number_rule id least most) { defaults = left_out ∷ [] }
 
 -- an option that takes a text
 abbrev pub text_rule : Text → Rule
@@ -46,6 +51,16 @@ network_app name = with_rule (with_rule (new_app name) net_rule) until_rule
 abbrev pub seq_app : App
 seq_app = network_app (codes "seq")
 
+-- `run` and what its workers are set to: 2 workers, bursts of 16 steps and a window of 1000 ticks where it is left out
+abbrev pub set_app : App
+set_app = with_rule (with_rule (with_rule (network_app (codes "run"))
+    (preset_rule (codes "workers") 1 64 (codes "2")))
+    (preset_rule (codes "burst") 1 256 (codes "16")))
+    (preset_rule (codes "window") 0 1099511627774 (codes "1000"))
+
+abbrev pub run_app : App
+run_app = with_rule set_app (text_rule (codes "cancel"))
+
 -- `play` and what may drive it; any number of 64 bits is a seed
 abbrev pub driven_app : App
 driven_app = with_rule (with_rule (with_rule (network_app (codes "play"))
@@ -60,8 +75,12 @@ play_app = with_rule driven_app (text_rule (codes "cancel"))
 abbrev pub bare_app : App
 bare_app = record { top = record (new_app (codes "twarp")).top { subcommand_required = true }; subs = [] }
 
+-- with the subcommands that have no executive
+abbrev pub first_app : App
+first_app = with_subcommand (with_subcommand bare_app demo_app.top) seq_app.top
+
 abbrev pub twarp_app : App
-twarp_app = with_subcommand (with_subcommand (with_subcommand bare_app demo_app.top) seq_app.top) play_app.top
+twarp_app = with_subcommand (with_subcommand first_app run_app.top) play_app.top
 
 -- ---- the job
 
@@ -75,6 +94,13 @@ HasNumber id least most rows n =
 abbrev pub IsCancelIn : List Row → Cancel → Type 0
 IsCancelIn rows Aggressive = (first_of (codes "cancel") rows ≡ None) ⊎ (first_of (codes "cancel") rows ≡ Some (codes "aggressive"))
 IsCancelIn rows Lazy = first_of (codes "cancel") rows ≡ Some (codes "lazy")
+
+-- what the workers are set to, each number in its range
+abbrev pub IsSettingIn : List Row → Setting → Type 0
+IsSettingIn rows s =
+    HasNumber (codes "workers") 1 64 rows s.workers
+    × HasNumber (codes "burst") 1 256 rows s.burst
+    × HasNumber (codes "window") 0 1099511627774 rows s.window
 
 -- what drives it: a script alone, or a seed and a number of steps with no script
 abbrev pub IsDriverIn : List Row → Driver → Type 0
@@ -91,6 +117,9 @@ IsJobOf name rows Demo = name ≡ codes "demo"
 IsJobOf name rows (Seq net until) =
     (name ≡ codes "seq") × (first_of (codes "net") rows ≡ Some net.now)
     × HasNumber (codes "until") 0 1099511627774 rows until
+IsJobOf name rows (Run net until cancel setting) =
+    (name ≡ codes "run") × (first_of (codes "net") rows ≡ Some net.now)
+    × HasNumber (codes "until") 0 1099511627774 rows until × IsCancelIn rows cancel × IsSettingIn rows setting
 IsJobOf name rows (Play net until cancel driver) =
     (name ≡ codes "play") × (first_of (codes "net") rows ≡ Some net.now)
     × HasNumber (codes "until") 0 1099511627774 rows until × IsCancelIn rows cancel × IsDriverIn rows driver

@@ -2,10 +2,10 @@
 
 ghost use Rattle.std.specs.Prelude.{◌≡◌, [], codes, IfOk, IfErr, IfSome, IfNone, is_some, map, option_map, string_bytes};
 ghost use Rattle.clap.specs.Words.{rows_of, found_of, first_of, fault_of, kind_of, subcommand_of, subcommand_rows_of};
-ghost use Rattle.tw_line.specs.Lines.{twarp_app, IsCancelIn, IsDriverIn, IsJob, IsJobOf, HasNumber, IsReason, IsMadeOf};
+ghost use Rattle.tw_line.specs.Lines.{twarp_app, IsCancelIn, IsDriverIn, IsSettingIn, IsJob, IsJobOf, HasNumber, IsReason, IsMadeOf};
 
 use crate::commands::command;
-use crate::jobs::{Driver, Job, MAX_STEPS, NoJob};
+use crate::jobs::{Driver, Job, MAX_BURST, MAX_STEPS, MAX_WORKERS, NoJob, Setting};
 use clap::error::ErrorKind;
 use clap::{ArgMatches, Error};
 use std::alloc::Global;
@@ -55,6 +55,21 @@ fn cancel_in(options: &ArgMatches<'_>) -> Option<Cancel>
     None
 }
 
+/// What the workers are set to, among the options. Clap puts in what is left out.
+fn setting_in(options: &ArgMatches<'_>) -> Option<Setting>
+    ensures some { IfSome result (IsSettingIn (rows_of (found_of options.now))) }
+    ensures none { IfNone result ((s : _) → ¬ (IsSettingIn (rows_of (found_of options.now)) s)) }
+{
+    let workers = number_in(options, "workers", 1, MAX_WORKERS)?;
+    let burst = number_in(options, "burst", 1, MAX_BURST)?;
+    let window = number_in(options, "window", 0, MAX_TICK)?;
+    Some(Setting {
+        workers,
+        burst,
+        window,
+    })
+}
+
 /// What drives an executive, among the options.
 fn driver_in<'a>(options: &ArgMatches<'a>) -> Option<Driver<'a>>
     ensures some { IfSome result (IsDriverIn (rows_of (found_of options.now))) }
@@ -79,6 +94,23 @@ fn seq_in<'a>(options: &ArgMatches<'a>) -> Option<Job<'a>>
     let net = text_in(options, "net")?;
     let until = number_in(options, "until", 0, MAX_TICK)?;
     Some(Job::Seq { net, until })
+}
+
+/// The job of `run` and its options.
+fn run_in<'a>(options: &ArgMatches<'a>) -> Option<Job<'a>>
+    ensures some { IfSome result (IsJobOf (codes "run") (rows_of (found_of options.now))) }
+    ensures none { IfNone result ((j : _) → ¬ (IsJobOf (codes "run") (rows_of (found_of options.now)) j)) }
+{
+    let net = text_in(options, "net")?;
+    let until = number_in(options, "until", 0, MAX_TICK)?;
+    let cancel = cancel_in(options)?;
+    let setting = setting_in(options)?;
+    Some(Job::Run {
+        net,
+        until,
+        cancel,
+        setting,
+    })
 }
 
 /// The job of `play` and its options.
@@ -109,6 +141,9 @@ fn job_named<'a>(name: &str, options: &ArgMatches<'a>) -> Option<Job<'a>>
     if name == "seq" {
         return seq_in(options);
     }
+    if name == "run" {
+        return run_in(options);
+    }
     if name == "play" {
         return play_in(options);
     }
@@ -137,11 +172,13 @@ fn no_job(error: Error) -> NoJob
 
 /// The job that a command line asks for. The first word is the program's name.
 ///
-/// The jobs are `demo`, `seq NET --until T`, and `play NET --until T` with what drives it, either `--script FILE`
-/// alone or both `--seed S` and `--steps N`, and with `--cancel aggressive` (also where it is left out) or
-/// `--cancel lazy`. T is a number of ticks, 0 to 1,099,511,627,774, S any u64, N at most 1,000,000; numbers are
-/// those that clap's reader of a u64 takes, `+5` and `007` among them. Every other line is refused by
-/// [`NoJob::BadLine`] (23), also one with no subcommand, one with two drivers and one with half of one. Where `--help`, `-h` or `help` is met first,
+/// The jobs are `demo`; `seq NET --until T`; `run NET --until T` with `--workers N` (1 to 64), `--burst K` (1 to
+/// 256 steps) and `--window W` (0 to 1,099,511,627,774 ticks), which are 2, 16 and 1000 where they are left out; and
+/// `play NET --until T` with what drives it, either `--script FILE` alone or both `--seed S` and `--steps N`. `run`
+/// and `play` take `--cancel aggressive` (also where it is left out) or `--cancel lazy`. T is a number of ticks, 0
+/// to 1,099,511,627,774, S any u64, N of `--steps` at most 1,000,000; numbers are those that clap's reader of a u64
+/// takes, `+5` and `007` among them. Every other line is refused by [`NoJob::BadLine`] (23), also one with no
+/// subcommand, one with two drivers and one with half of one. Where `--help`, `-h` or `help` is met first,
 /// [`NoJob::Help`] has clap's text; where memory is wanting, it is [`NoJob::OutOfMemory`] (4).
 ///
 /// In the contract, `twarp_app` is the command in clap's own words, `subcommand_of` the subcommand that

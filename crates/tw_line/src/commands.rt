@@ -3,9 +3,9 @@
 ghost use Rattle.std.specs.Prelude.{◌≡◌, IfOk, codes, false};
 ghost use Rattle.clap.specs.Words.{app_of, rule_of};
 ghost use Rattle.clap.specs.declared.builder.command.Command.TheViews.{out-Command};
-ghost use Rattle.tw_line.specs.Lines.{net_rule, number_rule, text_rule, until_rule, demo_app, driven_app, network_app, play_app, seq_app, twarp_app};
+ghost use Rattle.tw_line.specs.Lines.{net_rule, number_rule, text_rule, until_rule, demo_app, driven_app, first_app, network_app, play_app, preset_rule, run_app, seq_app, set_app, twarp_app};
 
-use crate::jobs::MAX_STEPS;
+use crate::jobs::{MAX_BURST, MAX_STEPS, MAX_WORKERS};
 use clap::builder::ValueParser;
 use clap::{Arg, Command};
 use std::alloc::{AllocError, Global};
@@ -30,6 +30,21 @@ fn number<'a>(alloc: Global, id: &'a str, value_name: &'a str, least: u64, most:
         .long(id)
         .value_name(value_name)
         .value_parser(ValueParser::unsigned(least, most))
+}
+
+/// A number in a range, which stands there as this text where the option is left out.
+fn preset<'a>(
+    alloc: Global,
+    id: &'a str,
+    value_name: &'a str,
+    least: u64,
+    most: u64,
+    left_out: &'a str,
+) -> Arg<'a>
+    ensures rule { rule_of result ≡ preset_rule id.entry.now least most left_out.entry.now }
+    ensures local { result.global ≡ false }
+{
+    number(alloc, id, value_name, least, most).default_value(left_out)
 }
 
 /// An option that takes a text.
@@ -82,6 +97,55 @@ fn seq_command<'a>(alloc: Global) -> Result<Command<'a>, AllocError>
         "seq",
         "Simulate a network one step after another and write its trace",
     )
+}
+
+fn workers<'a>(alloc: Global) -> Arg<'a>
+    ensures rule { rule_of result ≡ preset_rule (codes "workers") 1 64 (codes "2") }
+    ensures local { result.global ≡ false }
+{
+    preset(alloc, "workers", "N", 1, MAX_WORKERS, "2").help(
+        "How many threads work, 1 to 64; the trace is the same for all of them",
+    )
+}
+
+fn burst<'a>(alloc: Global) -> Arg<'a>
+    ensures rule { rule_of result ≡ preset_rule (codes "burst") 1 256 (codes "16") }
+    ensures local { result.global ≡ false }
+{
+    preset(alloc, "burst", "K", 1, MAX_BURST, "16").help(
+        "The most steps of one component that a worker computes at a time, 1 to 256",
+    )
+}
+
+fn window<'a>(alloc: Global) -> Arg<'a>
+    ensures rule { rule_of result ≡ preset_rule (codes "window") 0 1099511627774 (codes "1000") }
+    ensures local { result.global ≡ false }
+{
+    preset(alloc, "window", "W", 0, MAX_TICK, "1000").help(
+        "How many ticks after gvt a component may still make a step, 0 to 1099511627774",
+    )
+}
+
+/// `run` with what its workers are set to.
+fn set_command<'a>(alloc: Global) -> Result<Command<'a>, AllocError>
+    ensures app { IfOk result (λ c. app_of c ≡ set_app) }
+    ensures local { IfOk result (λ c. (out-Command c).has_globals ≡ false) }
+{
+    network_command(
+        alloc,
+        "run",
+        "Simulate a network by Time Warp, with workers in threads, and write its trace",
+    )?
+    .arg(workers(alloc))?
+    .arg(burst(alloc))?
+    .arg(window(alloc))
+}
+
+fn run_command<'a>(alloc: Global) -> Result<Command<'a>, AllocError>
+    ensures app { IfOk result (λ c. app_of c ≡ run_app) }
+    ensures local { IfOk result (λ c. (out-Command c).has_globals ≡ false) }
+{
+    set_command(alloc)?.arg(cancel(alloc))
 }
 
 fn script<'a>(alloc: Global) -> Arg<'a>
@@ -142,17 +206,27 @@ fn play_command<'a>(alloc: Global) -> Result<Command<'a>, AllocError>
     driven_command(alloc)?.arg(cancel(alloc))
 }
 
-/// The whole command.
-pub(crate) fn command<'a>(alloc: Global) -> Result<Command<'a>, AllocError>
-    ensures app { IfOk result (λ c. app_of c ≡ twarp_app) }
+/// The program with the subcommands that have no executive.
+fn first_commands<'a>(alloc: Global) -> Result<Command<'a>, AllocError>
+    ensures app { IfOk result (λ c. app_of c ≡ first_app) }
+    ensures local { IfOk result (λ c. (out-Command c).has_globals ≡ false) }
 {
     let demo = demo_command(alloc);
     let seq = seq_command(alloc)?;
-    let play = play_command(alloc)?;
     let first = Command::new(alloc, "twarp")
         .about("Simulate networks of Parallel DEVS models")
         .subcommand_required(true)
         .subcommand(demo)?;
-    let second = first.subcommand(seq)?;
+    first.subcommand(seq)
+}
+
+/// The whole command.
+pub(crate) fn command<'a>(alloc: Global) -> Result<Command<'a>, AllocError>
+    ensures app { IfOk result (λ c. app_of c ≡ twarp_app) }
+{
+    let run = run_command(alloc)?;
+    let play = play_command(alloc)?;
+    let first = first_commands(alloc)?;
+    let second = first.subcommand(run)?;
     second.subcommand(play)
 }

@@ -11,6 +11,12 @@ use tw_vtime::Refusal;
 /// The most actions that a seed may be asked for.
 pub(crate) const MAX_STEPS: u64 = 1_000_000;
 
+/// The most workers that a run may be asked for.
+pub(crate) const MAX_WORKERS: u64 = 64;
+
+/// The longest burst that a run may be asked for, in steps.
+pub(crate) const MAX_BURST: u64 = 256;
+
 /// What the program is asked to do.
 #[derive(Debug, Drop)]
 pub enum Job<'a> {
@@ -22,6 +28,17 @@ pub enum Job<'a> {
         net: &'a str,
         /// The end tick, 0 to 1,099,511,627,774: only steps before it are made.
         until: u64,
+    },
+    /// Simulate a network by Time Warp, with workers in threads, and write the trace.
+    Run {
+        /// The path of the network file.
+        net: &'a str,
+        /// The end tick, 0 to 1,099,511,627,774: only steps before it are made.
+        until: u64,
+        /// How steps that are taken back are cancelled.
+        cancel: Cancel,
+        /// How many workers there are, and how far they work ahead.
+        setting: Setting,
     },
     /// Drive a network's executive by hand, action by action: write a reply to each, then the trace of what is
     /// committed.
@@ -35,6 +52,17 @@ pub enum Job<'a> {
         /// What drives it.
         driver: Driver<'a>,
     },
+}
+
+/// How many workers a run has, and how far they work ahead. The trace is the same for all of them.
+#[derive(Clone, Copy, Debug, PartialEq, Eq)]
+pub struct Setting {
+    /// How many threads work, 1 to 64.
+    pub workers: u64,
+    /// The most steps of one component that a worker computes at a time, 1 to 256.
+    pub burst: u64,
+    /// How many ticks after gvt a component may still make a step, 0 to 1,099,511,627,774.
+    pub window: u64,
 }
 
 /// What drives an executive by hand.

@@ -11,4 +11,4 @@ mod commands;
 pub mod jobs;
 
 pub use command_line::job;
-pub use jobs::{Driver, Job, NoJob};
+pub use jobs::{Driver, Job, NoJob, Setting};

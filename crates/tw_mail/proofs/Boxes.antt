@@ -34,7 +34,7 @@ pub replicate_more : {X : Type 0} (n : ℕ) (x : X) → replicate n x ++ x ∷ [
 replicate_more zero x = refl
 replicate_more (suc n) x = ap (λ l. x ∷ l) (replicate_more n x)
 
-take_here : {X : Type 0} (xs ys : List X) → take (length xs) (xs ++ ys) ≡ xs
+pub take_here : {X : Type 0} (xs ys : List X) → take (length xs) (xs ++ ys) ≡ xs
 take_here [] ys = refl
 take_here (x ∷ xs) ys = ap (λ l. x ∷ l) (take_here xs ys)
 

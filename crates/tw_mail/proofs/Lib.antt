@@ -1,3 +1,4 @@
 pub mod Boxes
+pub mod Changes
 pub mod Fronts
 pub mod Leasts

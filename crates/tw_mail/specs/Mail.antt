@@ -1,6 +1,7 @@
 -- What contracts see of mailboxes.
-use Rattle.std.specs.Prelude.{ℕ, ⊤, ◌+◌, ◌<◌, ◌≤◌, List, [], length, slice_index_or, Option, None, Some}
+use Rattle.std.specs.Prelude.{ℕ, ⊤, ◌≡◌, ◌+◌, ◌<◌, ◌≤◌, ◌==◌, List, [], length, min, slice_index_or, sum_by, Option, None, Some, if◌then◌else◌}
 use Rattle.tw_msgs.specs.declared.message.Item.{Item}
+use Rattle.tw_theory.specs.Bundles.{least_stamp}
 
 pub record Mail : Type 0 where
   -- the items of each mailbox, in order
@@ -33,3 +34,18 @@ nothing = record { items = []; before = 0; behind = 0 }
 abbrev pub HasPlace : List Held → Option (ℕ × ℕ) → Type 0
 HasPlace boxes None = ⊤
 HasPlace boxes (Some t) = (t.0 < length boxes) × (t.1 ≤ length (slice_index_or boxes t.0 nothing).items) × HasRoom (slice_index_or boxes t.0 nothing)
+
+-- ---- the least stamp of a mailbox, as it is kept
+
+-- how many items are of this stamp
+abbrev pub count_at : ℕ → List Item → ℕ
+count_at s items = sum_by (λ i. if i.message.stamp == s then 1 else 0) items
+
+-- if n is not 0, s is the least stamp of the items, and at least n have it
+abbrev pub IsLeastOf : ℕ → ℕ → List Item → Type 0
+IsLeastOf s n items = 0 < n → (s ≡ least_stamp items) × (n ≤ count_at s items)
+
+-- the second list has an item of stamp s more than the first
+pub record IsWith (s : ℕ) (items more : List Item) : Type 0 where
+  pub least : least_stamp more ≡ min s (least_stamp items)
+  pub count : (t : ℕ) → count_at t more ≡ count_at t items + (if s == t then 1 else 0)

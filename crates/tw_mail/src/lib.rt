@@ -7,6 +7,7 @@
 //! Only `new` and `post` take memory, and only they can be refused (4).
 #![tactic(auto)]
 
+mod least;
 mod mailbox;
 mod mailboxes;
 

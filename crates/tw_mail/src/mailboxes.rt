@@ -26,7 +26,6 @@ ghost use Rattle.std.specs.Prelude.{
 };
 ghost use Rattle.std.specs.List.{AllByRecursion as Each};
 ghost use Rattle.tw_mail.specs.Mail.{mail, mail_after};
-ghost use Rattle.tw_theory.specs.Bundles.{least_stamp};
 ghost use Rattle.tw_theory.specs.Executive.{mail_of, posted, least_mail};
 
 use crate::mailbox::Mailbox;
@@ -133,13 +132,14 @@ impl Mailboxes {
     }
 
     /// The least stamp of all items, or the end.
+    ///
+    /// Each mailbox keeps its own, mostly; one that has lost its least item is looked through, until it has changed as often as it has items.
     pub fn least(&self) -> Stamp
         ensures { result ≡ least_mail self.now.boxes }
     {
-        self.boxes.iter().fold(
-            Stamp::END,
-            |least, one| least.min(least_stamp(one.as_slice())),
-        )
+        self.boxes
+            .iter()
+            .fold(Stamp::END, |least, one| least.min(one.least()))
     }
 
     // One item goes to the end of its receiver's mailbox.
@@ -161,13 +161,4 @@ impl Mailboxes {
     {
         self.boxes[to].pop();
     }
-}
-
-// The least stamp of the items, or the end.
-fn least_stamp(items: &[Item]) -> Stamp
-    ensures { result ≡ least_stamp items.now }
-{
-    items
-        .iter()
-        .fold(Stamp::END, |least, item| least.min(item.message.stamp))
 }

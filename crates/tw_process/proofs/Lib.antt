@@ -10,3 +10,5 @@ pub mod ChainSteps
 pub mod Installs
 pub mod Installations
 pub mod Finishing
+-- a process may go to another thread
+pub mod Sent

@@ -1,4 +1,5 @@
 mod actions;
+mod board;
 mod drawn;
 mod exchange;
 mod executive;
@@ -18,6 +19,7 @@ mod networks;
 mod pool;
 mod process;
 mod rollback;
+mod runs;
 mod scripts;
 mod sequential;
 mod stamps;

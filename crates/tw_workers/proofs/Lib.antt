@@ -14,3 +14,9 @@ pub mod PassByPass
 pub mod Trying
 -- how a run stands, looked at component by component
 pub mod Standing
+-- an order that was given out
+pub mod Due
+-- where a run has ended, its trace is the simulator's
+pub mod Ended
+-- what workers share may go from one of them to another
+pub mod Sent

@@ -3,3 +3,4 @@ pub mod Agenda
 pub mod Exchanged
 pub mod Sweeping
 pub mod States
+pub mod Ends

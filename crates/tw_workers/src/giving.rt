@@ -1,6 +1,6 @@
 //! Components given out, and handed in.
 
-ghost use Rattle.std.specs.Prelude.{◌≡◌, ◌↔◌, ◌≤◌, true, false, IfOk, IfSome, IsErr, None, OnErr, OnOk, Some, length, slice_get, slice_set};
+ghost use Rattle.std.specs.Prelude.{◌≡◌, ◌↔◌, ◌<◌, ◌≤◌, true, false, IfOk, IfSome, IsErr, None, OnErr, OnOk, Some, length, slice_get, slice_set};
 ghost use Rattle.tw_exec.specs.Chains.{IsInstalledOn};
 ghost use Rattle.tw_theory.specs.Exchange.{bound_of};
 ghost use Rattle.tw_theory.specs.Standing.{IsReady};
@@ -25,6 +25,7 @@ impl<M: Atomic> Exchange<M> {
     /// beside the copies in the order.
     pub fn draw(&mut self, burst: usize, window: u64) -> Result<Option<Order<M>>, AllocError>
         ensures drawn { IfOk result (λ drawn. IfSome drawn (IsOrder window burst self.old)) }
+        ensures known { IfOk result (λ drawn. IfSome drawn (λ order. order.component < length self.old.executive.network.models)) }
         ensures ready { IfOk result (λ drawn. IfSome drawn (λ order. (m : M) → slice_get self.old.executive.network.models order.component ≡ Some m
             → IsReady (M.valid m) (M.meaning m) order.component order.now order.messages)) }
         ensures limit { IfOk result (λ drawn. IfSome drawn (λ order. order.micro_limit ≤ max_microstep)) }

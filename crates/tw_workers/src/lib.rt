@@ -18,17 +18,22 @@
 #![tactic(auto)]
 
 mod agenda;
+mod desk;
 pub mod exchange;
 mod gate;
 mod giving;
 mod keeping;
 pub mod orders;
+pub mod outcome;
 mod refused;
+mod running;
 pub mod states;
 mod sweeping;
 
 pub use exchange::Exchange;
 pub use gate::{Gate, Open};
 pub use orders::{Order, Prepareds, compute};
+pub use outcome::{Outcome, RunFault, Setting};
 pub use refused::{NoSuch, SweepRefused};
+pub use running::run;
 pub use states::State;

@@ -67,7 +67,7 @@ fn find_state<M: Atomic>(executive: &mut Executive<M>) -> Result<State, AllocErr
 }
 
 // Whether every commit line is at a stamp or after it.
-fn all_past<M: Atomic>(executive: &Executive<M>, end: Stamp) -> bool
+pub(crate) fn all_past<M: Atomic>(executive: &Executive<M>, end: Stamp) -> bool
     ensures { result ≡ all_past end executive.now.world.processes }
 {
     executive.facts();

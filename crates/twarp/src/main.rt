@@ -10,13 +10,15 @@ use crate::source::Source;
 use std::fs::File;
 use std::io::ErrorKind;
 use std::process::ExitCode;
+use std::sync::Wait;
+use std::thread::Threads;
 use std::{env, io};
 use tw_engine::{Exit, engine};
 use tw_line::{Driver, Job, NoJob, job};
 use tw_vtime::Refusal;
 
 // The status of the process. An error is one of standard output, which could not take the text of the help.
-fn run(rt: &HostRuntime) -> io::Result<u8> {
+fn run<T: Threads + Wait + Sync>(rt: &HostRuntime, threads: &T) -> io::Result<u8> {
     let given = match env::args(rt) {
         Ok(given) => given,
         Err(error) => return Ok(finish(rt, exit_of(&error))),
@@ -25,7 +27,7 @@ fn run(rt: &HostRuntime) -> io::Result<u8> {
         return Ok(finish(rt, Exit::Want(Refusal::OutOfMemory)));
     };
     match job(rt.alloc(), words.as_slice()) {
-        Ok(job) => Ok(finish(rt, do_job(rt, &job))),
+        Ok(job) => Ok(finish(rt, do_job(rt, threads, &job))),
         Err(NoJob::Help(text)) => {
             text.print(rt)?;
             Ok(0)
@@ -44,11 +46,13 @@ fn exit_of(error: &io::Error) -> Exit {
     }
 }
 
-// Does a job on its files and standard output.
-fn do_job(rt: &HostRuntime, job: &Job<'_>) -> Exit {
+// Does a job on its files and standard output, by these threads where it takes any.
+fn do_job<T: Threads + Wait + Sync>(rt: &HostRuntime, threads: &T, job: &Job<'_>) -> Exit {
     let mut net = match job {
         Job::Demo => Source::Missing(ErrorKind::NotFound),
-        Job::Seq { net, .. } | Job::Play { net, .. } => Source::from(File::open(rt, *net)),
+        Job::Seq { net, .. } | Job::Run { net, .. } | Job::Play { net, .. } => Source::from(
+            File::open(rt, *net),
+        ),
     };
     let mut script = match job {
         Job::Play {
@@ -58,7 +62,7 @@ fn do_job(rt: &HostRuntime, job: &Job<'_>) -> Exit {
         _ => Source::Missing(ErrorKind::NotFound),
     };
     let mut out = io::writer(rt);
-    engine(rt.alloc(), job, &mut net, &mut script, &mut out)
+    engine(threads, rt.alloc(), job, &mut net, &mut script, &mut out)
 }
 
 // Writes the line for standard error, and answers the status. Where standard error is gone, the status
@@ -71,7 +75,7 @@ fn finish(rt: &HostRuntime, exit: Exit) -> u8 {
 }
 
 fn main(rt: HostRuntime) -> ExitCode {
-    match run(&rt) {
+    match run(&rt, &rt) {
         Ok(status) => ExitCode::from(status),
         Err(_) => ExitCode::from(5),
     }

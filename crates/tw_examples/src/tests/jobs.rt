@@ -8,8 +8,11 @@ use crate::tests::jobs::examples::{Example, REFUSED, runs};
 use std::alloc::Global;
 use std::io::Read;
 use std::process::Abort;
+use std::sync::Wait;
+use std::thread::Threads;
 use tw_engine::{Exit, engine};
-use tw_line::Job;
+use tw_line::{Job, Setting};
+use tw_process::Cancel;
 use tw_vtime::Refusal;
 
 /// The lines of a generator of period 2 and value 5 and its tally, until 5.
@@ -40,8 +43,8 @@ fn seq(until: u64) -> Job<'static> {
 }
 
 /// Asserts how a job ends, and the text that it writes.
-fn assert_run<N: Read>(
-    rt: &impl Abort,
+fn assert_run<R: Abort + Threads + Wait + Sync, N: Read>(
+    rt: &R,
     alloc: Global,
     name: &str,
     job: &Job<'_>,
@@ -50,13 +53,13 @@ fn assert_run<N: Read>(
     text: &str,
 ) {
     let mut out: Vec<u8> = Vec::new(alloc);
-    let end = engine(alloc, job, net, &mut "".as_bytes(), &mut out);
+    let end = engine(rt, alloc, job, net, &mut "".as_bytes(), &mut out);
     assert!(rt; end == exit, "{name}");
     assert!(rt; out.as_slice() == text.as_bytes(), "{name}");
 }
 
 /// Asserts that an example's run ends and writes as it says.
-fn assert_example(rt: &impl Abort, alloc: Global, example: &Example) {
+fn assert_example<R: Abort + Threads + Wait + Sync>(rt: &R, alloc: Global, example: &Example) {
     assert_run(
         rt,
         alloc,
@@ -66,6 +69,55 @@ fn assert_example(rt: &impl Abort, alloc: Global, example: &Example) {
         example.exit,
         example.text,
     );
+}
+
+/// The settings by which each example is run: workers, burst and window.
+static SETTINGS: [(u64, u64, u64); 6] = [
+    (1, 1, 1000),
+    (2, 16, 1000),
+    (2, 1, 0),
+    (4, 256, 1),
+    (64, 16, 0),
+    (64, 1, 1000),
+];
+
+/// Asserts that an example's run by workers ends and writes as the sequential one, for each setting.
+fn assert_by_workers<R: Abort + Threads + Wait + Sync>(
+    rt: &R,
+    alloc: Global,
+    example: &Example,
+    cancel: Cancel,
+) {
+    for (workers, burst, window) in SETTINGS {
+        let job = Job::Run {
+            net: "net.json",
+            until: example.until,
+            cancel,
+            setting: Setting {
+                workers,
+                burst,
+                window,
+            },
+        };
+        let mut net = example.file.as_bytes();
+        assert_run(
+            rt,
+            alloc,
+            example.name,
+            &job,
+            &mut net,
+            example.exit,
+            example.text,
+        );
+    }
+}
+
+#[test]
+fn runs_by_workers_are_written(rt: HostRuntime) {
+    for example in runs() {
+        assert_by_workers(&rt, rt.alloc(), example, Cancel::Aggressive);
+        assert_by_workers(&rt, rt.alloc(), example, Cancel::Lazy);
+    }
 }
 
 #[test]

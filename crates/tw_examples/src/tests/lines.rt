@@ -3,11 +3,11 @@
 use std::alloc::{AllocError, Global};
 use std::process::Abort;
 use std::test::Fail;
-use tw_line::{Driver, Job, NoJob, job};
+use tw_line::{Driver, Job, NoJob, Setting, job};
 use tw_vtime::Refusal;
 
 /// Lines that are taken, and what is answered to each.
-static TAKEN: [(&str, &str); 16] = [
+static TAKEN: [(&str, &str); 25] = [
     ("twarp demo", "demo"),
     ("twarp seq n.json --until 5", "seq of n.json until 5"),
     ("twarp seq n.json --until=5", "seq of n.json until 5"),
@@ -19,6 +19,42 @@ static TAKEN: [(&str, &str); 16] = [
     (
         "twarp seq n.json --until 1099511627774",
         "seq of n.json until 1099511627774",
+    ),
+    (
+        "twarp run n.json --until 5",
+        "run of n.json until 5 by 2 in bursts of 16, 1000 ticks ahead, Aggressive",
+    ),
+    (
+        "twarp run n.json --until 0 --workers 1",
+        "run of n.json until 0 by 1 in bursts of 16, 1000 ticks ahead, Aggressive",
+    ),
+    (
+        "twarp run n.json --until 5 --workers 64",
+        "run of n.json until 5 by 64 in bursts of 16, 1000 ticks ahead, Aggressive",
+    ),
+    (
+        "twarp run n.json --until 5 --burst 1",
+        "run of n.json until 5 by 2 in bursts of 1, 1000 ticks ahead, Aggressive",
+    ),
+    (
+        "twarp run n.json --until 5 --burst 256",
+        "run of n.json until 5 by 2 in bursts of 256, 1000 ticks ahead, Aggressive",
+    ),
+    (
+        "twarp run n.json --until 5 --window 0",
+        "run of n.json until 5 by 2 in bursts of 16, 0 ticks ahead, Aggressive",
+    ),
+    (
+        "twarp run n.json --until 1099511627774 --window 1099511627774 --cancel aggressive",
+        "run of n.json until 1099511627774 by 2 in bursts of 16, 1099511627774 ticks ahead, Aggressive",
+    ),
+    (
+        "twarp run --window=+7 --burst=007 --workers=3 --cancel=lazy --until=5 n.json",
+        "run of n.json until 5 by 3 in bursts of 7, 7 ticks ahead, Lazy",
+    ),
+    (
+        "twarp run --workers 2 --until 5 --cancel lazy -- -n.json",
+        "run of -n.json until 5 by 2 in bursts of 16, 1000 ticks ahead, Lazy",
     ),
     (
         "twarp play n.json --until 5 --script s",
@@ -51,7 +87,7 @@ static TAKEN: [(&str, &str); 16] = [
 ];
 
 /// Lines that are refused.
-static REFUSED: [&str; 47] = [
+static REFUSED: [&str; 67] = [
     "twarp",
     "twarp walk",
     "twarp --version",
@@ -72,9 +108,29 @@ static REFUSED: [&str; 47] = [
     "twarp seq n.json --until 1099511627775",
     "twarp seq n.json --until 18446744073709551616",
     "twarp seq n.json --until 5 --workers 65",
-    "twarp run n.json --until 5",
+    "twarp run",
+    "twarp run n.json",
+    "twarp run --until 5",
+    "twarp run n.json m.json --until 5",
+    "twarp run n.json --until 1099511627775",
     "twarp run n.json --until 5 --workers 65",
     "twarp run n.json --until 5 --workers 0",
+    "twarp run n.json --until 5 --workers -1",
+    "twarp run n.json --until 5 --workers two",
+    "twarp run n.json --until 5 --workers",
+    "twarp run n.json --until 5 --workers=",
+    "twarp run n.json --until 5 --workers 2 --workers 2",
+    "twarp run n.json --until 5 --burst 257",
+    "twarp run n.json --until 5 --burst 0",
+    "twarp run n.json --until 5 --burst 16.0",
+    "twarp run n.json --until 5 --window 1099511627775",
+    "twarp run n.json --until 5 --window -1",
+    "twarp run n.json --until 5 --window 1e3",
+    "twarp run n.json --until 5 --cancel eager",
+    "twarp run n.json --until 5 --script s",
+    "twarp run n.json --until 5 --seed 1 --steps 1",
+    "twarp play n.json --until 5 --script s --workers 2",
+    "twarp demo --workers 2",
     "twarp play",
     "twarp play n.json --until 5",
     "twarp play n.json --until 5 --cancel lazy",
@@ -102,10 +158,10 @@ static REFUSED: [&str; 47] = [
 ];
 
 /// Lines that ask for help, and parts of what is answered to each.
-static HELPS: [(&str, [&str; 3]); 9] = [
+static HELPS: [(&str, [&str; 3]); 11] = [
     ("twarp --help", ["Usage: twarp <COMMAND>", "seq", "play"]),
     ("twarp -h", ["Usage: twarp <COMMAND>", "demo", "seq"]),
-    ("twarp help", ["Usage: twarp <COMMAND>", "demo", "seq"]),
+    ("twarp help", ["Usage: twarp <COMMAND>", "demo", "run"]),
     (
         "twarp help seq",
         ["<NET>", "tw-1", "in ticks, 0 to 1099511627774"],
@@ -121,6 +177,11 @@ static HELPS: [(&str, [&str; 3]); 9] = [
     (
         "twarp demo --help",
         ["Usage: twarp demo", "tally", "tick 5"],
+    ),
+    ("twarp help run", ["<NET>", "1 to 64", "[default: 2]"]),
+    (
+        "twarp run --help",
+        ["1 to 256", "[default: 16]", "[default: 1000]"],
     ),
     (
         "twarp help play",
@@ -147,6 +208,20 @@ fn answer(alloc: Global, line: &str) -> Result<String, AllocError> {
     match job(alloc, words.as_slice()) {
         Ok(Job::Demo) => String::from_str(alloc, "demo"),
         Ok(Job::Seq { net, until }) => format!(in alloc; "seq of {net} until {until}"),
+        Ok(
+            Job::Run {
+                net,
+                until,
+                cancel,
+                setting: Setting {
+                    workers,
+                    burst,
+                    window,
+                },
+            },
+        ) => format!(in alloc;
+            "run of {net} until {until} by {workers} in bursts of {burst}, {window} ticks ahead, {cancel:?}"
+        ),
         Ok(
             Job::Play {
                 net,
@@ -177,7 +252,7 @@ fn assert_answer(rt: &impl Abort, alloc: Global, line: &str, want: &str) -> Resu
 }
 
 #[test]
-fn takes_the_lines_of_demo_seq_and_play(rt: HostRuntime) -> Result<(), Fail> {
+fn takes_the_lines_of_demo_seq_run_and_play(rt: HostRuntime) -> Result<(), Fail> {
     for (line, want) in TAKEN.iter() {
         assert_answer(&rt, rt.alloc(), line, want)?;
     }

@@ -7,6 +7,8 @@ use std::alloc::Global;
 use std::io;
 use std::io::{ErrorKind, Read, Write};
 use std::process::Abort;
+use std::sync::Wait;
+use std::thread::Threads;
 use tw_engine::{Exit, engine};
 use tw_line::Job;
 use tw_vtime::Refusal;
@@ -41,6 +43,7 @@ fn a_writer_that_fails_gets_a_beginning(rt: HostRuntime) {
             calls,
         };
         let exit = engine(
+            &rt,
             rt.alloc(),
             &Job::Demo,
             &mut "".as_bytes(),
@@ -104,8 +107,8 @@ impl Write for Expecting<'_> {
 }
 
 /// Asserts that a job ends as it is to with the whole text, or with a beginning of it for want of memory.
-fn assert_ends_well(
-    rt: &impl Abort,
+fn assert_ends_well<R: Abort + Threads + Wait + Sync>(
+    rt: &R,
     alloc: Global,
     job: &Job<'_>,
     file: &str,
@@ -116,6 +119,7 @@ fn assert_ends_well(
         left: text.as_bytes(),
     };
     let end = engine(
+        rt,
         alloc,
         job,
         &mut file.as_bytes(),

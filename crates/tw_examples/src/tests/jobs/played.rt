@@ -5,6 +5,8 @@ use crate::tests::jobs::failing::OneByteReader;
 use crate::tests::writers::OneByteWriter;
 use std::alloc::Global;
 use std::process::Abort;
+use std::sync::Wait;
+use std::thread::Threads;
 use tw_engine::{Exit, engine};
 use tw_line::{Driver, Job};
 use tw_process::Cancel;
@@ -39,8 +41,8 @@ fn by_seed(steps: u64) -> Job<'static> {
 }
 
 /// Asserts how a job over these files ends, and what it writes.
-fn assert_played(
-    rt: &impl Abort,
+fn assert_played<R: Abort + Threads + Wait + Sync>(
+    rt: &R,
     alloc: Global,
     job: &Job<'_>,
     net: &str,
@@ -50,6 +52,7 @@ fn assert_played(
 ) {
     let mut out: Vec<u8> = Vec::new(alloc);
     let end = engine(
+        rt,
         alloc,
         job,
         &mut net.as_bytes(),
@@ -107,6 +110,7 @@ fn a_script_that_cannot_be_read_is_unreadable(rt: HostRuntime) {
             calls,
         };
         let end = engine(
+            &rt,
             rt.alloc(),
             &by_script(),
             &mut GEN_TALLY.as_bytes(),
@@ -126,6 +130,7 @@ fn a_writer_that_fails_gets_a_beginning_of_the_answers(rt: HostRuntime) {
             calls,
         };
         let end = engine(
+            &rt,
             rt.alloc(),
             &by_script(),
             &mut GEN_TALLY.as_bytes(),

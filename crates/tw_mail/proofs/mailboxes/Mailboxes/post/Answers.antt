@@ -1,12 +1,12 @@
 use Rattle.std.proofs.Common.{◌≡◌, ◌+◌, ◌-◌, ◌<◌, ◌++◌, ◌∷◌, [], take, length, List, ap, sym, subst, ◌∙◌, arith, refl}
 use Rattle.std.specs.Prelude.{slice_get, slice_set, Some, ℕ}
 use Rattle.std.specs.List.{AllByRecursion as Each}
-use Rattle.std.proofs.lemmas.List.{take_more}
-use Rattle.std.proofs.lemmas.Option.{slice_get_read, get_or_from_slice_get, slice_get_within}
+use Rattle.std.proofs.lemmas.Option.{slice_get_read}
 use Rattle.tw_msgs.specs.declared.message.Item.{Item}
 use Rattle.tw_mail.specs.Mail.{Mail, mail}
 use Rattle.tw_theory.specs.Executive.{mail_of, posted}
 use Rattle.tw_theory.proofs.Elements.{each-get}
+use Rattle.tw_mail.proofs.Changes.{one_more}
 use Rattle.tw_mail.proofs.Boxes.{posted_more, length-posted, pushed_popped, box_of_posted}
 use Rattle.tw_mail.proofs.mailboxes.Mailboxes.post.Goals as goal
 
@@ -15,9 +15,6 @@ boxes m = m.boxes
 
 near : (old m : List (List Item)) (items : List Item) (k n : ℕ) (i : Item) → Each (λ i. i.message.to < length old) items → m ≡ posted old (take n items) → slice_get items k ≡ Some i → i.message.to < length m
 near old m items k n i fits is at = omega (arith, each-get (λ (i : Item). i.message.to < length old) items k i at fits, ap length is, length-posted old (take n items))
-
-one_more : (items : List Item) (k : ℕ) (i : Item) → slice_get items k ≡ Some i → take (k + 1) items ≡ take k items ++ i ∷ []
-one_more items k i at = take_more items k i (slice_get_within items k i at) ∙ ap (λ x. take k items ++ x ∷ []) (get_or_from_slice_get items k i i at)
 
 -- one item more is posted
 posted_next : (old : List (List Item)) (items : List Item) (k : ℕ) (i : Item) → slice_get items k ≡ Some i

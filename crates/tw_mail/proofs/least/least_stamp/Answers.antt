@@ -3,7 +3,7 @@ use Rattle.std.specs.Prelude.{fold}
 use Rattle.tw_vtime.specs.Stamps.{never}
 use Rattle.tw_msgs.specs.declared.message.Item.{Item}
 use Rattle.tw_mail.proofs.Leasts.{least_stamp_chain}
-use Rattle.tw_mail.proofs.mailboxes.least_stamp.Goals as goal
+use Rattle.tw_mail.proofs.least.least_stamp.Goals as goal
 
 pub returns : goal.returns
 returns c =

@@ -1,0 +1,3 @@
+-- What the contracts of the board cite.
+pub mod Known
+pub mod Rule

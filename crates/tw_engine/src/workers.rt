@@ -1,0 +1,114 @@
+//! A run by workers.
+
+ghost use Rattle.std.specs.Prelude.{◌≡◌, ◌≤◌, ◌<◌, ◌⊎◌, IfErr, IfOk};
+ghost use Rattle.tw_engine.specs.Runs.{IsRunByWorkers};
+ghost use Rattle.tw_models.specs.Model.{model_meaning};
+ghost use Rattle.tw_network.specs.Contents.{network_of};
+ghost use Rattle.tw_theory.specs.Simulator.{sequential};
+ghost use Rattle.tw_vtime.specs.Stamps.{max_tick};
+ghost use Rattle.tw_vtime.specs.declared.refusal.Refusal.TheVariants as refusal;
+
+use crate::exit::Exit;
+use crate::runs::{network, write_run};
+use std::alloc::Global;
+use std::io::Write;
+use std::sync::{Arc, Wait};
+use std::thread::Threads;
+use tw_exec::Executive;
+use tw_laws::endings::outcome_law;
+use tw_line::Setting;
+use tw_models::{Model, State};
+use tw_network::Network;
+use tw_process::Cancel;
+use tw_seq::Seq;
+use tw_vtime::Refusal;
+use tw_workers::{Open, Outcome, run};
+
+// Runs the network that a file's bytes mean by workers, and writes its text.
+pub(crate) fn run_by_workers<R: Threads + Wait + Sync, W: Write>(
+    rt: &R,
+    alloc: Global,
+    bytes: &[u8],
+    until: u64,
+    cancel: Cancel,
+    setting: Setting,
+    out: &mut W,
+) -> Exit
+    ensures { IsRunByWorkers bytes.now until result (W.contents out.old) (W.contents out.new) }
+{
+    let network = match network(alloc, bytes) {
+        Ok(network) => network,
+        Err(exit) => return exit,
+    };
+    let executive = match started(alloc, network, until, cancel) {
+        Ok(executive) => executive,
+        Err(exit) => return exit,
+    };
+    let Ok(network) = Arc::try_clone(executive.network()) else {
+        return Exit::Want(Refusal::OutOfMemory);
+    };
+    let seq = match worked(rt, alloc, executive, setting) {
+        Ok(seq) => seq,
+        Err(why) => return Exit::Want(why),
+    };
+    write_run(alloc, &network, &seq, out)
+}
+
+// An executive at its start.
+fn started(
+    alloc: Global,
+    network: Network<Model>,
+    until: u64,
+    cancel: Cancel,
+) -> Result<Executive<Model>, Exit>
+    ensures network { IfOk result (λ e. e.network ≡ network) }
+    ensures until { IfOk result (λ e. e.until ≡ until) }
+    ensures err { IfErr result (λ exit. (exit ≡ Exit.Want refusal.OutOfMemory) ⊎ ((exit ≡ Exit.Bad refusal.BadTick) × (max_tick < until))) }
+{
+    match Executive::with_cancel(alloc, network, until, cancel) {
+        Ok(executive) => Ok(executive),
+        Err(refused) => Err(Exit::from(Refusal::from(refused))),
+    }
+}
+
+// The sequential run of an executive's network, made by workers. What the setting has out of range is brought into it.
+fn worked<R: Threads + Wait + Sync>(
+    rt: &R,
+    alloc: Global,
+    executive: Executive<Model>,
+    setting: Setting,
+) -> Result<Seq, Refusal>
+    ensures records { IfOk result (λ seq. seq.records.items ≡ (sequential (network_of model_meaning executive.network) executive.until).records) }
+    ensures fault { IfOk result (λ seq. seq.fault ≡ (sequential (network_of model_meaning executive.network) executive.until).fault) }
+    ensures err { IfErr result (λ why. (why ≡ refusal.OutOfMemory) ⊎ (why ≡ refusal.Full)) }
+{
+    executive.facts();
+    outcome_law::<State>();
+    match run(rt, alloc, executive, in_range(setting), &Open) {
+        Ok(Outcome::Complete(records)) => Ok(Seq {
+            records,
+            fault: None,
+        }),
+        Ok(Outcome::Fault(records, component, stamp, limit)) => Ok(Seq {
+            records,
+            fault: Some((component, stamp, limit)),
+        }),
+        Err(fault) => Err(Refusal::from(fault.why)),
+    }
+}
+
+// The setting of a run, each number within its range.
+fn in_range(setting: Setting) -> tw_workers::Setting
+    ensures workers { (1 ≤ result.workers) × (result.workers ≤ 64) }
+    ensures burst { (1 ≤ result.burst) × (result.burst ≤ 256) }
+    ensures window { result.window ≤ max_tick }
+{
+    tw_workers::Setting {
+        workers: setting.workers.clamp(1, 64),
+        burst: setting.burst.clamp(1, 256) as usize,
+        window: setting.window.min(MAX_TICK),
+    }
+}
+
+// The greatest tick.
+const MAX_TICK: u64 = 1_099_511_627_774;

@@ -1,0 +1,51 @@
+-- What workers share may go from one of them to another where models, their states and their residues may.
+use denote.RattleType.{RattleType}
+use denote.Param.Send.{IsSend, IsSync, sendable}
+use denote.Param.SendFields.{declared_send, declared_sync}
+use Rattle.std.proofs.Crossing.{Arc-sync, send, crosses}
+use Rattle.tw_atomic.specs.declared.Atomic.{Ghosts}
+use Rattle.tw_exec.proofs.Sent.{executive_send}
+use Rattle.tw_exec.specs.contracts.executive.Executive as executive
+use Rattle.tw_heap.proofs.heap.EventHeap.TheSendSync as heap_sent
+use Rattle.tw_network.proofs.network.Network.TheSendSync as network_sent
+use Rattle.tw_network.specs.contracts.network.Network as network
+use Rattle.tw_vtime.proofs.stamps.Stamp.TheSendSync as stamp_sent
+use Rattle.tw_workers.specs.contracts.agenda.Agenda as agenda
+use Rattle.tw_workers.specs.contracts.agenda.Agenda.TheInside as agenda_inside
+use Rattle.tw_workers.specs.contracts.desk.Desk as desk
+use Rattle.tw_workers.specs.contracts.desk.Desk.TheInside as desk_inside
+use Rattle.tw_workers.specs.contracts.running.Shared as shared
+use Rattle.tw_workers.specs.declared.desk.Given as given
+use Rattle.tw_workers.proofs.outcome.Outcome.TheSendSync as outcome_sent
+use Rattle.tw_workers.specs.contracts.exchange.Exchange as exchange
+use Rattle.tw_workers.specs.contracts.exchange.Exchange.TheInside as exchange_inside
+
+agenda_send : IsSend agenda.the_row
+agenda_send =
+    let heap = heap_sent.the_send in
+    let stamp = stamp_sent.the_send in
+    let inside : IsSend agenda_inside.the_row = declared_send agenda_inside.the_type (search (sendable, crosses) depth 20, (heap, tt)) in
+    search sendable
+
+pub exchange_send : (M S R : RattleType) (g : Ghosts M.Denot S.Denot R.Denot) → IsSend M → IsSync M → IsSend S → IsSend R → IsSend (exchange.the_row M S R g)
+exchange_send M S R g m y s r =
+    let executive = executive_send M S R g m y s r in
+    let inside : IsSend (exchange_inside.the_row M S R g) = declared_send (exchange_inside.the_type M S R g) (send, (executive, (agenda_send, tt))) in
+    search sendable
+
+pub desk_send : (M H S R : RattleType) (g : Ghosts M.Denot S.Denot R.Denot) (given : given.Ghosts H.Denot M.Denot) → IsSend M → IsSync M → IsSend H → IsSend S → IsSend R
+    → IsSend (desk.the_row M H S R g given)
+desk_send M H S R g given m y h s r =
+    let exchange = exchange_send M S R g m y s r in
+    let outcome = outcome_sent.the_send in
+    let inside : IsSend (desk_inside.the_row M H S R g given) = declared_send (desk_inside.the_type M H S R g given)
+    (send, (exchange, (search sendable, (search sendable, (search (sendable, crosses) depth 20, (search (sendable, crosses) depth 20, tt)))))) in
+    search sendable
+
+pub shared_sync : (M H S R : RattleType) (g : Ghosts M.Denot S.Denot R.Denot) (given : given.Ghosts H.Denot M.Denot) → IsSend M → IsSync M → IsSend H → IsSend S → IsSend R
+    → IsSync (shared.the_row M H S R g given)
+shared_sync M H S R g given m y h s r =
+    let desk = desk_send M H S R g given m y h s r in
+    let network = Arc-sync (network.the_row M S R g) (network_sent.the_send M S R g m) (network_sent.the_sync M S R g y) in
+    declared_sync (shared.the_type M H S R g given)
+    (search (sendable, crosses) depth 20, (search (sendable, crosses) depth 20, (network, (search sendable, (search (sendable, crosses) depth 20, tt)))))

@@ -1,0 +1,37 @@
+-- How a run ends, and what workers know of each other's work.
+--     IsEnd meaning n until outcome      the sequential simulator ends so, with this trace
+--     IsOnly given n until      what is given is this network and this end tick
+--     IsDue valid meaning n until order      an order of a component of this network, of steps before this end tick
+--     IsMadeFor meaning n until prepareds      what was worked out from such an order
+use Rattle.std.specs.Prelude.{◌≡◌, ◌<◌, ◌≤◌, ℕ, length, Some, slice_get}
+use Rattle.tw_atomic.specs.Atomic.{Meaning}
+use Rattle.tw_network.specs.Contents.{Contents, network_of}
+use Rattle.tw_theory.specs.Chains.{Chain, Start}
+use Rattle.tw_theory.specs.Outcomes as theory
+use Rattle.tw_theory.specs.Outcomes.{IsOutcome}
+use Rattle.tw_theory.specs.Standing.{IsReady}
+use Rattle.tw_vtime.specs.Stamps.{max_microstep, stamp}
+use Rattle.tw_workers.specs.declared.outcome.Outcome.{Outcome}
+use Rattle.tw_workers.specs.declared.outcome.Outcome.TheVariants.{Complete, Fault}
+
+-- a complete run has all the simulator's records, and the simulator no fault; one with a fault has the simulator's fault and its records before it
+abbrev pub IsEnd : {M S : Type 0} → (M → Meaning S) → Contents M → ℕ → Outcome → Type 0
+IsEnd meaning n until (Complete trace) = IsOutcome (network_of meaning n) until theory.Complete trace.items
+IsEnd meaning n until (Fault trace component stamp limit) = IsOutcome (network_of meaning n) until (theory.Fault component stamp limit) trace.items
+
+-- ---- what workers know of each other's work
+
+abbrev pub IsOnly : {M : Type 0} → (Contents M → ℕ → Type 0) → Contents M → ℕ → Type 0
+IsOnly {M} given n until = (m : Contents M) (u : ℕ) → given m u → (m ≡ n) × (u ≡ until)
+
+pub record IsDue {M S : Type 0} (valid : M → S → Type 0) (meaning : M → Meaning S) (n : Contents M) (until : ℕ) (order : Start S) : Type 0 where
+  pub near : order.component < length n.models
+  pub ready : (m : M) → slice_get n.models order.component ≡ Some m → IsReady (valid m) (meaning m) order.component order.now order.messages
+  pub limit : order.micro_limit ≡ n.micro_limit
+  pub low : order.micro_limit ≤ max_microstep
+  pub before : order.before ≤ stamp until 0 0
+
+pub record IsMadeFor {M S : Type 0} (meaning : M → Meaning S) (n : Contents M) (until : ℕ) (prepareds : Chain M S) : Type 0 where
+  pub limit : prepareds.run.start.micro_limit ≡ n.micro_limit
+  pub before : prepareds.run.start.before ≤ stamp until 0 0
+  pub alike : (m : M) → slice_get n.models prepareds.run.start.component ≡ Some m → meaning m ≡ meaning prepareds.model

@@ -1,0 +1,209 @@
+//! A run by workers.
+
+ghost use Rattle.std.specs.Arc.{arc_value};
+ghost use Rattle.std.specs.Prelude.{◌≡◌, ◌≤◌, IfErr, IfOk, IfSome};
+ghost use Rattle.tw_vtime.specs.Stamps.{max_tick};
+ghost use Rattle.tw_workers.specs.Ends.{IsDue, IsEnd, IsMadeFor, IsOnly};
+
+use crate::desk::{Desk, Given};
+use crate::exchange::Exchange;
+use crate::gate::Gate;
+use crate::orders::{Order, Prepareds, compute};
+use crate::outcome::{Outcome, RunFault, Setting};
+use crate::refused::SweepRefused;
+use std::alloc::Global;
+use std::marker::Brand;
+use std::sync::{Arc, Condvar, Mutex, Wait};
+use std::thread;
+use std::thread::Threads;
+use tw_atomic::Atomic;
+use tw_exec::Executive;
+use tw_network::Network;
+
+// What the workers of a run share.
+struct Shared<M: Atomic, H: Given<M>> {
+    desk: Mutex<Desk<M, H>>,
+    // Something was handed in, or swept, or the run has ended.
+    changed: Condvar,
+    network: Arc<Network<M>>,
+    until: u64,
+    setting: Setting,
+}
+
+/// Runs an executive to the end by so many workers, each in a thread of its own; the calling thread is one of them. A thread that
+/// cannot be started is left out. Each worker works out the next steps of a component apart from the others, tells the gate before,
+/// and hands them in; from time to time one of them sweeps. What comes out does not depend on the setting or on who did what: it is
+/// the trace of the sequential simulator, with its fault if there is one (Jefferson 1985).
+///
+/// Given up for want of memory (4), or of nodes (12), where a process would hold more than 1,048,576 of them and a sweep brings
+/// global virtual time no further. Then the executive comes back, sound, of the same network and until the same tick, and can be run
+/// again.
+pub fn run<M: Atomic + Send + Sync, G: Gate + Sync, R: Threads + Wait + Sync>(
+    rt: &R,
+    alloc: Global,
+    executive: Executive<M>,
+    setting: Setting,
+    gate: &G,
+) -> Result<Outcome, RunFault<M>>
+where
+    M::State: Send,
+    M::Residue: Send,
+    requires workers { (1 ≤ setting.workers) × (setting.workers ≤ 64) }
+    requires burst { (1 ≤ setting.burst) × (setting.burst ≤ 256) }
+    requires window { setting.window ≤ max_tick }
+    ensures outcome { IfOk result (IsEnd M.meaning executive.network executive.until) }
+    ensures network { IfErr result (λ fault. fault.executive.network ≡ executive.network) }
+    ensures until { IfErr result (λ fault. fault.executive.until ≡ executive.until) }
+{
+    let Ok(network) = Arc::try_clone(executive.network()) else {
+        return Err(wanting(SweepRefused::OutOfMemory, executive));
+    };
+    let exchange = match Exchange::new(alloc, executive) {
+        Ok(exchange) => exchange,
+        Err((executive, _)) => return Err(wanting(SweepRefused::OutOfMemory, executive)),
+    };
+    let (exchange, end) = run_given::<M, Brand, G, R>(rt, alloc, network, exchange, setting, gate);
+    match end {
+        Some(Ok(outcome)) => Ok(outcome),
+        Some(Err(why)) => Err(wanting(why, exchange.into_executive())),
+        None => Err(wanting(SweepRefused::OutOfMemory, exchange.into_executive())),
+    }
+}
+
+// A run that is given up.
+fn wanting<M: Atomic>(why: SweepRefused, executive: Executive<M>) -> RunFault<M>
+    ensures { result.executive ≡ executive }
+{
+    RunFault { why, executive }
+}
+
+// Runs what was handed in.
+fn run_given<
+    M: Atomic + Send + Sync,
+    H: Given<M> + Send + Sync,
+    G: Gate + Sync,
+    R: Threads + Wait + Sync,
+>(
+    rt: &R,
+    alloc: Global,
+    network: Arc<Network<M>>,
+    exchange: Exchange<M>,
+    setting: Setting,
+    gate: &G,
+) -> (Exchange<M>, Option<Result<Outcome, SweepRefused>>)
+where
+    M::State: Send,
+    M::Residue: Send,
+    requires given { H.is_given exchange.executive.network exchange.executive.until }
+    requires only { IsOnly H.is_given (arc_value network) exchange.executive.until }
+    ensures given { H.is_given result.0.executive.network result.0.executive.until }
+    ensures end { IfSome result.1 (λ end. IfOk end (IsEnd M.meaning result.0.executive.network result.0.executive.until)) }
+{
+    let until = exchange.executive().until();
+    let shared: Shared<M, H> = Shared {
+        desk: Mutex::new(Desk::new(alloc, exchange)),
+        changed: Condvar::new(),
+        network,
+        until,
+        setting,
+    };
+    work_all(rt, alloc, &shared, gate);
+    let Shared {
+        desk,
+        changed: _,
+        network: _,
+        until: _,
+        setting: _,
+    } = shared;
+    desk.into_inner().into_parts()
+}
+
+// Starts the workers, of which the calling thread is one, and waits for them.
+fn work_all<
+    'a,
+    M: Atomic + Send + Sync,
+    H: Given<M> + Send + Sync,
+    G: Gate + Sync,
+    R: Threads + Wait + Sync,
+>(rt: &'a R, alloc: Global, shared: &'a Shared<M, H>, gate: &'a G)
+where
+    M::State: Send,
+    M::Residue: Send,
+    requires { IsOnly H.is_given (arc_value shared.now.network) shared.now.until }
+{
+    thread::scope(
+        thread::scope_env(),
+        rt,
+        move |scope|
+            requires { IsOnly H.is_given (arc_value shared.now.network) shared.now.until }
+        {
+            for _ in 1..shared.setting.workers {
+                let started = scope.spawn(
+                    move ||
+                        requires { IsOnly H.is_given (arc_value shared.now.network) shared.now.until }
+                    { work(rt, alloc, shared, gate) },
+                );
+                if started.is_err() {
+                    break;
+                }
+            }
+            work(rt, alloc, shared, gate)
+        },
+    );
+}
+
+// One worker: takes an order under the lock, works it out apart from it, and hands it in under the lock, until the run has ended.
+fn work<M: Atomic, H: Given<M>, G: Gate, R: Wait>(
+    rt: &R,
+    alloc: Global,
+    shared: &Shared<M, H>,
+    gate: &G,
+)
+    requires { IsOnly H.is_given (arc_value shared.now.network) shared.now.until }
+{
+    let Some(mut order) = next_order(rt, shared, None) else {
+        return;
+    };
+    for _ in rt.forever() {
+        let model = shared.network.model(order.component());
+        let prepareds = compute(alloc, order, model, gate);
+        let Some(next) = next_order(rt, shared, Some(prepareds)) else {
+            return;
+        };
+        order = next;
+    }
+    unreachable!()
+}
+
+// Hands in what was worked out, if anything was, and waits for an order. None where the run has ended.
+fn next_order<M: Atomic, H: Given<M>, R: Wait>(
+    rt: &R,
+    shared: &Shared<M, H>,
+    done: Option<Prepareds<M>>,
+) -> Option<Order<M>>
+    requires only { IsOnly H.is_given (arc_value shared.now.network) shared.now.until }
+    requires made { IfSome done (IsMadeFor M.meaning (arc_value shared.now.network) shared.now.until) }
+    ensures { IfSome result (IsDue M.valid M.meaning (arc_value shared.now.network) shared.now.until) }
+{
+    let mut desk = shared.desk.lock(rt);
+    if let Some(prepareds) = done {
+        desk.hand_in(prepareds);
+        shared.changed.notify_all();
+    }
+    for _ in rt.forever() {
+        if desk.is_over() {
+            shared.changed.notify_all();
+            return None;
+        }
+        if let Some(order) = desk.draw(shared.setting) {
+            return Some(order);
+        }
+        if desk.is_idle() {
+            desk.sweep();
+            shared.changed.notify_all();
+        } else {
+            desk = shared.changed.wait(rt, desk);
+        }
+    }
+    unreachable!()
+}

@@ -1,7 +1,8 @@
 -- The texts of times, bags, words, records and faults.
 --     time_text s      the time of a stamp, or `end`
 --     bag_text bag, words_text words, kind_text kind      parts of a line
---     record_line name r, fault_line name at limit      whole lines, each with its newline
+--     step_line name at kind bag words, record_line name r, fault_line name at limit      whole lines, each with its newline
+--     Gathered      the text of lines that are not written yet
 --     trace_text name_of rs      the lines of records, one after another
 use Rattle.std.specs.Prelude.{◌==◌, ◌++◌, ◌∷◌, [], ℕ, ℤ, List, codes, flat_map, if◌then◌else◌}
 use Rattle.std.specs.List.{join_by}
@@ -44,8 +45,12 @@ step_text Int bag words = codes "int | " ++ words_text words
 step_text Ext bag words = codes "ext " ++ bag_text bag ++ codes " | " ++ words_text words
 step_text Con bag words = codes "con " ++ bag_text bag ++ codes " | " ++ words_text words
 
+-- the line of a step at a stamp, of the component with a name
+abbrev pub step_line : List ℕ → ℕ → RecordKind → List (ℕ × ℤ) → List ℤ → List ℕ
+step_line name at kind bag words = time_text at ++ codes " " ++ name ++ codes " " ++ step_text kind bag words ++ codes "\n"
+
 abbrev pub record_line : List ℕ → Record → List ℕ
-record_line name r = time_text r.stamp ++ codes " " ++ name ++ codes " " ++ step_text r.kind r.bag r.words ++ codes "\n"
+record_line name r = step_line name r.stamp r.kind r.bag r.words
 
 abbrev pub limit_text : Limit → List ℕ
 limit_text Microstep = codes "microstep"
@@ -53,6 +58,10 @@ limit_text Tick = codes "tick"
 
 abbrev pub fault_line : List ℕ → ℕ → Limit → List ℕ
 fault_line name at limit = codes "fault: " ++ limit_text limit ++ codes " limit: " ++ name ++ codes " at " ++ time_text at ++ codes "\n"
+
+-- what is gathered of lines
+pub record Gathered : Type 0 where
+  pub text : List ℕ
 
 -- the lines of records, with the names of their components
 abbrev pub trace_text : (ℕ → List ℕ) → List Record → List ℕ

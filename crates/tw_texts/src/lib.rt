@@ -6,16 +6,18 @@
 //! [`push_record`] and [`push_fault`] add a whole line, which ends with one newline byte. Their
 //! contracts give the exact bytes. Where memory is wanting (refusal 4) the text stays as it was.
 //!
-//! [`write_trace`] writes the lines of many records to any writer, a portion at a time. Names of
+//! [`write_trace`] writes the lines of many records to any writer, a portion at a time; [`Lines`] gathers them one by one. Names of
 //! components come from a [`Names`], so that this crate knows no network.
 #![tactic(auto)]
 
+pub mod gathered;
 pub mod items;
 mod lines;
 pub mod names;
 pub mod texts;
 pub mod traces;
 
+pub use gathered::Lines;
 pub use items::{push_message, sign_name};
 pub use names::Names;
 pub use texts::{kind_name, push_bag, push_fault, push_record, push_time, push_words};

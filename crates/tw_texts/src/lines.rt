@@ -4,6 +4,7 @@
 ghost use Rattle.std.specs.Prelude.{◌≡◌, ◌++◌, OnOk, string_bytes};
 ghost use Rattle.tw_texts.specs.Texts.{
   time_text,
+  item_text,
   bag_text,
   words_text,
   step_text,
@@ -12,9 +13,18 @@ ghost use Rattle.tw_texts.specs.Texts.{
   fault_line,
 };
 
+use itoa::{Buffer, Integer};
 use std::alloc::AllocError;
 use tw_msgs::{Record, RecordKind};
 use tw_vtime::{Limit, Stamp};
+
+// A number in decimal.
+fn add_number<I: Integer>(text: &mut String, number: I) -> Result<(), AllocError>
+    ensures { OnOk result (string_bytes text.new ≡ string_bytes text.old ++ I.text number) }
+{
+    let mut digits = Buffer::new();
+    text.push_str(digits.format(number))
+}
 
 pub(crate) fn add_time(text: &mut String, stamp: Stamp) -> Result<(), AllocError>
     ensures { OnOk result (string_bytes text.new ≡ string_bytes text.old ++ time_text stamp) }
@@ -22,9 +32,18 @@ pub(crate) fn add_time(text: &mut String, stamp: Stamp) -> Result<(), AllocError
     if stamp.is_end() {
         return text.push_str("end");
     }
-    let tick = stamp.tick();
-    let micro = stamp.micro();
-    write!(text, "{tick}.{micro}")
+    add_number(text, stamp.tick())?;
+    text.push_str(".")?;
+    add_number(text, stamp.micro())
+}
+
+fn add_item(text: &mut String, item: (u8, i64)) -> Result<(), AllocError>
+    ensures { OnOk result (string_bytes text.new ≡ string_bytes text.old ++ item_text item) }
+{
+    let (port, value) = item;
+    add_number(text, port)?;
+    text.push_str("=")?;
+    add_number(text, value)
 }
 
 pub(crate) fn add_bag(text: &mut String, bag: &[(u8, i64)]) -> Result<(), AllocError>
@@ -33,11 +52,10 @@ pub(crate) fn add_bag(text: &mut String, bag: &[(u8, i64)]) -> Result<(), AllocE
     let Some((first, rest)) = bag.split_first() else {
         return text.push_str("-");
     };
-    let (port, value) = *first;
-    write!(text, "{port}={value}")?;
+    add_item(text, *first)?;
     for item in rest {
-        let (port, value) = *item;
-        write!(text, " {port}={value}")?;
+        text.push_str(" ")?;
+        add_item(text, *item)?;
     }
     Ok(())
 }
@@ -48,17 +66,16 @@ pub(crate) fn add_words(text: &mut String, words: &[i128]) -> Result<(), AllocEr
     let Some((first, rest)) = words.split_first() else {
         return Ok(());
     };
-    let word = *first;
-    write!(text, "{word}")?;
+    add_number(text, *first)?;
     for word in rest {
-        let word = *word;
-        write!(text, " {word}")?;
+        text.push_str(" ")?;
+        add_number(text, *word)?;
     }
     Ok(())
 }
 
 /// What a record tells after its component's name.
-fn add_step(
+pub(crate) fn add_step(
     text: &mut String,
     kind: RecordKind,
     bag: &[(u8, i64)],

@@ -7,7 +7,7 @@ ghost use Rattle.tw_vtime.specs.Refusals.{refusal_text};
 ghost use Rattle.tw_texts.specs.Refusals.{not_written_refusal};
 ghost use Rattle.tw_texts.specs.Traces.{AppendsBeginning, MovesBytes};
 
-use crate::lines::add_record;
+use crate::gathered::Lines;
 use crate::names::Names;
 use std::alloc::Global;
 use std::error::Error;
@@ -92,12 +92,15 @@ pub fn write_trace<N: Names, W: Write>(
     ensures err { IfErr result (λ e. e ≡ NotWritten.OutOfMemory
         → AppendsBeginning (W.contents out.old) (W.contents out.new) (trace_text (N.name_of names.now) records.now)) }
 {
-    let mut lines = String::new(alloc);
+    let mut lines = Lines::new(alloc);
     for record in records {
-        let Ok(()) = add_record(&mut lines, names.name(record.component), record) else {
+        let name = names.name(record.component);
+        let bag = record.bag.as_slice();
+        let words = record.words.as_slice();
+        let Ok(()) = lines.add(name, record.stamp, record.kind, bag, words) else {
             return Err(NotWritten::OutOfMemory);
         };
-        write_portion(&mut lines, out)?;
+        lines.write_portion(out)?;
     }
-    write_out(&mut lines, out)
+    lines.write_out(out)
 }

@@ -9,8 +9,8 @@ use std::io::Write;
 use std::process::Abort;
 use std::test::Fail;
 use tw_msgs::{Record, RecordKind};
-use tw_texts::{Names, NotWritten, write_trace};
-use tw_vtime::Refusal;
+use tw_texts::{Lines, Names, NotWritten, write_trace};
+use tw_vtime::{Refusal, Stamp};
 
 /// Components named `g` and `t`.
 struct GeneratorAndTally;
@@ -123,5 +123,34 @@ fn writes_more_than_a_portion(rt: HostRuntime) -> Result<(), Fail> {
     write_trace(rt.alloc(), &GeneratorAndTally, records.as_slice(), &mut out)?;
     assert!(rt; out.len() == 84_000);
     assert_repeated(&rt, out.as_slice());
+    Ok(())
+}
+
+/// The lines of a generator's output at tick 2, and of its transition, gathered one by one.
+fn gathered(alloc: Global) -> Result<(Lines, Lines), Fail> {
+    let at = Stamp::new(2, 0, 0)?;
+    let mut outputs = Lines::new(alloc);
+    outputs.add("g", at, RecordKind::Out, &[(0, 5)], &[])?;
+    let mut transitions = Lines::new(alloc);
+    transitions.add("g", at.transition(), RecordKind::Int, &[], &[1])?;
+    transitions.add("t", at.transition(), RecordKind::Ext, &[(0, 5)], &[1, 5, 5])?;
+    Ok((outputs, transitions))
+}
+
+#[test]
+fn gathers_lines_until_they_are_written(rt: HostRuntime) -> Result<(), Fail> {
+    let mut out: Vec<u8> = Vec::new(rt.alloc());
+    let (mut outputs, mut transitions) = gathered(rt.alloc())?;
+    outputs.append(&mut transitions)?;
+    outputs.write_portion(&mut out)?;
+    assert!(rt; out.is_empty());
+    transitions.write_out(&mut out)?;
+    assert!(rt; out.is_empty());
+    outputs.write_out(&mut out)?;
+    assert!(rt; out.as_slice() == GENERATOR_AND_TALLY[..50].as_bytes());
+    outputs.add("g", Stamp::new(4, 0, 0)?, RecordKind::Out, &[(0, 5)], &[])?;
+    outputs.clear();
+    outputs.write_out(&mut out)?;
+    assert!(rt; out.len() == 50);
     Ok(())
 }

@@ -1,5 +1,5 @@
-use Rattle.std.proofs.Common.{◌∙◌, ◌++◌, ap, string_bytes}
-use Rattle.tw_texts.specs.Texts.{record_line}
+use Rattle.std.proofs.Common.{◌∙◌, ◌++◌, ap}
+use Rattle.tw_texts.specs.Texts.{record_line, step_line}
 use Rattle.tw_texts.proofs.Portions.{moved_more, moved_is_beginning}
 use Rattle.tw_texts.proofs.traces.write_trace.Goals as goal
 
@@ -12,4 +12,7 @@ pub loop-record-preserved : goal.loop-record-preserved
 loop-record-preserved g c =
     moved_more (λ r. record_line (g.N.Names.name_of c.args.names.now r.component) r) _ _ _ c.args.records.now
     c.loop-record.record-index c.record-item.result _ _ _ c.loop-record-test.true c.record-item.is
-    (c.in-Ok.ensures ∙ ap (λ name. string_bytes c.loop-record.lines ++ record_line name c.record-item.result) c.name.ensures) c.loop-record.invariant c.in_ok-write_portion.ensures.ok
+    (c.in-Ok.ensures
+    ∙ ap (λ bag. c.loop-record.lines.text ++ step_line c.name-name.result.now c.record-item.result.stamp c.record-item.result.kind bag c.as_slice-words.result.now) c.as_slice-bag.ensures
+    ∙ ap (λ words. c.loop-record.lines.text ++ step_line c.name-name.result.now c.record-item.result.stamp c.record-item.result.kind c.record-item.result.bag words) c.as_slice-words.ensures
+    ∙ ap (λ name. c.loop-record.lines.text ++ record_line name c.record-item.result) c.name-name.ensures) c.loop-record.invariant c.in_ok-write_portion.ensures.ok

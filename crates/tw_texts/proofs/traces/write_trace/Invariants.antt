@@ -1,4 +1,4 @@
-use Rattle.std.proofs.Common.{take, string_bytes}
+use Rattle.std.proofs.Common.{take}
 use Rattle.tw_texts.specs.Texts.{trace_text}
 use Rattle.tw_texts.specs.Traces.{MovesBytes}
 use Rattle.tw_texts.proofs.traces.write_trace.Given as goal
@@ -7,4 +7,4 @@ use Rattle.tw_texts.proofs.traces.write_trace.Given as goal
 abbrev pub invariant-loop-record : goal.invariant-loop-record
 invariant-loop-record g l =
     MovesBytes (g.W.Write.contents l.fn.out) (g.W.Write.contents l.out)
-    (trace_text (g.N.Names.name_of l.names) (take l.record-index l.records)) (string_bytes l.lines)
+    (trace_text (g.N.Names.name_of l.names) (take l.record-index l.records)) l.lines.text

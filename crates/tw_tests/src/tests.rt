@@ -23,3 +23,4 @@ mod runs;
 mod scripts;
 mod sequential;
 mod stamps;
+mod tournament;

@@ -1,0 +1,4 @@
+pub mod Gathered
+pub mod Numbers
+pub mod Times
+pub mod Winning

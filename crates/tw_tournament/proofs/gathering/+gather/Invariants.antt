@@ -1,0 +1,4 @@
+use Rattle.tw_tournament.proofs.gathering.+gather.Given as goal
+
+abbrev pub decreases-gather : goal.decreases-gather
+decreases-gather l = l.width

@@ -1,0 +1,40 @@
+//! Which times are the first.
+
+ghost use Rattle.std.specs.Prelude.{◌≡◌, ◌≤◌, ◌<◌, ◌+◌, ◌++◌, ℕ, OnOk, drop, length, take};
+ghost use Rattle.tw_tournament.specs.Times.{numbers_at};
+ghost use Rattle.tw_tournament.specs.Winners.{at, IsWon, PlayFor};
+
+use std::alloc::AllocError;
+use tw_vtime::Stamp;
+
+// Lists the numbers of this time below a place: they are so many from a first one on.
+pub(crate) fn gather(
+    winners: &[Stamp],
+    row: usize,
+    place: usize,
+    first: usize,
+    width: usize,
+    time: Stamp,
+    numbers: &mut Vec<usize>,
+) -> Result<(), AllocError>
+    requires won { IsWon winners.now row }
+    requires size { length winners.now ≡ row + row }
+    requires bound { row ≤ 8589934592 }
+    requires place { 1 ≤ place }
+    requires below { PlayFor place width (row + first) }
+    requires within { first + width ≤ row }
+    requires least { (p : ℕ) → 1 ≤ p → p < row + row → time ≤ at winners.now p }
+    ensures { OnOk result (numbers.new.items ≡ numbers.old.items ++ numbers_at time first (take width (drop (row + first) winners.now))) }
+{
+    if winners[place] != time {
+        return Ok(());
+    }
+    if width == 1 {
+        numbers.push(first)?;
+        return Ok(());
+    }
+    let half = width / 2;
+    let left = place + place;
+    gather(winners, row, left, first, half, time, numbers)?;
+    gather(winners, row, left + 1, first + half, half, time, numbers)
+}

@@ -1,5 +1,5 @@
 -- From the text that is written to what it says of the bytes of the file.
-use Rattle.std.proofs.Common.{◌≡◌, ◌≤◌, ◌++◌, ◌∙◌, ℕ, List, [], length, refl, sym, ap, subst, append_assoc, inl, inr}
+use Rattle.std.proofs.Common.{◌≡◌, ◌≤◌, ◌++◌, ◌∙◌, ℕ, List, [], length, refl, sym, ap, subst, append_assoc, arith, inl, inr}
 use Rattle.std.specs.Prelude.{Option, None, Some}
 use Rattle.std.proofs.lemmas.Option.{slice_get_past}
 use Rattle.tw_vtime.specs.declared.limits.Limit.{Limit}
@@ -13,7 +13,7 @@ use Rattle.tw_netfile.specs.TreeMeaning.{IsMeaning}
 use Rattle.tw_texts.specs.Traces.{AppendsBeginning}
 use Rattle.tw_engine.specs.declared.exit.Exit.{Exit}
 use Rattle.tw_engine.specs.declared.exit.Exit.TheVariants.{Done, Bad, BadScript, Fault, Want, NoWrite}
-use Rattle.tw_engine.specs.Runs.{IsDemo, IsRun, IsShown, demo_network, name_in, text_or_nothing, run_fault}
+use Rattle.tw_engine.specs.Runs.{IsDemo, IsRun, IsRunByWorkers, IsShown, IsWorked, demo_network, name_in, text_or_nothing, run_fault}
 
 pub no_name : (names : List (List ℕ)) (component : ℕ) → length names ≤ component → [] ≡ name_in names component
 no_name names component past = sym (ap text_or_nothing (slice_get_past names component past))
@@ -60,14 +60,22 @@ demo_of_shown Done old new shown = shown.1
 demo_of_shown Fault old new shown = none_is_some shown.0.0 (sym demo_no_fault ∙ shown.0.1)
 demo_of_shown (Bad why) old new shown = shown
 demo_of_shown (BadScript line) old new shown = shown
-demo_of_shown (Want why) old new shown = shown
+demo_of_shown (Want why) old new shown = inl shown
 demo_of_shown NoWrite old new shown = shown
 
--- what is shown of the records of the demonstration
-pub shown_demo : (n : Contents Model) (records : List Record) (exit : Exit) (old new : Option (List ℕ)) → n ≡ demo_network
-    → records ≡ (sequential (network_of model_meaning demo_network) 5).records → IsShown n records None exit old new → IsDemo exit old new
-shown_demo n records exit old new is all shown =
-    demo_of_shown exit old new
-    (subst (λ (f : Option (ℕ × ℕ × Limit)). IsShown demo_network (sequential (network_of model_meaning demo_network) 5).records f exit old new) (sym demo_no_fault)
-    (subst (λ (rs : List Record). IsShown demo_network rs None exit old new) all
-    (subst (λ (m : Contents Model). IsShown m records None exit old new) is shown)))
+-- what workers write of a file's network
+pub run_of_worked : (bytes : List ℕ) (until : ℕ) (n : Contents Model) (exit : Exit) (old new : Option (List ℕ)) → IsMeaning bytes n
+    → IsWorked n until exit old new → IsRunByWorkers bytes until exit old new
+run_of_worked bytes until n exit old new means (inl shown) = inl (run_of_shown bytes until n exit old new means shown)
+run_of_worked bytes until n exit old new means (inr (inl full)) = inr full
+run_of_worked bytes until n exit old new means (inr (inr late)) =
+    inl (subst (λ (e : Exit). IsRun bytes until e old new) (sym late.0) (late.2, inl (refl, late.1)))
+
+-- what they write of the demonstration
+pub demo_of_worked : (n : Contents Model) (exit : Exit) (old new : Option (List ℕ)) → n ≡ demo_network → IsWorked n 5 exit old new → IsDemo exit old new
+demo_of_worked n exit old new is worked = demo_of (subst (λ (m : Contents Model). IsWorked m 5 exit old new) is worked)
+  where
+    demo_of : IsWorked demo_network 5 exit old new → IsDemo exit old new
+    demo_of (inl shown) = demo_of_shown exit old new shown
+    demo_of (inr (inl full)) = subst (λ (e : Exit). IsDemo e old new) (sym full.0) (inr (refl, full.1))
+    demo_of (inr (inr late)) = let after = late.1 in absurd (omega (arith, after))

@@ -3,3 +3,4 @@ pub mod Runs
 pub mod Scripting
 pub mod Plays
 pub mod Jobs
+pub mod Checks

@@ -88,6 +88,13 @@ IsShown n records fault (BadScript line) old new = ⊥
 IsShown n records fault (Want why) old new = (why ≡ refusal.OutOfMemory) × (Keeps old new ⊎ AppendsBeginning old new (text_of n records fault))
 IsShown n records fault NoWrite old new = Unit {0}
 
+-- how a run of a network by workers ends: its text is written, or they want nodes (12), or the end tick is too late
+abbrev pub IsWorked : Contents Model → ℕ → Exit → Option (List ℕ) → Option (List ℕ) → Type 0
+IsWorked n until exit old new =
+    IsShown n (sequential (network_of model_meaning n) until).records (run_fault n until) exit old new
+    ⊎ ((exit ≡ Want refusal.Full) × Keeps old new)
+    ⊎ ((exit ≡ Bad refusal.BadTick) × (max_tick < until) × Keeps old new)
+
 -- ---- the jobs
 
 -- a generator of period 2 and value 5, and a tally that it feeds
@@ -103,13 +110,16 @@ demo_network = record {
 abbrev pub demo_text : List ℕ
 demo_text = codes "2.0 g out 0=5\n2.0 g int | 1\n2.0 t ext 0=5 | 1 5 5\n4.0 g out 0=5\n4.0 g int | 2\n4.0 t ext 0=5 | 2 10 5\n"
 
--- the text of its run until 5 is written, or a beginning of it; it meets no limit, and nothing of it is refused
+-- the text of its run until 5 is written, or a beginning of it where memory is wanting (4); or its workers want nodes (12), and nothing is
+-- written. It meets no limit, and nothing of it is refused
 abbrev pub IsDemo : Exit → Option (List ℕ) → Option (List ℕ) → Type 0
 IsDemo Done old new = Appends old new (run_text demo_network 5)
 IsDemo Fault old new = ⊥
 IsDemo (Bad why) old new = ⊥
 IsDemo (BadScript line) old new = ⊥
-IsDemo (Want why) old new = (why ≡ refusal.OutOfMemory) × (Keeps old new ⊎ AppendsBeginning old new (run_text demo_network 5))
+IsDemo (Want why) old new =
+    ((why ≡ refusal.OutOfMemory) × (Keeps old new ⊎ AppendsBeginning old new (run_text demo_network 5)))
+    ⊎ ((why ≡ refusal.Full) × Keeps old new)
 IsDemo NoWrite old new = Unit {0}
 
 -- no byte of the file is known to be read, and nothing is written

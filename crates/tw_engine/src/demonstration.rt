@@ -1,23 +1,43 @@
-//! The demonstration: a generator that feeds a tally, run by the executive.
+//! The demonstration: a generator that feeds a tally, run by two workers.
 
 ghost use Rattle.std.specs.Prelude.{◌≡◌, IfOk};
-ghost use Rattle.tw_engine.specs.Runs.{demo_network, demo_text, run_text};
-ghost use Rattle.tw_models.specs.Model.{model_meaning};
-ghost use Rattle.tw_network.specs.Contents.{network_of};
-ghost use Rattle.tw_theory.specs.Simulator.{sequential};
+ghost use Rattle.tw_engine.specs.Runs.{IsDemo, demo_network, demo_text, run_text};
 
+use crate::exit::Exit;
+use crate::workers::run_network;
 use std::alloc::{AllocError, Global};
-use tw_first::first::{gen_tally_law, traced};
+use std::io::Write;
+use std::sync::Wait;
+use std::thread::Threads;
+use tw_line::Setting;
 use tw_models::Model;
-use tw_msgs::Record;
 use tw_network::Network;
+use tw_process::Cancel;
+use tw_vtime::Refusal;
 
-/// The tick at which the demonstration ends.
+// The tick at which the demonstration ends.
 const UNTIL: u64 = 5;
 
-/// The network of the demonstration: a generator of period 2 and value 5, and a tally that it feeds.
-/// Such a network is refused for want of memory alone.
-pub(crate) fn gen_tally(alloc: Global) -> Result<Network<Model>, AllocError>
+// Its workers, and how far they work ahead.
+const SETTING: Setting = Setting {
+    workers: 2,
+    burst: 16,
+    window: 1000,
+};
+
+// Runs the demonstration and writes its text.
+pub(crate) fn demo<R: Threads + Wait + Sync, W: Write>(rt: &R, alloc: Global, out: &mut W) -> Exit
+    ensures { IsDemo result (W.contents out.old) (W.contents out.new) }
+{
+    let Ok(network) = gen_tally(alloc) else {
+        return Exit::Want(Refusal::OutOfMemory);
+    };
+    run_network(rt, alloc, network, UNTIL, Cancel::Aggressive, SETTING, out)
+}
+
+// The network of the demonstration: a generator of period 2 and value 5, and a tally that it feeds.
+// Such a network is refused for want of memory alone.
+fn gen_tally(alloc: Global) -> Result<Network<Model>, AllocError>
     ensures { IfOk result (λ n. n ≡ demo_network) }
 {
     let mut components = Vec::new(alloc);
@@ -28,16 +48,6 @@ pub(crate) fn gen_tally(alloc: Global) -> Result<Network<Model>, AllocError>
     let mut couplings = Vec::new(alloc);
     couplings.push((0, 0, 1, 0))?;
     Network::new(alloc, components, couplings, Vec::new(alloc), 100).map_err(|_| AllocError)
-}
-
-/// The trace of the demonstration, as the executive commits it. It has no fault and no end that a stamp
-/// lacks, and is refused for want of memory alone.
-pub(crate) fn demo_trace(alloc: Global) -> Result<Vec<Record>, AllocError>
-    ensures { IfOk result (λ trace. trace.items ≡ (sequential (network_of model_meaning demo_network) 5).records) }
-{
-    gen_tally_law();
-    let network = gen_tally(alloc)?;
-    traced(alloc, network, UNTIL).map_err(|_| AllocError)
 }
 
 /// What the demonstration prints: the text of its sequential run is these six lines.

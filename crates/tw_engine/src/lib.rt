@@ -1,17 +1,20 @@
 //! The engine that the program runs, over any reader and writer.
 //!
-//! - [`engine`]: does a job: reads a network file, simulates its network, alone or by workers, and writes the trace, drives an
+//! - [`engine`]: does a job: reads a network file and says what it has or where it is at fault, simulates its network, alone
+//!   or by workers, and writes the trace, drives an
 //!   executive of it by hand, or runs the demonstration by the executive. Its contract gives the exact bytes written, and what each way to end
 //!   means.
 //! - [`demo_law`]: what `demo` prints, in its bytes.
 //! - [`Exit`]: how a run ended, with the status of the process and the line for standard error.
 #![tactic(auto)]
 
+mod checks;
 mod demonstration;
 mod exit;
 mod names;
 mod plays;
 mod runs;
+mod streaming;
 mod workers;
 
 pub use demonstration::demo_law;

@@ -1,11 +1,12 @@
 //! A run by workers.
 
 ghost use Rattle.std.specs.Prelude.{◌≡◌, ◌≤◌, ◌<◌, ◌⊎◌, IfErr, IfOk};
-ghost use Rattle.tw_engine.specs.Runs.{IsRunByWorkers};
+ghost use Rattle.tw_engine.specs.Runs.{IsRunByWorkers, IsWorked};
 ghost use Rattle.tw_models.specs.Model.{model_meaning};
 ghost use Rattle.tw_network.specs.Contents.{network_of};
 ghost use Rattle.tw_theory.specs.Simulator.{sequential};
 ghost use Rattle.tw_vtime.specs.Stamps.{max_tick};
+ghost use Rattle.tw_workers.specs.Ends.{IsEnd};
 ghost use Rattle.tw_vtime.specs.declared.refusal.Refusal.TheVariants as refusal;
 
 use crate::exit::Exit;
@@ -14,6 +15,7 @@ use std::alloc::Global;
 use std::io::Write;
 use std::sync::{Arc, Wait};
 use std::thread::Threads;
+use tw_board::Board;
 use tw_exec::Executive;
 use tw_laws::endings::outcome_law;
 use tw_line::Setting;
@@ -36,10 +38,24 @@ pub(crate) fn run_by_workers<R: Threads + Wait + Sync, W: Write>(
 ) -> Exit
     ensures { IsRunByWorkers bytes.now until result (W.contents out.old) (W.contents out.new) }
 {
-    let network = match network(alloc, bytes) {
-        Ok(network) => network,
-        Err(exit) => return exit,
-    };
+    match network(alloc, bytes) {
+        Ok(network) => run_network(rt, alloc, network, until, cancel, setting, out),
+        Err(exit) => exit,
+    }
+}
+
+// Runs a network by workers, and writes its text.
+pub(crate) fn run_network<R: Threads + Wait + Sync, W: Write>(
+    rt: &R,
+    alloc: Global,
+    network: Network<Model>,
+    until: u64,
+    cancel: Cancel,
+    setting: Setting,
+    out: &mut W,
+) -> Exit
+    ensures { IsWorked network until result (W.contents out.old) (W.contents out.new) }
+{
     let executive = match started(alloc, network, until, cancel) {
         Ok(executive) => executive,
         Err(exit) => return exit,
@@ -84,7 +100,7 @@ fn worked<R: Threads + Wait + Sync>(
 {
     executive.facts();
     outcome_law::<State>();
-    match run(rt, alloc, executive, in_range(setting), &Open) {
+    match outcome(rt, alloc, executive, setting) {
         Ok(Outcome::Complete(records)) => Ok(Seq {
             records,
             fault: None,
@@ -93,6 +109,26 @@ fn worked<R: Threads + Wait + Sync>(
             records,
             fault: Some((component, stamp, limit)),
         }),
+        Err(why) => Err(why),
+    }
+}
+
+// How the workers' run of an executive ends. It posts on a board of its own.
+fn outcome<R: Threads + Wait + Sync>(
+    rt: &R,
+    alloc: Global,
+    executive: Executive<Model>,
+    setting: Setting,
+) -> Result<Outcome, Refusal>
+    ensures outcome { IfOk result (IsEnd model_meaning executive.network executive.until) }
+    ensures err { IfErr result (λ why. (why ≡ refusal.OutOfMemory) ⊎ (why ≡ refusal.Full)) }
+{
+    let Ok((_, publisher)) = Board::new(alloc) else {
+        return Err(Refusal::OutOfMemory);
+    };
+    let (ended, _) = run(rt, alloc, executive, in_range(setting), &Open, publisher);
+    match ended {
+        Ok(outcome) => Ok(outcome),
         Err(fault) => Err(Refusal::from(fault.why)),
     }
 }

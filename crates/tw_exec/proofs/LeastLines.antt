@@ -15,7 +15,7 @@ use Rattle.tw_theory.specs.Simulator.{sequential}
 use Rattle.std.proofs.lemmas.List.{take_more, map_push}
 use Rattle.tw_process.specs.Process.{Held}
 use Rattle.tw_theory.specs.Contents.{Process}
-use Rattle.tw_theory.specs.Traces.{before, least_line, of_component, IsTrace}
+use Rattle.tw_theory.specs.Traces.{before, least_line, of_component, IsMerged, IsTrace}
 
 -- the least line of processes and then one more
 line_push : {S : Type 0} (ps : List (Process S)) (p : Process S) → least_line (ps ++ p ∷ []) ≡ min (least_line ps) p.line
@@ -39,3 +39,9 @@ module _ {M S : Type 0} {meaning : M → Meaning S} {n : Contents M} {until end 
   merged_before line (Ok trace) is ordered parts =
       (least_line_law (network_of meaning n) until (shown ps mail columns gvt) h.network h.bound h.sound trace.items (record { ordered = ordered; parts = λ c. parts c ∙ ap (λ l. before l (column_of columns c)) is })).0
   merged_before line (Err e) is ordered parts = ordered
+
+  -- and has of each component what its column has before it
+  pub merged_there : {E : Type 0} (line : ℕ) (r : Result (Vec Record) E) → line ≡ least_line (map (λ p. p.process) ps) → IfOk r (λ trace. IsTrace trace.items) → IfOk r (λ trace. (c : ℕ) → of_component c trace.items ≡ before line (column_of columns c))
+      → IfOk r (λ trace. IsMerged (least_line (map (λ p. p.process) ps)) (shown ps mail columns gvt) trace.items)
+  merged_there line (Ok trace) is ordered parts = record { ordered = ordered; parts = λ c. parts c ∙ ap (λ l. before l (column_of columns c)) is }
+  merged_there line (Err e) is ordered parts = ordered

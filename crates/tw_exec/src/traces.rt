@@ -3,7 +3,7 @@
 ghost use Rattle.std.specs.Prelude.{◌≡◌, IfOk, map};
 ghost use Rattle.tw_network.specs.Contents.{network_of};
 ghost use Rattle.tw_theory.specs.Simulator.{sequential};
-ghost use Rattle.tw_theory.specs.Traces.{before, least_line};
+ghost use Rattle.tw_theory.specs.Traces.{IsMerged, before, least_line};
 
 use crate::executive::Executive;
 use std::alloc::{AllocError, Global};
@@ -15,11 +15,12 @@ use tw_vtime::Stamp;
 
 impl<M: Atomic> Executive<M> {
     /// The records before the least commit line of all components, by stamp and then component: what the sequential simulator
-    /// records before it. Without components there are none.
+    /// records before it, and each record of a column before it once. Without components there are none.
     ///
     /// It copies them, and is refused for want of memory alone (4).
     pub fn trace(&self, alloc: Global) -> Result<Vec<Record>, AllocError>
-        ensures { IfOk result (λ trace. trace.items ≡ before (least_line self.now.world.processes) (sequential (network_of M.meaning self.now.network) self.now.until).records) }
+        ensures sequential { IfOk result (λ trace. trace.items ≡ before (least_line self.now.world.processes) (sequential (network_of M.meaning self.now.network) self.now.until).records) }
+        ensures merged { IfOk result (λ trace. IsMerged (least_line self.now.world.processes) self.now.world trace.items) }
     {
         let line = least_line(self.processes.as_slice());
         merge(alloc, self.columns.as_slice(), line)

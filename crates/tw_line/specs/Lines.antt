@@ -15,9 +15,9 @@ use Rattle.tw_lists.specs.declared.cancel.Cancel.TheVariants.{Aggressive, Lazy}
 use Rattle.tw_line.specs.declared.jobs.Driver.{Driver}
 use Rattle.tw_line.specs.declared.jobs.Driver.TheVariants.{Script, Seed}
 use Rattle.tw_line.specs.declared.jobs.Job.{Job}
-use Rattle.tw_line.specs.declared.jobs.Job.TheVariants.{Demo, Seq, Run, Play}
+use Rattle.tw_line.specs.declared.jobs.Job.TheVariants.{Demo, Check, Seq, Run, Play}
 use Rattle.tw_line.specs.declared.jobs.NoJob.{NoJob}
-use Rattle.tw_line.specs.declared.jobs.NoJob.TheVariants.{Help, BadLine, OutOfMemory}
+use Rattle.tw_line.specs.declared.jobs.NoJob.TheVariants.{Help, Version, BadLine, OutOfMemory}
 use Rattle.tw_line.specs.declared.jobs.Setting.{Setting}
 
 -- ---- the command
@@ -43,6 +43,10 @@ until_rule = record (number_rule (codes "until") 0 1099511627774) { required = t
 
 abbrev pub demo_app : App
 demo_app = new_app (codes "demo")
+
+-- a subcommand that takes a network file alone
+abbrev pub check_app : App
+check_app = with_rule (new_app (codes "check")) net_rule
 
 -- a subcommand over a network, up to an end tick
 abbrev pub network_app : Text → App
@@ -71,16 +75,20 @@ driven_app = with_rule (with_rule (with_rule (network_app (codes "play"))
 abbrev pub play_app : App
 play_app = with_rule driven_app (text_rule (codes "cancel"))
 
--- twarp alone, which wants a subcommand
+-- twarp alone, which has a version and wants a subcommand
 abbrev pub bare_app : App
-bare_app = record { top = record (new_app (codes "twarp")).top { subcommand_required = true }; subs = [] }
+bare_app = record { top = record (new_app (codes "twarp")).top { has_version = true; subcommand_required = true }; subs = [] }
 
--- with the subcommands that have no executive
+-- with the subcommands that simulate no network of a file
 abbrev pub first_app : App
-first_app = with_subcommand (with_subcommand bare_app demo_app.top) seq_app.top
+first_app = with_subcommand (with_subcommand bare_app demo_app.top) check_app.top
+
+-- with those that have no executive
+abbrev pub alone_app : App
+alone_app = with_subcommand first_app seq_app.top
 
 abbrev pub twarp_app : App
-twarp_app = with_subcommand (with_subcommand first_app run_app.top) play_app.top
+twarp_app = with_subcommand (with_subcommand alone_app run_app.top) play_app.top
 
 -- ---- the job
 
@@ -114,6 +122,7 @@ IsDriverIn rows (Seed seed steps) =
 -- the job of a subcommand's name and its options
 abbrev pub IsJobOf : Text → List Row → Job → Type 0
 IsJobOf name rows Demo = name ≡ codes "demo"
+IsJobOf name rows (Check net) = (name ≡ codes "check") × (first_of (codes "net") rows ≡ Some net.now)
 IsJobOf name rows (Seq net until) =
     (name ≡ codes "seq") × (first_of (codes "net") rows ≡ Some net.now)
     × HasNumber (codes "until") 0 1099511627774 rows until
@@ -131,27 +140,30 @@ IsJob (Some p) j = IsJobOf p.0 p.1 j
 
 -- ---- no job
 
--- the parse may answer an error of another kind than help
+-- the parse may answer an error of another kind than help and the version
 abbrev pub HasFault : Kinds → Type 0
-HasFault kinds = (k : ErrorKind) × IsAmong k kinds × (k ≢ kind.DisplayHelp)
+HasFault kinds = (k : ErrorKind) × IsAmong k kinds × (k ≢ kind.DisplayHelp) × (k ≢ kind.DisplayVersion)
 
--- help comes where the parse answers it; a line is refused where the parse refuses it, or finds no job
+-- help or the version comes where the parse answers it; a line is refused where the parse refuses it, or finds no job
 abbrev pub IsReason : List Text → NoJob → Type 0
 IsReason words (Help error) = (kind_of error ≡ kind.DisplayHelp) × IsAmong kind.DisplayHelp (fault_of twarp_app words)
+IsReason words (Version error) = (kind_of error ≡ kind.DisplayVersion) × IsAmong kind.DisplayVersion (fault_of twarp_app words)
 IsReason words BadLine = HasFault (fault_of twarp_app words) ⊎ ((j : Job) → ¬ (IsJob (subcommand_of twarp_app words) j))
 IsReason words OutOfMemory = Unit {0}
 
 -- what becomes of an error of the parse, by its kind
 abbrev pub IsMadeOf : ErrorKind → NoJob → Type 0
 IsMadeOf k (Help error) = (k ≡ kind.DisplayHelp) × (kind_of error ≡ k)
-IsMadeOf k BadLine = (k ≢ kind.DisplayHelp) × (k ≢ kind.OutOfMemory)
+IsMadeOf k (Version error) = (k ≡ kind.DisplayVersion) × (kind_of error ≡ k)
+IsMadeOf k BadLine = (k ≢ kind.DisplayHelp) × (k ≢ kind.DisplayVersion) × (k ≢ kind.OutOfMemory)
 IsMadeOf k OutOfMemory = Unit {0}
 
 abbrev pub refused_for_memory : NoJob
 refused_for_memory = OutOfMemory
 
--- help is no refusal
+-- help and the version are no refusals
 abbrev pub refusal_of : NoJob → Option Refusal
 refusal_of (Help error) = None
+refusal_of (Version error) = None
 refusal_of BadLine = Some refusal.BadLine
 refusal_of OutOfMemory = Some refusal.OutOfMemory

@@ -86,6 +86,15 @@ fn driver_in<'a>(options: &ArgMatches<'a>) -> Option<Driver<'a>>
     Some(Driver::Seed { seed, steps })
 }
 
+/// The job of `check` and its options.
+fn check_in<'a>(options: &ArgMatches<'a>) -> Option<Job<'a>>
+    ensures some { IfSome result (IsJobOf (codes "check") (rows_of (found_of options.now))) }
+    ensures none { IfNone result ((j : _) → ¬ (IsJobOf (codes "check") (rows_of (found_of options.now)) j)) }
+{
+    let net = text_in(options, "net")?;
+    Some(Job::Check { net })
+}
+
 /// The job of `seq` and its options.
 fn seq_in<'a>(options: &ArgMatches<'a>) -> Option<Job<'a>>
     ensures some { IfSome result (IsJobOf (codes "seq") (rows_of (found_of options.now))) }
@@ -138,6 +147,9 @@ fn job_named<'a>(name: &str, options: &ArgMatches<'a>) -> Option<Job<'a>>
     if name == "demo" {
         return Some(Job::Demo);
     }
+    if name == "check" {
+        return check_in(options);
+    }
     if name == "seq" {
         return seq_in(options);
     }
@@ -165,6 +177,7 @@ fn no_job(error: Error) -> NoJob
 {
     match error.kind() {
         ErrorKind::DisplayHelp => NoJob::Help(error),
+        ErrorKind::DisplayVersion => NoJob::Version(error),
         ErrorKind::OutOfMemory => NoJob::OutOfMemory,
         _ => NoJob::BadLine,
     }
@@ -172,14 +185,15 @@ fn no_job(error: Error) -> NoJob
 
 /// The job that a command line asks for. The first word is the program's name.
 ///
-/// The jobs are `demo`; `seq NET --until T`; `run NET --until T` with `--workers N` (1 to 64), `--burst K` (1 to
+/// The jobs are `demo`; `check NET`; `seq NET --until T`; `run NET --until T` with `--workers N` (1 to 64), `--burst K` (1 to
 /// 256 steps) and `--window W` (0 to 1,099,511,627,774 ticks), which are 2, 16 and 1000 where they are left out; and
 /// `play NET --until T` with what drives it, either `--script FILE` alone or both `--seed S` and `--steps N`. `run`
 /// and `play` take `--cancel aggressive` (also where it is left out) or `--cancel lazy`. T is a number of ticks, 0
 /// to 1,099,511,627,774, S any u64, N of `--steps` at most 1,000,000; numbers are those that clap's reader of a u64
 /// takes, `+5` and `007` among them. Every other line is refused by [`NoJob::BadLine`] (23), also one with no
 /// subcommand, one with two drivers and one with half of one. Where `--help`, `-h` or `help` is met first,
-/// [`NoJob::Help`] has clap's text; where memory is wanting, it is [`NoJob::OutOfMemory`] (4).
+/// [`NoJob::Help`] has clap's text, and where `--version` or `-V` is in place of a subcommand, [`NoJob::Version`];
+/// where memory is wanting, it is [`NoJob::OutOfMemory`] (4).
 ///
 /// In the contract, `twarp_app` is the command in clap's own words, `subcommand_of` the subcommand that
 /// clap's parse finds there and `fault_of` the kinds of error that it answers, none for a line that it

@@ -3,8 +3,9 @@
 ghost use Rattle.std.specs.Prelude.{◌≡◌, IfOk, codes, false};
 ghost use Rattle.clap.specs.Words.{app_of, rule_of};
 ghost use Rattle.clap.specs.declared.builder.command.Command.TheViews.{out-Command};
-ghost use Rattle.tw_line.specs.Lines.{net_rule, number_rule, text_rule, until_rule, demo_app, driven_app, first_app, network_app, play_app, preset_rule, run_app, seq_app, set_app, twarp_app};
+ghost use Rattle.tw_line.specs.Lines.{net_rule, number_rule, text_rule, until_rule, alone_app, check_app, demo_app, driven_app, first_app, network_app, play_app, preset_rule, run_app, seq_app, set_app, twarp_app};
 
+use crate::help::{CHECK_END, DEMO_END, PLAY_END, RUN_END, SEQ_END, TWARP_END, VERSION};
 use crate::jobs::{MAX_BURST, MAX_STEPS, MAX_WORKERS};
 use clap::builder::ValueParser;
 use clap::{Arg, Command};
@@ -68,9 +69,21 @@ fn demo_command<'a>(alloc: Global) -> Command<'a>
     ensures app { app_of result ≡ demo_app }
     ensures local { (out-Command result).has_globals ≡ false }
 {
-    Command::new(alloc, "demo").about(
-        "Run a built-in network, a generator of period 2 ticks and a tally, until tick 5",
-    )
+    Command::new(alloc, "demo")
+        .about("Run a built-in network, a generator of period 2 ticks and a tally, until tick 5")
+        .after_help(DEMO_END)
+}
+
+fn check_command<'a>(alloc: Global) -> Result<Command<'a>, AllocError>
+    ensures app { IfOk result (λ c. app_of c ≡ check_app) }
+    ensures local { IfOk result (λ c. (out-Command c).has_globals ≡ false) }
+{
+    Command::new(alloc, "check")
+        .about(
+            "Read a network file and say what it has, or where its first fault is and why; simulate nothing",
+        )
+        .after_help(CHECK_END)
+        .arg(net(alloc))
 }
 
 /// A subcommand over a network, up to an end.
@@ -78,12 +91,14 @@ fn network_command<'a>(
     alloc: Global,
     name: &'a str,
     about: &'a str,
+    end: &'a str,
 ) -> Result<Command<'a>, AllocError>
     ensures app { IfOk result (λ c. app_of c ≡ network_app name.entry.now) }
     ensures local { IfOk result (λ c. (out-Command c).has_globals ≡ false) }
 {
     Command::new(alloc, name)
         .about(about)
+        .after_help(end)
         .arg(net(alloc))?
         .arg(until(alloc))
 }
@@ -96,6 +111,7 @@ fn seq_command<'a>(alloc: Global) -> Result<Command<'a>, AllocError>
         alloc,
         "seq",
         "Simulate a network one step after another and write its trace",
+        SEQ_END,
     )
 }
 
@@ -135,6 +151,7 @@ fn set_command<'a>(alloc: Global) -> Result<Command<'a>, AllocError>
         alloc,
         "run",
         "Simulate a network by Time Warp, with workers in threads, and write its trace",
+        RUN_END,
     )?
     .arg(workers(alloc))?
     .arg(burst(alloc))?
@@ -193,6 +210,7 @@ fn driven_command<'a>(alloc: Global) -> Result<Command<'a>, AllocError>
         alloc,
         "play",
         "Drive a network by hand: make, take back and commit steps in any order, write a reply to each action, then the trace of what is committed",
+        PLAY_END,
     )?
     .arg(script(alloc))?
     .arg(seed(alloc))?
@@ -206,17 +224,29 @@ fn play_command<'a>(alloc: Global) -> Result<Command<'a>, AllocError>
     driven_command(alloc)?.arg(cancel(alloc))
 }
 
-/// The program with the subcommands that have no executive.
+/// The program with the subcommands that simulate no network of a file.
 fn first_commands<'a>(alloc: Global) -> Result<Command<'a>, AllocError>
     ensures app { IfOk result (λ c. app_of c ≡ first_app) }
     ensures local { IfOk result (λ c. (out-Command c).has_globals ≡ false) }
 {
     let demo = demo_command(alloc);
-    let seq = seq_command(alloc)?;
+    let check = check_command(alloc)?;
     let first = Command::new(alloc, "twarp")
+        .version(VERSION)
         .about("Simulate networks of Parallel DEVS models")
+        .after_help(TWARP_END)
         .subcommand_required(true)
         .subcommand(demo)?;
+    first.subcommand(check)
+}
+
+/// The program with the subcommands that have no executive.
+fn alone_commands<'a>(alloc: Global) -> Result<Command<'a>, AllocError>
+    ensures app { IfOk result (λ c. app_of c ≡ alone_app) }
+    ensures local { IfOk result (λ c. (out-Command c).has_globals ≡ false) }
+{
+    let seq = seq_command(alloc)?;
+    let first = first_commands(alloc)?;
     first.subcommand(seq)
 }
 
@@ -226,7 +256,7 @@ pub(crate) fn command<'a>(alloc: Global) -> Result<Command<'a>, AllocError>
 {
     let run = run_command(alloc)?;
     let play = play_command(alloc)?;
-    let first = first_commands(alloc)?;
+    let first = alone_commands(alloc)?;
     let second = first.subcommand(run)?;
     second.subcommand(play)
 }

@@ -22,6 +22,11 @@ pub(crate) const MAX_BURST: u64 = 256;
 pub enum Job<'a> {
     /// Show a run of a built-in network.
     Demo,
+    /// Read a network file and say what it has, or its first fault, where it stands and why; simulate nothing.
+    Check {
+        /// The path of the network file.
+        net: &'a str,
+    },
     /// Simulate a network by the sequential abstract simulator and write the trace.
     Seq {
         /// The path of the network file.
@@ -85,6 +90,9 @@ pub enum NoJob {
     /// Help was asked for, and here is its text: print it, with status 0.
     #[error("{0}")]
     Help(clap::Error),
+    /// The version was asked for, and here is its text: print it, with status 0.
+    #[error("{0}")]
+    Version(clap::Error),
     /// The line is none of the program's: 23.
     #[error("the command line is none of the program's")]
     BadLine,
@@ -102,12 +110,12 @@ impl From<AllocError> for NoJob {
 }
 
 impl NoJob {
-    /// The refusal of the line: 23 or 4, and none where help was asked for.
+    /// The refusal of the line: 23 or 4, and none where help or the version was asked for.
     pub fn refusal(&self) -> Option<Refusal>
         ensures { result ≡ refusal_of self.now }
     {
         match self {
-            NoJob::Help(_) => None,
+            NoJob::Help(_) | NoJob::Version(_) => None,
             NoJob::BadLine => Some(Refusal::BadLine),
             NoJob::OutOfMemory => Some(Refusal::OutOfMemory),
         }

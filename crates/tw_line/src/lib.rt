@@ -2,12 +2,13 @@
 //!
 //! [`job`] reads the words with `clap`. Its contract is exact: the [`Job`] is the subcommand that the
 //! parse finds, with the text or the number of each argument, and each number in its range; a refused
-//! line (23) is one that the parse refuses, or one in which no job stands. Where help is asked for it
+//! line (23) is one that the parse refuses, or one in which no job stands. Where help or the version is asked for it
 //! hands out clap's text. [`NoJob`] says which of these it is.
 #![tactic(auto)]
 
 pub mod command_line;
 mod commands;
+mod help;
 pub mod jobs;
 
 pub use command_line::job;

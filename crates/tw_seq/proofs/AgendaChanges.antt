@@ -102,6 +102,27 @@ puts_off old less new c from to updates p = record {
   only = λ t d h. ⊎_elim (λ l. let o = left_other old less (from, c) updates t d l in inl (o.0, λ e f. o.1 f e)) (λ n. inr n) (p.only t d h);
 }
 
+-- it was taken away before
+pub puts_taken : (old new : BTreeSet (ℕ × ℕ)) (c from to : ℕ) → (IsOn old from c → ⊥) → Puts old new c to → PutsOff old new c from to
+puts_taken old new c from to none p = record {
+  kept = λ t d h n. p.kept t d h;
+  put = p.put;
+  only = λ t d h. ⊎_elim
+      (λ l. inl (l, λ e f. none (subst (λ x. IsOn old x c) f (subst (λ x. IsOn old t x) e l))))
+      (λ n. inr n) (p.only t d h);
+}
+
+-- it stays where it is
+pub stays_put : (steps : BTreeSet (ℕ × ℕ)) (c from to : ℕ) → from ≡ to → to < never → (from < never → IsOn steps from c) → PutsOff steps steps c from to
+stays_put steps c from to e l there = record {
+  kept = λ t d h n. h;
+  put = λ m. subst (λ s. IsOn steps s c) e (there (omega (arith, e, m)));
+  only = λ t d h. ⊎_elim
+      (λ at. ⊎_elim (λ own. inr (at ∙ e, own, l)) (λ n. inl (h, λ own. absurd (n own))) (cases_eq d c))
+      (λ n. inl (h, λ _. n))
+      (cases_eq t from);
+}
+
 -- ---- no step stands before the first
 
 not_after : (k q : ℕ × ℕ) → is_gt (step_order k q) ≡ false → (k.0 ≤ q.0) × ((k.0 ≡ q.0) → k.1 ≤ q.1)

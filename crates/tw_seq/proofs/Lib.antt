@@ -4,6 +4,8 @@ pub mod CarriedFits
 pub mod Dealt
 pub mod InputsGiven
 pub mod InputOrder
+pub mod Parted
+pub mod Received
 pub mod RoundOutputs
 pub mod Places
 pub mod Reaching

@@ -7,18 +7,10 @@ use Rattle.tw_seq.specs.InOrder.{start_in_order, rounds_in_order}
 use Rattle.tw_seq.specs.Invariant.{IsUnderway}
 use Rattle.tw_theory.specs.Network.{Network}
 use Rattle.tw_theory.specs.Simulator.{Run, round, round_time, rounds_from}
-use Rattle.tw_vtime.specs.Stamps.{max_tick, never, stamp, tick_of, phase_of}
+use Rattle.tw_vtime.specs.Stamps.{max_tick, stamp, tick_of, phase_of}
 use Rattle.tw_vtime.specs.declared.limits.Limit.{Limit}
+use Rattle.tw_seq.specs.Parts.{Reaching}
 use Rattle.tw_seq.proofs.RoundsKept.{next_round, underway_at}
-
--- at most `left` rounds more, from a run in which nothing is due before `from`
-pub record Reaching {M S : Type 0} (valid : M → S → Type 0) (meaning : M → Meaning S) (contents : Contents M) (bound : ℕ) (run : Run S) : Type 0 where
-  pub from : ℕ
-  pub left : ℕ
-  pub underway : IsUnderway valid meaning contents from run
-  pub same : rounds_from (network_of meaning contents) bound left run None ≡ rounds_in_order (network_of meaning contents) bound
-  pub enough : bound ≤ from + left
-  pub top : from ≤ never
 
 from_fault : {S : Type 0} (net : Network S) (bound n : ℕ) (run : Run S) (f : ℕ × ℕ × Limit) → rounds_from net bound n run (Some f) ≡ run
 from_fault net bound zero run f = refl

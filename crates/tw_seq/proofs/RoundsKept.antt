@@ -1,7 +1,7 @@
 -- A round of the code is the definition's, and what stays true from round to round.
-use Rattle.std.proofs.Common.{◌≡◌, ℕ, zero, suc, ◌+◌, ◌-◌, ◌<◌, ◌≤◌, ◌==◌, ◌⊎◌, inl, inr, min, List, [], ◌∷◌, ◌++◌, length, Option, Some, None, nat_lt, replicate, slice_get, refl, sym, ap, ◌∙◌, subst, ⊎_elim, arith, append_assoc}
+use Rattle.std.proofs.Common.{◌≡◌, ℕ, zero, suc, ◌+◌, ◌-◌, ◌<◌, ◌≤◌, ◌==◌, ◌⊎◌, inl, inr, min, List, [], ◌∷◌, ◌++◌, length, Option, Some, None, nat_lt, replicate, slice_get, refl, sym, ap, ◌∙◌, subst, ⊎_elim, arith}
 use Rattle.std.specs.List.{All, AllByRecursion as Each}
-use Rattle.std.specs.Prelude.{◌≢◌, MatchOption}
+use Rattle.std.specs.Prelude.{◌≢◌}
 use Rattle.std.specs.BTreeSet.{BTreeSet}
 use Rattle.std.proofs.lemmas.List.{length-replicate}
 use Rattle.std.proofs.lemmas.List.Elements.{All-nil}
@@ -15,12 +15,12 @@ use Rattle.tw_network.specs.Contents.{Contents, network_of, IsCoupling}
 use Rattle.tw_seq.specs.Agenda.{IsOn, IsDueAt, IsAgenda}
 use Rattle.tw_seq.specs.Dealing.{dealt, Carried}
 use Rattle.tw_seq.specs.Invariant.{AllStand, IsToCome, IsUnderway}
-use Rattle.tw_seq.specs.Turning.{turns_with}
+use Rattle.tw_seq.specs.Turning.{turns_with, all_outputs, all_turns}
 use Rattle.tw_seq.specs.Waking.{WakesAll}
 use Rattle.tw_theory.specs.Bundles.{items_of, addressed}
 use Rattle.tw_theory.specs.Transitions.{Moment, output}
 use Rattle.tw_theory.specs.Network.{Network}
-use Rattle.tw_theory.specs.Simulator.{RoundTurn, take_turn, after_output, turns, first_stop, turn_records, turned_moments, outputs, all_sent, with_stamp, past_stamp, Run, round, round_end, round_time, least_due, least_input}
+use Rattle.tw_theory.specs.Simulator.{take_turn, after_output, turns, first_stop, turn_records, turned_moments, outputs, all_sent, with_stamp, past_stamp, Run, round, round_end, round_time, least_due, least_input}
 use Rattle.tw_vtime.specs.Stamps.{never, phase_of}
 use Rattle.tw_vtime.specs.declared.limits.Limit.{Limit}
 use Rattle.tw_seq.proofs.SortedBags.{sorted_bag-FitsBag, FitsOutput-bag}
@@ -38,10 +38,6 @@ turns_dealt net t c [] ms = refl
 turns_dealt net t c (now ∷ moments) ms =
     ap (λ ts. take_turn net c (after_output net c now t) (t + 1) (now.due == t) (sorted_bag (items_of (addressed c ms))) ∷ ts) (turns_dealt net t (suc c) moments ms)
 
--- all turns of a round of time t
-abbrev pub all_turns : {S : Type 0} → Network S → ℕ → Run S → List (RoundTurn S)
-all_turns net t run = turns net t (all_sent net (outputs net t 0 run.at.moments) ++ with_stamp (t + 1) run.at.inputs) 0 run.at.moments
-
 pub round_by : {S : Type 0} (net : Network S) (t : ℕ) (run : Run S) (stop : Option (ℕ × Limit)) → stop ≡ first_stop 0 (all_turns net t run) → round_end run t (outputs net t 0 run.at.moments) (all_turns net t run) stop ≡ round net run t
 unfolding round
 round_by net t run stop e = ap (round_end run t (outputs net t 0 run.at.moments) (all_turns net t run)) e
@@ -52,22 +48,15 @@ module _ {S : Type 0} (net : Network S) (t : ℕ) (run : Run S) (stop : Option (
       (λ k. record { at = record { moments = m k; inputs = i k }; records = r k; fault = None })
       ∙ ap (round_end run t (outputs net t 0 run.at.moments) (all_turns net t run)) (sym none) ∙ round_by net t run stop found
 
-  pub round_recorded : (records first : List Record) → first ≡ run.records ++ outputs net t 0 run.at.moments → MatchOption stop (records ≡ first ++ turn_records (all_turns net t run)) (λ _. records ≡ first) → records ≡ (round net run t).records
-  round_recorded records first f h = go stop refl h ∙ ap (λ r. r.records) (round_by net t run stop found)
-    where
-      outs : List Record
-      outs = outputs net t 0 run.at.moments
+  pub round_none : stop ≡ None → ((round net run t).fault ≡ None) × ((round net run t).records ≡ run.records ++ (all_outputs net t run ++ turn_records (all_turns net t run)))
+  round_none none =
+      let is = sym (round_by net t run stop found) ∙ ap (round_end run t (all_outputs net t run) (all_turns net t run)) none in
+      (ap (λ r. r.fault) is, ap (λ r. r.records) is)
 
-      go : (o : Option (ℕ × Limit)) → stop ≡ o → MatchOption o (records ≡ first ++ turn_records (all_turns net t run)) (λ _. records ≡ first) → records ≡ (round_end run t (outputs net t 0 run.at.moments) (all_turns net t run) stop).records
-      go None e k = k ∙ ap (λ l. l ++ turn_records (all_turns net t run)) f ∙ append_assoc run.records (outputs net t 0 run.at.moments) (turn_records (all_turns net t run)) ∙ ap (λ o. (round_end run t (outputs net t 0 run.at.moments) (all_turns net t run) o).records) (sym e)
-      go (Some at) e k = k ∙ f ∙ ap (λ o. (round_end run t (outputs net t 0 run.at.moments) (all_turns net t run) o).records) (sym e)
-
-  pub round_faults : MatchOption stop ((round net run t).fault ≡ None) (λ at. (round net run t).fault ≡ Some (at.0, t + 1, at.1))
-  round_faults = go stop refl
-    where
-      go : (o : Option (ℕ × Limit)) → stop ≡ o → MatchOption o ((round net run t).fault ≡ None) (λ at. (round net run t).fault ≡ Some (at.0, t + 1, at.1))
-      go None e = ap (λ r. r.fault) (sym (round_by net t run stop found)) ∙ ap (λ o. (round_end run t (outputs net t 0 run.at.moments) (all_turns net t run) o).fault) e
-      go (Some at) e = ap (λ r. r.fault) (sym (round_by net t run stop found)) ∙ ap (λ o. (round_end run t (outputs net t 0 run.at.moments) (all_turns net t run) o).fault) e
+  pub round_some : (at : ℕ × Limit) → stop ≡ Some at → ((round net run t).fault ≡ Some (at.0, t + 1, at.1)) × ((round net run t).records ≡ run.records ++ all_outputs net t run)
+  round_some at some =
+      let is = sym (round_by net t run stop found) ∙ ap (round_end run t (all_outputs net t run) (all_turns net t run)) some in
+      (ap (λ r. r.fault) is, ap (λ r. r.records) is)
 
 -- ---- what stays true
 

@@ -1,5 +1,5 @@
 -- The items of a sorted bag fit as before.
-use Rattle.std.proofs.Common.{ℕ, ℤ, [], ◌∷◌, ◌∙◌, arith}
+use Rattle.std.proofs.Common.{ℕ, ℤ, [], ◌∷◌, arith}
 use Rattle.std.proofs.lemmas.Bool.{cond_both}
 use Rattle.tw_atomic.specs.Atomic.{FitsItem, FitsBag, FitsOutput}
 use Rattle.tw_msgs.specs.Bags.{Bag, by_port, insert_item, sorted_bag}

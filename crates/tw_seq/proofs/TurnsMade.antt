@@ -1,6 +1,6 @@
 -- One component's transition in a round is the definition's.
 use Rattle.std.proofs.Common.{◌≡◌, ℕ, ℤ, ◌+◌, ◌-◌, ◌<◌, ◌==◌, List, [], ◌∷◌, Bool, true, false, Option, Some, None, Result, Ok, Err, slice_get, refl, sym, ap, ◌∙◌, ⊎_elim, arith}
-use Rattle.std.specs.Prelude.{◌≢◌}
+use Rattle.std.specs.Prelude.{◌≢◌, unwrap_or}
 use Rattle.std.proofs.lemmas.Bool.{cond-true, cond-false, eq-eqb, ne_eqb}
 use Rattle.std.proofs.lemmas.Option.{same_Some}
 use Rattle.tw_atomic.specs.Atomic.{Meaning, turned}
@@ -16,7 +16,7 @@ use Rattle.tw_theory.specs.Transitions.{Moment, Move, turn, kind_of, due_of, mov
 use Rattle.tw_theory.specs.Network.{Network, model_of}
 use Rattle.tw_theory.specs.Simulator.{Stays, Moves, Stops, take_turn, after_output, turn_of_result}
 use Rattle.tw_vtime.specs.Advance.{advanced}
-use Rattle.tw_vtime.specs.Stamps.{max_tick, tick_of, phase_of}
+use Rattle.tw_vtime.specs.Stamps.{max_tick, never, tick_of, phase_of}
 use Rattle.tw_vtime.specs.declared.limits.Limit.{Limit}
 use Rattle.tw_seq.proofs.RoundOutputs.{model_is}
 
@@ -51,6 +51,11 @@ turn_is true [] taken kind e = let w = same_Some (turns.Int, kinds.Int) (taken, 
 turn_is true (x ∷ xs) taken kind e = let w = same_Some (turns.Con, kinds.Con) (taken, kind) e in (ap (λ x. x.0) w, ap (λ x. x.1) w)
 turn_is false [] taken kind e = absurd (cc e)
 turn_is false (x ∷ xs) taken kind e = let w = same_Some (turns.Ext, kinds.Ext) (taken, kind) e in (ap (λ x. x.0) w, ap (λ x. x.1) w)
+
+-- no next own step is one at the end
+pub or_never : (o : Option ℕ) → unwrap_or o never ≡ due_of o
+or_never None = refl
+or_never (Some s) = refl
 
 -- the moment after its output, by its parts
 abbrev after_parts : {S : Type 0} → Moment S → ℕ → Moment S

@@ -1,5 +1,5 @@
 -- The transitions of a round, component by component.
-use Rattle.std.proofs.Common.{◌≡◌, ℕ, suc, ◌+◌, ◌<◌, ◌≤◌, ◌==◌, inl, inr, false, append-nil, ne_eqb, List, [], ◌∷◌, ◌++◌, length, drop, take, Option, Some, slice_get, slice_set, slice_index, slice_index_or, replicate, refl, sym, ap, ap₂, ◌∙◌, subst, ⊎_elim, arith, add-one, append_assoc}
+use Rattle.std.proofs.Common.{◌≡◌, ℕ, ℤ, suc, ◌+◌, ◌<◌, ◌≤◌, ◌==◌, inl, inr, false, append-nil, ne_eqb, List, [], ◌∷◌, ◌++◌, length, drop, take, Option, Some, slice_get, slice_set, slice_index, slice_index_or, replicate, refl, sym, ap, ap₂, ◌∙◌, subst, ⊎_elim, arith, add-one, append_assoc}
 use Rattle.std.proofs.Math.Seq.{take-suc-set}
 use Rattle.std.proofs.lemmas.List.{drop-set-lt, set-get_or}
 use Rattle.std.specs.Prelude.{◌≢◌}
@@ -9,10 +9,10 @@ use Rattle.tw_msgs.specs.Bags.{Bag, sorted_bag}
 use Rattle.tw_msgs.specs.declared.record.Record.{Record}
 use Rattle.tw_network.specs.Contents.{Contents, network_of}
 use Rattle.tw_seq.specs.Invariant.{IsBetween, AllStand}
-use Rattle.tw_seq.specs.Turning.{seen, CanGoOn, kind_and_turn, turns_with}
-use Rattle.tw_seq.specs.Waking.{HasTurn, IsInTurn}
 use Rattle.tw_seq.specs.declared.turns.Taken.{Taken}
 use Rattle.tw_seq.specs.declared.turns.Taken.TheVariants as taken
+use Rattle.tw_seq.specs.Turning.{Part, Idle, Told, Limited, CanGoOn, part_of, seen, kind_and_turn, turns_with}
+use Rattle.tw_seq.specs.Waking.{HasTurn, IsInTurn}
 use Rattle.tw_theory.specs.Transitions.{Moment}
 use Rattle.tw_theory.specs.Network.{Network}
 use Rattle.tw_theory.specs.Simulator.{RoundTurn, Stays, take_turn, after_output, turn_records, turned_moments, first_stop}
@@ -47,29 +47,45 @@ rest_next net t i old bags d b l m =
     ap₂ (λ x y. turns_with net t i x y) (drop_next old i d l) (drop_next bags i b m)
     ∙ ap (λ n. take_turn net i (after_output net i (slice_index_or old i d) t) (t + 1) ((slice_index_or old i d).due == t) (sorted_bag (slice_index_or bags i b)) ∷ turns_with net t n (drop (i + 1) old) (drop (i + 1) bags)) (sym (add-one i))
 
-abbrev pub entries : Taken → List Record
-entries taken.Stays = []
-entries (taken.Moves entry) = entry ∷ []
-entries (taken.Stops limit) = []
+-- it met no limit
+abbrev pub GoesOn : Part → Type 0
+GoesOn Idle = Unit {0}
+GoesOn (Told entry) = Unit {0}
+GoesOn (Limited limit) = ⊥
 
-pub stop_next : {S : Type 0} (i : ℕ) (what : Taken) (new : Moment S) (ts : List (RoundTurn S)) → CanGoOn what → first_stop (i + 1) ts ≡ first_stop i (seen what new ∷ ts)
-stop_next i taken.Stays new ts h = ap (λ n. first_stop n ts) (add-one i)
-stop_next i (taken.Moves entry) new ts h = ap (λ n. first_stop n ts) (add-one i)
-stop_next i (taken.Stops limit) new ts h = absurd h
+pub goes_on : (c s : ℕ) (bag : Bag) (words : List ℤ) (what : Taken) → CanGoOn what → GoesOn (part_of c s bag words what)
+goes_on c s bag words taken.Stays h = tt
+goes_on c s bag words (taken.Moves kind) h = tt
+goes_on c s bag words (taken.Stops limit) h = absurd h
 
-pub records_next : {S : Type 0} (what : Taken) (new : Moment S) (ts : List (RoundTurn S)) → turn_records (seen what new ∷ ts) ≡ entries what ++ turn_records ts
-records_next taken.Stays new ts = refl
-records_next (taken.Moves entry) new ts = refl
-records_next (taken.Stops limit) new ts = refl
+pub idle_stays : (c s : ℕ) (bag : Bag) (words : List ℤ) (what : Taken) → part_of c s bag words what ≡ Idle → what ≡ taken.Stays
+idle_stays c s bag words taken.Stays e = refl
+idle_stays c s bag words (taken.Moves kind) e = absurd (cc e)
+idle_stays c s bag words (taken.Stops limit) e = absurd (cc e)
 
-pub turned_next : {S : Type 0} (what : Taken) (new now : Moment S) (nows : List (Moment S)) (ts : List (RoundTurn S)) → CanGoOn what → (what ≡ taken.Stays → new ≡ now) → turned_moments (now ∷ nows) (seen what new ∷ ts) ≡ new ∷ turned_moments nows ts
-turned_next taken.Stays new now nows ts h k = ap (λ m. m ∷ turned_moments nows ts) (sym (k refl))
-turned_next (taken.Moves entry) new now nows ts h k = refl
-turned_next (taken.Stops limit) new now nows ts h k = absurd h
+abbrev pub entries : Part → List Record
+entries Idle = []
+entries (Told entry) = entry ∷ []
+entries (Limited limit) = []
+
+pub stop_next : {S : Type 0} (i : ℕ) (what : Part) (new : Moment S) (ts : List (RoundTurn S)) → GoesOn what → first_stop (i + 1) ts ≡ first_stop i (seen what new ∷ ts)
+stop_next i Idle new ts h = ap (λ n. first_stop n ts) (add-one i)
+stop_next i (Told entry) new ts h = ap (λ n. first_stop n ts) (add-one i)
+stop_next i (Limited limit) new ts h = absurd h
+
+pub records_next : {S : Type 0} (what : Part) (new : Moment S) (ts : List (RoundTurn S)) → turn_records (seen what new ∷ ts) ≡ entries what ++ turn_records ts
+records_next Idle new ts = refl
+records_next (Told entry) new ts = refl
+records_next (Limited limit) new ts = refl
+
+pub turned_next : {S : Type 0} (what : Part) (new now : Moment S) (nows : List (Moment S)) (ts : List (RoundTurn S)) → GoesOn what → (what ≡ Idle → new ≡ now) → turned_moments (now ∷ nows) (seen what new ∷ ts) ≡ new ∷ turned_moments nows ts
+turned_next Idle new now nows ts h k = ap (λ m. m ∷ turned_moments nows ts) (sym (k refl))
+turned_next (Told entry) new now nows ts h k = refl
+turned_next (Limited limit) new now nows ts h k = absurd h
 
 -- one component more
 
-module _ {S : Type 0} (net : Network S) (t i : ℕ) (old moments : List (Moment S)) (bags0 bags : List Bag) (d : Moment S) (b : Bag) (what : Taken) (new : Moment S)
+module _ {S : Type 0} (net : Network S) (t i : ℕ) (old moments : List (Moment S)) (bags0 bags : List Bag) (d : Moment S) (b : Bag) (what : Part) (new : Moment S)
     (later : drop i moments ≡ drop i old) (dealt : drop i bags ≡ drop i bags0) (l : i < length moments) (l0 : i < length old) (m : i < length bags) (m0 : i < length bags0)
     (turn : seen what new ≡ take_turn net i (after_output net i (slice_index_or moments i d) t) (t + 1) ((slice_index_or moments i d).due == t) (sorted_bag (slice_index_or bags i b))) where
   pub rest_seen : turns_with net t i (drop i old) (drop i bags0) ≡ seen what new ∷ turns_with net t (i + 1) (drop (i + 1) old) (drop (i + 1) bags0)
@@ -80,7 +96,7 @@ module _ {S : Type 0} (net : Network S) (t i : ℕ) (old moments : List (Moment 
       rest_next net t i old bags0 d b l0 m0
       ∙ sym (ap (λ x. x ∷ rest) (turn ∙ (λ k. take_turn net i (after_output net i (here k) t) (t + 1) ((here k).due == t) (sorted_bag (bag k)))))
 
-  pub stop_kept : CanGoOn what → (all : Option (ℕ × Limit)) → first_stop i (turns_with net t i (drop i old) (drop i bags0)) ≡ all → first_stop (i + 1) (turns_with net t (i + 1) (drop (i + 1) old) (drop (i + 1) bags0)) ≡ all
+  pub stop_kept : GoesOn what → (all : Option (ℕ × Limit)) → first_stop i (turns_with net t i (drop i old) (drop i bags0)) ≡ all → first_stop (i + 1) (turns_with net t (i + 1) (drop (i + 1) old) (drop (i + 1) bags0)) ≡ all
   stop_kept h all e = stop_next i what new _ h ∙ ap (first_stop i) (sym rest_seen) ∙ e
 
   pub records_kept : (records all : List Record) → records ++ turn_records (turns_with net t i (drop i old) (drop i bags0)) ≡ all → (records ++ entries what) ++ turn_records (turns_with net t (i + 1) (drop (i + 1) old) (drop (i + 1) bags0)) ≡ all
@@ -89,7 +105,7 @@ module _ {S : Type 0} (net : Network S) (t i : ℕ) (old moments : List (Moment 
       append_assoc records (entries what) (turn_records rest)
       ∙ ap (λ rs. records ++ rs) (sym (ap turn_records rest_seen ∙ records_next what new rest)) ∙ e
 
-  pub moments_kept : CanGoOn what → (what ≡ taken.Stays → new ≡ slice_index_or moments i d) → (all : List (Moment S)) → take i moments ++ turned_moments (drop i old) (turns_with net t i (drop i old) (drop i bags0)) ≡ all → take (i + 1) (slice_set moments i new) ++ turned_moments (drop (i + 1) old) (turns_with net t (i + 1) (drop (i + 1) old) (drop (i + 1) bags0)) ≡ all
+  pub moments_kept : GoesOn what → (what ≡ Idle → new ≡ slice_index_or moments i d) → (all : List (Moment S)) → take i moments ++ turned_moments (drop i old) (turns_with net t i (drop i old) (drop i bags0)) ≡ all → take (i + 1) (slice_set moments i new) ++ turned_moments (drop (i + 1) old) (turns_with net t (i + 1) (drop (i + 1) old) (drop (i + 1) bags0)) ≡ all
   moments_kept h k all e =
       let rest = turns_with net t (i + 1) (drop (i + 1) old) (drop (i + 1) bags0) in
       let here = same_here moments old i d later l l0 in
@@ -100,7 +116,7 @@ module _ {S : Type 0} (net : Network S) (t i : ℕ) (old moments : List (Moment 
       ∙ append_assoc (take i moments) (new ∷ []) (turned_moments (drop (i + 1) old) rest)
       ∙ ap (λ xs. take i moments ++ xs) (sym turned) ∙ e
 
-  pub stop_found : (limit : Limit) → what ≡ taken.Stops limit → (all : Option (ℕ × Limit)) → first_stop i (turns_with net t i (drop i old) (drop i bags0)) ≡ all → Some (i, limit) ≡ all
+  pub stop_found : (limit : Limit) → what ≡ Limited limit → (all : Option (ℕ × Limit)) → first_stop i (turns_with net t i (drop i old) (drop i bags0)) ≡ all → Some (i, limit) ≡ all
   stop_found limit w all e =
       let rest = turns_with net t (i + 1) (drop (i + 1) old) (drop (i + 1) bags0) in
       ap (λ x. first_stop i (seen x new ∷ rest)) (sym w) ∙ ap (first_stop i) (sym rest_seen) ∙ e
@@ -128,13 +144,25 @@ pub record Swept {M S : Type 0} (valid : M → S → Type 0) (meaning : M → Me
   pub moved : take i moments ++ turned_moments (drop i old) (turns_with (network_of meaning contents) t i (drop i old) (drop i bags0)) ≡ turned_moments old (turns_with (network_of meaning contents) t 0 old bags0)
   pub standing : (d : ℕ) (model : M) (now : Moment S) → d < i → slice_get contents.models d ≡ Some model → slice_get moments d ≡ Some now → IsBetween (valid model) (meaning model) (t + 2) now
 
+-- before the first component
+pub swept_start : {M S : Type 0} (valid : M → S → Type 0) (meaning : M → Meaning S) (contents : Contents M) (t : ℕ) (old : List (Moment S)) (bags0 : List Bag) → Swept valid meaning contents t old bags0 [] 0 old bags0 []
+swept_start valid meaning contents t old bags0 = record {
+  later = refl;
+  to_come = refl;
+  empty = λ d bag l e. absurd (omega (arith, l));
+  stop = refl;
+  recorded = refl;
+  moved = refl;
+  standing = λ d model now l found e. absurd (omega (arith, l));
+}
+
 module _ {M S : Type 0} (valid : M → S → Type 0) (meaning : M → Meaning S) (contents : Contents M) (t : ℕ) (old : List (Moment S)) (bags0 : List Bag) (start : List Record)
     (i : ℕ) (moments : List (Moment S)) (bags : List Bag) (records : List Record) (swept : Swept valid meaning contents t old bags0 start i moments bags records)
     (l0 : i < length old) (m0 : i < length bags0) (l : i < length moments) (m : i < length bags) where
   -- component i takes its turn
-  pub swept_turn : (d : Moment S) (b : Bag) (what : Taken) (new : Moment S) →
+  pub swept_turn : (d : Moment S) (b : Bag) (what : Part) (new : Moment S) →
       seen what new ≡ take_turn (network_of meaning contents) i (after_output (network_of meaning contents) i (slice_index_or moments i d) t) (t + 1) ((slice_index_or moments i d).due == t) (sorted_bag (slice_index_or bags i b)) →
-      CanGoOn what → (what ≡ taken.Stays → new ≡ slice_index_or moments i d) →
+      GoesOn what → (what ≡ Idle → new ≡ slice_index_or moments i d) →
       ((model : M) → slice_get contents.models i ≡ Some model → IsBetween (valid model) (meaning model) (t + 2) new) →
       Swept valid meaning contents t old bags0 start (i + 1) (slice_set moments i new) (slice_set bags i []) (records ++ entries what)
   swept_turn d b what new turn on kept stands =
@@ -166,10 +194,10 @@ module _ {M S : Type 0} (valid : M → S → Type 0) (meaning : M → Meaning S)
       sym (stays_turn net i (t + 1) (after_output net i (slice_index_or moments i now.0) t) ((slice_index_or moments i now.0).due == t) (sorted_bag (slice_index_or bags i [])) (λ k. kind_and_turn (waits k) (sorted_bag (empty k)))) in
       let stands : (model : M) → slice_get contents.models i ≡ Some model → IsBetween (valid model) (meaning model) (t + 2) (slice_index_or moments i now.0) =
       λ model found. subst (IsBetween (valid model) (meaning model) (t + 2)) (sym here) (stays_between (valid model) (meaning model) t now.0 (stand.each i model now.0 found now.1) idle even small) in
-      let after = swept_turn now.0 [] taken.Stays (slice_index_or moments i now.0) turn tt (λ e. refl) stands in
+      let after = swept_turn now.0 [] Idle (slice_index_or moments i now.0) turn tt (λ e. refl) stands in
       let same_moments : slice_set moments i (slice_index_or moments i now.0) ≡ moments = set-get_or moments i now.0 in
       let same_bags : slice_set bags i [] ≡ bags = ap (slice_set bags i) (sym empty) ∙ set-get_or bags i [] in
-      let same_records : records ++ entries taken.Stays ≡ records = append-nil records in
+      let same_records : records ++ entries Idle ≡ records = append-nil records in
       subst (λ rs. Swept valid meaning contents t old bags0 start (i + 1) moments bags rs) same_records
       (subst (λ bs. Swept valid meaning contents t old bags0 start (i + 1) moments bs (records ++ [])) same_bags
       (subst (λ ms. Swept valid meaning contents t old bags0 start (i + 1) ms (slice_set bags i []) (records ++ [])) same_moments after))

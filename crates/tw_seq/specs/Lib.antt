@@ -2,6 +2,9 @@ pub mod Agenda
 pub mod Dealing
 pub mod InOrder
 pub mod Invariant
+pub mod Parts
+pub mod Receiving
 pub mod Refusals
+pub mod Stepping
 pub mod Turning
 pub mod Waking

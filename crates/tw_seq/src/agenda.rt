@@ -47,15 +47,25 @@ impl Agenda {
         Ok(())
     }
 
-    /// Puts the step of a component off from one time to another.
+    /// Puts the step of a component off from one time to another, after the steps of the time `taken` were taken
+    /// away: so the step is on the agenda where it is of another time, before the end.
     pub(crate) fn put_off(
         &mut self,
         component: usize,
         from: Stamp,
         to: Stamp,
+        taken: Stamp,
     ) -> Result<(), AllocError>
+        requires none { ¬ IsOn self.old.steps taken component }
+        requires there { from ≢ taken → from < never → IsOn self.old.steps from component }
         ensures { OnOk result (PutsOff self.old.steps self.new.steps component from to) }
     {
+        if from == taken {
+            return self.put(component, to);
+        }
+        if from == to && to < Stamp::END {
+            return Ok(());
+        }
         self.steps.remove(&(from, component));
         self.put(component, to)
     }

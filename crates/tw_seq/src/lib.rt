@@ -1,9 +1,11 @@
 //! The sequential abstract simulator (Chow and Zeigler 1994): the whole network, round after round.
 //!
-//! [`simulate`] runs a network up to an end tick and answers a [`Seq`]: the records in trace order and
-//! the limit fault that ended the run, if there was one. Both are those of the definition, `sequential`
-//! of tw_theory. A call is refused ([`SeqRefused`]) for an end tick that no stamp has, and for want of
-//! memory.
+//! - [`simulate`] runs a network up to an end tick and answers a [`Seq`]: the records in trace order and the limit
+//!   fault that ended the run, if there was one. Both are those of the definition, `sequential` of tw_theory.
+//! - [`outcome`] gives the fault alone, and keeps no record.
+//! - [`begin`] and [`advance`] make the same run a round at a time, and hand its parts to a [`Receiver`] as they come.
+//!
+//! A call is refused ([`SeqRefused`]) for an end tick that no stamp has, and for want of memory.
 //!
 //! The next own steps of all components stand on an agenda, the event list, by time and component, and the
 //! inputs stand in order. So a round costs in the components that are imminent or receive something, times
@@ -13,10 +15,14 @@
 mod agenda;
 mod bags;
 mod outputs;
+mod receiver;
 mod refused;
 mod rounds;
+mod simulation;
 mod simulator;
 mod turns;
 
+pub use receiver::{Receiver, Silent};
 pub use refused::SeqRefused;
-pub use simulator::{Seq, simulate};
+pub use simulation::{Simulation, Step, advance, begin};
+pub use simulator::{Seq, outcome, simulate};

@@ -1,34 +1,36 @@
 //! The outputs of a round.
 
-ghost use Rattle.std.specs.Prelude.{◌≡◌, ◌<◌, ◌++◌, ℕ, OnOk, length};
+ghost use Rattle.std.specs.Prelude.{◌≡◌, ◌<◌, ℕ, OnOk, length};
 ghost use Rattle.std.specs.List.{All, Contains};
 ghost use Rattle.std.specs.List.Sorted.{IsStrictlyIncreasing};
 ghost use Rattle.tw_network.specs.Contents.{network_of};
 ghost use Rattle.tw_seq.specs.Agenda.{IsDueAt};
 ghost use Rattle.tw_seq.specs.Dealing.{dealt};
 ghost use Rattle.tw_seq.specs.Invariant.{AllStand};
+ghost use Rattle.tw_seq.specs.Receiving.{Receives};
 ghost use Rattle.tw_seq.specs.Waking.{WakesAll};
 ghost use Rattle.tw_theory.specs.Simulator.{outputs, all_sent};
 ghost use Rattle.tw_vtime.specs.Stamps.{max_tick, tick_of, phase_of};
 
 use crate::bags::{Arrivals, route};
+use crate::receiver::Receiver;
 use std::alloc::{AllocError, Global};
 use tw_atomic::Atomic;
-use tw_msgs::{Record, RecordKind, Words};
+use tw_msgs::RecordKind;
 use tw_network::Network;
 use tw_step::{Moment, output_bag};
 use tw_vtime::Stamp;
 
-/// Records the output of each imminent component, and puts what it sends into the bags of the
-/// receivers.
-pub(crate) fn make_outputs<M: Atomic>(
+/// Hands the output of each imminent component to the receiver, and puts what it sends into the bags of the
+/// components to which it goes.
+pub(crate) fn make_outputs<M: Atomic, R: Receiver>(
     alloc: Global,
     network: &Network<M>,
     moments: &[Moment<M::State>],
     imminent: &[usize],
     time: Stamp,
-    records: &mut Vec<Record>,
     arrivals: &mut Arrivals,
+    receiver: &mut R,
 ) -> Result<(), AllocError>
     requires time { tick_of time < max_tick }
     requires even { phase_of time ≡ 0 }
@@ -38,7 +40,7 @@ pub(crate) fn make_outputs<M: Atomic>(
     requires all { (c : ℕ) → IsDueAt moments.now c time → Contains imminent.now c }
     requires bags { length arrivals.old.bags.items ≡ length network.now.models }
     requires awake { WakesAll arrivals.old.bags.items arrivals.old.awake.items }
-    ensures records { OnOk result (records.new.items ≡ records.old.items ++ outputs (network_of M.meaning network.now) time 0 moments.now) }
+    ensures received { OnOk result (Receives R.takes receiver.old (outputs (network_of M.meaning network.now) time 0 moments.now) receiver.new) }
     ensures bags { OnOk result (arrivals.new.bags.items ≡ dealt 0 arrivals.old.bags.items (all_sent (network_of M.meaning network.now) (outputs (network_of M.meaning network.now) time 0 moments.now))) }
     ensures awake { OnOk result (WakesAll arrivals.new.bags.items arrivals.new.awake.items) }
 {
@@ -47,13 +49,7 @@ pub(crate) fn make_outputs<M: Atomic>(
         let now = &moments[component];
         let bag = output_bag(alloc, network.model(component), &now.state)?;
         route(network, component, time.transition(), &bag, arrivals)?;
-        records.push(Record {
-            component,
-            stamp: time,
-            kind: RecordKind::Out,
-            bag,
-            words: Words::from(Vec::new(alloc)),
-        })?;
+        receiver.take(component, time, RecordKind::Out, &bag, &[])?;
     }
     Ok(())
 }

@@ -7,14 +7,13 @@ ghost use Rattle.std.specs.Prelude.{
   ◌+◌,
   [],
   None,
-  Some,
   drop,
   length,
   replicate,
   IfOk,
   IfNone,
   IfSome,
-  MatchOption,
+  OnOk,
 };
 ghost use Rattle.std.specs.List.{AllByRecursion as Each};
 ghost use Rattle.tw_network.specs.Contents.{network_of};
@@ -23,48 +22,52 @@ ghost use Rattle.tw_seq.specs.Agenda.{IsAgenda};
 ghost use Rattle.tw_seq.specs.Dealing.{Carried};
 ghost use Rattle.tw_seq.specs.InOrder.{start_in_order};
 ghost use Rattle.tw_seq.specs.Invariant.{IsUnderway};
+ghost use Rattle.tw_seq.specs.Parts.{after};
+ghost use Rattle.tw_seq.specs.Receiving.{Receives};
+ghost use Rattle.tw_seq.specs.Turning.{all_outputs, all_turns};
 ghost use Rattle.tw_theory.specs.Bundles.{Ascending};
-ghost use Rattle.tw_theory.specs.Simulator.{least_input, round_time, round};
+ghost use Rattle.tw_theory.specs.Simulator.{first_stop, least_input, round_time, round, turn_records};
 ghost use Rattle.tw_vtime.specs.Stamps.{max_tick, never, tick_of, phase_of};
 
 use crate::agenda::Agenda;
 use crate::bags::Arrivals;
 use crate::outputs::make_outputs;
+use crate::receiver::Receiver;
 use crate::turns::make_turns;
 use std::alloc::{AllocError, Global};
 use std::marker::Model;
 use tw_atomic::Atomic;
-use tw_msgs::{Message, Record};
+use tw_msgs::Message;
 use tw_network::Network;
 use tw_step::{Moment, start_moment};
 use tw_vtime::{Limit, Stamp};
 
 /// A run between two rounds: where each component stands, the inputs in order, of which those from place
-/// `given` on are to come, and the records so far.
+/// `given` on are to come.
 #[derive(Drop)]
 pub struct Running<S: Drop> {
     moments: Vec<Moment<S>>,
     inputs: Vec<Message>,
     given: usize,
-    records: Vec<Record>,
 }
 
-/// What a round works with, kept from round to round: the agenda, what comes to the components, and
-/// which of them are imminent.
+/// What a round works with, kept from round to round: the agenda, what comes to the components, which
+/// of them are imminent, and the words of a state.
 #[derive(Drop)]
 pub struct Bench {
     pub(crate) agenda: Agenda,
-    arrivals: Arrivals,
+    pub(crate) arrivals: Arrivals,
     imminent: Vec<usize>,
+    words: Vec<i128>,
 }
 
 impl<S: Drop> Model for Running<S> {
-    ghost use Rattle.std.specs.Prelude.{None, drop};
+    ghost use Rattle.std.specs.Prelude.{None, [], drop};
     ghost use Rattle.tw_theory.specs.Simulator.{Run};
 
     ghost Value = { Run S };
 
-    ghost view = { λ r. record { at = record { moments = r.moments.items; inputs = drop r.given r.inputs.items }; records = r.records.items; fault = None } };
+    ghost view = { λ r. record { at = record { moments = r.moments.items; inputs = drop r.given r.inputs.items }; records = []; fault = None } };
 }
 
 impl<S: Drop> Running<S> {
@@ -81,19 +84,6 @@ impl<S: Drop> Running<S> {
         let input = next_input(&self.inputs, self.given);
         let time = if input < due { input } else { due };
         if time < end { Some(time) } else { None }
-    }
-
-    /// The records, in trace order.
-    pub(crate) fn into_records(self) -> Vec<Record>
-        ensures { result.items ≡ self.records }
-    {
-        let Running {
-            moments: _,
-            inputs: _,
-            given: _,
-            records,
-        } = self;
-        records
     }
 }
 
@@ -145,7 +135,6 @@ pub(crate) fn start<M: Atomic>(
         moments,
         inputs: start_inputs(alloc, network)?,
         given: 0,
-        records: Vec::new(alloc),
     })
 }
 
@@ -169,27 +158,30 @@ pub(crate) fn start_bench<S: Drop>(alloc: Global, run: &Running<S>) -> Result<Be
         agenda: start_agenda(alloc, &run.moments)?,
         arrivals: Arrivals::new(alloc, run.moments.len())?,
         imminent: Vec::new(alloc),
+        words: Vec::new(alloc),
     })
 }
 
-/// Makes the round of a time. Answers the least component that met a limit, with that limit; then the
-/// records have the outputs of the round and none of its transitions, and the run has ended.
-pub(crate) fn make_round<M: Atomic>(
+/// Makes the round of a time, and hands its outputs to one receiver and then its transitions to another. Answers the
+/// least component that met a limit, with that limit; then the second receiver has got a part of the transitions,
+/// which the run does not have, and the run has ended.
+pub(crate) fn make_round<M: Atomic, R: Receiver>(
     alloc: Global,
     network: &Network<M>,
     run: &mut Running<M::State>,
     bench: &mut Bench,
     time: Stamp,
+    outputs: &mut R,
+    transitions: &mut R,
 ) -> Result<Option<(usize, Limit)>, AllocError>
     requires time { tick_of time < max_tick }
     requires underway { IsUnderway M.valid M.meaning network.now time run.old }
     requires agenda { IsAgenda 0 bench.old.agenda.steps run.old.at.moments }
     requires bags { bench.old.arrivals.bags.items ≡ replicate (length run.old.at.moments) [] }
-    ensures going { IfOk result (λ stop. stop ≡ None → run.new ≡ round (network_of M.meaning network.now) run.old time) }
-    ensures records { IfOk result (λ _. run.new.records ≡ (round (network_of M.meaning network.now) run.old time).records) }
-    ensures fault { IfOk result (λ stop. MatchOption stop
-        ((round (network_of M.meaning network.now) run.old time).fault ≡ None)
-        (λ at. (round (network_of M.meaning network.now) run.old time).fault ≡ Some (at.0, time + 1, at.1))) }
+    ensures outputs { OnOk result (Receives R.takes outputs.old (all_outputs (network_of M.meaning network.now) time run.old) outputs.new) }
+    ensures transitions { IfOk result (λ stop. stop ≡ None → Receives R.takes transitions.old (turn_records (all_turns (network_of M.meaning network.now) time run.old)) transitions.new) }
+    ensures stop { IfOk result (λ stop. stop ≡ first_stop 0 (all_turns (network_of M.meaning network.now) time run.old)) }
+    ensures going { IfOk result (λ stop. stop ≡ None → run.new ≡ after [] (round (network_of M.meaning network.now) run.old time)) }
     ensures underway { IfOk result (λ stop. stop ≡ None → IsUnderway M.valid M.meaning network.now (time + 2) run.new) }
     ensures agenda { IfOk result (λ stop. stop ≡ None → IsAgenda 0 bench.new.agenda.steps run.new.at.moments) }
     ensures bags { IfOk result (λ stop. stop ≡ None → bench.new.arrivals.bags.items ≡ replicate (length run.new.at.moments) []) }
@@ -203,8 +195,8 @@ pub(crate) fn make_round<M: Atomic>(
         &run.moments,
         &bench.imminent,
         time,
-        &mut run.records,
         &mut bench.arrivals,
+        outputs,
     )?;
     let at = time.transition();
     let given = bench.arrivals.deliver_inputs(&run.inputs, run.given, at)?;
@@ -216,7 +208,8 @@ pub(crate) fn make_round<M: Atomic>(
         time,
         &mut bench.arrivals,
         &mut bench.agenda,
-        &mut run.records,
+        &mut bench.words,
+        transitions,
     )?;
     run.given = given;
     Ok(stop)

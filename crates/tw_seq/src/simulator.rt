@@ -5,8 +5,9 @@ ghost use Rattle.tw_network.specs.Contents.{network_of};
 ghost use Rattle.tw_theory.specs.Simulator.{sequential};
 ghost use Rattle.tw_vtime.specs.Stamps.{max_tick};
 
+use crate::receiver::Silent;
 use crate::refused::SeqRefused;
-use crate::rounds::{make_round, start, start_bench};
+use crate::simulation::{Step, advance, begin};
 use std::alloc::Global;
 use tw_atomic::Atomic;
 use tw_msgs::Record;
@@ -38,21 +39,51 @@ pub fn simulate<M: Atomic>(
     ensures fault { IfOk result (λ seq. seq.fault ≡ (sequential (network_of M.meaning network.now) until).fault) }
     ensures bad_tick { IsErrOf result SeqRefused.BadTick ↔ (max_tick < until) }
 {
-    let Ok(end) = Stamp::new(until, 0, 0) else {
-        return Err(SeqRefused::BadTick);
-    };
-    let mut run = start(alloc, network)?;
-    let mut bench = start_bench(alloc, &run)?;
-    while let Some(time) = run.next_time(&bench.agenda, end) {
-        if let Some((component, limit)) = make_round(alloc, network, &mut run, &mut bench, time)? {
-            return Ok(Seq {
-                records: run.into_records(),
-                fault: Some((component, time.transition(), limit)),
-            });
+    let mut simulation = begin(alloc, network, until)?;
+    let mut records = Vec::new(alloc);
+    let mut transitions = Vec::new(alloc);
+    loop {
+        let step = advance(
+            alloc,
+            network,
+            &mut simulation,
+            &mut records,
+            &mut transitions,
+        )?;
+        match step {
+            Step::Round => records.append(&mut transitions)?,
+            Step::End(fault) => return Ok(Seq { records, fault }),
         }
     }
-    Ok(Seq {
-        records: run.into_records(),
-        fault: None,
-    })
+}
+
+/// The limit fault that ends the run of a network up to an end tick, or none: as [`simulate`] gives it, but no record
+/// is kept, so that it takes no more memory for a longer run.
+///
+/// Refused as [`simulate`] is: by [`SeqRefused::BadTick`] (10) exactly where `until` is above 1,099,511,627,774, and by
+/// [`SeqRefused::OutOfMemory`] (4) where a growth of memory was refused.
+pub fn outcome<M: Atomic>(
+    alloc: Global,
+    network: &Network<M>,
+    until: u64,
+) -> Result<Option<(usize, Stamp, Limit)>, SeqRefused>
+    ensures fault { IfOk result (λ fault. fault ≡ (sequential (network_of M.meaning network.now) until).fault) }
+    ensures bad_tick { IsErrOf result SeqRefused.BadTick ↔ (max_tick < until) }
+{
+    let mut simulation = begin(alloc, network, until)?;
+    let mut outputs = Silent;
+    let mut transitions = Silent;
+    loop {
+        let step = advance(
+            alloc,
+            network,
+            &mut simulation,
+            &mut outputs,
+            &mut transitions,
+        )?;
+        match step {
+            Step::Round => {}
+            Step::End(fault) => return Ok(fault),
+        }
+    }
 }

@@ -1,34 +1,36 @@
 //! The transitions of a round.
 
-ghost use Rattle.std.specs.Prelude.{◌≡◌, ◌==◌, ◌<◌, ◌++◌, ◌+◌, IfOk, length, [], Some, None, slice_get, replicate, MatchOption, true, false};
+ghost use Rattle.std.specs.Prelude.{◌≡◌, ◌==◌, ◌<◌, ◌+◌, IfOk, length, [], Some, None, slice_get, replicate, true, false};
 ghost use Rattle.std.specs.List.{AllByRecursion as Each};
 ghost use Rattle.tw_atomic.specs.Atomic.{FitsBag};
 ghost use Rattle.tw_msgs.specs.Bags.{sorted_bag};
 ghost use Rattle.tw_network.specs.Contents.{network_of};
 ghost use Rattle.tw_seq.specs.Agenda.{IsAgenda};
 ghost use Rattle.tw_seq.specs.Invariant.{AllStand, IsBetween};
-ghost use Rattle.tw_seq.specs.Turning.{seen, CanGoOn, turns_with};
+ghost use Rattle.tw_seq.specs.Receiving.{Receives};
+ghost use Rattle.tw_seq.specs.Turning.{seen, part_of, CanGoOn, turns_with};
 ghost use Rattle.tw_seq.specs.Waking.{IsInTurn};
 ghost use Rattle.tw_theory.specs.Simulator.{take_turn, after_output, turn_records, turned_moments, first_stop};
 ghost use Rattle.tw_vtime.specs.Stamps.{max_tick, tick_of, phase_of};
 
 use crate::agenda::Agenda;
 use crate::bags::Arrivals;
+use crate::receiver::Receiver;
 use std::alloc::{AllocError, Global};
 use std::mem;
 use tw_atomic::Atomic;
-use tw_msgs::{Bag, Record};
+use tw_msgs::{Bag, RecordKind};
 use tw_network::Network;
-use tw_step::{Moment, TurnRefused, make_turn, turn_of};
-use tw_vtime::{Limit, Stamp};
+use tw_step::{Moment, turn_of};
+use tw_vtime::{Limit, Stamp, advance};
 
 /// What a component did at the transition of a round.
-#[derive(Drop)]
+#[derive(Clone, Copy, Debug)]
 pub enum Taken {
     /// Nothing: it is not imminent, and nothing came.
     Stays,
-    /// A transition.
-    Moves(Record),
+    /// A transition of this kind.
+    Moves(RecordKind),
     /// A transition after which its next own step would pass this limit.
     Stops(Limit),
 }
@@ -41,28 +43,29 @@ fn has_turn(imminent: bool, empty: bool) -> bool
     imminent || !empty
 }
 
-/// Makes the transition of a component at a time, if it is imminent or receives something. Without a
-/// limit it then stands where the definition says; with one, its state is of no more use.
+/// Makes the transition of a component at a time, if it is imminent or receives something: its bag is sorted, and
+/// `words` are those of its new state. Without a limit it then stands where the definition says; with one, its state
+/// is of no more use.
 fn take_turn<M: Atomic>(
     alloc: Global,
     network: &Network<M>,
     component: usize,
     now: &mut Moment<M::State>,
     time: Stamp,
-    bag: Bag,
+    bag: &mut Bag,
+    words: &mut Vec<i128>,
 ) -> Result<Taken, AllocError>
     requires component { component < length network.now.models }
     requires time { tick_of time < max_tick }
     requires even { phase_of time ≡ 0 }
     requires standing { (model : M) → slice_get network.now.models component ≡ Some model → IsBetween (M.valid model) (M.meaning model) time now.old }
-    requires fits { FitsBag bag }
-    ensures turn { IfOk result (λ taken. seen taken now.new
-        ≡ take_turn (network_of M.meaning network.now) component (after_output (network_of M.meaning network.now) component now.old time) (time + 1) (now.old.due == time) (sorted_bag bag)) }
+    requires fits { FitsBag bag.old }
+    ensures turn { IfOk result (λ taken. seen (part_of component (time + 1) bag.new words.new.items taken) now.new
+        ≡ take_turn (network_of M.meaning network.now) component (after_output (network_of M.meaning network.now) component now.old time) (time + 1) (now.old.due == time) (sorted_bag bag.old)) }
     ensures kept { IfOk result (λ taken. taken ≡ Taken.Stays → now.new ≡ now.old) }
     ensures standing { IfOk result (λ taken. CanGoOn taken →
         (model : M) → slice_get network.now.models component ≡ Some model → IsBetween (M.valid model) (M.meaning model) (time + 2) now.new) }
 {
-    let mut bag = bag;
     bag.sort();
     let imminent = now.due == time;
     let empty = bag.is_empty();
@@ -74,45 +77,31 @@ fn take_turn<M: Atomic>(
     let (turn, kind) = turn_of(imminent, empty);
     let at = time.transition();
     let elapsed = at.tick().saturating_sub(now.last.tick());
-    let turned = make_turn(
-        alloc,
-        model,
-        &mut now.state,
-        turn,
-        at,
-        elapsed,
-        bag.as_slice(),
-        network.micro_limit(),
-    );
-    match turned {
-        Ok(turned) => {
+    model.forward(alloc, &mut now.state, turn, elapsed, bag.as_slice())?;
+    match advance(at, model.ta(&now.state), network.micro_limit()) {
+        Ok(due) => {
+            words.clear();
+            model.words(alloc, &now.state, words)?;
             now.last = time;
-            now.due = turned.due;
-            Ok(Taken::Moves(Record {
-                component,
-                stamp: at,
-                kind,
-                bag,
-                words: turned.words,
-            }))
+            now.due = due.unwrap_or(Stamp::END);
+            Ok(Taken::Moves(kind))
         }
-        Err(refused) => match refused {
-            TurnRefused::OverLimit(limit) => Ok(Taken::Stops(limit)),
-            TurnRefused::OutOfMemory => Err(AllocError),
-        },
+        Err(limit) => Ok(Taken::Stops(limit)),
     }
 }
 
-/// Makes the transition of each component that is awake, appends their records, and puts their next own
-/// steps on the agenda. Where a component meets a limit, the least one is answered, and no record is left.
-pub(crate) fn make_turns<M: Atomic>(
+/// Makes the transition of each component that is awake, hands them to the receiver, and puts their next own
+/// steps on the agenda. Where a component meets a limit, the least one is answered, and the receiver has got a part
+/// of the transitions.
+pub(crate) fn make_turns<M: Atomic, R: Receiver>(
     alloc: Global,
     network: &Network<M>,
     moments: &mut [Moment<M::State>],
     time: Stamp,
     arrivals: &mut Arrivals,
     agenda: &mut Agenda,
-    records: &mut Vec<Record>,
+    words: &mut Vec<i128>,
+    receiver: &mut R,
 ) -> Result<Option<(usize, Limit)>, AllocError>
     requires time { tick_of time < max_tick }
     requires even { phase_of time ≡ 0 }
@@ -122,33 +111,29 @@ pub(crate) fn make_turns<M: Atomic>(
     requires awake { IsInTurn time moments.old arrivals.old.bags.items arrivals.old.awake.items }
     requires agenda { IsAgenda (time + 1) agenda.old.steps moments.old }
     ensures stop { IfOk result (λ stop. stop ≡ first_stop 0 (turns_with (network_of M.meaning network.now) time 0 moments.old arrivals.old.bags.items)) }
-    ensures records { IfOk result (λ stop. MatchOption stop
-        (records.new.items ≡ records.old.items ++ turn_records (turns_with (network_of M.meaning network.now) time 0 moments.old arrivals.old.bags.items))
-        (λ _. records.new.items ≡ records.old.items)) }
+    ensures received { IfOk result (λ stop. stop ≡ None →
+        Receives R.takes receiver.old (turn_records (turns_with (network_of M.meaning network.now) time 0 moments.old arrivals.old.bags.items)) receiver.new) }
     ensures moments { IfOk result (λ stop. stop ≡ None →
         moments.new ≡ turned_moments moments.old (turns_with (network_of M.meaning network.now) time 0 moments.old arrivals.old.bags.items)) }
     ensures standing { IfOk result (λ stop. stop ≡ None → AllStand M.valid M.meaning network.now.models (time + 2) moments.new) }
     ensures bags { IfOk result (λ stop. stop ≡ None → arrivals.new.bags.items ≡ replicate (length network.now.models) []) }
     ensures agenda { IfOk result (λ stop. stop ≡ None → IsAgenda (time + 1) agenda.new.steps moments.new) }
 {
-    let before = records.len();
+    let at = time.transition();
     let awake = &arrivals.awake;
     let bags = arrivals.bags.as_mut_slice();
     for component in awake {
         let component = *component;
-        let bag = mem::replace(&mut bags[component], Bag::new(alloc));
+        let mut bag = mem::replace(&mut bags[component], Bag::new(alloc));
         let now = &mut moments[component];
         let due = now.due;
-        match take_turn(alloc, network, component, now, time, bag)? {
+        match take_turn(alloc, network, component, now, time, &mut bag, words)? {
             Taken::Stays => {}
-            Taken::Moves(record) => {
-                records.push(record)?;
-                agenda.put_off(component, due, now.due)?;
+            Taken::Moves(kind) => {
+                receiver.take(component, at, kind, &bag, words)?;
+                agenda.put_off(component, due, now.due, time)?;
             }
-            Taken::Stops(limit) => {
-                records.truncate(before);
-                return Ok(Some((component, limit)));
-            }
+            Taken::Stops(limit) => return Ok(Some((component, limit))),
         }
     }
     Ok(None)

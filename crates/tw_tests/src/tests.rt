@@ -2,7 +2,6 @@ mod actions;
 mod board;
 mod drawn;
 mod exchange;
-mod executive;
 mod fossils;
 mod gvt;
 mod heap;

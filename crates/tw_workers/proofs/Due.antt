@@ -3,9 +3,8 @@ use Rattle.std.proofs.Common.{◌≡◌, ℕ, ◌<◌, ◌≤◌, length, Some, 
 use Rattle.std.specs.Prelude.{slice_get}
 use Rattle.tw_atomic.specs.Atomic.{Meaning}
 use Rattle.tw_theory.specs.Chains.{Start}
-use Rattle.tw_theory.specs.Exchange.{bound_of}
 use Rattle.tw_theory.specs.Standing.{IsReady}
-use Rattle.tw_vtime.specs.Stamps.{max_microstep, stamp}
+use Rattle.tw_vtime.specs.Stamps.{max_microstep}
 use Rattle.tw_workers.specs.Ends.{IsDue}
 use Rattle.tw_workers.specs.Exchanged.{Exchanged, IsOrder, bound_at}
 

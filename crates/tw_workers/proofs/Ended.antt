@@ -1,20 +1,21 @@
--- Where a run has ended and all before its end is committed, what is committed is the simulator's whole trace.
-use Rattle.std.proofs.Common.{◌≡◌, ℕ, suc, ◌<◌, ◌≤◌, min, true, List, Some, [], ◌∷◌, refl, sym, ap, ◌∙◌, subst, arith}
+-- Where a run has ended and all before its end is committed, what is committed is the simulator's whole trace, and nothing else.
+use Rattle.std.proofs.Common.{◌≡◌, ℕ, suc, ◌<◌, ◌≤◌, length, min, true, List, Some, [], ◌∷◌, refl, sym, ◌∙◌, subst, arith}
 use Rattle.std.specs.List.{AllByRecursion as Each}
-use Rattle.std.specs.Prelude.{filter, nat_lt, nat_le, slice_get}
+use Rattle.std.specs.Prelude.{nat_lt, nat_le, slice_get}
 use Rattle.std.proofs.lemmas.Bool.{and_parts, cond_both, leb-true, ltb-true}
 use Rattle.tw_atomic.specs.Atomic.{Meaning}
 use Rattle.tw_exec.specs.Running.{Running, IsSoundly}
 use Rattle.tw_laws.proofs.Ending.{state_law}
 use Rattle.tw_laws.proofs.Outcomes.{all_before, outcome_law}
 use Rattle.tw_laws.proofs.Traces.{sequential_trace}
+use Rattle.tw_msgs.specs.Counting.{total}
 use Rattle.tw_msgs.specs.declared.record.Record.{Record}
 use Rattle.tw_network.specs.Contents.{network_of}
 use Rattle.tw_theory.specs.Contents.{Process}
 use Rattle.tw_theory.specs.Network.{Network}
 use Rattle.tw_theory.specs.Outcomes.{Complete, Fault, IsOutcome, all_past}
 use Rattle.tw_theory.specs.Simulator.{sequential}
-use Rattle.tw_theory.specs.Traces.{before, least_line}
+use Rattle.tw_theory.specs.Traces.{IsMerged, before, least_line}
 use Rattle.tw_vtime.specs.Stamps.{never, stamp}
 use Rattle.tw_vtime.specs.declared.limits.Limit.{Limit}
 use Rattle.tw_workers.specs.States.{state_of}
@@ -74,3 +75,29 @@ module _ {M S : Type 0} (meaning : M → Meaning S) (e : Running M S) (sound : I
       let simulated = (state_law.fault ended e.until e.world sound.network sound.bound sound.sound c s limit state).1 in
       let all = outcome_law.before_fault ended e.until sound.network sound.bound c s limit simulated in
       (simulated, is ∙ all_kept s (least_line e.world.processes) records (past_least s e.world.processes stamped past) all ∙ sym all)
+
+  -- ## How many records it has
+
+  -- where the least line is not before gvt or the end of the run, all that is committed was merged
+  merged_all : (trace : List Record) → min e.world.gvt (stamp e.until 0 0) ≤ least_line e.world.processes → IsMerged (least_line e.world.processes) e.world trace
+      → total length e.world.columns ≡ length trace
+  merged_all trace late merged = sym (outcome_law.count ended e.until e.world sound.sound (least_line e.world.processes) late trace merged)
+
+  pub complete_all : (trace : List Record) → state_of meaning e ≡ Complete → IsMerged (least_line e.world.processes) e.world trace → total length e.world.columns ≡ length trace
+  complete_all trace state merged =
+      let bound = sound.bound in
+      let end = stamp e.until 0 0 in
+      let stamped : end ≤ never = omega (arith, bound) in
+      let past : end ≤ least_line e.world.processes = past_lines end e.world.processes stamped ((state_law.past ended e.until e.world).0 state) in
+      merged_all trace (omega (arith, past)) merged
+
+  pub fault_all : (c s : ℕ) (limit : Limit) (trace : List Record) → all_past s e.world.processes ≡ true → state_of meaning e ≡ Fault c s limit → IsMerged (least_line e.world.processes) e.world trace
+      → total length e.world.columns ≡ length trace
+  fault_all c s limit trace past state merged =
+      let bound = sound.bound in
+      let said = (state_law.shows ended e.until e.world c s limit).0 state in
+      let gvt : s ≡ e.world.gvt = said.1 in
+      let early = said.2.before in
+      let stamped : s ≤ never = omega (arith, bound, gvt, early) in
+      let least : s ≤ least_line e.world.processes = past_least s e.world.processes stamped past in
+      merged_all trace (omega (arith, gvt, least)) merged

@@ -18,5 +18,9 @@ pub mod Standing
 pub mod Due
 -- where a run has ended, its trace is the simulator's
 pub mod Ended
+-- steps commit nothing: a run that has ended stays so
+pub mod Staying
+-- what is posted stays behind what the executive has
+pub mod Behind
 -- what workers share may go from one of them to another
 pub mod Sent

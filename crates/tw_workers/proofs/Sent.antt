@@ -4,8 +4,8 @@ use denote.Param.Send.{IsSend, IsSync, sendable}
 use denote.Param.SendFields.{declared_send, declared_sync}
 use Rattle.std.proofs.Crossing.{Arc-sync, send, crosses}
 use Rattle.tw_atomic.specs.declared.Atomic.{Ghosts}
+use Rattle.tw_board.proofs.board.Publisher.TheSendSync as publisher_sent
 use Rattle.tw_exec.proofs.Sent.{executive_send}
-use Rattle.tw_exec.specs.contracts.executive.Executive as executive
 use Rattle.tw_heap.proofs.heap.EventHeap.TheSendSync as heap_sent
 use Rattle.tw_network.proofs.network.Network.TheSendSync as network_sent
 use Rattle.tw_network.specs.contracts.network.Network as network
@@ -30,7 +30,7 @@ agenda_send =
 pub exchange_send : (M S R : RattleType) (g : Ghosts M.Denot S.Denot R.Denot) → IsSend M → IsSync M → IsSend S → IsSend R → IsSend (exchange.the_row M S R g)
 exchange_send M S R g m y s r =
     let executive = executive_send M S R g m y s r in
-    let inside : IsSend (exchange_inside.the_row M S R g) = declared_send (exchange_inside.the_type M S R g) (send, (executive, (agenda_send, tt))) in
+    let inside : IsSend (exchange_inside.the_row M S R g) = declared_send (exchange_inside.the_type M S R g) (send, (executive, (agenda_send, (publisher_sent.the_send, tt)))) in
     search sendable
 
 pub desk_send : (M H S R : RattleType) (g : Ghosts M.Denot S.Denot R.Denot) (given : given.Ghosts H.Denot M.Denot) → IsSend M → IsSync M → IsSend H → IsSend S → IsSend R

@@ -1,10 +1,16 @@
 -- How a run ends, and what workers know of each other's work.
 --     IsEnd meaning n until outcome      the sequential simulator ends so, with this trace
---     IsOnly given n until      what is given is this network and this end tick
+--     trace_of outcome      its records
+--     IsEndOf meaning e outcome      so ends the run of an executive that has committed just these
+--     IsOnly given n until      what is given is of this network and this end tick
 --     IsDue valid meaning n until order      an order of a component of this network, of steps before this end tick
 --     IsMadeFor meaning n until prepareds      what was worked out from such an order
-use Rattle.std.specs.Prelude.{◌≡◌, ◌<◌, ◌≤◌, ℕ, length, Some, slice_get}
+use Rattle.std.specs.Prelude.{◌≡◌, ◌<◌, ◌≤◌, ℕ, List, length, Some, slice_get}
+use Rattle.atomic_table.specs.Seated.{TableId}
 use Rattle.tw_atomic.specs.Atomic.{Meaning}
+use Rattle.tw_exec.specs.Running.{Running}
+use Rattle.tw_msgs.specs.Counting.{total}
+use Rattle.tw_msgs.specs.declared.record.Record.{Record}
 use Rattle.tw_network.specs.Contents.{Contents, network_of}
 use Rattle.tw_theory.specs.Chains.{Chain, Start}
 use Rattle.tw_theory.specs.Outcomes as theory
@@ -19,10 +25,19 @@ abbrev pub IsEnd : {M S : Type 0} → (M → Meaning S) → Contents M → ℕ �
 IsEnd meaning n until (Complete trace) = IsOutcome (network_of meaning n) until theory.Complete trace.items
 IsEnd meaning n until (Fault trace component stamp limit) = IsOutcome (network_of meaning n) until (theory.Fault component stamp limit) trace.items
 
+abbrev pub trace_of : Outcome → List Record
+trace_of (Complete trace) = trace.items
+trace_of (Fault trace component stamp limit) = trace.items
+
+pub record IsEndOf {M S : Type 0} (meaning : M → Meaning S) (e : Running M S) (outcome : Outcome) : Type 0 where
+  pub end : IsEnd meaning e.network e.until outcome
+  -- as many records are committed as its trace has
+  pub committed : total length e.world.columns ≡ length (trace_of outcome)
+
 -- ---- what workers know of each other's work
 
-abbrev pub IsOnly : {M : Type 0} → (Contents M → ℕ → Type 0) → Contents M → ℕ → Type 0
-IsOnly {M} given n until = (m : Contents M) (u : ℕ) → given m u → (m ≡ n) × (u ≡ until)
+abbrev pub IsOnly : {M : Type 0} → (Contents M → ℕ → TableId → Type 0) → Contents M → ℕ → Type 0
+IsOnly {M} given n until = (m : Contents M) (u : ℕ) (board : TableId) → given m u board → (m ≡ n) × (u ≡ until)
 
 pub record IsDue {M S : Type 0} (valid : M → S → Type 0) (meaning : M → Meaning S) (n : Contents M) (until : ℕ) (order : Start S) : Type 0 where
   pub near : order.component < length n.models

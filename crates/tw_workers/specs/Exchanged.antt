@@ -1,5 +1,6 @@
 -- What contracts see of an exchange, and what its calls make of it.
---     Exchanged M S      an executive, and of each component whether it is given out
+--     Exchanged M S      an executive, of each component whether it is given out, and the board's publisher
+--     IsNotAhead publisher e      no more is posted than global virtual time and the number of committed records
 --     with_executive e x, with_busy c b x      the same exchange, changed in one part
 --     bound_at window x      the steps of a component that is given out now stand before it
 --     IsNext window x c      c is the component to be given out
@@ -8,8 +9,10 @@
 --     IsExact stamps ps      each component that is free stands in the agenda under its next stamp
 --     IsExactBut b stamps ps, IsExactUpTo n stamps ps      each but b does; each below n
 use Rattle.std.specs.Prelude.{◌≡◌, ◌≢◌, ◌<◌, ◌+◌, ℕ, nat_le, if◌then◌else◌, Bool, true, false, List, map, length, Option, Some, None, slice_get, slice_set}
+use Rattle.tw_board.specs.Known.{Known}
 use Rattle.tw_exec.specs.Chains.{start_at}
 use Rattle.tw_exec.specs.Running.{Running}
+use Rattle.tw_theory.specs.Board.{AtMost, numbers_of}
 use Rattle.tw_theory.specs.Chains.{Start}
 use Rattle.tw_theory.specs.Contents.{Process, next}
 use Rattle.tw_theory.specs.Exchange.{IsDrawn, bound_of}
@@ -19,6 +22,11 @@ pub record Exchanged (M S : Type 0) : Type 0 where
   pub executive : Running M S
   -- of each component, whether it is given out
   pub busy : List Bool
+  -- which board, and what was posted on it
+  pub publisher : Known
+
+abbrev pub IsNotAhead : {M S : Type 0} → Known → Running M S → Type 0
+IsNotAhead publisher e = AtMost publisher.numbers (numbers_of e.world)
 
 abbrev pub with_executive : {M S : Type 0} → Running M S → Exchanged M S → Exchanged M S
 with_executive e x = record x { executive = e }

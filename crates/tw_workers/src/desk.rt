@@ -1,8 +1,9 @@
 //! What lies under the lock that workers share.
 
 ghost use Rattle.std.specs.Prelude.{◌≡◌, ℕ, IfOk, IfSome};
+ghost use Rattle.atomic_table.specs.Seated.{TableId};
 ghost use Rattle.tw_network.specs.Contents.{Contents};
-ghost use Rattle.tw_workers.specs.Ends.{IsDue, IsEnd, IsMadeFor};
+ghost use Rattle.tw_workers.specs.Ends.{IsDue, IsEndOf, IsMadeFor};
 
 use crate::exchange::Exchange;
 use crate::orders::{Order, Prepareds};
@@ -17,17 +18,18 @@ use tw_process::Stop;
 // How many chains are handed in, at most, between two sweeps.
 const CHAINS_BETWEEN_SWEEPS: u64 = 64;
 
-/// What was handed in: a network and an end tick. Each run picks it, so that its workers know that what lies under their lock is of
-/// that network and until that tick.
+/// What was handed in: a network, an end tick and a board. Each run picks it, so that its workers know that what lies under their
+/// lock is of that network and until that tick, and the run knows its board again.
 pub(crate) trait Given<M> {
     ghost use Rattle.std.specs.Prelude.{ℕ};
+    ghost use Rattle.atomic_table.specs.Seated.{TableId};
     ghost use Rattle.tw_network.specs.Contents.{Contents};
 
-    ghost is_given: { Contents M → ℕ → Type 0 };
+    ghost is_given: { Contents M → ℕ → TableId → Type 0 };
 }
 
 impl<M> Given<M> for Brand {
-    ghost is_given = { λ n until. Unit {0} };
+    ghost is_given = { λ n until board. Unit {0} };
 }
 
 /// An exchange of what was handed in, and whether the run has ended, and how.
@@ -47,21 +49,21 @@ pub(crate) struct Desk<M: Atomic, H: Given<M>> {
 
 impl<M: Atomic, H: Given<M>> Model for Desk<M, H> {
     ghost use Rattle.std.specs.Prelude.{IfOk, IfSome};
-    ghost use Rattle.tw_workers.specs.Ends.{IsEnd};
+    ghost use Rattle.tw_workers.specs.Ends.{IsEndOf};
     ghost use Rattle.tw_workers.specs.Exchanged.{Exchanged};
 
     ghost Value = { Exchanged M M.State };
 
     ghost view = { λ desk. desk.exchange };
 
-    ghost invariant = { λ desk. H.is_given desk.exchange.executive.network desk.exchange.executive.until
-        × IfSome desk.end (λ end. IfOk end (IsEnd M.meaning desk.exchange.executive.network desk.exchange.executive.until)) };
+    ghost invariant = { λ desk. H.is_given desk.exchange.executive.network desk.exchange.executive.until desk.exchange.publisher.board
+        × IfSome desk.end (λ end. IfOk end (IsEndOf M.meaning desk.exchange.executive)) };
 }
 
 impl<M: Atomic, H: Given<M>> Desk<M, H> {
     /// The exchange of what was handed in, before a run.
     pub(crate) fn new(alloc: Global, exchange: Exchange<M>) -> Desk<M, H>
-        requires { H.is_given exchange.executive.network exchange.executive.until }
+        requires { H.is_given exchange.executive.network exchange.executive.until exchange.publisher.board }
         ensures { result ≡ exchange }
     {
         Desk {
@@ -76,8 +78,8 @@ impl<M: Atomic, H: Given<M>> Desk<M, H> {
 
     /// The exchange after a run, and how the run ended.
     pub(crate) fn into_parts(self) -> (Exchange<M>, Option<Result<Outcome, SweepRefused>>)
-        ensures given { H.is_given result.0.executive.network result.0.executive.until }
-        ensures end { IfSome result.1 (λ end. IfOk end (IsEnd M.meaning result.0.executive.network result.0.executive.until)) }
+        ensures given { H.is_given result.0.executive.network result.0.executive.until result.0.publisher.board }
+        ensures end { IfSome result.1 (λ end. IfOk end (IsEndOf M.meaning result.0.executive)) }
     {
         let Desk {
             alloc: _,
@@ -103,7 +105,7 @@ impl<M: Atomic, H: Given<M>> Desk<M, H> {
     /// Gives out an order. None where there is nothing to be given out, or where memory for it is refused; then the run has ended.
     pub(crate) fn draw(&mut self, setting: Setting) -> Option<Order<M>>
         ensures due { IfSome result (IsDue M.valid M.meaning self.old.executive.network self.old.executive.until) }
-        ensures given { H.is_given self.old.executive.network self.old.executive.until }
+        ensures given { H.is_given self.old.executive.network self.old.executive.until self.old.publisher.board }
     {
         match self.exchange.draw(setting.burst, setting.window) {
             Ok(Some(order)) => {
@@ -119,16 +121,14 @@ impl<M: Atomic, H: Given<M>> Desk<M, H> {
     }
 
     /// Hands in what was worked out from an order, and sweeps where that is due: after a chain of which not all was made, and after
-    /// so many chains.
+    /// so many chains. Once the run has ended nothing is swept any more.
     pub(crate) fn hand_in(&mut self, prepareds: Prepareds<M>)
-        requires { (n : Contents M) (until : ℕ) → H.is_given n until → IsMadeFor M.meaning n until prepareds }
+        requires { (n : Contents M) (until : ℕ) (board : TableId) → H.is_given n until board → IsMadeFor M.meaning n until prepareds }
     {
-        self.out = self.out.saturating_sub(1);
-        self.handed_in = self.handed_in.saturating_add(1);
-        let Ok(finished) = self.exchange.finish(prepareds) else {
+        let Some(stop) = self.take_in(prepareds) else {
             return;
         };
-        match finished.stop {
+        match stop {
             Stop::Ended(Cause::All) => {
                 if self.handed_in >= CHAINS_BETWEEN_SWEEPS {
                     self.sweep();
@@ -140,6 +140,21 @@ impl<M: Atomic, H: Given<M>> Desk<M, H> {
             }
             Stop::Full => self.make_room(),
         }
+    }
+
+    // Hands in what was worked out from an order. Answers why it went no further, while the run goes on.
+    fn take_in(&mut self, prepareds: Prepareds<M>) -> Option<Stop>
+        requires { (n : Contents M) (until : ℕ) (board : TableId) → H.is_given n until board → IsMadeFor M.meaning n until prepareds }
+    {
+        self.out = self.out.saturating_sub(1);
+        self.handed_in = self.handed_in.saturating_add(1);
+        let Ok(finished) = self.exchange.finish(prepareds) else {
+            return None;
+        };
+        if self.end.is_some() {
+            return None;
+        }
+        Some(finished.stop)
     }
 
     // Sweeps because the nodes of a process are used up: what is committed frees some. Where that brings global virtual time no
@@ -161,7 +176,7 @@ impl<M: Atomic, H: Given<M>> Desk<M, H> {
         }
         match find_outcome(self.alloc, &mut self.exchange) {
             Ok(Some(outcome)) => self.end = Some(Ok(outcome)),
-            Ok(None) => {}
+            Ok(None) => self.end = None,
             Err(_) => self.end = Some(Err(SweepRefused::OutOfMemory)),
         }
     }

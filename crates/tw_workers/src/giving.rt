@@ -71,9 +71,11 @@ impl<M: Atomic> Exchange<M> {
         requires meaning { (m : M) → slice_get self.old.executive.network.models prepareds.run.start.component ≡ Some m → M.meaning m ≡ M.meaning prepareds.model }
         ensures installed { IfOk result (IsInstalledOn M.meaning prepareds self.old.executive self.new.executive) }
         ensures free { OnOk result (self.new.busy ≡ slice_set self.old.busy prepareds.run.start.component false) }
+        ensures publisher { self.new.publisher ≡ self.old.publisher }
         ensures no_such { IsErr result ↔ length self.old.executive.network.models ≤ prepareds.run.start.component }
         ensures stays { OnErr result (self.new ≡ self.old) }
     {
+        self.executive.facts();
         let Prepareds { chain } = prepareds;
         let component = chain.component();
         let Ok(finished) = self.executive.install(component, chain) else {

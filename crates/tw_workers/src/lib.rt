@@ -2,8 +2,8 @@
 //!
 //! An [`Exchange`] gives out components ([`draw`](Exchange::draw)): a worker works out the next steps of one apart from it
 //! ([`compute`]), and hands them in ([`finish`](Exchange::finish)), where those that are the component's own next ones are made. From
-//! time to time a [`sweep`](Exchange::sweep) posts and delivers all that is in transit and commits. Whoever calls in whatever order,
-//! the executive stays sound. Each call answers at once; none waits.
+//! time to time a [`sweep`](Exchange::sweep) posts and delivers all that is in transit and commits, and then tells the board how far
+//! it came. Whoever calls in whatever order, the executive stays sound. Each call answers at once; none waits.
 //!
 //! | File | Calls |
 //! |---|---|
@@ -14,7 +14,8 @@
 //! | `sweeping` | `sweep` |
 //! | `states` | `state`: whether the run is complete, or in a fault ([`State`]) |
 //!
-//! `agenda` finds the component with the least next step without looking at all of them, and `keeping` keeps it so.
+//! `agenda` finds the component with the least next step without looking at all of them, and `keeping` keeps it so; `posting` tells
+//! the board how far the executive came.
 #![tactic(auto)]
 
 mod agenda;
@@ -25,6 +26,7 @@ mod giving;
 mod keeping;
 pub mod orders;
 pub mod outcome;
+mod posting;
 mod refused;
 mod running;
 pub mod states;

@@ -2,7 +2,7 @@
 
 ghost use Rattle.std.specs.Prelude.{◌≡◌, IfOk, IfSome};
 ghost use Rattle.tw_vtime.specs.Stamps.{never};
-ghost use Rattle.tw_workers.specs.Ends.{IsEnd};
+ghost use Rattle.tw_workers.specs.Ends.{IsEndOf};
 ghost use Rattle.tw_workers.specs.States.{meant, state_of};
 
 use crate::exchange::Exchange;
@@ -48,7 +48,7 @@ pub(crate) fn find_outcome<M: Atomic>(
     alloc: Global,
     exchange: &mut Exchange<M>,
 ) -> Result<Option<Outcome>, AllocError>
-    ensures outcome { IfOk result (λ outcome. IfSome outcome (IsEnd M.meaning exchange.old.executive.network exchange.old.executive.until)) }
+    ensures outcome { IfOk result (λ outcome. IfSome outcome (IsEndOf M.meaning exchange.old.executive)) }
     ensures stays { exchange.new ≡ exchange.old }
 {
     let state = exchange.state()?;
@@ -62,7 +62,7 @@ fn outcome_at<M: Atomic>(
     state: State,
 ) -> Result<Option<Outcome>, AllocError>
     requires { meant state ≡ state_of M.meaning executive.now }
-    ensures { IfOk result (λ outcome. IfSome outcome (IsEnd M.meaning executive.now.network executive.now.until)) }
+    ensures { IfOk result (λ outcome. IfSome outcome (IsEndOf M.meaning executive.now)) }
 {
     executive.facts();
     match state {

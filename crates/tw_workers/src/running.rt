@@ -1,15 +1,18 @@
 //! A run by workers.
 
 ghost use Rattle.std.specs.Arc.{arc_value};
-ghost use Rattle.std.specs.Prelude.{◌≡◌, ◌≤◌, IfErr, IfOk, IfSome};
+ghost use Rattle.std.specs.Prelude.{◌≡◌, ◌≤◌, IfErr, IfOk, IfSome, IsErrAnd, Ok, length};
+ghost use Rattle.tw_theory.specs.Board.{numbers_of};
 ghost use Rattle.tw_vtime.specs.Stamps.{max_tick};
-ghost use Rattle.tw_workers.specs.Ends.{IsDue, IsEnd, IsMadeFor, IsOnly};
+ghost use Rattle.tw_workers.specs.Ends.{IsDue, IsEnd, IsEndOf, IsMadeFor, IsOnly, trace_of};
+ghost use Rattle.tw_workers.specs.Exchanged.{IsNotAhead};
 
 use crate::desk::{Desk, Given};
 use crate::exchange::Exchange;
 use crate::gate::Gate;
 use crate::orders::{Order, Prepareds, compute};
 use crate::outcome::{Outcome, RunFault, Setting};
+use crate::posting::post;
 use crate::refused::SweepRefused;
 use std::alloc::Global;
 use std::marker::Brand;
@@ -17,6 +20,7 @@ use std::sync::{Arc, Condvar, Mutex, Wait};
 use std::thread;
 use std::thread::Threads;
 use tw_atomic::Atomic;
+use tw_board::Publisher;
 use tw_exec::Executive;
 use tw_network::Network;
 
@@ -35,46 +39,81 @@ struct Shared<M: Atomic, H: Given<M>> {
 /// and hands them in; from time to time one of them sweeps. What comes out does not depend on the setting or on who did what: it is
 /// the trace of the sequential simulator, with its fault if there is one (Jefferson 1985).
 ///
+/// Global virtual time and how many records are committed are posted after each sweep, and once more at the end: the publisher that
+/// comes back has then posted as many records as the trace has.
+///
 /// Given up for want of memory (4), or of nodes (12), where a process would hold more than 1,048,576 of them and a sweep brings
-/// global virtual time no further. Then the executive comes back, sound, of the same network and until the same tick, and can be run
-/// again.
+/// global virtual time no further. Then the executive comes back, sound, of the same network and until the same tick, and the
+/// publisher has posted just its numbers; so it can be run again with it.
 pub fn run<M: Atomic + Send + Sync, G: Gate + Sync, R: Threads + Wait + Sync>(
     rt: &R,
     alloc: Global,
     executive: Executive<M>,
     setting: Setting,
     gate: &G,
-) -> Result<Outcome, RunFault<M>>
+    publisher: Publisher,
+) -> (Result<Outcome, RunFault<M>>, Publisher)
 where
     M::State: Send,
     M::Residue: Send,
     requires workers { (1 ≤ setting.workers) × (setting.workers ≤ 64) }
     requires burst { (1 ≤ setting.burst) × (setting.burst ≤ 256) }
     requires window { setting.window ≤ max_tick }
-    ensures outcome { IfOk result (IsEnd M.meaning executive.network executive.until) }
-    ensures network { IfErr result (λ fault. fault.executive.network ≡ executive.network) }
-    ensures until { IfErr result (λ fault. fault.executive.until ≡ executive.until) }
+    requires not_ahead { IsNotAhead publisher executive }
+    ensures outcome { IfOk result.0 (IsEnd M.meaning executive.network executive.until) }
+    ensures network { IfErr result.0 (λ fault. fault.executive.network ≡ executive.network) }
+    ensures until { IfErr result.0 (λ fault. fault.executive.until ≡ executive.until) }
+    ensures board { result.1.board ≡ publisher.board }
+    ensures count { IfOk result.0 (λ outcome. result.1.numbers.1 ≡ length (trace_of outcome)) }
+    ensures numbers { IfErr result.0 (λ fault. result.1.numbers ≡ numbers_of fault.executive.world) }
 {
     let Ok(network) = Arc::try_clone(executive.network()) else {
-        return Err(wanting(SweepRefused::OutOfMemory, executive));
+        return given_up(SweepRefused::OutOfMemory, executive, publisher);
     };
-    let exchange = match Exchange::new(alloc, executive) {
+    let exchange = match Exchange::new(alloc, executive, publisher) {
         Ok(exchange) => exchange,
-        Err((executive, _)) => return Err(wanting(SweepRefused::OutOfMemory, executive)),
+        Err((executive, publisher, _)) => {
+            return given_up(SweepRefused::OutOfMemory, executive, publisher);
+        }
     };
     let (exchange, end) = run_given::<M, Brand, G, R>(rt, alloc, network, exchange, setting, gate);
+    let (executive, publisher) = exchange.into_parts();
     match end {
-        Some(Ok(outcome)) => Ok(outcome),
-        Some(Err(why)) => Err(wanting(why, exchange.into_executive())),
-        None => Err(wanting(SweepRefused::OutOfMemory, exchange.into_executive())),
+        Some(Ok(outcome)) => ended(outcome, &executive, publisher),
+        Some(Err(why)) => given_up(why, executive, publisher),
+        None => given_up(SweepRefused::OutOfMemory, executive, publisher),
     }
 }
 
-// A run that is given up.
-fn wanting<M: Atomic>(why: SweepRefused, executive: Executive<M>) -> RunFault<M>
-    ensures { result.executive ≡ executive }
+// A run that has ended, and its publisher, which has posted just the executive's numbers.
+fn ended<M: Atomic>(
+    outcome: Outcome,
+    executive: &Executive<M>,
+    mut publisher: Publisher,
+) -> (Result<Outcome, RunFault<M>>, Publisher)
+    requires not_ahead { IsNotAhead publisher executive.now }
+    requires end { IsEndOf M.meaning executive.now outcome }
+    ensures ok { result.0 ≡ Ok outcome }
+    ensures board { result.1.board ≡ publisher.board }
+    ensures count { result.1.numbers.1 ≡ length (trace_of outcome) }
 {
-    RunFault { why, executive }
+    post(&mut publisher, executive);
+    (Ok(outcome), publisher)
+}
+
+// A run that is given up, and its publisher, which has posted just the executive's numbers.
+fn given_up<M: Atomic>(
+    why: SweepRefused,
+    executive: Executive<M>,
+    mut publisher: Publisher,
+) -> (Result<Outcome, RunFault<M>>, Publisher)
+    requires { IsNotAhead publisher executive }
+    ensures err { IsErrAnd result.0 (λ fault. fault.executive ≡ executive) }
+    ensures board { result.1.board ≡ publisher.board }
+    ensures numbers { result.1.numbers ≡ numbers_of executive.world }
+{
+    post(&mut publisher, &executive);
+    (Err(RunFault { why, executive }), publisher)
 }
 
 // Runs what was handed in.
@@ -94,10 +133,10 @@ fn run_given<
 where
     M::State: Send,
     M::Residue: Send,
-    requires given { H.is_given exchange.executive.network exchange.executive.until }
+    requires given { H.is_given exchange.executive.network exchange.executive.until exchange.publisher.board }
     requires only { IsOnly H.is_given (arc_value network) exchange.executive.until }
-    ensures given { H.is_given result.0.executive.network result.0.executive.until }
-    ensures end { IfSome result.1 (λ end. IfOk end (IsEnd M.meaning result.0.executive.network result.0.executive.until)) }
+    ensures given { H.is_given result.0.executive.network result.0.executive.until result.0.publisher.board }
+    ensures end { IfSome result.1 (λ end. IfOk end (IsEndOf M.meaning result.0.executive)) }
 {
     let until = exchange.executive().until();
     let shared: Shared<M, H> = Shared {

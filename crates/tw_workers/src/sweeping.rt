@@ -4,13 +4,14 @@ ghost use Rattle.std.specs.List.{AllByRecursion as Each};
 ghost use Rattle.std.specs.Prelude.{◌≡◌, ◌<◌, IfErr, IfOk, OnErr, OnOk, length, suc};
 ghost use Rattle.tw_exec.specs.Actions.{meant};
 ghost use Rattle.tw_exec.specs.Running.{after};
+ghost use Rattle.tw_theory.specs.Board.{numbers_of};
 ghost use Rattle.tw_theory.specs.Exchange.{all_empty, all_idle, deliveries, harvests, is_swept, posts};
 ghost use Rattle.tw_vtime.specs.Stamps.{never};
-ghost use Rattle.tw_workers.specs.Exchanged.{with_executive};
 ghost use Rattle.tw_workers.specs.Sweeping.{deliveries_from, is_idle, pass_of, replayed, sweep_of, IsCutShort, IsUnderWay, IsWanting};
 
 use crate::exchange::Exchange;
 use crate::keeping::refresh_all;
+use crate::posting::post;
 use crate::refused::SweepRefused;
 use tw_atomic::Atomic;
 use tw_exec::{Action, Executive, Refused};
@@ -19,20 +20,25 @@ use tw_vtime::Stamp;
 
 impl<M: Atomic> Exchange<M> {
     /// Posts what each component sends and delivers all that lies in mailboxes, again and again, until nothing is in transit and
-    /// nothing owed is overdue; then raises global virtual time, and commits what is before it. Answers global virtual time.
+    /// nothing owed is overdue; then raises global virtual time, and commits what is before it; then posts global virtual time and
+    /// how many records are committed on the board. Answers global virtual time.
     ///
     /// Refused for want of memory (4), or of nodes (12) where the lists of a process would have more than 1,048,576; what was done
-    /// before that stays done. It costs as many steps as there are components and items that move, and what these undo.
+    /// before that stays done, and nothing is posted on the board. It costs as many steps as there are components and items that move, and what these undo.
     pub fn sweep(&mut self) -> Result<Stamp, SweepRefused>
-        ensures swept { OnOk result (self.new ≡ with_executive (replayed M.meaning (sweep_of M.meaning self.old.executive) self.old.executive) self.old) }
+        ensures swept { OnOk result (self.new.executive ≡ replayed M.meaning (sweep_of M.meaning self.old.executive) self.old.executive) }
         ensures gvt { IfOk result (λ gvt. gvt ≡ self.new.executive.world.gvt) }
         ensures cut_short { IfErr result (IsCutShort M.meaning (sweep_of M.meaning self.old.executive) self.old.executive self.new.executive) }
+        ensures posted { OnOk result (self.new.publisher ≡ record { board = self.old.publisher.board; numbers = numbers_of self.new.executive.world }) }
+        ensures not_posted { OnErr result (self.new.publisher ≡ self.old.publisher) }
         ensures busy { self.new.busy ≡ self.old.busy }
     {
         self.executive.facts();
         let swept = sweep_all(&mut self.executive);
         refresh_all(&mut self.agenda, &self.executive);
-        swept
+        let gvt = swept?;
+        post(&mut self.publisher, &self.executive);
+        Ok(gvt)
     }
 }
 

@@ -17,23 +17,23 @@ use tw_engine::{Exit, engine};
 use tw_line::{Driver, Job, NoJob, job};
 use tw_vtime::Refusal;
 
-// The status of the process. An error is one of standard output, which could not take the text of the help.
-fn run<T: Threads + Wait + Sync>(rt: &HostRuntime, threads: &T) -> io::Result<u8> {
+// How the run of the program ends.
+fn run<T: Threads + Wait + Sync>(rt: &HostRuntime, threads: &T) -> Exit {
     let given = match env::args(rt) {
         Ok(given) => given,
-        Err(error) => return Ok(finish(rt, exit_of(&error))),
+        Err(error) => return exit_of(&error),
     };
     let Ok(words) = given.collect::<Vec<String>>(rt.alloc()) else {
-        return Ok(finish(rt, Exit::Want(Refusal::OutOfMemory)));
+        return Exit::Want(Refusal::OutOfMemory);
     };
     match job(rt.alloc(), words.as_slice()) {
-        Ok(job) => Ok(finish(rt, do_job(rt, threads, &job))),
-        Err(NoJob::Help(text)) => {
-            text.print(rt)?;
-            Ok(0)
-        }
-        Err(NoJob::BadLine) => Ok(finish(rt, Exit::Bad(Refusal::BadLine))),
-        Err(NoJob::OutOfMemory) => Ok(finish(rt, Exit::Want(Refusal::OutOfMemory))),
+        Ok(job) => do_job(rt, threads, &job),
+        Err(NoJob::Help(text) | NoJob::Version(text)) => match text.print(rt) {
+            Ok(()) => Exit::Done,
+            Err(_) => Exit::NoWrite,
+        },
+        Err(NoJob::BadLine) => Exit::Bad(Refusal::BadLine),
+        Err(NoJob::OutOfMemory) => Exit::Want(Refusal::OutOfMemory),
     }
 }
 
@@ -50,9 +50,8 @@ fn exit_of(error: &io::Error) -> Exit {
 fn do_job<T: Threads + Wait + Sync>(rt: &HostRuntime, threads: &T, job: &Job<'_>) -> Exit {
     let mut net = match job {
         Job::Demo => Source::Missing(ErrorKind::NotFound),
-        Job::Seq { net, .. } | Job::Run { net, .. } | Job::Play { net, .. } => Source::from(
-            File::open(rt, *net),
-        ),
+        Job::Check { net } | Job::Seq { net, .. } | Job::Run { net, .. } | Job::Play { net, .. } =>
+            Source::from(File::open(rt, *net)),
     };
     let mut script = match job {
         Job::Play {
@@ -75,8 +74,6 @@ fn finish(rt: &HostRuntime, exit: Exit) -> u8 {
 }
 
 fn main(rt: HostRuntime) -> ExitCode {
-    match run(&rt, &rt) {
-        Ok(status) => ExitCode::from(status),
-        Err(_) => ExitCode::from(5),
-    }
+    let exit = run(&rt, &rt);
+    ExitCode::from(finish(&rt, exit))
 }

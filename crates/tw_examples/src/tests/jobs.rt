@@ -4,7 +4,7 @@ mod examples;
 mod failing;
 mod played;
 
-use crate::tests::jobs::examples::{Example, REFUSED, runs};
+use crate::tests::jobs::examples::{Example, GEN_TALLY, REFUSED, runs};
 use std::alloc::Global;
 use std::io::Read;
 use std::process::Abort;
@@ -132,6 +132,44 @@ fn files_and_an_end_tick_are_refused(rt: HostRuntime) {
     for example in REFUSED.iter() {
         assert_example(&rt, rt.alloc(), example);
     }
+}
+
+/// Asserts how a check of a file ends, and the text that it writes.
+fn assert_check<R: Abort + Threads + Wait + Sync>(
+    rt: &R,
+    alloc: Global,
+    file: &str,
+    exit: Exit,
+    text: &str,
+) {
+    let job = Job::Check { net: "net.json" };
+    let mut net = file.as_bytes();
+    assert_run(rt, alloc, "a check", &job, &mut net, exit, text);
+}
+
+#[test]
+fn checks_are_written(rt: HostRuntime) {
+    assert_check(
+        &rt,
+        rt.alloc(),
+        GEN_TALLY,
+        Exit::Done,
+        "ok: 2 components, 1 couplings, 0 inputs\n",
+    );
+    assert_check(
+        &rt,
+        rt.alloc(),
+        "{\"format\": \"tw-1\"\n}",
+        Exit::Bad(Refusal::BadShape),
+        "the file: \"micro_limit\" is missing in a network file, which takes format, micro_limit, components, couplings, inputs\n",
+    );
+    assert_check(
+        &rt,
+        rt.alloc(),
+        "{\"format\"\n  \"tw-1\"}",
+        Exit::Bad(Refusal::NotJson),
+        "line 2, column 3: not JSON: expected a colon\n",
+    );
 }
 
 #[test]

@@ -7,8 +7,10 @@ use tw_line::{Driver, Job, NoJob, Setting, job};
 use tw_vtime::Refusal;
 
 /// Lines that are taken, and what is answered to each.
-static TAKEN: [(&str, &str); 25] = [
+static TAKEN: [(&str, &str); 27] = [
     ("twarp demo", "demo"),
+    ("twarp check n.json", "check of n.json"),
+    ("twarp check -- -n.json", "check of -n.json"),
     ("twarp seq n.json --until 5", "seq of n.json until 5"),
     ("twarp seq n.json --until=5", "seq of n.json until 5"),
     ("twarp seq --until 5 n.json", "seq of n.json until 5"),
@@ -87,10 +89,13 @@ static TAKEN: [(&str, &str); 25] = [
 ];
 
 /// Lines that are refused.
-static REFUSED: [&str; 67] = [
+static REFUSED: [&str; 70] = [
     "twarp",
     "twarp walk",
-    "twarp --version",
+    "twarp seq --version",
+    "twarp check",
+    "twarp check n.json m.json",
+    "twarp check n.json --until 5",
     "twarp demo n.json",
     "twarp demo --until 5",
     "twarp seq",
@@ -158,7 +163,35 @@ static REFUSED: [&str; 67] = [
 ];
 
 /// Lines that ask for help, and parts of what is answered to each.
-static HELPS: [(&str, [&str; 3]); 11] = [
+static HELPS: [(&str, [&str; 3]); 15] = [
+    (
+        "twarp --help",
+        ["Example: twarp demo", "Status: 0 done", "docs/FORMATS.md"],
+    ),
+    (
+        "twarp check --help",
+        [
+            "Usage: twarp check <NET>",
+            "Example: twarp check examples/gen-tally.json",
+            "Status: 0 no fault; 2 a fault",
+        ],
+    ),
+    (
+        "twarp seq --help",
+        [
+            "Example: twarp seq examples/gen-tally.json --until 5",
+            "Status: 0 done",
+            "docs/FORMATS.md",
+        ],
+    ),
+    (
+        "twarp run --help",
+        [
+            "Example: twarp run examples/ring-of-queues.json",
+            "4 memory or nodes were refused",
+            "docs/GUIDE.md",
+        ],
+    ),
     ("twarp --help", ["Usage: twarp <COMMAND>", "seq", "play"]),
     ("twarp -h", ["Usage: twarp <COMMAND>", "demo", "seq"]),
     ("twarp help", ["Usage: twarp <COMMAND>", "demo", "run"]),
@@ -207,6 +240,7 @@ fn answer(alloc: Global, line: &str) -> Result<String, AllocError> {
     let words = words_of(alloc, line)?;
     match job(alloc, words.as_slice()) {
         Ok(Job::Demo) => String::from_str(alloc, "demo"),
+        Ok(Job::Check { net }) => format!(in alloc; "check of {net}"),
         Ok(Job::Seq { net, until }) => format!(in alloc; "seq of {net} until {until}"),
         Ok(
             Job::Run {
@@ -276,11 +310,11 @@ fn a_line_with_no_word_is_refused(rt: HostRuntime) {
     assert!(rt; refusal == Some(Refusal::BadLine));
 }
 
-/// The help of a line, or none where it is no call for help.
+/// The help or the version of a line, or none where it is no call for these.
 fn help_of(alloc: Global, line: &str) -> Result<Option<String>, AllocError> {
     let words = words_of(alloc, line)?;
     match job(alloc, words.as_slice()) {
-        Err(NoJob::Help(help)) => Ok(Some(help.to_string(alloc)?)),
+        Err(NoJob::Help(text) | NoJob::Version(text)) => Ok(Some(text.to_string(alloc)?)),
         _ => Ok(None),
     }
 }
@@ -299,6 +333,16 @@ fn assert_help(rt: &impl Abort, alloc: Global, line: &str, parts: &[&str]) -> Re
 fn helps_with_each_argument_its_unit_and_its_range(rt: HostRuntime) -> Result<(), Fail> {
     for (line, parts) in HELPS.iter() {
         assert_help(&rt, rt.alloc(), line, parts)?;
+    }
+    Ok(())
+}
+
+#[test]
+fn tells_its_version_and_its_kit_on_one_line(rt: HostRuntime) -> Result<(), Fail> {
+    for line in ["twarp --version", "twarp -V"] {
+        let text = help_of(rt.alloc(), line)?;
+        let wanted = "twarp 0.1.0 (rattle-kit-13b logic dac8208d650f15bf)\n";
+        assert!(rt; text.as_ref().map_or("none", |text| text.as_str()) == wanted);
     }
     Ok(())
 }

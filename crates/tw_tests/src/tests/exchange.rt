@@ -11,6 +11,7 @@ use super::sequential::{Example, RUNS, network_of};
 use std::alloc::Global;
 use std::process::Abort;
 use tw_atomic::Atomic;
+use tw_board::Board;
 use tw_chain::Cause;
 use tw_exec::Executive;
 use tw_models::Model;
@@ -24,9 +25,12 @@ use tw_workers::{Exchange, NoSuch, Open, Order, Prepareds, State, SweepRefused, 
 /// How many sweeps a run may take.
 const SWEEPS: usize = 200;
 
-/// An exchange of this executive.
+/// An exchange of this executive, with a board on which nothing is posted.
 fn exchange_of<M: Atomic>(rt: &impl Abort, alloc: Global, executive: Executive<M>) -> Exchange<M> {
-    Exchange::new(alloc, executive).ok().expect(rt, "memory")
+    let (_, publisher) = Board::new(alloc).expect(rt, "memory");
+    Exchange::new(alloc, executive, publisher)
+        .ok()
+        .expect(rt, "memory")
 }
 
 /// Works an order out by the component's own model.
@@ -203,7 +207,7 @@ fn drawn_components_are_the_least_that_are_free(rt: HostRuntime) {
     assert!(rt; draws_none(&rt, &mut exchange, 1000));
     exchange.give_back(relay);
     exchange.give_back(generator);
-    assert!(rt; exchange.into_executive().committed_len() == 0);
+    assert!(rt; exchange.into_parts().0.committed_len() == 0);
 }
 
 /// Asserts what a sweep leaves of the row after its straggler: nothing is in transit, and all lines are at 2.0.1.
@@ -308,7 +312,7 @@ fn run(
         Some((component, at, limit)) => State::Fault(component, at, limit),
     };
     assert!(rt; state == wanted, "{} {burst} {window}", example.name);
-    let executive = exchange.into_executive();
+    let executive = exchange.into_parts().0;
     assert_columns(rt, &executive, seq.records.as_slice());
     assert!(rt; executive.committed_len() == seq.records.len() as u64);
 }

@@ -13,6 +13,7 @@ use std::test::Fail;
 use std::thread;
 use std::thread::Threads;
 use tw_atomic::{Atomic, Outbox, Turn};
+use tw_board::Board;
 use tw_exec::Executive;
 use tw_models::{Model, Residue, State};
 use tw_msgs::Record;
@@ -20,7 +21,7 @@ use tw_network::Network;
 use tw_process::Cancel;
 use tw_seq::{Seq, simulate};
 use tw_vtime::{Refusal, Stamp};
-use tw_workers::{Gate, Open, Outcome, Setting, run};
+use tw_workers::{Gate, Open, Outcome, Setting, SweepRefused, run};
 
 /// How many turns one waits for the other at most.
 const TURNS: u64 = 10_000_000;
@@ -116,44 +117,76 @@ fn gate_of_two(rt: HostRuntime) -> Result<(), Fail> {
         burst: 1,
         window: 1000,
     };
-    let outcome = run(&rt, rt.alloc(), executive, setting, &meeting);
+    let (mut board, publisher) = Board::new(rt.alloc())?;
+    let mut reader = board.reader()?;
+    let (outcome, mut publisher) = run(&rt, rt.alloc(), executive, setting, &meeting, publisher);
     let Ok(Outcome::Complete(trace)) = outcome else {
         return Err(Fail::from("no whole run"));
     };
     assert!(rt; is_apart(trace.as_slice()));
     let (x, y) = meeting.calls();
     assert!(rt; x >= 4 && y >= 4);
+    let after = Stamp::new(6, 0, 0).expect(&rt, "a stamp");
+    assert!(rt; reader.meet(&mut publisher) == (after, 8));
     Ok(())
 }
 
-/// A model whose transitions forward meet those of another: the nth first waits until the other's was called n times.
+/// What a model does before each transition forward.
 #[derive(Drop)]
-struct Paired {
+enum Before {
+    /// The nth, of the first or second of a pair, waits until the other's was called n times.
+    Meet(usize, Arc<Meeting>),
+    /// So many are let through; the next finds no memory; all later ones are let through again.
+    Refuse(AtomicU64),
+}
+
+/// A generator of period 2 and value 1 that does something before each transition forward.
+#[derive(Drop)]
+struct Watched {
     model: Model,
-    place: usize,
-    meeting: Arc<Meeting>,
+    before: Before,
 }
 
-impl Paired {
-    /// A generator of period 2 and value 1, in this place of the pair.
-    fn new(rt: &impl Abort, place: usize, meeting: &Arc<Meeting>) -> Paired {
-        Paired {
+impl Watched {
+    fn new(rt: &impl Abort, before: Before) -> Watched {
+        Watched {
             model: Model::generator(2, 1).ok().expect(rt, "a model"),
-            place,
-            meeting: Arc::try_clone(meeting).ok().expect(rt, "a count"),
+            before,
         }
     }
 
-    /// Waits until the other was called as often.
-    fn meet(&self) {
-        if self.place < 2 {
-            let before = self.meeting.calls[self.place].fetch_add(1, SeqCst);
-            self.meeting.wait(self.place == 1, before);
+    /// In this place of a pair that meets.
+    fn paired(rt: &impl Abort, place: usize, meeting: &Arc<Meeting>) -> Watched {
+        let meeting = Arc::try_clone(meeting).ok().expect(rt, "a count");
+        Watched::new(rt, Before::Meet(place, meeting))
+    }
+
+    /// One that finds no memory once, after so many transitions forward.
+    fn refusing(rt: &impl Abort, count: u64) -> Watched {
+        Watched::new(rt, Before::Refuse(AtomicU64::new(count)))
+    }
+
+    /// Does what is to be done before a transition forward.
+    fn prepare(&self) -> Result<(), AllocError> {
+        match &self.before {
+            Before::Meet(place, meeting) => {
+                if *place < 2 {
+                    let before = meeting.calls[*place].fetch_add(1, SeqCst);
+                    meeting.wait(*place == 1, before);
+                }
+                Ok(())
+            }
+            Before::Refuse(left) => {
+                if left.fetch_sub(1, SeqCst) == 0 {
+                    return Err(AllocError);
+                }
+                Ok(())
+            }
         }
     }
 }
 
-impl Atomic for Paired {
+impl Atomic for Watched {
     ghost use Rattle.tw_models.specs.Model.{IsModel, model_meaning, model_residue, model_undone};
     ghost use Rattle.tw_models.specs.ModelLaws.{model_alike, model_stays_valid, model_output_fits, model_reverses};
 
@@ -189,7 +222,7 @@ impl Atomic for Paired {
         elapsed: u64,
         bag: &[(u8, i64)],
     ) -> Result<Residue, AllocError> {
-        self.meet();
+        self.prepare()?;
         self.model.forward(alloc, state, turn, elapsed, bag)
     }
 
@@ -228,14 +261,18 @@ impl Atomic for Paired {
 #[test]
 fn forwards_meet(rt: HostRuntime) -> Result<(), Fail> {
     let meeting = Arc::new(rt.alloc(), Meeting::new())?;
-    let models = [Paired::new(&rt, 0, &meeting), Paired::new(&rt, 1, &meeting)];
+    let models = [
+        Watched::paired(&rt, 0, &meeting),
+        Watched::paired(&rt, 1, &meeting),
+    ];
     let executive = apart(&rt, rt.alloc(), models);
     let setting = Setting {
         workers: 2,
         burst: 1,
         window: 1000,
     };
-    let outcome = run(&rt, rt.alloc(), executive, setting, &Open);
+    let (_, publisher) = Board::new(rt.alloc())?;
+    let (outcome, _) = run(&rt, rt.alloc(), executive, setting, &Open, publisher);
     let Ok(Outcome::Complete(trace)) = outcome else {
         return Err(Fail::from("no whole run"));
     };
@@ -244,7 +281,38 @@ fn forwards_meet(rt: HostRuntime) -> Result<(), Fail> {
     Ok(())
 }
 
-/// Whether each example's outcome by workers is the sequential simulator's.
+#[test]
+fn a_run_that_was_given_up_goes_on(rt: HostRuntime) -> Result<(), Fail> {
+    let models = [Watched::refusing(&rt, 1), Watched::refusing(&rt, 0)];
+    let executive = apart(&rt, rt.alloc(), models);
+    let setting = Setting {
+        workers: 1,
+        burst: 1,
+        window: 0,
+    };
+    let (mut board, publisher) = Board::new(rt.alloc())?;
+    let mut reader = board.reader()?;
+    let (first, publisher) = run(&rt, rt.alloc(), executive, setting, &Open, publisher);
+    let Err(fault) = first else {
+        return Err(Fail::from("the first run found memory"));
+    };
+    assert!(rt; fault.why == SweepRefused::OutOfMemory);
+    assert!(rt; reader.see() == (fault.executive.gvt(), fault.executive.committed_len()));
+    let (second, publisher) = run(&rt, rt.alloc(), fault.executive, setting, &Open, publisher);
+    let Err(fault) = second else {
+        return Err(Fail::from("the second run found memory"));
+    };
+    let (third, mut publisher) = run(&rt, rt.alloc(), fault.executive, setting, &Open, publisher);
+    let Ok(Outcome::Complete(trace)) = third else {
+        return Err(Fail::from("no whole run"));
+    };
+    assert!(rt; is_apart(trace.as_slice()));
+    let after = Stamp::new(6, 0, 0).expect(&rt, "a stamp");
+    assert!(rt; reader.meet(&mut publisher) == (after, 8));
+    Ok(())
+}
+
+/// Whether each example's outcome by workers is the sequential simulator's, and as many records are posted in the end.
 fn are_sequential<R: Threads + Wait + Sync>(
     rt: &R,
     alloc: Global,
@@ -259,10 +327,16 @@ fn are_sequential<R: Threads + Wait + Sync>(
         let seq = simulate(alloc, &network_of(alloc, example)?, example.until)?;
         let network = network_of(alloc, example)?;
         let executive = Executive::with_cancel(alloc, network, example.until, cancel)?;
-        let Ok(outcome) = run(rt, alloc, executive, setting, &Open) else {
+        let (mut board, publisher) = Board::new(alloc)?;
+        let mut reader = board.reader()?;
+        let (outcome, mut publisher) = run(rt, alloc, executive, setting, &Open, publisher);
+        let Ok(outcome) = outcome else {
             return Ok(false);
         };
         if !is_of(&outcome, &seq) {
+            return Ok(false);
+        }
+        if reader.meet(&mut publisher).1 != seq.records.len() as u64 {
             return Ok(false);
         }
     }

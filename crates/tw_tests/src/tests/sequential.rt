@@ -6,7 +6,7 @@ use std::process::Abort;
 use tw_models::{BadModel, Model};
 use tw_msgs::RecordKind;
 use tw_network::{Coupling, Input, Network};
-use tw_seq::{Seq, SeqRefused, simulate};
+use tw_seq::{Seq, SeqRefused, outcome, simulate};
 use tw_vtime::{Limit, MAX_TICK, Refusal, Stamp};
 
 /// The names of components, in their order.
@@ -327,6 +327,15 @@ fn runs_are_the_worked_ones(rt: HostRuntime) {
         let run = run_of(rt.alloc(), example).expect(&rt, example.name);
         assert!(rt; all_show(&run.records, example.lines), "{}", example.name);
         assert!(rt; is_fault(&run.fault, &example.fault), "{}", example.name);
+    }
+}
+
+#[test]
+fn outcome_is_the_fault(rt: HostRuntime) {
+    for example in RUNS.iter() {
+        let network = network_of(rt.alloc(), example).expect(&rt, example.name);
+        let fault = outcome(rt.alloc(), &network, example.until).expect(&rt, example.name);
+        assert!(rt; is_fault(&fault, &example.fault), "{}", example.name);
     }
 }
 

@@ -1,13 +1,16 @@
 -- Component by component: an imminent one gives its output, any other none.
-use Rattle.std.proofs.Common.{◌≡◌, ◌+◌, ◌<◌, ◌≤◌, ◌==◌, ◌∙◌, ◌++◌, true, ap, sym, refl, subst, arith, length, drop, slice_index, eq-eqb}
+use Rattle.std.proofs.Common.{◌≡◌, ◌+◌, ◌<◌, ◌≤◌, ◌==◌, ◌∙◌, ◌++◌, [], ◌∷◌, true, ap, sym, refl, subst, arith, length, drop, slice_index, eq-eqb}
 use Rattle.std.specs.List.{All}
 use Rattle.std.proofs.lemmas.Option.{slice_get_read, slice_get_within, same_Some}
 use Rattle.tw_msgs.specs.Bags.{sorted_bag}
+use Rattle.tw_msgs.specs.declared.record_kind.RecordKind.TheVariants.{Out}
 use Rattle.tw_network.specs.Contents.{network_of}
 use Rattle.tw_seq.specs.Dealing.{dealt}
+use Rattle.tw_seq.specs.Receiving.{Receives}
 use Rattle.tw_theory.specs.Network.{routed}
 use Rattle.tw_theory.specs.Simulator.{outputs, all_sent}
 use Rattle.tw_seq.proofs.Dealt.{length-dealt}
+use Rattle.tw_seq.proofs.Received.{received_more}
 use Rattle.tw_seq.proofs.RoundOutputs.{outs_passed, output_recorded, output_sent, records_all, sent_all}
 use Rattle.tw_seq.proofs.Sweeping.{onward, onward_more, onward_within, onward_next, none_between, none_after}
 use Rattle.tw_seq.proofs.outputs.make_outputs.Goals as goal
@@ -47,6 +50,9 @@ output_bag-requires g c =
     let standing = c.requires.moments.each i c.model.result.now now c.model.ensures (slice_get_read c.args.moments.now (length c.args.moments.now) i now refl l c.index-moments-component.is) in
     subst (g.M.Atomic.valid c.model.result.now) (sym (ap (λ m. m.state) c.now.view_is)) standing.stands.valid
 
+pub loop-component-init : goal.loop-component-init
+loop-component-init g c = record { told = []; received = refl; records = refl; bags = refl; size = refl; awake = c.requires.awake }
+
 pub loop-component-preserved : goal.loop-component-preserved
 loop-component-preserved g c =
     let net = network_of g.M.Atomic.meaning c.args.network.now in
@@ -70,17 +76,16 @@ loop-component-preserved g c =
     let model = c.model.result.now in
     let bag = c.in_ok-bag.bag in
     let given = c.in_ok-bag.ensures ∙ ap (λ x. sorted_bag ((g.M.Atomic.meaning model).out x.state)) c.now.view_is in
-    let records = c.loop-component.records.items in
     let bags = c.loop-component.arrivals.bags.items in
     let inv = c.loop-component.invariant in
-    let rest = outputs net t (i + 1) (drop (i + 1) moments) in
     let routed_to = c.in_ok-route.ensures.bags in
     record {
+      told = inv.told ++ record { component = i; stamp = t; kind = Out; bag = bag; words = [] } ∷ [];
+      received = received_more g.R.Receiver.takes _ inv.told c.loop-component.receiver c.take.new.self _ inv.received c.in_ok-take.ensures;
       records =
-          ap (λ n. c.push.new.self.items ++ outputs net t n (drop n moments)) (sym next)
-          ∙ ap (λ rs. rs ++ rest) c.in_ok-push.ensures.items
+          ap (λ n. (inv.told ++ record { component = i; stamp = t; kind = Out; bag = bag; words = [] } ∷ []) ++ outputs net t n (drop n moments)) (sym next)
           ∙ output_recorded g.M.Atomic.meaning c.args.network.now t i moments now model bag l is due c.model.ensures given
-          records _ c.from.result (c.from.ensures ∙ c.new.ensures.items) (ap (λ rs. records ++ rs) (sym jump) ∙ inv.records);
+          inv.told _ [] refl (ap (λ rs. inv.told ++ rs) (sym jump) ∙ inv.records);
       bags =
           ap (λ n. dealt 0 c.route.new.arrivals.bags.items (all_sent net (outputs net t n (drop n moments)))) (sym next)
           ∙ output_sent g.M.Atomic.meaning c.args.network.now t i moments now model bag l is due c.model.ensures given
@@ -103,11 +108,13 @@ passed g c =
     (onward_within imminent (length moments) k within end) (omega arith)
     (λ d low high h. none_after imminent c.requires.rising k d c.loop-component-test.false end low (c.requires.all d h))
 
-pub returns-clause-records : goal.returns-clause-records
-returns-clause-records g c =
+pub returns-clause-received : goal.returns-clause-received
+returns-clause-received g c =
     let moments = c.args.moments.now in
-    let records = c.loop-component.records.items in
-    records_all (network_of g.M.Atomic.meaning c.args.network.now) c.args.time (length moments) moments records _ (omega arith) (ap (λ rs. records ++ rs) (sym (passed g c)) ∙ c.loop-component.invariant.records)
+    let inv = c.loop-component.invariant in
+    subst (λ rs. Receives g.R.Receiver.takes c.args.receiver.now rs c.loop-component.receiver)
+    (records_all (network_of g.M.Atomic.meaning c.args.network.now) c.args.time (length moments) moments inv.told _ (omega arith) (ap (λ rs. inv.told ++ rs) (sym (passed g c)) ∙ inv.records))
+    inv.received
 
 pub returns-clause-bags : goal.returns-clause-bags
 returns-clause-bags g c =

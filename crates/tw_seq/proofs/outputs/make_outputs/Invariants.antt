@@ -1,7 +1,9 @@
 -- The outputs from here on complete the records and the bags.
-use Rattle.std.proofs.Common.{◌≡◌, ◌++◌, drop, length}
+use Rattle.std.proofs.Common.{◌≡◌, ◌++◌, List, drop, length}
+use Rattle.tw_msgs.specs.declared.record.Record.{Record}
 use Rattle.tw_network.specs.Contents.{network_of}
 use Rattle.tw_seq.specs.Dealing.{dealt}
+use Rattle.tw_seq.specs.Receiving.{Receives}
 use Rattle.tw_seq.specs.Waking.{WakesAll}
 use Rattle.tw_theory.specs.Simulator.{outputs, all_sent}
 use Rattle.tw_seq.proofs.Sweeping.{onward}
@@ -12,7 +14,9 @@ invariant-loop-component g l =
     let net = network_of g.M.Atomic.meaning l.network in
     let from = onward l.imminent l.component-index in
     record {
-      records : l.records.items ++ outputs net l.time from (drop from l.moments) ≡ l.initial.records.items ++ outputs net l.time 0 l.moments;
+      told : List Record;
+      received : Receives g.R.Receiver.takes l.initial.receiver told l.receiver;
+      records : told ++ outputs net l.time from (drop from l.moments) ≡ outputs net l.time 0 l.moments;
       bags : dealt 0 l.arrivals.bags.items (all_sent net (outputs net l.time from (drop from l.moments))) ≡ dealt 0 l.initial.arrivals.bags.items (all_sent net (outputs net l.time 0 l.moments));
       size : length l.arrivals.bags.items ≡ length l.initial.arrivals.bags.items;
       awake : WakesAll l.arrivals.bags.items l.arrivals.awake.items;

@@ -1,14 +1,15 @@
 -- The parts of the round are the definition's parts.
-use Rattle.std.proofs.Common.{◌≡◌, ◌+◌, ◌<◌, ◌≤◌, ◌++◌, ◌∙◌, ℕ, ap, sym, subst, arith, drop, length, append_assoc, ⊎_elim}
+use Rattle.std.proofs.Common.{◌≡◌, ◌+◌, ◌<◌, ◌≤◌, ◌∙◌, ℕ, [], refl, ap, sym, subst, arith, drop, length, ⊎_elim}
 use Rattle.std.specs.List.{All, Contains, AllByRecursion as Each}
-use Rattle.std.specs.Prelude.{MatchOption}
 use Rattle.std.proofs.lemmas.List.Elements.{All-contains}
 use Rattle.std.proofs.lemmas.Option.{slice_get_within}
 use Rattle.tw_atomic.specs.Atomic.{FitsBag}
 use Rattle.tw_network.specs.Contents.{network_of}
 use Rattle.tw_seq.specs.Agenda.{IsDueAt, IsAgenda}
 use Rattle.tw_seq.specs.Invariant.{AllStand, IsToCome}
-use Rattle.tw_seq.specs.Turning.{turns_with}
+use Rattle.tw_seq.specs.Parts.{after}
+use Rattle.tw_seq.specs.Receiving.{Receives}
+use Rattle.tw_seq.specs.Turning.{turns_with, all_turns}
 use Rattle.tw_theory.specs.Bundles.{Ascending}
 use Rattle.tw_theory.specs.Simulator.{outputs, first_stop, turn_records, turned_moments, past_stamp}
 use Rattle.tw_theory.proofs.Elements.{each_weaker}
@@ -16,7 +17,7 @@ use Rattle.tw_seq.proofs.Dealt.{length-dealt}
 use Rattle.tw_seq.proofs.InputsGiven.{past_ascending}
 use Rattle.tw_seq.proofs.RoundOutputs.{transition_of}
 use Rattle.tw_seq.proofs.Places.{all_written}
-use Rattle.tw_seq.proofs.RoundsKept.{all_turns, turns_here, bags_fit, round_goes, round_recorded, round_faults, past_to_come, not_before, agenda_taken, agenda_whole, empty_size, none_reached}
+use Rattle.tw_seq.proofs.RoundsKept.{turns_here, bags_fit, round_goes, past_to_come, not_before, agenda_taken, agenda_whole, empty_size, none_reached}
 use Rattle.tw_seq.proofs.rounds.make_round.Goals as goal
 use Rattle.tw_seq.proofs.rounds.make_round.Goals.{In_ok-take, After-deref-3, After-deref-4, After-make_turns}
 
@@ -127,13 +128,6 @@ turns_here_are g c =
     (c.transition-at.ensures ∙ transition_of c.args.time c.requires.underway.even)
     c.requires.bags c.in_ok-make_outputs.ensures.bags c.in_ok-given.ensures.bags
 
--- the outputs follow the records so far
-outputs_follow : (g : _) (c : After-make_turns g) → c.make_outputs.new.records.items ≡ c.args.run.now.records ++ outputs (network_of g.M.Atomic.meaning c.args.network.now) c.args.time 0 c.args.run.now.at.moments
-outputs_follow g c =
-    let net = network_of g.M.Atomic.meaning c.args.network.now in
-    let moments = c.deref.ensures.value ∙ ap (λ r. r.at.moments) c.run.view_is in
-    c.in_ok-make_outputs.ensures.records ∙ (λ i. (c.run.view_is i).records ++ outputs net c.args.time 0 (moments i))
-
 -- the inputs past the stamp are left
 inputs_left : (g : _) (c : After-make_turns g) → drop c.in_ok-given.given c.run.inside.inputs.items ≡ past_stamp (c.args.time + 1) c.args.run.now.at.inputs
 inputs_left g c =
@@ -141,14 +135,19 @@ inputs_left g c =
     let inputs = ap (drop c.run.inside.given) c.deref-3.ensures.value ∙ ap (λ r. r.at.inputs) c.run.view_is in
     ap (drop c.in_ok-given.given) (sym c.deref-3.ensures.value) ∙ c.in_ok-given.ensures.given ∙ (λ i. past_stamp (s i) (inputs i))
 
-pub returns-clause-records : goal.returns-clause-records
-returns-clause-records g c =
+pub returns-clause-outputs : goal.returns-clause-outputs
+returns-clause-outputs g c =
     let net = network_of g.M.Atomic.meaning c.args.network.now in
-    let before = (goal.at.returns-clause-records g c).After-make_turns in
-    let all = turns_here_are g before in
-    let found = c.in_ok-stop.ensures.stop ∙ ap (first_stop 0) all in
-    round_recorded net c.args.time c.args.run.now c.in_ok-stop.stop found c.make_turns.new.records.items c.make_outputs.new.records.items (outputs_follow g before)
-    (subst (λ ts. MatchOption c.in_ok-stop.stop (c.make_turns.new.records.items ≡ c.make_outputs.new.records.items ++ turn_records ts) (λ _. c.make_turns.new.records.items ≡ c.make_outputs.new.records.items)) all c.in_ok-stop.ensures.records)
+    let moments = c.deref.ensures.value ∙ ap (λ r. r.at.moments) c.run.view_is in
+    subst (λ ms. Receives g.R.Receiver.takes c.args.outputs.now (outputs net c.args.time 0 ms) c.make_outputs.new.receiver) moments c.in_ok-make_outputs.ensures.received
+
+pub returns-clause-transitions : goal.returns-clause-transitions
+returns-clause-transitions g c none =
+    let all = turns_here_are g (goal.at.returns-clause-transitions g c).After-make_turns in
+    subst (λ ts. Receives g.R.Receiver.takes c.args.transitions.now (turn_records ts) c.make_turns.new.receiver) all (c.in_ok-stop.ensures.received none)
+
+pub returns-clause-stop : goal.returns-clause-stop
+returns-clause-stop g c = c.in_ok-stop.ensures.stop ∙ ap (first_stop 0) (turns_here_are g (goal.at.returns-clause-stop g c).After-make_turns)
 
 pub returns-clause-going : goal.returns-clause-going
 returns-clause-going g c none =
@@ -158,20 +157,11 @@ returns-clause-going g c none =
     let all = turns_here_are g before in
     let found = c.in_ok-stop.ensures.stop ∙ ap (first_stop 0) all in
     let moments = c.deref_mut.ensures.value ∙ ap (λ r. r.at.moments) c.run.view_is in
-    let follow = outputs_follow g before in
-    let recorded = subst (λ o. MatchOption o (c.make_turns.new.records.items ≡ c.make_outputs.new.records.items ++ turn_records (all_turns net c.args.time run)) (λ _. c.make_turns.new.records.items ≡ c.make_outputs.new.records.items)) none
-    (subst (λ ts. MatchOption c.in_ok-stop.stop (c.make_turns.new.records.items ≡ c.make_outputs.new.records.items ++ turn_records ts) (λ _. c.make_turns.new.records.items ≡ c.make_outputs.new.records.items)) all c.in_ok-stop.ensures.records) in
     let written = all_written c.run.inside.moments c.make_turns.new.moments (c.make_turns.auto.moments ∙ ap length c.deref_mut.ensures.value) in
-    round_goes net c.args.time run c.in_ok-stop.stop found _ _ _ none
+    ap (after [])
+    (round_goes net c.args.time run c.in_ok-stop.stop found _ _ _ none
     (written ∙ c.in_ok-stop.ensures.moments none ∙ (λ i. turned_moments (moments i) (all i)))
-    (inputs_left g before)
-    (recorded ∙ ap (λ l. l ++ turn_records (all_turns net c.args.time run)) follow ∙ append_assoc run.records (outputs net c.args.time 0 run.at.moments) (turn_records (all_turns net c.args.time run)))
-
-pub returns-clause-fault : goal.returns-clause-fault
-returns-clause-fault g c =
-    let net = network_of g.M.Atomic.meaning c.args.network.now in
-    let found = c.in_ok-stop.ensures.stop ∙ ap (first_stop 0) (turns_here_are g (goal.at.returns-clause-fault g c).After-make_turns) in
-    round_faults net c.args.time c.args.run.now c.in_ok-stop.stop found
+    (inputs_left g before) refl)
 
 pub returns-clause-underway : goal.returns-clause-underway
 returns-clause-underway g c none =

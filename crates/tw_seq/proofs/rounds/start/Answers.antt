@@ -1,5 +1,5 @@
 -- Each component stands at its start, and the inputs are all to come.
-use Rattle.std.proofs.Common.{◌≡◌, ◌≤◌, ◌<◌, ◌∙◌, ap, sym, subst, ⊎_elim, arith, length, length-append, None, slice_get}
+use Rattle.std.proofs.Common.{◌≡◌, ◌≤◌, ◌<◌, ◌∙◌, ap, sym, subst, [], ⊎_elim, arith, length, length-append, None, slice_get}
 use Rattle.std.specs.List.{AllByRecursion as Each}
 use Rattle.std.proofs.lemmas.List.{length-map}
 use Rattle.std.proofs.lemmas.Option.{same_Some, get_or_from_slice_get}
@@ -66,7 +66,7 @@ returns g c =
     let moments = mapped_all (λ m. start_moment (g.M.Atomic.meaning m)) models c.loop-component.component c.loop-component.moments.items inv.moments all ∙ map_twice g.M.Atomic.meaning start_moment models in
     let inputs = c.in_ok-start_inputs.ensures.inputs in
     record {
-      run = λ k. record { at = record { moments = moments k; inputs = inputs k }; records = c.new.ensures.items k; fault = None };
+      run = λ k. record { at = record { moments = moments k; inputs = inputs k }; records = []; fault = None };
       underway = record {
         even = omega arith;
         moments = record { size = omega (arith, size, test, count, end); each = λ d model now found e. inv.standing d model now found e };

@@ -1,36 +1,48 @@
 -- One component after another.
-use Rattle.std.proofs.Common.{◌≡◌, ◌+◌, ◌<◌, ◌≤◌, ◌==◌, ◌∙◌, ◌++◌, [], ap, sym, subst, arith, length, take, drop, slice_set, slice_index, slice_index_or, Some, append-nil, length-append, replicate, rules}
+use Rattle.std.proofs.Common.{◌≡◌, ◌+◌, ◌<◌, ◌≤◌, ◌==◌, ◌∙◌, ◌++◌, ◌∷◌, [], refl, ap, sym, subst, arith, length, take, drop, slice_set, slice_index, slice_index_or, Some, append-nil, replicate, rules}
 use Rattle.std.specs.List.{AllByRecursion as Each}
-use Rattle.std.proofs.lemmas.List.{take-append-le, take_all, set-get_or}
+use Rattle.std.proofs.lemmas.List.{take_all, set-get_or}
 use Rattle.std.proofs.lemmas.Option.{slice_get-get_or, slice_get_within}
 use Rattle.tw_atomic.specs.Atomic.{FitsBag}
+use Rattle.tw_msgs.specs.declared.record.Record.{Record}
 use Rattle.tw_msgs.specs.Bags.{sorted_bag}
 use Rattle.tw_network.specs.Contents.{network_of}
 use Rattle.tw_seq.specs.Agenda.{IsAgenda, PutsOff}
-use Rattle.tw_seq.specs.Turning.{CanGoOn, turns_with}
+use Rattle.tw_seq.specs.Receiving.{Receives}
+use Rattle.tw_seq.specs.Turning.{Part, CanGoOn, part_of, turns_with}
 use Rattle.tw_theory.specs.Simulator.{take_turn, after_output, turn_records, turned_moments, first_stop}
 use Rattle.tw_seq.proofs.AgendaChanges.{agenda_put_off}
 use Rattle.tw_seq.proofs.Places.{drop_all, each_at, all_written}
+use Rattle.tw_seq.proofs.Received.{received_more}
+use Rattle.tw_seq.proofs.RoundOutputs.{transition_of}
 use Rattle.tw_seq.proofs.Sweeping.{onward, onward_more, at_place}
-use Rattle.tw_seq.proofs.TurnsSwept.{entries, same_here, stop_found, Swept, swept_turn, at_turn, at_end, turn_within, listed_as, all_empty}
+use Rattle.tw_seq.proofs.TurnsSwept.{entries, goes_on, idle_stays, swept_start, same_here, stop_found, Swept, swept_turn, at_turn, at_end, turn_within, listed_as, all_empty}
 use Rattle.tw_seq.proofs.turns.make_turns.Goals as goal
-use Rattle.tw_seq.proofs.turns.make_turns.Goals.{in-Stays, in-Moves+in_ok-push-in-Moves+in_ok-put_off-in-Moves, After-loop-component, After-replace-bag}
+use Rattle.tw_seq.proofs.turns.make_turns.Goals.{in-Stays, in-Moves+in_ok-take-in-Moves+in_ok-put_off-in-Moves, After-loop-component, After-replace-bag, In_ok-take_turn}
 
 -- the component in turn, and where the sweep stands before it
 module _ (g : _) (c : After-replace-bag g) where
   here_within : slice_index c.deref-component-items.result.now c.loop-component.component-index < length c.args.moments.now
   here_within =
-      turn_within g.M.Atomic.valid g.M.Atomic.meaning c.args.network.now c.args.time c.args.moments.now c.as_mut_slice-bags.result.now c.args.records.now.items c.loop-component.moments c.loop-component.bags c.loop-component.records.items c.deref-component-items.result.now
+      turn_within g.M.Atomic.valid g.M.Atomic.meaning c.args.network.now c.args.time c.args.moments.now c.as_mut_slice-bags.result.now [] c.loop-component.moments c.loop-component.bags c.loop-component.invariant.told c.deref-component-items.result.now
       (listed_as c.args.time c.args.moments.now _ _ _ _ c.as_mut_slice-bags.ensures.value c.deref-component-items.ensures.value c.requires.awake)
       c.loop-component.auto.moments c.loop-component.auto.bags (ap length c.as_mut_slice-bags.ensures.value ∙ c.requires.bags ∙ sym c.requires.moments.size)
       c.requires.moments c.requires.even c.requires.time c.loop-component.component-index c.loop-component-test.true
 
-  here_swept : Swept g.M.Atomic.valid g.M.Atomic.meaning c.args.network.now c.args.time c.args.moments.now c.as_mut_slice-bags.result.now c.args.records.now.items (slice_index c.deref-component-items.result.now c.loop-component.component-index) c.loop-component.moments c.loop-component.bags c.loop-component.records.items
+  here_swept : Swept g.M.Atomic.valid g.M.Atomic.meaning c.args.network.now c.args.time c.args.moments.now c.as_mut_slice-bags.result.now [] (slice_index c.deref-component-items.result.now c.loop-component.component-index) c.loop-component.moments c.loop-component.bags c.loop-component.invariant.told
   here_swept =
-      at_turn g.M.Atomic.valid g.M.Atomic.meaning c.args.network.now c.args.time c.args.moments.now c.as_mut_slice-bags.result.now c.args.records.now.items c.loop-component.moments c.loop-component.bags c.loop-component.records.items c.deref-component-items.result.now
+      at_turn g.M.Atomic.valid g.M.Atomic.meaning c.args.network.now c.args.time c.args.moments.now c.as_mut_slice-bags.result.now [] c.loop-component.moments c.loop-component.bags c.loop-component.invariant.told c.deref-component-items.result.now
       (listed_as c.args.time c.args.moments.now _ _ _ _ c.as_mut_slice-bags.ensures.value c.deref-component-items.ensures.value c.requires.awake)
       c.loop-component.auto.moments c.loop-component.auto.bags (ap length c.as_mut_slice-bags.ensures.value ∙ c.requires.bags ∙ sym c.requires.moments.size)
       c.requires.moments c.requires.even c.requires.time c.loop-component.component-index c.loop-component-test.true c.loop-component.invariant.swept
+
+pub loop-component-init : goal.loop-component-init
+loop-component-init g c = record {
+  told = [];
+  received = refl;
+  swept = swept_start g.M.Atomic.valid g.M.Atomic.meaning c.args.network.now c.args.time c.args.moments.now c.as_mut_slice-bags.result.now;
+  agenda = c.requires.agenda;
+}
 
 pub offset_bounds-moments-component : goal.offset_bounds-moments-component
 offset_bounds-moments-component g c =
@@ -64,6 +76,28 @@ take_turn-requires-clause-standing g c model found =
     let here = same_here c.loop-component.moments old i d (here_swept g before).later l l0 in
     c.requires.moments.each i model (slice_index_or c.loop-component.moments i d) found (slice_get-get_or old i d l0 ∙ ap Some (sym here))
 
+-- what the component in turn did, with its record
+abbrev what_is : (g : _) → In_ok-take_turn g → Part
+what_is g c = part_of (slice_index c.deref-component-items.result.now c.loop-component.component-index) (c.args.time + 1) c.take_turn.new.bag c.take_turn.new.words.items c.in_ok-take_turn.field-0
+
+pub put_off-requires-clause-there : goal.put_off-requires-clause-there
+put_off-requires-clause-there g c late early =
+    let before = (goal.at.put_off-requires-clause-there g c).After-replace-bag in
+    let i = slice_index c.deref-component-items.result.now c.loop-component.component-index in
+    let old = c.args.moments.now in
+    let moments = c.loop-component.moments in
+    let d = c.index-moments-component.result in
+    let now = slice_index_or moments i d in
+    let size = c.loop-component.auto.moments in
+    let size' = c.requires.moments.size in
+    let l0 = here_within g before in
+    let l : i < length moments = omega (arith, size, l0) in
+    let here = same_here moments old i d (here_swept g before).later l l0 in
+    let model = at_place c.args.network.now.models i (omega (arith, l0, size')) in
+    let from = (c.requires.moments.each i model.0 now model.1 (slice_get-get_or old i d l0 ∙ ap Some (sym here))).stands.from in
+    let was : c.now.inside.due ≡ now.due = ap (λ x. x.due) c.now.view_is in
+    c.loop-component.invariant.agenda.all c.now.inside.due i (now, slice_get-get_or moments i d l, sym was) (omega (arith, from, was, late)) early
+
 pub returns-in-Stops-clause-stop : goal.returns-in-Stops-clause-stop
 returns-in-Stops-clause-stop g c =
     let before = (goal.at.returns-in-Stops-clause-stop g c).After-replace-bag in
@@ -76,7 +110,7 @@ returns-in-Stops-clause-stop g c =
     let bags = c.loop-component.bags in
     let d = c.index-moments-component.result in
     let b = c.index-bags-component.result in
-    let what = c.in_ok-take_turn.field-0 in
+    let what = what_is g (goal.at.returns-in-Stops-clause-stop g c).In_ok-take_turn in
     let size = c.loop-component.auto.moments in
     let size' = c.loop-component.auto.bags in
     let whole : length bags0 ≡ length old = ap length c.as_mut_slice-bags.ensures.value ∙ c.requires.bags ∙ sym c.requires.moments.size in
@@ -84,7 +118,7 @@ returns-in-Stops-clause-stop g c =
     let m0 : i < length bags0 = omega (arith, l0, whole) in
     let sw = here_swept g before in
     let turn = c.in_ok-take_turn.ensures.turn ∙ ap (λ x. take_turn net i (after_output net i (slice_index_or moments i d) t) (t + 1) ((slice_index_or moments i d).due == t) (sorted_bag x)) c.replace-bag.ensures.value in
-    stop_found net t i old moments bags0 bags d b what c.take_turn.new.now sw.later sw.to_come (omega (arith, size, l0)) l0 (omega (arith, size', m0)) m0 turn c.in-Stops.limit c.in-Stops.is _ sw.stop
+    stop_found net t i old moments bags0 bags d b what c.take_turn.new.now sw.later sw.to_come (omega (arith, size, l0)) l0 (omega (arith, size', m0)) m0 turn c.in-Stops.limit (ap (part_of i (t + 1) c.take_turn.new.bag c.take_turn.new.words.items) c.in-Stops.is) _ sw.stop
     ∙ ap (λ bs. first_stop 0 (turns_with net t 0 old bs)) c.as_mut_slice-bags.ensures.value
 
 pub loop-component-preserved : goal.loop-component-preserved
@@ -102,11 +136,11 @@ loop-component-preserved g c =
     let moments = c.loop-component.moments in
     let bags0 = c.as_mut_slice-bags.result.now in
     let bags = c.loop-component.bags in
-    let records = c.loop-component.records.items in
-    let start = c.args.records.now.items in
+    let told = c.loop-component.invariant.told in
     let d = c.index-moments-component.result in
     let b = c.index-bags-component.result in
-    let what = c.in_ok-take_turn.field-0 in
+    let field = c.in_ok-take_turn.field-0 in
+    let what = what_is g (goal.at.loop-component-preserved g c).In_ok-take_turn in
     let new = c.take_turn.new.now in
     let inv = c.loop-component.invariant in
     let size = c.loop-component.auto.moments in
@@ -119,29 +153,29 @@ loop-component-preserved g c =
     let sw = here_swept g before in
     let turn = c.in_ok-take_turn.ensures.turn ∙ ap (λ x. take_turn net i (after_output net i (slice_index_or moments i d) t) (t + 1) ((slice_index_or moments i d).due == t) (sorted_bag x)) c.replace-bag.ensures.value in
     let emptied : slice_set bags i c.replace-bag.new.dest ≡ slice_set bags i [] = ap (slice_set bags i) (c.replace-bag.ensures.after ∙ c.new.ensures) in
-    let step : CanGoOn what → Swept valid meaning contents t old bags0 start (onward items (k + 1)) (slice_set moments i new) (slice_set bags i c.replace-bag.new.dest) (records ++ entries what) =
-    λ on. subst (λ n. Swept valid meaning contents t old bags0 start n (slice_set moments i new) (slice_set bags i c.replace-bag.new.dest) (records ++ entries what)) (sym (onward_more items k))
-    (subst (λ bs. Swept valid meaning contents t old bags0 start (i + 1) (slice_set moments i new) bs (records ++ entries what)) (sym emptied)
-    (swept_turn valid meaning contents t old bags0 start i moments bags records sw l0 m0 l m d b what new turn on c.in_ok-take_turn.ensures.kept (c.in_ok-take_turn.ensures.standing on))) in
+    let step : CanGoOn field → Swept valid meaning contents t old bags0 [] (onward items (k + 1)) (slice_set moments i new) (slice_set bags i c.replace-bag.new.dest) (told ++ entries what) =
+    λ on. subst (λ n. Swept valid meaning contents t old bags0 [] n (slice_set moments i new) (slice_set bags i c.replace-bag.new.dest) (told ++ entries what)) (sym (onward_more items k))
+    (subst (λ bs. Swept valid meaning contents t old bags0 [] (i + 1) (slice_set moments i new) bs (told ++ entries what)) (sym emptied)
+    (swept_turn valid meaning contents t old bags0 [] i moments bags told sw l0 m0 l m d b what new turn (goes_on i (t + 1) c.take_turn.new.bag c.take_turn.new.words.items field on) (λ idle. c.in_ok-take_turn.ensures.kept (idle_stays i (t + 1) c.take_turn.new.bag c.take_turn.new.words.items field idle)) (c.in_ok-take_turn.ensures.standing on))) in
     elim c.match-branch-2.branch [
       | in-Stays w ↦
           let is = w.in-Stays.is in
-          let on : CanGoOn what = subst CanGoOn (sym is) tt in
-          let same = ap (λ v. v.items) w.records-is in
-          let recorded : c.match-branch-2.records.items ≡ records ++ entries what = same ∙ sym (append-nil records) ∙ ap (λ e. records ++ entries e) (sym is) in
+          let on : CanGoOn field = subst CanGoOn (sym is) tt in
+          let same : told ++ entries what ≡ told = ap (λ f. told ++ entries (part_of i (t + 1) c.take_turn.new.bag c.take_turn.new.words.items f)) is ∙ append-nil told in
           record {
-            swept = subst (λ ms. Swept valid meaning contents t old bags0 start (onward items (k + 1)) ms (slice_set bags i c.replace-bag.new.dest) c.match-branch-2.records.items) (sym w.moments-is)
-                (subst (Swept valid meaning contents t old bags0 start (onward items (k + 1)) (slice_set moments i new) (slice_set bags i c.replace-bag.new.dest)) (sym recorded) (step on));
-            before = ap (take c.len-before.result) same ∙ inv.before;
-            room = subst (λ rs. c.len-before.result ≤ length rs) (sym same) inv.room;
+            told = told;
+            received = subst (λ r. Receives g.R.Receiver.takes c.args.receiver.now told r) (sym w.receiver-is) inv.received;
+            swept = subst (λ ms. Swept valid meaning contents t old bags0 [] (onward items (k + 1)) ms (slice_set bags i c.replace-bag.new.dest) told) (sym w.moments-is)
+                (subst (Swept valid meaning contents t old bags0 [] (onward items (k + 1)) (slice_set moments i new) (slice_set bags i c.replace-bag.new.dest)) same (step on));
             agenda = subst (λ a. IsAgenda (t + 1) a.steps c.match-branch-2.moments) (sym w.agenda-is)
                 (subst (IsAgenda (t + 1) c.loop-component.agenda.steps) (sym (w.moments-is ∙ ap (slice_set moments i) (c.in_ok-take_turn.ensures.kept is) ∙ set-get_or moments i d)) inv.agenda);
           }
-      | in-Moves+in_ok-push-in-Moves+in_ok-put_off-in-Moves w ↦
+      | in-Moves+in_ok-take-in-Moves+in_ok-put_off-in-Moves w ↦
           let is = w.in-Moves.is in
-          let on : CanGoOn what = subst CanGoOn (sym is) tt in
-          let same = ap (λ v. v.items) w.records-is ∙ w.in_ok-push-in-Moves.ensures.items in
-          let recorded : c.match-branch-2.records.items ≡ records ++ entries what = same ∙ ap (λ e. records ++ entries e) (sym is) in
+          let on : CanGoOn field = subst CanGoOn (sym is) tt in
+          let entry : Record = record { component = i; stamp = t + 1; kind = w.in-Moves.kind; bag = c.take_turn.new.bag; words = c.take_turn.new.words.items } in
+          let same : told ++ entries what ≡ told ++ entry ∷ [] = ap (λ f. told ++ entries (part_of i (t + 1) c.take_turn.new.bag c.take_turn.new.words.items f)) is in
+          let at = c.transition-at.ensures ∙ transition_of t c.requires.even in
           let now = slice_index_or moments i d in
           let size'' = c.requires.moments.size in
           let model = at_place contents.models i (omega (arith, l0, size'')) in
@@ -151,19 +185,23 @@ loop-component-preserved g c =
           let put : PutsOff c.loop-component.agenda.steps w.put_off.new.self.steps i c.now.inside.due c.now-in-loop-component.inside.due = w.in_ok-put_off-in-Moves.ensures in
           let put' : PutsOff c.loop-component.agenda.steps w.put_off.new.self.steps i now.due new.due = subst (λ n. PutsOff c.loop-component.agenda.steps w.put_off.new.self.steps i n new.due) was (subst (PutsOff c.loop-component.agenda.steps w.put_off.new.self.steps i c.now.inside.due) is_now put) in
           record {
-            swept = subst (λ ms. Swept valid meaning contents t old bags0 start (onward items (k + 1)) ms (slice_set bags i c.replace-bag.new.dest) c.match-branch-2.records.items) (sym w.moments-is)
-                (subst (Swept valid meaning contents t old bags0 start (onward items (k + 1)) (slice_set moments i new) (slice_set bags i c.replace-bag.new.dest)) (sym recorded) (step on));
-            before = ap (take c.len-before.result) same ∙ take-append-le c.len-before.result records _ inv.room ∙ inv.before;
-            room = subst (λ rs. c.len-before.result ≤ length rs) (sym same) (let room = inv.room in simp length-append (omega (arith, room)));
+            told = told ++ entry ∷ [];
+            received = subst (λ r. Receives g.R.Receiver.takes c.args.receiver.now (told ++ entry ∷ []) r) (sym w.receiver-is)
+                (received_more g.R.Receiver.takes c.args.receiver.now told c.loop-component.receiver w.take.new.self entry inv.received
+                (subst (λ e. g.R.Receiver.takes c.loop-component.receiver e w.take.new.self)
+                (λ n. record { component = i; stamp = at n; kind = w.in-Moves.kind; bag = c.take_turn.new.bag; words = w.deref.ensures.value n })
+                w.in_ok-take-in-Moves.ensures));
+            swept = subst (λ ms. Swept valid meaning contents t old bags0 [] (onward items (k + 1)) ms (slice_set bags i c.replace-bag.new.dest) (told ++ entry ∷ [])) (sym w.moments-is)
+                (subst (Swept valid meaning contents t old bags0 [] (onward items (k + 1)) (slice_set moments i new) (slice_set bags i c.replace-bag.new.dest)) same (step on));
             agenda = subst (λ a. IsAgenda (t + 1) a.steps c.match-branch-2.moments) (sym w.agenda-is)
                 (subst (IsAgenda (t + 1) w.put_off.new.self.steps) (sym w.moments-is) (agenda_put_off (t + 1) c.loop-component.agenda.steps w.put_off.new.self.steps moments i now new inv.agenda (slice_get-get_or moments i d l) later put'));
           }
     ]
 
 -- all have taken their turns
-final : (g : _) (c : After-loop-component g) → Swept g.M.Atomic.valid g.M.Atomic.meaning c.args.network.now c.args.time c.args.moments.now c.as_mut_slice-bags.result.now c.args.records.now.items (length c.args.moments.now) c.loop-component.moments c.loop-component.bags c.loop-component.records.items
+final : (g : _) (c : After-loop-component g) → Swept g.M.Atomic.valid g.M.Atomic.meaning c.args.network.now c.args.time c.args.moments.now c.as_mut_slice-bags.result.now [] (length c.args.moments.now) c.loop-component.moments c.loop-component.bags c.loop-component.invariant.told
 final g c =
-    at_end g.M.Atomic.valid g.M.Atomic.meaning c.args.network.now c.args.time c.args.moments.now c.as_mut_slice-bags.result.now c.args.records.now.items c.loop-component.moments c.loop-component.bags c.loop-component.records.items c.deref-component-items.result.now
+    at_end g.M.Atomic.valid g.M.Atomic.meaning c.args.network.now c.args.time c.args.moments.now c.as_mut_slice-bags.result.now [] c.loop-component.moments c.loop-component.bags c.loop-component.invariant.told c.deref-component-items.result.now
     (listed_as c.args.time c.args.moments.now _ _ _ _ c.as_mut_slice-bags.ensures.value c.deref-component-items.ensures.value c.requires.awake)
     c.loop-component.auto.moments c.loop-component.auto.bags (ap length c.as_mut_slice-bags.ensures.value ∙ c.requires.bags ∙ sym c.requires.moments.size)
     c.requires.moments c.requires.even c.requires.time c.loop-component.component-index c.loop-component-test.false c.loop-component.auto.component-index-end c.loop-component.invariant.swept
@@ -178,17 +216,19 @@ returns-clause-stop g c =
     ∙ (final g (goal.at.returns-clause-stop g c).After-loop-component).stop
     ∙ ap (λ bs. first_stop 0 (turns_with net c.args.time 0 old bs)) c.as_mut_slice-bags.ensures.value
 
-pub returns-clause-records : goal.returns-clause-records
-returns-clause-records g c =
+pub returns-clause-received : goal.returns-clause-received
+returns-clause-received g c none =
     let net = network_of g.M.Atomic.meaning c.args.network.now in
     let old = c.args.moments.now in
     let n = length old in
     let bags0 = c.as_mut_slice-bags.result.now in
-    let records = c.loop-component.records.items in
-    sym (append-nil records)
-    ∙ sym (ap (λ ms. records ++ turn_records (turns_with net c.args.time n ms (drop n bags0))) (drop_all old n (omega arith)))
-    ∙ (final g (goal.at.returns-clause-records g c).After-loop-component).recorded
-    ∙ ap (λ bs. c.args.records.now.items ++ turn_records (turns_with net c.args.time 0 old bs)) c.as_mut_slice-bags.ensures.value
+    let told = c.loop-component.invariant.told in
+    subst (λ rs. Receives g.R.Receiver.takes c.args.receiver.now rs c.loop-component.receiver)
+    (sym (append-nil told)
+    ∙ sym (ap (λ ms. told ++ turn_records (turns_with net c.args.time n ms (drop n bags0))) (drop_all old n (omega arith)))
+    ∙ (final g (goal.at.returns-clause-received g c).After-loop-component).recorded
+    ∙ ap (λ bs. turn_records (turns_with net c.args.time 0 old bs)) c.as_mut_slice-bags.ensures.value)
+    c.loop-component.invariant.received
 
 pub returns-clause-moments : goal.returns-clause-moments
 returns-clause-moments g c _ =

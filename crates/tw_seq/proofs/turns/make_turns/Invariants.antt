@@ -1,14 +1,16 @@
 -- The components from here on stand as they did and have their bags; what they do completes the round.
-use Rattle.std.proofs.Common.{◌≡◌, ◌+◌, ◌≤◌, take, length}
+use Rattle.std.proofs.Common.{◌+◌, List, []}
+use Rattle.tw_msgs.specs.declared.record.Record.{Record}
 use Rattle.tw_seq.specs.Agenda.{IsAgenda}
+use Rattle.tw_seq.specs.Receiving.{Receives}
 use Rattle.tw_seq.proofs.Sweeping.{onward}
 use Rattle.tw_seq.proofs.TurnsSwept.{Swept}
 use Rattle.tw_seq.proofs.turns.make_turns.Given as goal
 
 abbrev pub invariant-loop-component : goal.invariant-loop-component
 invariant-loop-component g l = record {
-  swept : Swept g.M.Atomic.valid g.M.Atomic.meaning l.network l.time l.initial.moments l.initial.bags l.initial.records.items (onward l.component-items l.component-index) l.moments l.bags l.records.items;
-  before : take l.before l.records.items ≡ l.initial.records.items;
-  room : l.before ≤ length l.records.items;
+  told : List Record;
+  received : Receives g.R.Receiver.takes l.initial.receiver told l.receiver;
+  swept : Swept g.M.Atomic.valid g.M.Atomic.meaning l.network l.time l.initial.moments l.initial.bags [] (onward l.component-items l.component-index) l.moments l.bags told;
   agenda : IsAgenda (l.time + 1) l.agenda.steps l.moments;
 }

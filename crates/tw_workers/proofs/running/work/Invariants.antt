@@ -1,4 +1,3 @@
-use Rattle.std.proofs.Common.{◌≡◌}
 use Rattle.std.specs.Arc.{arc_value}
 use Rattle.tw_workers.specs.Ends.{IsDue}
 use Rattle.tw_workers.proofs.running.work.Given as goal

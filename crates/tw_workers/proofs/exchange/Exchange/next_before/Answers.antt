@@ -9,13 +9,13 @@ pub returns-then-ge-clause-none : goal.returns-then-ge-clause-none
 returns-then-ge-clause-none g c = λ _ d drawn.
     let e = c.self.inside.executive in
     let late : bound_of e.until e.world.gvt c.args.window ≤ c.in_ok-first.first.key.stamp = omega (arith, ge c.in_ok-first.first.key.stamp c.args.bound c.if-ge.ensures, c.requires, ap (bound_at c.args.window) c.self.view_is) in
-    none_early e.until e.world.gvt c.args.window c.facts.ensures.bound c.self.inside.agenda e.world.processes c.self.invariant
+    none_early e.until e.world.gvt c.args.window c.facts.ensures.bound c.self.inside.agenda e.world.processes c.self.invariant.0
     c.in_ok-first.first.key.stamp c.in_ok-first.first.index c.in_ok-first.ensures.least late d (subst (λ x. IsNext c.args.window x d) (sym c.self.view_is) drawn)
 
 pub returns-in_err-first-clause-none : goal.returns-in_err-first-clause-none
 returns-in_err-first-clause-none g c = λ _ d drawn.
     let e = c.self.inside.executive in
-    none_free e.until e.world.gvt c.args.window c.facts.ensures.bound c.self.inside.agenda e.world.processes c.self.invariant
+    none_free e.until e.world.gvt c.args.window c.facts.ensures.bound c.self.inside.agenda e.world.processes c.self.invariant.0
     (c.first.ensures.none c.in_err-first.was) d (subst (λ x. IsNext c.args.window x d) (sym c.self.view_is) drawn)
 
 pub returns-clause-next : goal.returns-clause-next
@@ -24,4 +24,4 @@ returns-clause-next g c =
     let first = c.in_ok-first.first in
     let early : first.key.stamp < bound_of e.until e.world.gvt c.args.window = omega (arith, not_ge first.key.stamp c.args.bound c.if-ge.ensures, c.requires, ap (bound_at c.args.window) c.self.view_is) in
     subst (λ x. IsNext c.args.window x first.index) c.self.view_is
-    (drawn_is e.until e.world.gvt c.args.window c.facts.ensures.bound c.self.inside.agenda e.world.processes c.self.invariant first.key.stamp first.index c.in_ok-first.ensures.least early)
+    (drawn_is e.until e.world.gvt c.args.window c.facts.ensures.bound c.self.inside.agenda e.world.processes c.self.invariant.0 first.key.stamp first.index c.in_ok-first.ensures.least early)

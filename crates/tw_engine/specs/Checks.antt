@@ -1,0 +1,50 @@
+-- What a check of a network file writes, and how it ends.
+--     check_text n      what the network n has, in a line
+--     IsCheck given exit old new      how a check of a file ends, and what is then written
+use Rattle.std.specs.Prelude.{◌≡◌, ◌≢◌, ◌⊎◌, ◌++◌, ℕ, List, Option, codes, length}
+use Rattle.std.specs.Fmt.{decimal}
+use Rattle.std.specs.Io.KnownBytes.{Appends, Keeps}
+use Rattle.tw_models.specs.declared.model.Model.{Model}
+use Rattle.tw_network.specs.Contents.{Contents}
+use Rattle.tw_vtime.specs.declared.refusal.Refusal.TheVariants as refusal
+use Rattle.tw_netfile.specs.Refused.{file_refusal}
+use Rattle.tw_netfile.specs.TreeMeaning.{IsFault}
+use Rattle.tw_netfile.specs.declared.refused.FileRefused.{FileRefused}
+use Rattle.tw_netfile.specs.declared.refused.FileRefused.TheVariants.{OutOfMemory}
+use Rattle.tw_engine.specs.Runs.{Means}
+use Rattle.tw_engine.specs.declared.exit.Exit.{Exit}
+use Rattle.tw_engine.specs.declared.exit.Exit.TheVariants.{Done, Bad, BadScript, Fault, Want, NoWrite}
+
+-- how many components, couplings and inputs, of a tree those of its flat network
+abbrev pub check_text : Contents Model → List ℕ
+check_text n =
+    codes "ok: " ++ (decimal (length n.models) ++ (codes " components, "
+    ++ (decimal (length n.couplings) ++ (codes " couplings, "
+    ++ (decimal (length n.inputs) ++ codes " inputs\n")))))
+
+-- a line of some words is written
+abbrev pub AppendsLine : Option (List ℕ) → Option (List ℕ) → Type 0
+AppendsLine old new = (words : List ℕ) × Appends old new (words ++ codes "\n")
+
+-- the number is the first fault of the file
+abbrev pub IsCheck : List ℕ → Exit → Option (List ℕ) → Option (List ℕ) → Type 0
+IsCheck bytes Done old new = Means bytes (λ n. Appends old new (check_text n))
+IsCheck bytes (Bad why) old new =
+    ((fault : FileRefused) × IsFault bytes fault × (why ≡ file_refusal fault)) × AppendsLine old new
+IsCheck bytes (BadScript line) old new = ⊥
+IsCheck bytes Fault old new = ⊥
+IsCheck bytes (Want why) old new = (why ≡ refusal.OutOfMemory) × Keeps old new
+IsCheck bytes NoWrite old new = Unit {0}
+
+-- ---- its parts
+
+-- what is told of a network
+abbrev pub IsCounted : Contents Model → Exit → Option (List ℕ) → Option (List ℕ) → Type 0
+IsCounted n exit old new = (exit ≡ NoWrite) ⊎ ((exit ≡ Done) × Appends old new (check_text n))
+
+-- what is told of a fault
+abbrev pub IsTold : FileRefused → Exit → Option (List ℕ) → Option (List ℕ) → Type 0
+IsTold fault exit old new =
+    (exit ≡ NoWrite)
+    ⊎ ((exit ≡ Want refusal.OutOfMemory) × Keeps old new)
+    ⊎ ((fault ≢ OutOfMemory) × (exit ≡ Bad (file_refusal fault)) × AppendsLine old new)

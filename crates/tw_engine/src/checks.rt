@@ -1,0 +1,54 @@
+//! A look at a network file that simulates nothing.
+
+ghost use Rattle.tw_engine.specs.Checks.{IsCheck, IsCounted, IsTold};
+
+use crate::exit::Exit;
+use std::alloc::Global;
+use std::io::Write;
+use tw_faults::explain;
+use tw_models::Model;
+use tw_netfile::{FileRefused, network_of_any_file};
+use tw_network::Network;
+use tw_vtime::Refusal;
+
+// Writes what the network has that a file's bytes mean, or where the file is at fault and why.
+pub(crate) fn check<W: Write>(alloc: Global, bytes: &[u8], out: &mut W) -> Exit
+    ensures { IsCheck bytes.now result (W.contents out.old) (W.contents out.new) }
+{
+    match network_of_any_file(alloc, bytes) {
+        Ok(network) => write_counts(&network, out),
+        Err(fault) => write_fault(alloc, bytes, fault, out),
+    }
+}
+
+// Writes how many components, couplings and inputs a network has.
+fn write_counts<W: Write>(network: &Network<Model>, out: &mut W) -> Exit
+    ensures { IsCounted network.now result (W.contents out.old) (W.contents out.new) }
+{
+    let components = network.len();
+    let couplings = network.couplings().len();
+    let inputs = network.inputs().len();
+    match writeln!(
+        out,
+        "ok: {components} components, {couplings} couplings, {inputs} inputs"
+    ) {
+        Ok(()) => Exit::Done,
+        Err(_) => Exit::NoWrite,
+    }
+}
+
+// Writes the words for a file's fault.
+fn write_fault<W: Write>(alloc: Global, bytes: &[u8], fault: FileRefused, out: &mut W) -> Exit
+    ensures { IsTold fault result (W.contents out.old) (W.contents out.new) }
+{
+    if fault == FileRefused::OutOfMemory {
+        return Exit::Want(Refusal::OutOfMemory);
+    }
+    let Ok(words) = explain(alloc, bytes, fault) else {
+        return Exit::Want(Refusal::OutOfMemory);
+    };
+    match writeln!(out, "{words}") {
+        Ok(()) => Exit::Bad(Refusal::from(fault)),
+        Err(_) => Exit::NoWrite,
+    }
+}

@@ -1,0 +1,23 @@
+//! What is wrong with a network file, in words: the place in the file and the reason.
+//!
+//! [`explain`] takes a second look at a file that `tw_netfile` has refused, apart from the reader there, and answers
+//! one line for its user. Which fault it is, its number, is what the reader answers, and is proved there; here that
+//! fault's first place is looked for. Of the words nothing is proved but that they are made safely and that the
+//! search ends: they are shown by tests, one for each kind of fault.
+//!
+//! - `outline`: the models and components of a file, each with its place and its name.
+//! - `shape`, `parameters`, `connections`, `counts`: the first place of a fault of each kind.
+//! - `syntax`: what a text that is no JSON wants where it goes wrong.
+#![tactic(auto)]
+
+mod connections;
+mod counts;
+mod lines;
+mod outline;
+mod parameters;
+mod shape;
+mod stop;
+mod syntax;
+mod words;
+
+pub use lines::explain;

@@ -1,0 +1,121 @@
+//! A run that is made a round at a time, for callers that hand its records on.
+
+ghost use Rattle.std.specs.Prelude.{◌≡◌, ◌<◌, ◌-◌, ◌↔◌, [], List, IfOk, IsErrOf};
+ghost use Rattle.tw_msgs.specs.declared.record.Record.{Record as TheRecord};
+ghost use Rattle.tw_seq.specs.Parts.{IsSimulating, stage_of};
+ghost use Rattle.tw_seq.specs.Stepping.{IsStep};
+ghost use Rattle.tw_theory.specs.Simulator.{round_time};
+ghost use Rattle.tw_vtime.specs.Stamps.{max_tick, stamp};
+
+use crate::receiver::Receiver;
+use crate::refused::SeqRefused;
+use crate::rounds::{Bench, Running, make_round, start, start_bench};
+use std::alloc::{AllocError, Global};
+use std::marker::Model;
+use tw_atomic::Atomic;
+use tw_network::Network;
+use tw_vtime::{Limit, MAX_TICK, Stamp};
+
+/// What came of a step.
+#[derive(Clone, Copy, Debug, PartialEq, Eq)]
+pub enum Step {
+    /// A round was made, and more may follow.
+    Round,
+    /// The run has ended, without a fault or with this one: the least component that met a limit, the stamp of that
+    /// round's transitions, and which limit.
+    End(Option<(usize, Stamp, Limit)>),
+}
+
+/// A run up to an end tick, between two rounds. It keeps no record.
+#[derive(Drop)]
+pub struct Simulation<S: Drop> {
+    until: u64,
+    run: Running<S>,
+    bench: Bench,
+}
+
+impl<S: Drop> Model for Simulation<S> {
+    ghost use Rattle.tw_seq.specs.Parts.{Stage, stage_of};
+
+    ghost Value = { Stage S };
+
+    ghost view = { λ s. stage_of s.until s.run s.bench.agenda.steps s.bench.arrivals.bags.items };
+}
+
+/// A run of a network up to the end tick `until`, before its first round.
+///
+/// Refused by [`SeqRefused::BadTick`] (10) exactly where `until` is above 1,099,511,627,774, and by
+/// [`SeqRefused::OutOfMemory`] (4) where a growth of memory was refused.
+pub fn begin<M: Atomic>(
+    alloc: Global,
+    network: &Network<M>,
+    until: u64,
+) -> Result<Simulation<M::State>, SeqRefused>
+    ensures begun { IfOk result (IsSimulating M.valid M.meaning network.now []) }
+    ensures until { IfOk result (λ simulation. simulation.until ≡ until) }
+    ensures bad_tick { IsErrOf result SeqRefused.BadTick ↔ (max_tick < until) }
+{
+    if until > MAX_TICK {
+        return Err(SeqRefused::BadTick);
+    }
+    let run = start(alloc, network)?;
+    let bench = start_bench(alloc, &run)?;
+    Ok(Simulation { until, run, bench })
+}
+
+/// Makes the next round of a run, and hands its outputs to one receiver and then its transitions to another, in trace
+/// order. With [`Step::End`] the run has ended: no round is left, and nothing was handed over; or the round met a
+/// limit, and then the run has its outputs, but not the transitions that the second receiver may have got.
+///
+/// Refused for want of memory (4); then the run is of no more use.
+pub fn advance<M: Atomic, R: Receiver>(
+    alloc: Global,
+    network: &Network<M>,
+    simulation: &mut Simulation<M::State>,
+    outputs: &mut R,
+    transitions: &mut R,
+) -> Result<Step, AllocError>
+    requires { (done : List TheRecord) × IsSimulating M.valid M.meaning network.now done simulation.old }
+    ensures step { IfOk result (IsStep R.takes M.valid M.meaning network.now simulation.old simulation.new outputs.old outputs.new transitions.old transitions.new) }
+    ensures sooner { IfOk result (λ step. step ≡ Step.Round → stamp simulation.old.until 0 0 - round_time simulation.new.run.at < stamp simulation.old.until 0 0 - round_time simulation.old.run.at) }
+    ensures until { simulation.new.until ≡ simulation.old.until }
+{
+    let step = make_step(
+        alloc,
+        network,
+        simulation.until,
+        &mut simulation.run,
+        &mut simulation.bench,
+        outputs,
+        transitions,
+    )?;
+    Ok(step)
+}
+
+/// Makes the next round of a run, if one is left.
+fn make_step<M: Atomic, R: Receiver>(
+    alloc: Global,
+    network: &Network<M>,
+    until: u64,
+    run: &mut Running<M::State>,
+    bench: &mut Bench,
+    outputs: &mut R,
+    transitions: &mut R,
+) -> Result<Step, AllocError>
+    requires { (done : List TheRecord) × IsSimulating M.valid M.meaning network.now done (stage_of until run.old bench.old.agenda.steps bench.old.arrivals.bags.items) }
+    ensures step { IfOk result (IsStep R.takes M.valid M.meaning network.now
+        (stage_of until run.old bench.old.agenda.steps bench.old.arrivals.bags.items)
+        (stage_of until run.new bench.new.agenda.steps bench.new.arrivals.bags.items)
+        outputs.old outputs.new transitions.old transitions.new) }
+    ensures sooner { IfOk result (λ step. step ≡ Step.Round → stamp until 0 0 - round_time run.new.at < stamp until 0 0 - round_time run.old.at) }
+{
+    let end = Stamp::new(until, 0, 0).unwrap();
+    let Some(time) = run.next_time(&bench.agenda, end) else {
+        return Ok(Step::End(None));
+    };
+    let stop = make_round(alloc, network, run, bench, time, outputs, transitions)?;
+    match stop {
+        Some((component, limit)) => Ok(Step::End(Some((component, time.transition(), limit)))),
+        None => Ok(Step::Round),
+    }
+}

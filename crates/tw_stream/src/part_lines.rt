@@ -1,0 +1,48 @@
+//! The lines of a run's parts, as they come.
+
+ghost use Rattle.std.specs.Prelude.{◌≡◌, ◌++◌, [], ℕ, List};
+ghost use Rattle.tw_texts.specs.Texts.{record_line};
+
+use std::alloc::{AllocError, Global};
+use tw_msgs::{Bag, RecordKind};
+use tw_seq::Receiver;
+use tw_texts::{Lines, Names};
+use tw_vtime::Stamp;
+
+/// Lines with names of components.
+#[derive(Drop)]
+pub struct PartLines<'a, N: Names> {
+    names: &'a N,
+    pub(crate) lines: Lines,
+}
+
+impl<'a, N: Names> PartLines<'a, N> {
+    /// No lines.
+    pub(crate) fn new(alloc: Global, names: &'a N) -> PartLines<'a, N>
+        ensures names { result.names.now ≡ names.now }
+        ensures none { result.lines.text ≡ [] }
+    {
+        PartLines {
+            names,
+            lines: Lines::new(alloc),
+        }
+    }
+}
+
+/// Adds the line of each part, as that of a record.
+impl<N: Names> Receiver for PartLines<'_, N> {
+    ghost takes = { λ old r new. (new.names.now ≡ old.names.now)
+        × (new.lines.text ≡ old.lines.text ++ record_line (N.name_of old.names.now r.component) r) };
+
+    fn take(
+        &mut self,
+        component: usize,
+        stamp: Stamp,
+        kind: RecordKind,
+        bag: &Bag,
+        words: &[i128],
+    ) -> Result<(), AllocError> {
+        let name = self.names.name(component);
+        self.lines.add(name, stamp, kind, bag.as_slice(), words)
+    }
+}

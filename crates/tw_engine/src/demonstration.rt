@@ -9,6 +9,7 @@ use std::alloc::{AllocError, Global};
 use std::io::Write;
 use std::sync::Wait;
 use std::thread::Threads;
+use std::time::Clock;
 use tw_line::Setting;
 use tw_models::Model;
 use tw_network::Network;
@@ -18,15 +19,20 @@ use tw_vtime::Refusal;
 // The tick at which the demonstration ends.
 const UNTIL: u64 = 5;
 
-// Its workers, and how far they work ahead.
+// Its workers, and how far they work ahead. They tell nothing of it.
 const SETTING: Setting = Setting {
     workers: 2,
     burst: 16,
     window: 1000,
+    progress: false,
 };
 
 // Runs the demonstration and writes its text.
-pub(crate) fn demo<R: Threads + Wait + Sync, W: Write>(rt: &R, alloc: Global, out: &mut W) -> Exit
+pub(crate) fn demo<R: Threads + Wait + Clock + Eprint + Sync, W: Write>(
+    rt: &R,
+    alloc: Global,
+    out: &mut W,
+) -> Exit
     ensures { IsDemo result (W.contents out.old) (W.contents out.new) }
 {
     let Ok(network) = gen_tally(alloc) else {

@@ -19,6 +19,7 @@ use std::alloc::{AllocError, Global};
 use std::io::{ErrorKind, Read, Write};
 use std::sync::Wait;
 use std::thread::Threads;
+use std::time::Clock;
 use tw_line::{Driver, Job};
 use tw_models::Model;
 use tw_netfile::network_of_any_file;
@@ -32,7 +33,8 @@ use tw_vtime::{Limit, Refusal, Stamp};
 /// line of its fault if there is one. `demo` runs a network of its own by two workers, with the same
 /// text; it reads nothing. `check` reads the network's file to its end and writes what the network has, or the place
 /// and the reason of the file's first fault; it simulates nothing. `seq` reads the network's file to its end. `run` reads it too, and runs the network by
-/// workers in threads of their own, with the same text, whatever the setting. `play` drives an executive of the network
+/// workers in threads of their own, with the same text, whatever the setting; where the setting says so, a thread of its own tells on
+/// standard error how far it is. `play` drives an executive of the network
 /// by hand: by the commands of a script, which it reads to its end, or by actions that a seed gives. It writes
 /// the answer to each as it comes, and then the trace up to the least commit line.
 ///
@@ -44,7 +46,7 @@ use tw_vtime::{Limit, Refusal, Stamp};
 /// - [`Exit::Want`]: of `demo` and `run`, a process would hold too many nodes (12), and nothing is written; or a growth of memory was refused (4), and a beginning of the text is written; of `play`'s
 ///   answers also the line `refused 4 OutOfMemory` after them;
 /// - [`Exit::NoWrite`]: the writer failed, and only it knows what it took.
-pub fn engine<R: Threads + Wait + Sync, N: Read, S: Read, W: Write>(
+pub fn engine<R: Threads + Wait + Clock + Eprint + Sync, N: Read, S: Read, W: Write>(
     rt: &R,
     alloc: Global,
     job: &Job<'_>,

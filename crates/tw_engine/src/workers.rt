@@ -7,6 +7,7 @@ ghost use Rattle.tw_network.specs.Contents.{network_of};
 ghost use Rattle.tw_theory.specs.Simulator.{sequential};
 ghost use Rattle.tw_vtime.specs.Stamps.{max_tick};
 ghost use Rattle.tw_workers.specs.Ends.{IsEnd};
+ghost use Rattle.tw_workers.specs.Exchanged.{IsNotAhead};
 ghost use Rattle.tw_vtime.specs.declared.refusal.Refusal.TheVariants as refusal;
 
 use crate::exit::Exit;
@@ -15,19 +16,21 @@ use std::alloc::Global;
 use std::io::Write;
 use std::sync::{Arc, Wait};
 use std::thread::Threads;
-use tw_board::Board;
+use std::time::Clock;
+use tw_board::{Board, Publisher};
 use tw_exec::Executive;
 use tw_laws::endings::outcome_law;
 use tw_line::Setting;
 use tw_models::{Model, State};
 use tw_network::Network;
 use tw_process::Cancel;
+use tw_progress::while_telling;
 use tw_seq::Seq;
 use tw_vtime::Refusal;
 use tw_workers::{Open, Outcome, run};
 
 // Runs the network that a file's bytes mean by workers, and writes its text.
-pub(crate) fn run_by_workers<R: Threads + Wait + Sync, W: Write>(
+pub(crate) fn run_by_workers<R: Threads + Wait + Clock + Eprint + Sync, W: Write>(
     rt: &R,
     alloc: Global,
     bytes: &[u8],
@@ -45,7 +48,7 @@ pub(crate) fn run_by_workers<R: Threads + Wait + Sync, W: Write>(
 }
 
 // Runs a network by workers, and writes its text.
-pub(crate) fn run_network<R: Threads + Wait + Sync, W: Write>(
+pub(crate) fn run_network<R: Threads + Wait + Clock + Eprint + Sync, W: Write>(
     rt: &R,
     alloc: Global,
     network: Network<Model>,
@@ -88,7 +91,7 @@ fn started(
 }
 
 // The sequential run of an executive's network, made by workers. What the setting has out of range is brought into it.
-fn worked<R: Threads + Wait + Sync>(
+fn worked<R: Threads + Wait + Clock + Eprint + Sync>(
     rt: &R,
     alloc: Global,
     executive: Executive<Model>,
@@ -113,8 +116,8 @@ fn worked<R: Threads + Wait + Sync>(
     }
 }
 
-// How the workers' run of an executive ends. It posts on a board of its own.
-fn outcome<R: Threads + Wait + Sync>(
+// How the workers' run of an executive ends. It posts on a board of its own, and tells how far it is where that is asked for.
+fn outcome<R: Threads + Wait + Clock + Eprint + Sync>(
     rt: &R,
     alloc: Global,
     executive: Executive<Model>,
@@ -123,9 +126,40 @@ fn outcome<R: Threads + Wait + Sync>(
     ensures outcome { IfOk result (IsEnd model_meaning executive.network executive.until) }
     ensures err { IfErr result (λ why. (why ≡ refusal.OutOfMemory) ⊎ (why ≡ refusal.Full)) }
 {
-    let Ok((_, publisher)) = Board::new(alloc) else {
+    let Ok((mut board, publisher)) = Board::new(alloc) else {
         return Err(Refusal::OutOfMemory);
     };
+    if !setting.progress {
+        return posted(rt, alloc, executive, setting, publisher);
+    }
+    let Ok(reader) = board.reader() else {
+        return Err(Refusal::OutOfMemory);
+    };
+    let until = executive.until();
+    while_telling(
+        rt,
+        reader,
+        until,
+        move || -> Result<Outcome, Refusal>
+            requires { IsNotAhead publisher executive }
+            ensures outcome { IfOk result (IsEnd model_meaning executive.network executive.until) }
+            ensures err { IfErr result (λ why. (why ≡ refusal.OutOfMemory) ⊎ (why ≡ refusal.Full)) }
+        { posted(rt, alloc, executive, setting, publisher) },
+    )
+}
+
+// How the workers' run of an executive ends, which posts how far it is.
+fn posted<R: Threads + Wait + Sync>(
+    rt: &R,
+    alloc: Global,
+    executive: Executive<Model>,
+    setting: Setting,
+    publisher: Publisher,
+) -> Result<Outcome, Refusal>
+    requires { IsNotAhead publisher executive }
+    ensures outcome { IfOk result (IsEnd model_meaning executive.network executive.until) }
+    ensures err { IfErr result (λ why. (why ≡ refusal.OutOfMemory) ⊎ (why ≡ refusal.Full)) }
+{
     let (ended, _) = run(rt, alloc, executive, in_range(setting), &Open, publisher);
     match ended {
         Ok(outcome) => Ok(outcome),

@@ -2,9 +2,10 @@
 --     twarp_app      the command in clap's own words
 --     IsJob sub j      the job of a subcommand and its options
 --     IsReason words e      why there is no job
-use Rattle.std.specs.Prelude.{◌≡◌, ◌≢◌, ◌≤◌, ◌⊎◌, [], ◌∷◌, ℕ, List, Option, Some, None, codes, true}
+use Rattle.std.specs.Prelude.{◌≡◌, ◌≢◌, ◌≤◌, ◌⊎◌, [], ◌∷◌, ℕ, Bool, List, Option, Some, None, codes, false, true}
 use Rattle.std.specs.Str.Parse.{IsNumeral, digits_value, without_leading_plus}
 use Rattle.clap.specs.Words.{App, IsAmong, Kinds, Row, Rule, Text, fault_of, first_of, kind_of, new_app, new_rule, one_of, subcommand_of, with_rule, with_subcommand}
+use Rattle.clap.specs.declared.builder.action.ArgAction.TheVariants.{SetTrue}
 use Rattle.clap.specs.declared.builder.value_parser.ValueParser.TheVariants.{Unsigned}
 use Rattle.clap.specs.declared.error.kind.ErrorKind.{ErrorKind}
 use Rattle.clap.specs.declared.error.kind.ErrorKind.TheVariants as kind
@@ -38,6 +39,10 @@ preset_rule id least most left_out = record (number_rule id least most) { defaul
 abbrev pub text_rule : Text → Rule
 text_rule id = record (new_rule id) { long = Some id; value_names = 1 }
 
+-- an option that takes no value: it is `true` where it stands on the line, and `false` where it is left out
+abbrev pub flag_rule : Text → Rule
+flag_rule id = record (new_rule id) { long = Some id; action = Some SetTrue }
+
 abbrev pub until_rule : Rule
 until_rule = record (number_rule (codes "until") 0 1099511627774) { required = true }
 
@@ -55,12 +60,14 @@ network_app name = with_rule (with_rule (new_app name) net_rule) until_rule
 abbrev pub seq_app : App
 seq_app = network_app (codes "seq")
 
--- `run` and what its workers are set to: 2 workers, bursts of 16 steps and a window of 1000 ticks where it is left out
+-- `run` and what its workers are set to: 2 workers, bursts of 16 steps and a window of 1000 ticks where it is left out,
+-- and no word of how far it is
 abbrev pub set_app : App
-set_app = with_rule (with_rule (with_rule (network_app (codes "run"))
+set_app = with_rule (with_rule (with_rule (with_rule (network_app (codes "run"))
     (preset_rule (codes "workers") 1 64 (codes "2")))
     (preset_rule (codes "burst") 1 256 (codes "16")))
-    (preset_rule (codes "window") 0 1099511627774 (codes "1000"))
+    (preset_rule (codes "window") 0 1099511627774 (codes "1000")))
+    (flag_rule (codes "progress"))
 
 abbrev pub run_app : App
 run_app = with_rule set_app (text_rule (codes "cancel"))
@@ -98,17 +105,23 @@ HasNumber id least most rows n =
     (text : Text) × (one_of id rows ≡ Some text) × IsNumeral 10 (without_leading_plus text)
     × (digits_value 10 (without_leading_plus text) ≡ n) × (least ≤ n) × (n ≤ most)
 
+-- whether a flag is on: its text is `true`
+abbrev pub HasFlag : Text → List Row → Bool → Type 0
+HasFlag id rows true = first_of id rows ≡ Some (codes "true")
+HasFlag id rows false = first_of id rows ≢ Some (codes "true")
+
 -- the way of cancelling: that of the option's word, and the aggressive one where no option stands
 abbrev pub IsCancelIn : List Row → Cancel → Type 0
 IsCancelIn rows Aggressive = (first_of (codes "cancel") rows ≡ None) ⊎ (first_of (codes "cancel") rows ≡ Some (codes "aggressive"))
 IsCancelIn rows Lazy = first_of (codes "cancel") rows ≡ Some (codes "lazy")
 
--- what the workers are set to, each number in its range
+-- what the workers are set to, each number in its range, and whether the run tells how far it is
 abbrev pub IsSettingIn : List Row → Setting → Type 0
 IsSettingIn rows s =
     HasNumber (codes "workers") 1 64 rows s.workers
     × HasNumber (codes "burst") 1 256 rows s.burst
     × HasNumber (codes "window") 0 1099511627774 rows s.window
+    × HasFlag (codes "progress") rows s.progress
 
 -- what drives it: a script alone, or a seed and a number of steps with no script
 abbrev pub IsDriverIn : List Row → Driver → Type 0

@@ -2,7 +2,7 @@
 
 ghost use Rattle.std.specs.Prelude.{◌≡◌, [], codes, IfOk, IfErr, IfSome, IfNone, is_some, map, option_map, string_bytes};
 ghost use Rattle.clap.specs.Words.{rows_of, found_of, first_of, fault_of, kind_of, subcommand_of, subcommand_rows_of};
-ghost use Rattle.tw_line.specs.Lines.{twarp_app, IsCancelIn, IsDriverIn, IsSettingIn, IsJob, IsJobOf, HasNumber, IsReason, IsMadeOf};
+ghost use Rattle.tw_line.specs.Lines.{twarp_app, IsCancelIn, IsDriverIn, IsSettingIn, IsJob, IsJobOf, HasFlag, HasNumber, IsReason, IsMadeOf};
 
 use crate::commands::command;
 use crate::jobs::{Driver, Job, MAX_BURST, MAX_STEPS, MAX_WORKERS, NoJob, Setting};
@@ -38,6 +38,13 @@ fn has(options: &ArgMatches<'_>, id: &str) -> bool
     text_in(options, id).is_some()
 }
 
+/// Whether a flag is on among the options. Clap puts in `false` where it is left out.
+fn flag_in(options: &ArgMatches<'_>, id: &str) -> bool
+    ensures { HasFlag id.now (rows_of (found_of options.now)) result }
+{
+    text_in(options, id) == Some("true")
+}
+
 /// The way of cancelling among the options.
 fn cancel_in(options: &ArgMatches<'_>) -> Option<Cancel>
     ensures some { IfSome result (IsCancelIn (rows_of (found_of options.now))) }
@@ -63,10 +70,12 @@ fn setting_in(options: &ArgMatches<'_>) -> Option<Setting>
     let workers = number_in(options, "workers", 1, MAX_WORKERS)?;
     let burst = number_in(options, "burst", 1, MAX_BURST)?;
     let window = number_in(options, "window", 0, MAX_TICK)?;
+    let progress = flag_in(options, "progress");
     Some(Setting {
         workers,
         burst,
         window,
+        progress,
     })
 }
 
@@ -186,7 +195,8 @@ fn no_job(error: Error) -> NoJob
 /// The job that a command line asks for. The first word is the program's name.
 ///
 /// The jobs are `demo`; `check NET`; `seq NET --until T`; `run NET --until T` with `--workers N` (1 to 64), `--burst K` (1 to
-/// 256 steps) and `--window W` (0 to 1,099,511,627,774 ticks), which are 2, 16 and 1000 where they are left out; and
+/// 256 steps) and `--window W` (0 to 1,099,511,627,774 ticks), which are 2, 16 and 1000 where they are left out, and with
+/// `--progress`, a flag that stands there once or not at all; and
 /// `play NET --until T` with what drives it, either `--script FILE` alone or both `--seed S` and `--steps N`. `run`
 /// and `play` take `--cancel aggressive` (also where it is left out) or `--cancel lazy`. T is a number of ticks, 0
 /// to 1,099,511,627,774, S any u64, N of `--steps` at most 1,000,000; numbers are those that clap's reader of a u64

@@ -3,12 +3,12 @@
 ghost use Rattle.std.specs.Prelude.{◌≡◌, IfOk, codes, false};
 ghost use Rattle.clap.specs.Words.{app_of, rule_of};
 ghost use Rattle.clap.specs.declared.builder.command.Command.TheViews.{out-Command};
-ghost use Rattle.tw_line.specs.Lines.{net_rule, number_rule, text_rule, until_rule, alone_app, check_app, demo_app, driven_app, first_app, network_app, play_app, preset_rule, run_app, seq_app, set_app, twarp_app};
+ghost use Rattle.tw_line.specs.Lines.{flag_rule, net_rule, number_rule, text_rule, until_rule, alone_app, check_app, demo_app, driven_app, first_app, network_app, play_app, preset_rule, run_app, seq_app, set_app, twarp_app};
 
 use crate::help::{CHECK_END, DEMO_END, PLAY_END, RUN_END, SEQ_END, TWARP_END, VERSION};
 use crate::jobs::{MAX_BURST, MAX_STEPS, MAX_WORKERS};
 use clap::builder::ValueParser;
-use clap::{Arg, Command};
+use clap::{Arg, ArgAction, Command};
 use std::alloc::{AllocError, Global};
 use tw_vtime::MAX_TICK;
 
@@ -54,6 +54,14 @@ fn text<'a>(alloc: Global, id: &'a str, value_name: &'a str) -> Arg<'a>
     ensures local { result.global ≡ false }
 {
     Arg::new(alloc, id).long(id).value_name(value_name)
+}
+
+/// An option that takes no value, and stands on the line or not.
+fn flag<'a>(alloc: Global, id: &'a str) -> Arg<'a>
+    ensures rule { rule_of result ≡ flag_rule id.entry.now }
+    ensures local { result.global ≡ false }
+{
+    Arg::new(alloc, id).long(id).action(ArgAction::SetTrue)
 }
 
 fn until<'a>(alloc: Global) -> Arg<'a>
@@ -142,6 +150,15 @@ fn window<'a>(alloc: Global) -> Arg<'a>
     )
 }
 
+fn progress<'a>(alloc: Global) -> Arg<'a>
+    ensures rule { rule_of result ≡ flag_rule (codes "progress") }
+    ensures local { result.global ≡ false }
+{
+    flag(alloc, "progress").help(
+        "Tell on standard error, once a second, the tick committed, of the end tick, and how many records are committed",
+    )
+}
+
 /// `run` with what its workers are set to.
 fn set_command<'a>(alloc: Global) -> Result<Command<'a>, AllocError>
     ensures app { IfOk result (λ c. app_of c ≡ set_app) }
@@ -155,7 +172,8 @@ fn set_command<'a>(alloc: Global) -> Result<Command<'a>, AllocError>
     )?
     .arg(workers(alloc))?
     .arg(burst(alloc))?
-    .arg(window(alloc))
+    .arg(window(alloc))?
+    .arg(progress(alloc))
 }
 
 fn run_command<'a>(alloc: Global) -> Result<Command<'a>, AllocError>

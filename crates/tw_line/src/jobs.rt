@@ -42,7 +42,7 @@ pub enum Job<'a> {
         until: u64,
         /// How steps that are taken back are cancelled.
         cancel: Cancel,
-        /// How many workers there are, and how far they work ahead.
+        /// How many workers there are, how far they work ahead, and whether the run tells how far it is.
         setting: Setting,
     },
     /// Drive a network's executive by hand, action by action: write a reply to each, then the trace of what is
@@ -59,7 +59,7 @@ pub enum Job<'a> {
     },
 }
 
-/// How many workers a run has, and how far they work ahead. The trace is the same for all of them.
+/// How many workers a run has, how far they work ahead, and whether it tells how far it is. The trace is the same for all of them.
 #[derive(Clone, Copy, Debug, PartialEq, Eq)]
 pub struct Setting {
     /// How many threads work, 1 to 64.
@@ -68,6 +68,8 @@ pub struct Setting {
     pub burst: u64,
     /// How many ticks after gvt a component may still make a step, 0 to 1,099,511,627,774.
     pub window: u64,
+    /// Whether a line on standard error tells once a second how far the run is.
+    pub progress: bool,
 }
 
 /// What drives an executive by hand.

@@ -12,13 +12,14 @@ use std::io::ErrorKind;
 use std::process::ExitCode;
 use std::sync::Wait;
 use std::thread::Threads;
+use std::time::Clock;
 use std::{env, io};
 use tw_engine::{Exit, engine};
 use tw_line::{Driver, Job, NoJob, job};
 use tw_vtime::Refusal;
 
 // How the run of the program ends.
-fn run<T: Threads + Wait + Sync>(rt: &HostRuntime, threads: &T) -> Exit {
+fn run<T: Threads + Wait + Clock + Eprint + Sync>(rt: &HostRuntime, threads: &T) -> Exit {
     let given = match env::args(rt) {
         Ok(given) => given,
         Err(error) => return exit_of(&error),
@@ -47,7 +48,11 @@ fn exit_of(error: &io::Error) -> Exit {
 }
 
 // Does a job on its files and standard output, by these threads where it takes any.
-fn do_job<T: Threads + Wait + Sync>(rt: &HostRuntime, threads: &T, job: &Job<'_>) -> Exit {
+fn do_job<T: Threads + Wait + Clock + Eprint + Sync>(
+    rt: &HostRuntime,
+    threads: &T,
+    job: &Job<'_>,
+) -> Exit {
     let mut net = match job {
         Job::Demo => Source::Missing(ErrorKind::NotFound),
         Job::Check { net } | Job::Seq { net, .. } | Job::Run { net, .. } | Job::Play { net, .. } =>

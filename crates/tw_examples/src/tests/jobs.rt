@@ -10,6 +10,7 @@ use std::io::Read;
 use std::process::Abort;
 use std::sync::Wait;
 use std::thread::Threads;
+use std::time::Clock;
 use tw_engine::{Exit, engine};
 use tw_line::{Job, Setting};
 use tw_process::Cancel;
@@ -43,7 +44,7 @@ fn seq(until: u64) -> Job<'static> {
 }
 
 /// Asserts how a job ends, and the text that it writes.
-fn assert_run<R: Abort + Threads + Wait + Sync, N: Read>(
+fn assert_run<R: Abort + Threads + Wait + Clock + Eprint + Sync, N: Read>(
     rt: &R,
     alloc: Global,
     name: &str,
@@ -59,7 +60,11 @@ fn assert_run<R: Abort + Threads + Wait + Sync, N: Read>(
 }
 
 /// Asserts that an example's run ends and writes as it says.
-fn assert_example<R: Abort + Threads + Wait + Sync>(rt: &R, alloc: Global, example: &Example) {
+fn assert_example<R: Abort + Threads + Wait + Clock + Eprint + Sync>(
+    rt: &R,
+    alloc: Global,
+    example: &Example,
+) {
     assert_run(
         rt,
         alloc,
@@ -71,24 +76,26 @@ fn assert_example<R: Abort + Threads + Wait + Sync>(rt: &R, alloc: Global, examp
     );
 }
 
-/// The settings by which each example is run: workers, burst and window.
-static SETTINGS: [(u64, u64, u64); 6] = [
-    (1, 1, 1000),
-    (2, 16, 1000),
-    (2, 1, 0),
-    (4, 256, 1),
-    (64, 16, 0),
-    (64, 1, 1000),
+/// The settings by which each example is run: workers, burst and window, and whether it tells how far it is.
+static SETTINGS: [(u64, u64, u64, bool); 8] = [
+    (1, 1, 1000, false),
+    (2, 16, 1000, false),
+    (2, 1, 0, false),
+    (4, 256, 1, false),
+    (64, 16, 0, false),
+    (64, 1, 1000, false),
+    (1, 16, 1000, true),
+    (4, 1, 0, true),
 ];
 
 /// Asserts that an example's run by workers ends and writes as the sequential one, for each setting.
-fn assert_by_workers<R: Abort + Threads + Wait + Sync>(
+fn assert_by_workers<R: Abort + Threads + Wait + Clock + Eprint + Sync>(
     rt: &R,
     alloc: Global,
     example: &Example,
     cancel: Cancel,
 ) {
-    for (workers, burst, window) in SETTINGS {
+    for (workers, burst, window, progress) in SETTINGS {
         let job = Job::Run {
             net: "net.json",
             until: example.until,
@@ -97,6 +104,7 @@ fn assert_by_workers<R: Abort + Threads + Wait + Sync>(
                 workers,
                 burst,
                 window,
+                progress,
             },
         };
         let mut net = example.file.as_bytes();
@@ -135,7 +143,7 @@ fn files_and_an_end_tick_are_refused(rt: HostRuntime) {
 }
 
 /// Asserts how a check of a file ends, and the text that it writes.
-fn assert_check<R: Abort + Threads + Wait + Sync>(
+fn assert_check<R: Abort + Threads + Wait + Clock + Eprint + Sync>(
     rt: &R,
     alloc: Global,
     file: &str,

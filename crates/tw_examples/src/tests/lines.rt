@@ -7,7 +7,7 @@ use tw_line::{Driver, Job, NoJob, Setting, job};
 use tw_vtime::Refusal;
 
 /// Lines that are taken, and what is answered to each.
-static TAKEN: [(&str, &str); 27] = [
+static TAKEN: [(&str, &str); 30] = [
     ("twarp demo", "demo"),
     ("twarp check n.json", "check of n.json"),
     ("twarp check -- -n.json", "check of -n.json"),
@@ -59,6 +59,18 @@ static TAKEN: [(&str, &str); 27] = [
         "run of -n.json until 5 by 2 in bursts of 16, 1000 ticks ahead, Lazy",
     ),
     (
+        "twarp run n.json --until 5 --progress",
+        "run of n.json until 5 by 2 in bursts of 16, 1000 ticks ahead, Aggressive, telling",
+    ),
+    (
+        "twarp run --progress n.json --until 5 --workers 3 --cancel lazy",
+        "run of n.json until 5 by 3 in bursts of 16, 1000 ticks ahead, Lazy, telling",
+    ),
+    (
+        "twarp run --until 5 -- --progress",
+        "run of --progress until 5 by 2 in bursts of 16, 1000 ticks ahead, Aggressive",
+    ),
+    (
         "twarp play n.json --until 5 --script s",
         "play of n.json until 5 by s, Aggressive",
     ),
@@ -89,7 +101,7 @@ static TAKEN: [(&str, &str); 27] = [
 ];
 
 /// Lines that are refused.
-static REFUSED: [&str; 70] = [
+static REFUSED: [&str; 77] = [
     "twarp",
     "twarp walk",
     "twarp seq --version",
@@ -134,6 +146,13 @@ static REFUSED: [&str; 70] = [
     "twarp run n.json --until 5 --cancel eager",
     "twarp run n.json --until 5 --script s",
     "twarp run n.json --until 5 --seed 1 --steps 1",
+    "twarp run n.json --until 5 --progress --progress",
+    "twarp run n.json --until 5 --progress=true",
+    "twarp run n.json --until 5 --progress=",
+    "twarp run n.json --until 5 --progress true",
+    "twarp seq n.json --until 5 --progress",
+    "twarp play n.json --until 5 --script s --progress",
+    "twarp demo --progress",
     "twarp play n.json --until 5 --script s --workers 2",
     "twarp demo --workers 2",
     "twarp play",
@@ -163,7 +182,7 @@ static REFUSED: [&str; 70] = [
 ];
 
 /// Lines that ask for help, and parts of what is answered to each.
-static HELPS: [(&str, [&str; 3]); 15] = [
+static HELPS: [(&str, [&str; 3]); 16] = [
     (
         "twarp --help",
         ["Example: twarp demo", "Status: 0 done", "docs/FORMATS.md"],
@@ -217,6 +236,10 @@ static HELPS: [(&str, [&str; 3]); 15] = [
         ["1 to 256", "[default: 16]", "[default: 1000]"],
     ),
     (
+        "twarp run --help",
+        ["--progress", "standard error", "once a second"],
+    ),
+    (
         "twarp help play",
         ["<NET>", "--script <FILE>", "0 to 1000000"],
     ),
@@ -251,11 +274,15 @@ fn answer(alloc: Global, line: &str) -> Result<String, AllocError> {
                     workers,
                     burst,
                     window,
+                    progress,
                 },
             },
-        ) => format!(in alloc;
-            "run of {net} until {until} by {workers} in bursts of {burst}, {window} ticks ahead, {cancel:?}"
-        ),
+        ) => {
+            let telling = if progress { ", telling" } else { "" };
+            format!(in alloc;
+                "run of {net} until {until} by {workers} in bursts of {burst}, {window} ticks ahead, {cancel:?}{telling}"
+            )
+        }
         Ok(
             Job::Play {
                 net,

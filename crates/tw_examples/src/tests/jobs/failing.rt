@@ -9,6 +9,7 @@ use std::io::{ErrorKind, Read, Write};
 use std::process::Abort;
 use std::sync::Wait;
 use std::thread::Threads;
+use std::time::Clock;
 use tw_engine::{Exit, engine};
 use tw_line::Job;
 use tw_vtime::Refusal;
@@ -107,7 +108,7 @@ impl Write for Expecting<'_> {
 }
 
 /// Asserts that a job ends as it is to with the whole text, or with a beginning of it for want of memory.
-fn assert_ends_well<R: Abort + Threads + Wait + Sync>(
+fn assert_ends_well<R: Abort + Threads + Wait + Clock + Eprint + Sync>(
     rt: &R,
     alloc: Global,
     job: &Job<'_>,

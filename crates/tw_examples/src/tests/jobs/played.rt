@@ -7,6 +7,7 @@ use std::alloc::Global;
 use std::process::Abort;
 use std::sync::Wait;
 use std::thread::Threads;
+use std::time::Clock;
 use tw_engine::{Exit, engine};
 use tw_line::{Driver, Job};
 use tw_process::Cancel;
@@ -41,7 +42,7 @@ fn by_seed(steps: u64) -> Job<'static> {
 }
 
 /// Asserts how a job over these files ends, and what it writes.
-fn assert_played<R: Abort + Threads + Wait + Sync>(
+fn assert_played<R: Abort + Threads + Wait + Clock + Eprint + Sync>(
     rt: &R,
     alloc: Global,
     job: &Job<'_>,

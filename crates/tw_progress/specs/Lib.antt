@@ -1,0 +1,2 @@
+-- What the contracts of what is told cite.
+pub mod Progress

@@ -87,6 +87,26 @@ pub trait Atomic: Drop {
         ensures residue { IfOk result (λ residue. residue ≡ residue_of self.now turn state.old elapsed bag.now) }
         ensures err { OnErr result (state.new ≡ state.old) };
 
+    /// Makes one transition as [`Atomic::forward`] does, but keeps nothing that takes it back: for callers
+    /// who never take one back. The only error is want of memory, and it leaves the state as it was.
+    ///
+    /// Where it is not written, it is `forward`, whose residue is let go.
+    fn transition(
+        &self,
+        alloc: Global,
+        state: &mut Self::State,
+        turn: Turn,
+        elapsed: u64,
+        bag: &[(u8, i64)],
+    ) -> Result<(), AllocError>
+        requires { CanTurn (valid self.now) (meaning self.now) turn state.old elapsed bag.now }
+        ensures state { OnOk result (state.new ≡ turned (meaning self.now) turn state.old elapsed bag.now) }
+        ensures err { OnErr result (state.new ≡ state.old) }
+    {
+        self.forward(alloc, state, turn, elapsed, bag)?;
+        Ok(())
+    }
+
     /// Takes back the transition that left this state and this residue for the same turn, elapsed
     /// time and bag. It takes no memory and cannot fail.
     fn back(

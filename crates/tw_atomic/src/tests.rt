@@ -118,6 +118,26 @@ fn is_taken_back<M: Atomic>(alloc: Global, model: &M, bag: &[(u8, i64)]) -> Resu
     Ok(model.same(&before, &state))
 }
 
+/// Makes one external transition from the start by each of the two calls, and tells whether both states
+/// are equal: they always are.
+fn is_the_same_transition<M: Atomic>(
+    alloc: Global,
+    model: &M,
+    bag: &[(u8, i64)],
+) -> Result<bool, AllocError>
+    requires passive { IsNone ((M.meaning model.now).ta (M.meaning model.now).start) }
+    requires some { bag.now ≢ [] }
+    requires sorted { IsSorted bag.now }
+    requires fits { FitsBag bag.now }
+    ensures { IfOk result (λ same. same ≡ true) }
+{
+    let mut kept = model.start(alloc)?;
+    let mut other = model.start(alloc)?;
+    let _residue = model.forward(alloc, &mut kept, Turn::Ext, 0, bag)?;
+    model.transition(alloc, &mut other, Turn::Ext, 0, bag)?;
+    Ok(model.same(&kept, &other))
+}
+
 #[test]
 fn a_counter_counts_and_is_taken_back(rt: HostRuntime) {
     let alloc = rt.alloc();
@@ -139,4 +159,22 @@ fn a_counter_counts_and_is_taken_back(rt: HostRuntime) {
         .words(alloc, &state, &mut words)
         .expect(&rt, "memory");
     assert_eq!(rt; words.as_slice(), [2].as_slice());
+}
+
+#[test]
+fn a_counter_counts_and_keeps_nothing(rt: HostRuntime) {
+    let alloc = rt.alloc();
+    let bag = [(0, -1), (2, 7)];
+    let same = is_the_same_transition(alloc, &Counter, &bag).expect(&rt, "memory");
+    assert!(rt; same);
+
+    let mut state = Counter.start(alloc).expect(&rt, "memory");
+    Counter
+        .transition(alloc, &mut state, Turn::Ext, 4, &bag)
+        .expect(&rt, "memory");
+    assert!(rt; state == (2, true));
+    Counter
+        .transition(alloc, &mut state, Turn::Int, 0, &[])
+        .expect(&rt, "memory");
+    assert!(rt; state == (2, false));
 }

@@ -111,6 +111,21 @@ impl Atomic for Gen {
         Ok(())
     }
 
+    fn transition(
+        &self,
+        alloc: Global,
+        state: &mut GenState,
+        turn: Turn,
+        elapsed: u64,
+        bag: &[(u8, i64)],
+    ) -> Result<(), AllocError>
+        requires { CanTurn (IsGen self.now) (gen_meaning self.now) turn state.old elapsed bag.now }
+        ensures state { state.new ≡ turned (gen_meaning self.now) turn state.old elapsed bag.now }
+        ensures succeeds { result ≡ Ok tt }
+    {
+        self.forward(alloc, state, turn, elapsed, bag)
+    }
+
     fn back(&self, state: &mut GenState, turn: Turn, elapsed: u64, bag: &[(u8, i64)], residue: ()) {
         let _ = bag;
         let () = residue;

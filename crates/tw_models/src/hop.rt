@@ -212,6 +212,21 @@ impl Atomic for Hop {
         Ok(())
     }
 
+    fn transition(
+        &self,
+        alloc: Global,
+        state: &mut HopState,
+        turn: Turn,
+        elapsed: u64,
+        bag: &[(u8, i64)],
+    ) -> Result<(), AllocError>
+        requires { CanTurn (IsHop self.now) (hop_meaning self.now) turn state.old elapsed bag.now }
+        ensures state { state.new ≡ turned (hop_meaning self.now) turn state.old elapsed bag.now }
+        ensures succeeds { result ≡ Ok tt }
+    {
+        self.forward(alloc, state, turn, elapsed, bag)
+    }
+
     fn back(&self, state: &mut HopState, turn: Turn, elapsed: u64, bag: &[(u8, i64)], residue: ()) {
         let () = residue;
         match turn {

@@ -189,6 +189,38 @@ impl Atomic for Model {
         }
     }
 
+    fn transition(
+        &self,
+        alloc: Global,
+        state: &mut State,
+        turn: Turn,
+        elapsed: u64,
+        bag: &[(u8, i64)],
+    ) -> Result<(), AllocError>
+        requires { CanTurn (IsModel self.now) (model_meaning self.now) turn state.old elapsed bag.now }
+        ensures state { state.new ≡ turned (model_meaning self.now) turn state.old elapsed bag.now }
+        ensures succeeds { result ≡ Ok tt }
+    {
+        match (self, state) {
+            (Model::Gen(model), State::OfGen(state)) => {
+                model.transition(alloc, state, turn, elapsed, bag)
+            }
+            (Model::Tally, State::OfTally(state)) => {
+                Tally.transition(alloc, state, turn, elapsed, bag)
+            }
+            (Model::Relay(model), State::OfRelay(state)) => {
+                model.transition(alloc, state, turn, elapsed, bag)
+            }
+            (Model::Queue(model), State::OfQueue(state)) => {
+                model.transition(alloc, state, turn, elapsed, bag)
+            }
+            (Model::Hop(model), State::OfHop(state)) => {
+                model.transition(alloc, state, turn, elapsed, bag)
+            }
+            _ => Ok(()),
+        }
+    }
+
     fn back(
         &self,
         state: &mut State,

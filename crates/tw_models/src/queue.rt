@@ -220,6 +220,34 @@ impl Atomic for Queue {
         Ok(residue)
     }
 
+    fn transition(
+        &self,
+        alloc: Global,
+        state: &mut QueueState,
+        turn: Turn,
+        elapsed: u64,
+        bag: &[(u8, i64)],
+    ) -> Result<(), AllocError>
+        requires { CanTurn (IsQueue self.now) (queue_meaning self.now) turn state.old elapsed bag.now }
+        ensures state { state.new ≡ turned (queue_meaning self.now) turn state.old elapsed bag.now }
+        ensures succeeds { result ≡ Ok tt }
+    {
+        let _ = alloc;
+        match turn {
+            Turn::Int => {
+                finish_first(state, self.service);
+            }
+            Turn::Ext => {
+                take_in(state, self.service, elapsed, bag);
+            }
+            Turn::Con => {
+                finish_first(state, self.service);
+                take_in(state, self.service, 0, bag);
+            }
+        }
+        Ok(())
+    }
+
     fn back(
         &self,
         state: &mut QueueState,

@@ -92,6 +92,14 @@ pub struct RelayResidue {
     pub given: Held,
 }
 
+/// Lets all that is held go.
+fn let_go(state: &mut RelayState)
+    ensures { state.new ≡ relay_int state.old }
+{
+    state.left = None;
+    state.held.clear();
+}
+
 /// Lets all that is held go, and answers it.
 fn send_all(state: &mut RelayState) -> Held
     ensures state { state.new ≡ relay_int state.old }
@@ -178,6 +186,32 @@ impl Atomic for Relay {
             }
         }
         Ok(residue)
+    }
+
+    fn transition(
+        &self,
+        alloc: Global,
+        state: &mut RelayState,
+        turn: Turn,
+        elapsed: u64,
+        bag: &[(u8, i64)],
+    ) -> Result<(), AllocError>
+        requires { CanTurn (IsRelay self.now) (relay_meaning self.now) turn state.old elapsed bag.now }
+        ensures state { state.new ≡ turned (relay_meaning self.now) turn state.old elapsed bag.now }
+        ensures succeeds { result ≡ Ok tt }
+    {
+        let _ = alloc;
+        match turn {
+            Turn::Int => let_go(state),
+            Turn::Ext => {
+                take_in(state, self.delay, elapsed, bag);
+            }
+            Turn::Con => {
+                let_go(state);
+                take_in(state, self.delay, 0, bag);
+            }
+        }
+        Ok(())
     }
 
     fn back(

@@ -105,14 +105,30 @@ impl Atomic for Tally {
         ensures state { state.new ≡ turned tally_meaning turn state.old elapsed bag.now }
         ensures residue { result ≡ Ok state.old.last }
     {
+        let last = state.last;
+        self.transition(alloc, state, turn, elapsed, bag)?;
+        Ok(last)
+    }
+
+    fn transition(
+        &self,
+        alloc: Global,
+        state: &mut TallyState,
+        turn: Turn,
+        elapsed: u64,
+        bag: &[(u8, i64)],
+    ) -> Result<(), AllocError>
+        requires { CanTurn IsTally tally_meaning turn state.old elapsed bag.now }
+        ensures state { state.new ≡ turned tally_meaning turn state.old elapsed bag.now }
+        ensures succeeds { result ≡ Ok tt }
+    {
         let _ = alloc;
         let _ = elapsed;
-        let last = state.last;
         match turn {
             Turn::Int => {}
             Turn::Ext | Turn::Con => count_all(state, bag),
         }
-        Ok(last)
+        Ok(())
     }
 
     fn back(

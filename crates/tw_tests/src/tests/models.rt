@@ -122,8 +122,35 @@ struct Worked<'a> {
     ta: Option<u64>,
 }
 
-/// Makes a turn that has to be allowed, and takes it back: asserts what it gives, and that the old state is
-/// there again.
+/// Makes a turn that has to be allowed on a copy of the state, and keeps nothing: asserts what it gives.
+fn there_for_good<M: Atomic>(
+    rt: &impl Abort,
+    alloc: Global,
+    model: &M,
+    state: &M::State,
+    worked: &Worked,
+)
+    requires { M.valid model.now state.now }
+{
+    let Worked {
+        turn,
+        elapsed,
+        bag,
+        words,
+        ta,
+    } = *worked;
+    let mut state = model.copy(alloc, state).expect(rt, "memory");
+    assert!(rt; is_bag(bag));
+    assert!(rt; is_due(model.ta(&state), turn, elapsed, bag));
+    model
+        .transition(alloc, &mut state, turn, elapsed, bag)
+        .expect(rt, "memory");
+    assert_words(rt, alloc, model, &state, words);
+    assert!(rt; model.ta(&state) == ta);
+}
+
+/// Makes a turn that has to be allowed, for good and to take it back: asserts what it gives both times, and
+/// that the old state is there again.
 fn there_and_back<M: Atomic>(
     rt: &impl Abort,
     alloc: Global,
@@ -134,6 +161,7 @@ fn there_and_back<M: Atomic>(
     requires { M.valid model.now state.old }
     ensures { M.valid model.now state.new }
 {
+    there_for_good(rt, alloc, model, state, worked);
     let before = model.copy(alloc, state).expect(rt, "memory");
     let residue = make(
         rt,

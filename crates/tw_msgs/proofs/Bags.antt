@@ -1,5 +1,5 @@
 -- Bags in order: the order of items, and the one sorted bag.
-use Rattle.std.proofs.Common.{◌≡◌, ℕ, ℤ, [], ◌∷◌, int_le, refl, sym, ap, ◌∙◌, subst, if◌then◌else◌}
+use Rattle.std.proofs.Common.{◌≡◌, ◌≤◌, ℕ, ℤ, [], ◌∷◌, int_le, refl, sym, ap, ◌∙◌, subst, if◌then◌else◌, length, arith}
 use Rattle.std.specs.Cmp.{then_total, on_total, nat_cmp_total, int_cmp_total}
 use Rattle.std.specs.Ordering.{is_le, int_cmp}
 use Rattle.std.specs.List.Sorted.{IsPermutation, IsSorted as IsSortedBy}
@@ -53,3 +53,9 @@ sorted_bag-permutation xs ys same = sorted_bag-is xs ∙ sort-permutation items_
 -- a sorted bag is its own sorted bag
 pub sorted_bag-of_sorted : (xs : Bag) → IsSortedBy item_cmp xs → sorted_bag xs ≡ xs
 sorted_bag-of_sorted xs up = sym (sorted_bag-only xs xs (IsPermutation-refl xs) up)
+
+-- a bag of one item at most is in order
+pub short-sorted : (xs : Bag) → length xs ≤ 1 → IsSorted xs × (xs ≡ sorted_bag xs)
+short-sorted [] l = (tt, refl)
+short-sorted (x ∷ []) l = ((tt, tt), refl)
+short-sorted (x ∷ y ∷ ys) l = absurd (omega (arith, l))

@@ -107,7 +107,16 @@ impl Bag {
         ensures in_order { IsSorted self.new }
         ensures sorted { self.new ≡ sorted_bag self.old }
     {
-        self.items.as_mut_slice().sort_unstable();
+        if self.items.len() > 1 {
+            self.items.as_mut_slice().sort_unstable();
+        }
+    }
+
+    /// Takes all items away. The room that they had is kept.
+    pub fn clear(&mut self)
+        ensures { self.new ≡ [] }
+    {
+        self.items.clear();
     }
 }
 

@@ -1,4 +1,5 @@
-pub mod AgendaChanges
+pub mod Dues
+pub mod Imminent
 pub mod SortedBags
 pub mod CarriedFits
 pub mod Dealt

@@ -2,7 +2,6 @@
 use Rattle.std.proofs.Common.{◌≡◌, ℕ, zero, suc, ◌+◌, ◌-◌, ◌<◌, ◌≤◌, ◌==◌, ◌⊎◌, inl, inr, min, List, [], ◌∷◌, ◌++◌, length, Option, Some, None, nat_lt, replicate, slice_get, refl, sym, ap, ◌∙◌, subst, ⊎_elim, arith}
 use Rattle.std.specs.List.{All, AllByRecursion as Each}
 use Rattle.std.specs.Prelude.{◌≢◌}
-use Rattle.std.specs.BTreeSet.{BTreeSet}
 use Rattle.std.proofs.lemmas.List.{length-replicate}
 use Rattle.std.proofs.lemmas.List.Elements.{All-nil}
 use Rattle.std.proofs.lemmas.Option.{same_Some, none-some}
@@ -12,7 +11,7 @@ use Rattle.tw_msgs.specs.Bags.{Bag, sorted_bag}
 use Rattle.tw_msgs.specs.declared.message.Message.{Message}
 use Rattle.tw_msgs.specs.declared.record.Record.{Record}
 use Rattle.tw_network.specs.Contents.{Contents, network_of, IsCoupling}
-use Rattle.tw_seq.specs.Agenda.{IsOn, IsDueAt, IsAgenda}
+use Rattle.tw_seq.specs.Agenda.{IsDueAt}
 use Rattle.tw_seq.specs.Dealing.{dealt, Carried}
 use Rattle.tw_seq.specs.Invariant.{AllStand, IsToCome, IsUnderway}
 use Rattle.tw_seq.specs.Turning.{turns_with, all_outputs, all_turns}
@@ -129,9 +128,9 @@ next_round valid meaning contents s run l h =
     (at.stands.from, at.due_even)))
     (input_time (length contents.models) s run.at.inputs l h.inputs)
 
--- ---- the agenda
+-- ---- when components are due
 
--- no step on it is due before the round
+-- none is due before the round
 pub not_before : {M S : Type 0} (valid : M → S → Type 0) (meaning : M → Meaning S) (models : List M) (t : ℕ) (moments : List (Moment S)) (s c : ℕ) → AllStand valid meaning models t moments → IsDueAt moments c s → t ≤ s
 not_before valid meaning models t moments s c h at =
     let model = model_there models moments c at.0 h.size at.1 in
@@ -139,25 +138,7 @@ not_before valid meaning models t moments s c h at =
     let due = at.2 in
     omega (arith, from, due)
 
--- without the steps of the round it has the later ones
-pub agenda_taken : {M S : Type 0} (valid : M → S → Type 0) (meaning : M → Meaning S) (models : List M) (t : ℕ) (moments : List (Moment S)) (steps left : BTreeSet (ℕ × ℕ)) → AllStand valid meaning models t moments → IsAgenda 0 steps moments →
-    ((s c : ℕ) → IsOn left s c → IsOn steps s c × (s ≢ t)) → ((s c : ℕ) → IsOn steps s c → s ≢ t → IsOn left s c) → IsAgenda (t + 1) left moments
-agenda_taken valid meaning models t moments steps left stand h was kept = record {
-  each = λ s c on.
-      let before = was s c on in
-      let at = h.each s c before.0 in
-      let low = not_before valid meaning models t moments s c stand at.0 in
-      let other = before.1 in
-      (at.0, omega (arith, low, other), at.2);
-  all = λ s c at low high. kept s c (h.all s c at (omega arith) high) (λ e. omega (arith, e, low));
-}
-
--- after the round all steps are later
-pub agenda_whole : {M S : Type 0} (valid : M → S → Type 0) (meaning : M → Meaning S) (models : List M) (t : ℕ) (moments : List (Moment S)) (steps : BTreeSet (ℕ × ℕ)) → AllStand valid meaning models (t + 2) moments → IsAgenda (t + 1) steps moments → IsAgenda 0 steps moments
-agenda_whole valid meaning models t moments steps stand h = record {
-  each = λ s c on. let at = h.each s c on in (at.0, omega arith, at.2);
-  all = λ s c at low high. h.all s c at (let from = not_before valid meaning models (t + 2) moments s c stand at in omega (arith, from)) high;
-}
+-- ---- bags
 
 empty_bag : (n c : ℕ) (bag : Bag) → slice_get (replicate n []) c ≡ Some bag → bag ≡ []
 empty_bag zero c bag e = absurd (none-some bag e)

@@ -6,12 +6,11 @@
 --     Stage      what a simulation keeps between two rounds
 --     IsSimulating valid meaning contents done stage      so it stands between two rounds, after these records
 use Rattle.std.specs.Prelude.{◌≡◌, ℕ, ◌+◌, ◌≤◌, List, [], Option, None, length, replicate}
-use Rattle.std.specs.BTreeSet.{BTreeSet}
 use Rattle.tw_atomic.specs.Atomic.{Meaning}
 use Rattle.tw_msgs.specs.Bags.{Bag}
 use Rattle.tw_msgs.specs.declared.record.Record.{Record}
 use Rattle.tw_network.specs.Contents.{Contents, network_of}
-use Rattle.tw_seq.specs.Agenda.{IsAgenda}
+use Rattle.tw_seq.specs.Agenda.{dues}
 use Rattle.tw_seq.specs.InOrder.{rounds_in_order}
 use Rattle.tw_seq.specs.Invariant.{IsUnderway}
 use Rattle.tw_theory.specs.Simulator.{Run, rounds_from, sequential}
@@ -40,17 +39,17 @@ pub record IsEnd {M S : Type 0} (meaning : M → Meaning S) (contents : Contents
   pub records : done ≡ (sequential (network_of meaning contents) until).records
   pub fault : met ≡ (sequential (network_of meaning contents) until).fault
 
--- the end tick, the run whose records were all handed over, the agenda, and the bags of the components
+-- the end tick, the run whose records were all handed over, the times on the agenda, and the bags of the components
 pub record Stage (S : Type 0) : Type 0 where
   pub until : ℕ
   pub run : Run S
-  pub steps : BTreeSet (ℕ × ℕ)
+  pub times : List ℕ
   pub bags : List Bag
 
 pub record IsSimulating {M S : Type 0} (valid : M → S → Type 0) (meaning : M → Meaning S) (contents : Contents M) (done : List Record) (stage : Stage S) : Type 0 where
   pub part : IsPart valid meaning contents stage.until done stage.run
-  pub agenda : IsAgenda 0 stage.steps stage.run.at.moments
+  pub agenda : stage.times ≡ dues stage.run.at.moments
   pub empty : stage.bags ≡ replicate (length stage.run.at.moments) []
 
-abbrev pub stage_of : {S : Type 0} → ℕ → Run S → BTreeSet (ℕ × ℕ) → List Bag → Stage S
-stage_of until run steps bags = record { until = until; run = run; steps = steps; bags = bags }
+abbrev pub stage_of : {S : Type 0} → ℕ → Run S → List ℕ → List Bag → Stage S
+stage_of until run times bags = record { until = until; run = run; times = times; bags = bags }

@@ -7,12 +7,11 @@
 //!
 //! A call is refused ([`SeqRefused`]) for an end tick that no stamp has, and for want of memory.
 //!
-//! The next own steps of all components stand on an agenda, the event list, by time and component, and the
-//! inputs stand in order. So a round costs in the components that are imminent or receive something, times
+//! The next own steps of all components stand on an agenda, the event list: a tournament of their times. The inputs
+//! stand in order. So a round costs in the components that are imminent or receive something, times
 //! a logarithm of how many components there are, and not in all components or inputs.
 #![tactic(auto)]
 
-mod agenda;
 mod bags;
 mod outputs;
 mod receiver;

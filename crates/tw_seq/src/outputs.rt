@@ -15,20 +15,37 @@ ghost use Rattle.tw_vtime.specs.Stamps.{max_tick, tick_of, phase_of};
 use crate::bags::{Arrivals, route};
 use crate::receiver::Receiver;
 use std::alloc::{AllocError, Global};
-use tw_atomic::Atomic;
-use tw_msgs::RecordKind;
+use tw_atomic::{Atomic, Outbox};
+use tw_msgs::{Bag, RecordKind};
 use tw_network::Network;
-use tw_step::{Moment, output_bag};
+use tw_step::{Moment, fill_output};
 use tw_vtime::Stamp;
+
+/// What an output is put into, kept from one output to the next.
+#[derive(Drop)]
+pub struct Sending {
+    outbox: Outbox,
+    bag: Bag,
+}
+
+impl Sending {
+    /// Nothing is sent yet.
+    pub(crate) fn new(alloc: Global) -> Sending {
+        Sending {
+            outbox: Outbox::new(),
+            bag: Bag::new(alloc),
+        }
+    }
+}
 
 /// Hands the output of each imminent component to the receiver, and puts what it sends into the bags of the
 /// components to which it goes.
 pub(crate) fn make_outputs<M: Atomic, R: Receiver>(
-    alloc: Global,
     network: &Network<M>,
     moments: &[Moment<M::State>],
     imminent: &[usize],
     time: Stamp,
+    sending: &mut Sending,
     arrivals: &mut Arrivals,
     receiver: &mut R,
 ) -> Result<(), AllocError>
@@ -47,9 +64,15 @@ pub(crate) fn make_outputs<M: Atomic, R: Receiver>(
     for component in imminent {
         let component = *component;
         let now = &moments[component];
-        let bag = output_bag(alloc, network.model(component), &now.state)?;
-        route(network, component, time.transition(), &bag, arrivals)?;
-        receiver.take(component, time, RecordKind::Out, &bag, &[])?;
+        let bag = &mut sending.bag;
+        fill_output(
+            network.model(component),
+            &now.state,
+            &mut sending.outbox,
+            bag,
+        )?;
+        route(network, component, time.transition(), bag, arrivals)?;
+        receiver.take(component, time, RecordKind::Out, bag, &[])?;
     }
     Ok(())
 }

@@ -18,7 +18,7 @@ ghost use Rattle.std.specs.Prelude.{
 ghost use Rattle.std.specs.List.{AllByRecursion as Each};
 ghost use Rattle.tw_network.specs.Contents.{network_of};
 ghost use Rattle.tw_msgs.specs.Messages.{sorted_messages};
-ghost use Rattle.tw_seq.specs.Agenda.{IsAgenda};
+ghost use Rattle.tw_seq.specs.Agenda.{dues};
 ghost use Rattle.tw_seq.specs.Dealing.{Carried};
 ghost use Rattle.tw_seq.specs.InOrder.{start_in_order};
 ghost use Rattle.tw_seq.specs.Invariant.{IsUnderway};
@@ -29,9 +29,8 @@ ghost use Rattle.tw_theory.specs.Bundles.{Ascending};
 ghost use Rattle.tw_theory.specs.Simulator.{first_stop, least_input, round_time, round, turn_records};
 ghost use Rattle.tw_vtime.specs.Stamps.{max_tick, never, tick_of, phase_of};
 
-use crate::agenda::Agenda;
 use crate::bags::Arrivals;
-use crate::outputs::make_outputs;
+use crate::outputs::{Sending, make_outputs};
 use crate::receiver::Receiver;
 use crate::turns::make_turns;
 use std::alloc::{AllocError, Global};
@@ -40,6 +39,7 @@ use tw_atomic::Atomic;
 use tw_msgs::Message;
 use tw_network::Network;
 use tw_step::{Moment, start_moment};
+use tw_tournament::Tournament;
 use tw_vtime::{Limit, Stamp};
 
 /// A run between two rounds: where each component stands, the inputs in order, of which those from place
@@ -51,13 +51,14 @@ pub struct Running<S: Drop> {
     given: usize,
 }
 
-/// What a round works with, kept from round to round: the agenda, what comes to the components, which
-/// of them are imminent, and the words of a state.
+/// What a round works with, kept from round to round: the agenda, which is a tournament of the components' next own
+/// steps; what comes to the components; which of them are imminent; what an output is put into; and the words of a state.
 #[derive(Drop)]
 pub struct Bench {
-    pub(crate) agenda: Agenda,
+    pub(crate) agenda: Tournament,
     pub(crate) arrivals: Arrivals,
     imminent: Vec<usize>,
+    sending: Sending,
     words: Vec<i128>,
 }
 
@@ -72,15 +73,15 @@ impl<S: Drop> Model for Running<S> {
 
 impl<S: Drop> Running<S> {
     /// The time of the next round, if it is before `end`.
-    pub(crate) fn next_time(&self, agenda: &Agenda, end: Stamp) -> Option<Stamp>
-        requires agenda { IsAgenda 0 agenda.now.steps self.now.at.moments }
+    pub(crate) fn next_time(&self, agenda: &Tournament, end: Stamp) -> Option<Stamp>
+        requires agenda { agenda.now.times ≡ dues self.now.at.moments }
         requires inputs { Each (λ m. (m.stamp < never) × (phase_of m.stamp ≡ 1)) self.now.at.inputs }
         requires order { Ascending self.now.at.inputs }
         ensures none { IfNone result (end ≤ round_time self.now.at) }
         ensures time { IfSome result (λ time. time ≡ round_time self.now.at) }
         ensures before { IfSome result (λ time. time < end) }
     {
-        let due = agenda.first_time();
+        let due = agenda.least();
         let input = next_input(&self.inputs, self.given);
         let time = if input < due { input } else { due };
         if time < end { Some(time) } else { None }
@@ -139,25 +140,28 @@ pub(crate) fn start<M: Atomic>(
 }
 
 /// The agenda of components that stand so.
-fn start_agenda<S: Drop>(alloc: Global, moments: &[Moment<S>]) -> Result<Agenda, AllocError>
-    ensures { IfOk result (λ agenda. IsAgenda 0 agenda.steps moments.now) }
+fn start_agenda<S: Drop>(alloc: Global, moments: &[Moment<S>]) -> Result<Tournament, AllocError>
+    requires { length moments.now ≤ 4294967296 }
+    ensures { IfOk result (λ agenda. agenda.times ≡ dues moments.now) }
 {
-    let mut agenda = Agenda::new(alloc);
+    let mut agenda = Tournament::new(alloc, moments.len())?;
     for (component, now) in moments.iter().enumerate() {
-        agenda.put(component, now.due)?;
+        agenda.set(component, now.due);
     }
     Ok(agenda)
 }
 
 /// The bench before the first round of a run.
 pub(crate) fn start_bench<S: Drop>(alloc: Global, run: &Running<S>) -> Result<Bench, AllocError>
-    ensures agenda { IfOk result (λ bench. IsAgenda 0 bench.agenda.steps run.now.at.moments) }
+    requires { length run.now.at.moments ≤ 4294967296 }
+    ensures agenda { IfOk result (λ bench. bench.agenda.times ≡ dues run.now.at.moments) }
     ensures bags { IfOk result (λ bench. bench.arrivals.bags.items ≡ replicate (length run.now.at.moments) []) }
 {
     Ok(Bench {
         agenda: start_agenda(alloc, &run.moments)?,
         arrivals: Arrivals::new(alloc, run.moments.len())?,
         imminent: Vec::new(alloc),
+        sending: Sending::new(alloc),
         words: Vec::new(alloc),
     })
 }
@@ -176,25 +180,26 @@ pub(crate) fn make_round<M: Atomic, R: Receiver>(
 ) -> Result<Option<(usize, Limit)>, AllocError>
     requires time { tick_of time < max_tick }
     requires underway { IsUnderway M.valid M.meaning network.now time run.old }
-    requires agenda { IsAgenda 0 bench.old.agenda.steps run.old.at.moments }
+    requires agenda { bench.old.agenda.times ≡ dues run.old.at.moments }
     requires bags { bench.old.arrivals.bags.items ≡ replicate (length run.old.at.moments) [] }
     ensures outputs { OnOk result (Receives R.takes outputs.old (all_outputs (network_of M.meaning network.now) time run.old) outputs.new) }
     ensures transitions { IfOk result (λ stop. stop ≡ None → Receives R.takes transitions.old (turn_records (all_turns (network_of M.meaning network.now) time run.old)) transitions.new) }
     ensures stop { IfOk result (λ stop. stop ≡ first_stop 0 (all_turns (network_of M.meaning network.now) time run.old)) }
     ensures going { IfOk result (λ stop. stop ≡ None → run.new ≡ after [] (round (network_of M.meaning network.now) run.old time)) }
     ensures underway { IfOk result (λ stop. stop ≡ None → IsUnderway M.valid M.meaning network.now (time + 2) run.new) }
-    ensures agenda { IfOk result (λ stop. stop ≡ None → IsAgenda 0 bench.new.agenda.steps run.new.at.moments) }
+    ensures agenda { IfOk result (λ stop. stop ≡ None → bench.new.agenda.times ≡ dues run.new.at.moments) }
     ensures bags { IfOk result (λ stop. stop ≡ None → bench.new.arrivals.bags.items ≡ replicate (length run.new.at.moments) []) }
 {
     network.facts();
     bench.arrivals.awake.clear();
-    bench.agenda.take(time, &mut bench.imminent)?;
+    bench.imminent.clear();
+    bench.agenda.collect(time, &mut bench.imminent)?;
     make_outputs(
-        alloc,
         network,
         &run.moments,
         &bench.imminent,
         time,
+        &mut bench.sending,
         &mut bench.arrivals,
         outputs,
     )?;

@@ -39,7 +39,7 @@ impl<S: Drop> Model for Simulation<S> {
 
     ghost Value = { Stage S };
 
-    ghost view = { λ s. stage_of s.until s.run s.bench.agenda.steps s.bench.arrivals.bags.items };
+    ghost view = { λ s. stage_of s.until s.run s.bench.agenda.times s.bench.arrivals.bags.items };
 }
 
 /// A run of a network up to the end tick `until`, before its first round.
@@ -58,6 +58,7 @@ pub fn begin<M: Atomic>(
     if until > MAX_TICK {
         return Err(SeqRefused::BadTick);
     }
+    network.facts();
     let run = start(alloc, network)?;
     let bench = start_bench(alloc, &run)?;
     Ok(Simulation { until, run, bench })
@@ -102,10 +103,10 @@ fn make_step<M: Atomic, R: Receiver>(
     outputs: &mut R,
     transitions: &mut R,
 ) -> Result<Step, AllocError>
-    requires { (done : List TheRecord) × IsSimulating M.valid M.meaning network.now done (stage_of until run.old bench.old.agenda.steps bench.old.arrivals.bags.items) }
+    requires { (done : List TheRecord) × IsSimulating M.valid M.meaning network.now done (stage_of until run.old bench.old.agenda.times bench.old.arrivals.bags.items) }
     ensures step { IfOk result (IsStep R.takes M.valid M.meaning network.now
-        (stage_of until run.old bench.old.agenda.steps bench.old.arrivals.bags.items)
-        (stage_of until run.new bench.new.agenda.steps bench.new.arrivals.bags.items)
+        (stage_of until run.old bench.old.agenda.times bench.old.arrivals.bags.items)
+        (stage_of until run.new bench.new.agenda.times bench.new.arrivals.bags.items)
         outputs.old outputs.new transitions.old transitions.new) }
     ensures sooner { IfOk result (λ step. step ≡ Step.Round → stamp until 0 0 - round_time run.new.at < stamp until 0 0 - round_time run.old.at) }
 {

@@ -5,7 +5,7 @@ ghost use Rattle.std.specs.List.{AllByRecursion as Each};
 ghost use Rattle.tw_atomic.specs.Atomic.{FitsBag};
 ghost use Rattle.tw_msgs.specs.Bags.{sorted_bag};
 ghost use Rattle.tw_network.specs.Contents.{network_of};
-ghost use Rattle.tw_seq.specs.Agenda.{IsAgenda};
+ghost use Rattle.tw_seq.specs.Agenda.{dues};
 ghost use Rattle.tw_seq.specs.Invariant.{AllStand, IsBetween};
 ghost use Rattle.tw_seq.specs.Receiving.{Receives};
 ghost use Rattle.tw_seq.specs.Turning.{seen, part_of, CanGoOn, turns_with};
@@ -13,15 +13,14 @@ ghost use Rattle.tw_seq.specs.Waking.{IsInTurn};
 ghost use Rattle.tw_theory.specs.Simulator.{take_turn, after_output, turn_records, turned_moments, first_stop};
 ghost use Rattle.tw_vtime.specs.Stamps.{max_tick, tick_of, phase_of};
 
-use crate::agenda::Agenda;
 use crate::bags::Arrivals;
 use crate::receiver::Receiver;
 use std::alloc::{AllocError, Global};
-use std::mem;
 use tw_atomic::Atomic;
 use tw_msgs::{Bag, RecordKind};
 use tw_network::Network;
 use tw_step::{Moment, turn_of};
+use tw_tournament::Tournament;
 use tw_vtime::{Limit, Stamp, advance};
 
 /// What a component did at the transition of a round.
@@ -77,7 +76,7 @@ fn take_turn<M: Atomic>(
     let (turn, kind) = turn_of(imminent, empty);
     let at = time.transition();
     let elapsed = at.tick().saturating_sub(now.last.tick());
-    model.forward(alloc, &mut now.state, turn, elapsed, bag.as_slice())?;
+    model.transition(alloc, &mut now.state, turn, elapsed, bag.as_slice())?;
     match advance(at, model.ta(&now.state), network.micro_limit()) {
         Ok(due) => {
             words.clear();
@@ -99,7 +98,7 @@ pub(crate) fn make_turns<M: Atomic, R: Receiver>(
     moments: &mut [Moment<M::State>],
     time: Stamp,
     arrivals: &mut Arrivals,
-    agenda: &mut Agenda,
+    agenda: &mut Tournament,
     words: &mut Vec<i128>,
     receiver: &mut R,
 ) -> Result<Option<(usize, Limit)>, AllocError>
@@ -109,7 +108,7 @@ pub(crate) fn make_turns<M: Atomic, R: Receiver>(
     requires bags { length arrivals.old.bags.items ≡ length network.now.models }
     requires fits { Each FitsBag arrivals.old.bags.items }
     requires awake { IsInTurn time moments.old arrivals.old.bags.items arrivals.old.awake.items }
-    requires agenda { IsAgenda (time + 1) agenda.old.steps moments.old }
+    requires agenda { agenda.old.times ≡ dues moments.old }
     ensures stop { IfOk result (λ stop. stop ≡ first_stop 0 (turns_with (network_of M.meaning network.now) time 0 moments.old arrivals.old.bags.items)) }
     ensures received { IfOk result (λ stop. stop ≡ None →
         Receives R.takes receiver.old (turn_records (turns_with (network_of M.meaning network.now) time 0 moments.old arrivals.old.bags.items)) receiver.new) }
@@ -117,24 +116,24 @@ pub(crate) fn make_turns<M: Atomic, R: Receiver>(
         moments.new ≡ turned_moments moments.old (turns_with (network_of M.meaning network.now) time 0 moments.old arrivals.old.bags.items)) }
     ensures standing { IfOk result (λ stop. stop ≡ None → AllStand M.valid M.meaning network.now.models (time + 2) moments.new) }
     ensures bags { IfOk result (λ stop. stop ≡ None → arrivals.new.bags.items ≡ replicate (length network.now.models) []) }
-    ensures agenda { IfOk result (λ stop. stop ≡ None → IsAgenda (time + 1) agenda.new.steps moments.new) }
+    ensures agenda { IfOk result (λ stop. stop ≡ None → agenda.new.times ≡ dues moments.new) }
 {
     let at = time.transition();
     let awake = &arrivals.awake;
     let bags = arrivals.bags.as_mut_slice();
     for component in awake {
         let component = *component;
-        let mut bag = mem::replace(&mut bags[component], Bag::new(alloc));
+        let bag = &mut bags[component];
         let now = &mut moments[component];
-        let due = now.due;
-        match take_turn(alloc, network, component, now, time, &mut bag, words)? {
+        match take_turn(alloc, network, component, now, time, bag, words)? {
             Taken::Stays => {}
             Taken::Moves(kind) => {
-                receiver.take(component, at, kind, &bag, words)?;
-                agenda.put_off(component, due, now.due, time)?;
+                receiver.take(component, at, kind, bag, words)?;
+                agenda.set(component, now.due);
             }
             Taken::Stops(limit) => return Ok(Some((component, limit))),
         }
+        bag.clear();
     }
     Ok(None)
 }

@@ -1,6 +1,6 @@
 //! What a component sends.
 
-ghost use Rattle.std.specs.Prelude.{◌≡◌, ◌<◌, IfOk, length};
+ghost use Rattle.std.specs.Prelude.{◌≡◌, ◌<◌, IfOk, OnOk, length};
 ghost use Rattle.tw_msgs.specs.Bags.{sorted_bag};
 ghost use Rattle.tw_network.specs.Contents.{network_of};
 ghost use Rattle.tw_theory.specs.Network.{routed};
@@ -18,13 +18,32 @@ pub fn output_bag<M: Atomic>(alloc: Global, model: &M, state: &M::State) -> Resu
     ensures { IfOk result (λ bag. bag ≡ sorted_bag ((M.meaning model.now).out state.now)) }
 {
     let mut outbox = Outbox::new();
-    model.output(state, &mut outbox);
     let mut bag = Bag::new(alloc);
+    fill_output(model, state, &mut outbox, &mut bag)?;
+    Ok(bag)
+}
+
+/// Puts what a model sends in a state into a bag, sorted by port, then value, in the place of what is there; by way of
+/// an outbox, whose items are lost too. It is refused for want of memory alone (4), and takes none for up to eight items.
+///
+/// A caller with many outputs keeps bag and outbox, so that neither is made anew for each.
+pub fn fill_output<M: Atomic>(
+    model: &M,
+    state: &M::State,
+    outbox: &mut Outbox,
+    bag: &mut Bag,
+) -> Result<(), AllocError>
+    requires { M.valid model.now state.now }
+    ensures { OnOk result (bag.new ≡ sorted_bag ((M.meaning model.now).out state.now)) }
+{
+    outbox.clear();
+    model.output(state, outbox);
+    bag.clear();
     for item in outbox.as_slice() {
         bag.push(*item)?;
     }
     bag.sort();
-    Ok(bag)
+    Ok(())
 }
 
 /// The messages of this stamp that an output bag of a component makes: for each item in order, one to each place to

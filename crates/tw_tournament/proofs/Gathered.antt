@@ -50,6 +50,10 @@ module _ (ws : List ℕ) (row : ℕ) (won : IsWon ws row) (size : length ws ≡ 
       let level : at ws (leftmost place k + i) ≡ at ws (row + first + i) = ap (λ n. at ws (n + i)) (sym is) in
       other (omega arith))
 
+  -- of two that met, one of which is at the time of the winner and the right one is not
+  pub left_there : (place t : ℕ) → 1 ≤ place → place < row → at ws place ≡ t → at ws (place + place + 1) ≢ t → at ws (place + place) ≡ t
+  left_there place t some below is other = let met = won place some below in omega (arith, met, is, other)
+
   -- a single one that is at the time
   pub one_there : (t place first width : ℕ) → PlayFor place width (row + first) → first + width ≤ row → width ≡ 1 → at ws place ≡ t
       → numbers_at t first (take width (drop (row + first) ws)) ≡ first ∷ []

@@ -29,12 +29,16 @@ pub(crate) fn gather(
     if winners[place] != time {
         return Ok(());
     }
-    if width == 1 {
-        numbers.push(first)?;
-        return Ok(());
+    let (mut place, mut first, mut width) = (place, first, width);
+    while width > 1 {
+        width /= 2;
+        place += place;
+        if winners[place + 1] == time {
+            gather(winners, row, place, first, width, time, numbers)?;
+            place += 1;
+            first += width;
+        }
     }
-    let half = width / 2;
-    let left = place + place;
-    gather(winners, row, left, first, half, time, numbers)?;
-    gather(winners, row, left + 1, first + half, half, time, numbers)
+    numbers.push(first)?;
+    Ok(())
 }

@@ -7,7 +7,7 @@ use tw_netfile::{network_of_any_file, network_of_file};
 use tw_vtime::Refusal;
 
 /// A generator that sends 5 each 2 ticks, and a tally of what it sends.
-const GEN_TALLY: &str =
+pub(crate) const GEN_TALLY: &str =
     r#"{"format": "tw-1", "micro_limit": 100, "components": [{"name": "g", "model": "gen", "period": 2, "value": 5}, {"name": "t", "model": "tally"}], "couplings": [["g", 0, "t", 0]], "inputs": []}"#;
 
 /// Three components, as the items of an array.

@@ -2,6 +2,7 @@
 
 ghost use Rattle.std.specs.Prelude.{◌==◌, codes, if◌then◌else◌};
 
+use crate::tests::files::GEN_TALLY;
 use crate::tests::records::record;
 use crate::tests::writers::OneByteWriter;
 use std::alloc::Global;
@@ -9,6 +10,8 @@ use std::io::Write;
 use std::process::Abort;
 use std::test::Fail;
 use tw_msgs::{Record, RecordKind};
+use tw_netfile::network_of_file;
+use tw_stream::write_rounds;
 use tw_texts::{Lines, Names, NotWritten, write_trace};
 use tw_vtime::{Refusal, Stamp};
 
@@ -61,6 +64,15 @@ fn writes_the_lines_in_order(rt: HostRuntime) -> Result<(), Fail> {
     write_generator_and_tally(rt.alloc(), &mut out)??;
     assert!(rt; out.as_slice() == GENERATOR_AND_TALLY.as_bytes());
     write_trace(rt.alloc(), &GeneratorAndTally, &[], &mut out)?;
+    assert!(rt; out.as_slice() == GENERATOR_AND_TALLY.as_bytes());
+    Ok(())
+}
+
+#[test]
+fn writes_a_run_as_it_is_made(rt: HostRuntime) -> Result<(), Fail> {
+    let network = network_of_file(rt.alloc(), GEN_TALLY.as_bytes()).expect(&rt, "a network");
+    let mut out: Vec<u8> = Vec::new(rt.alloc());
+    write_rounds(rt.alloc(), &network, &GeneratorAndTally, 5, &mut out)?;
     assert!(rt; out.as_slice() == GENERATOR_AND_TALLY.as_bytes());
     Ok(())
 }

@@ -105,6 +105,8 @@ fn sorts_by_port_then_value(rt: HostRuntime) {
     assert!(rt; bag.as_slice() == TEN_SORTED.as_slice());
     assert!(rt; bag.iter().next() == Some(&(0, -7)));
     assert_rising(&rt, &bag);
+    bag.clear();
+    assert!(rt; bag.is_empty());
 }
 
 #[test]

@@ -6,7 +6,7 @@ use std::process::Abort;
 use tw_models::{BadModel, Model};
 use tw_msgs::RecordKind;
 use tw_network::{Coupling, Input, Network};
-use tw_seq::{Seq, SeqRefused, outcome, simulate};
+use tw_seq::{Seq, SeqRefused, Step, advance, begin, outcome, simulate};
 use tw_vtime::{Limit, MAX_TICK, Refusal, Stamp};
 
 /// The names of components, in their order.
@@ -337,6 +337,58 @@ fn outcome_is_the_fault(rt: HostRuntime) {
         let fault = outcome(rt.alloc(), &network, example.until).expect(&rt, example.name);
         assert!(rt; is_fault(&fault, &example.fault), "{}", example.name);
     }
+}
+
+/// A generator of period 2 and value 5, and its tally.
+fn generator_and_tally(alloc: Global) -> Result<Network<Model>, Refusal> {
+    network(
+        alloc,
+        &[Made::Generator(2, 5), Made::Tally],
+        &[(0, 0, 1, 0)],
+        &[],
+        100,
+    )
+}
+
+#[test]
+fn round_is_handed_over(rt: HostRuntime) {
+    let network = generator_and_tally(rt.alloc()).expect(&rt, "memory");
+    let mut run = begin(rt.alloc(), &network, 5).expect(&rt, "memory");
+    let mut outputs = Vec::new(rt.alloc());
+    let mut transitions = Vec::new(rt.alloc());
+    let step = advance(
+        rt.alloc(),
+        &network,
+        &mut run,
+        &mut outputs,
+        &mut transitions,
+    );
+    assert!(rt; step == Ok(Step::Round));
+    let output = Line(2, 0, 0, RecordKind::Out, &[(0, 5)], &[]);
+    assert!(rt; all_show(&outputs, &[output]));
+    let turns = [
+        Line(2, 0, 0, RecordKind::Int, &[], &[1]),
+        Line(2, 0, 1, RecordKind::Ext, &[(0, 5)], &[1, 5, 5]),
+    ];
+    assert!(rt; all_show(&transitions, &turns));
+}
+
+#[test]
+fn run_without_a_round_ends(rt: HostRuntime) {
+    let network = generator_and_tally(rt.alloc()).expect(&rt, "memory");
+    let mut run = begin(rt.alloc(), &network, 2).expect(&rt, "memory");
+    let mut outputs = Vec::new(rt.alloc());
+    let mut transitions = Vec::new(rt.alloc());
+    let step = advance(
+        rt.alloc(),
+        &network,
+        &mut run,
+        &mut outputs,
+        &mut transitions,
+    );
+    assert!(rt; step == Ok(Step::End(None)));
+    assert!(rt; all_show(&outputs, &[]));
+    assert!(rt; all_show(&transitions, &[]));
 }
 
 #[test]

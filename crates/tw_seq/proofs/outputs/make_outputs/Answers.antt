@@ -41,8 +41,8 @@ route-requires-clause-source g c =
     let size = c.requires.moments.size in
     omega (arith, l, size)
 
-pub output_bag-requires : goal.output_bag-requires
-output_bag-requires g c =
+pub fill_output-requires : goal.fill_output-requires
+fill_output-requires g c =
     let i = slice_index c.args.imminent.now c.loop-component.component-index in
     let at = c.requires.each c.loop-component.component-index 0 c.loop-component-test.true in
     let l = slice_get_within c.args.moments.now i at.0 at.1 in
@@ -74,8 +74,8 @@ loop-component-preserved g c =
     (λ d low high h. none_between imminent c.requires.rising k d m low high (c.requires.all d h)) in
     let next : i + 1 ≡ onward imminent (k + 1) = sym (onward_more imminent k) in
     let model = c.model.result.now in
-    let bag = c.in_ok-bag.bag in
-    let given = c.in_ok-bag.ensures ∙ ap (λ x. sorted_bag ((g.M.Atomic.meaning model).out x.state)) c.now.view_is in
+    let bag = c.fill_output.new.bag in
+    let given = c.in_ok-fill_output.ensures ∙ ap (λ x. sorted_bag ((g.M.Atomic.meaning model).out x.state)) c.now.view_is in
     let bags = c.loop-component.arrivals.bags.items in
     let inv = c.loop-component.invariant in
     let routed_to = c.in_ok-route.ensures.bags in

@@ -1,11 +1,12 @@
 -- The parts of the round are the definition's parts.
-use Rattle.std.proofs.Common.{◌≡◌, ◌+◌, ◌<◌, ◌≤◌, ◌∙◌, ℕ, [], refl, ap, sym, subst, arith, drop, length, ⊎_elim}
+use Rattle.std.proofs.Common.{◌≡◌, ◌+◌, ◌<◌, ◌≤◌, ◌∙◌, ◌++◌, ℕ, [], slice_get, refl, ap, sym, subst, arith, drop, length, ⊎_elim}
 use Rattle.std.specs.List.{All, Contains, AllByRecursion as Each}
+use Rattle.std.specs.List.Sorted.{IsStrictlyIncreasing}
 use Rattle.std.proofs.lemmas.List.Elements.{All-contains}
 use Rattle.std.proofs.lemmas.Option.{slice_get_within}
 use Rattle.tw_atomic.specs.Atomic.{FitsBag}
 use Rattle.tw_network.specs.Contents.{network_of}
-use Rattle.tw_seq.specs.Agenda.{IsDueAt, IsAgenda}
+use Rattle.tw_seq.specs.Agenda.{dues, IsDueAt}
 use Rattle.tw_seq.specs.Invariant.{AllStand, IsToCome}
 use Rattle.tw_seq.specs.Parts.{after}
 use Rattle.tw_seq.specs.Receiving.{Receives}
@@ -14,34 +15,46 @@ use Rattle.tw_theory.specs.Bundles.{Ascending}
 use Rattle.tw_theory.specs.Simulator.{outputs, first_stop, turn_records, turned_moments, past_stamp}
 use Rattle.tw_theory.proofs.Elements.{each_weaker}
 use Rattle.tw_seq.proofs.Dealt.{length-dealt}
+use Rattle.tw_seq.proofs.Dues.{due_at}
+use Rattle.tw_seq.proofs.Imminent.{numbers_rising, imminent_due, imminent_all}
+use Rattle.tw_tournament.specs.Times.{numbers_at}
 use Rattle.tw_seq.proofs.InputsGiven.{past_ascending}
 use Rattle.tw_seq.proofs.RoundOutputs.{transition_of}
 use Rattle.tw_seq.proofs.Places.{all_written}
-use Rattle.tw_seq.proofs.RoundsKept.{turns_here, bags_fit, round_goes, past_to_come, not_before, agenda_taken, agenda_whole, empty_size, none_reached}
+use Rattle.tw_seq.proofs.RoundsKept.{turns_here, bags_fit, round_goes, past_to_come, not_before, empty_size, none_reached}
 use Rattle.tw_seq.proofs.rounds.make_round.Goals as goal
-use Rattle.tw_seq.proofs.rounds.make_round.Goals.{In_ok-take, After-deref-3, After-deref-4, After-make_turns}
+use Rattle.tw_seq.proofs.rounds.make_round.Goals.{In_ok-collect, After-deref-3, After-deref-4, After-make_turns}
 
-pub take-requires : goal.take-requires
-take-requires g c s d on = not_before g.M.Atomic.valid g.M.Atomic.meaning c.args.network.now.models c.args.time c.args.run.now.at.moments s d c.requires.underway.moments (c.requires.agenda.each s d on).0
+pub collect-requires-clause-first : goal.collect-requires-clause-first
+collect-requires-clause-first g c d s e =
+    not_before g.M.Atomic.valid g.M.Atomic.meaning c.args.network.now.models c.args.time c.args.run.now.at.moments s d c.requires.underway.moments
+    (due_at c.args.run.now.at.moments d s (ap (λ ts. slice_get ts d) (sym c.requires.agenda) ∙ e))
 
--- the components taken from the agenda are those that are imminent
-taken_due : (g : _) (c : In_ok-take g) → All (λ d. IsDueAt c.args.run.now.at.moments d c.args.time) c.take.new.imminent.items
-taken_due g c k d l = (c.requires.agenda.each c.args.time _ (c.in_ok-take.ensures.each k d l)).0
+-- the components that are listed are those that are imminent
+listed : (g : _) (c : In_ok-collect g) → c.collect.new.numbers.items ≡ numbers_at c.args.time 0 (dues c.args.run.now.at.moments)
+listed g c = c.in_ok-collect.ensures ∙ (λ i. c.clear-2.ensures.items i ++ numbers_at c.args.time 0 (c.requires.agenda i))
 
-taken_all : (g : _) (c : In_ok-take g) (d : ℕ) → IsDueAt c.args.run.now.at.moments d c.args.time → Contains c.take.new.imminent.items d
-taken_all g c d at = c.in_ok-take.ensures.all d (c.requires.agenda.all c.args.time d at (omega arith) (let small = c.requires.time in omega (arith, small)))
+taken_due : (g : _) (c : In_ok-collect g) → All (λ d. IsDueAt c.args.run.now.at.moments d c.args.time) c.collect.new.numbers.items
+taken_due g c = subst (All (λ d. IsDueAt c.args.run.now.at.moments d c.args.time)) (sym (listed g c)) (imminent_due c.args.run.now.at.moments c.args.time)
+
+taken_all : (g : _) (c : In_ok-collect g) (d : ℕ) → IsDueAt c.args.run.now.at.moments d c.args.time → Contains c.collect.new.numbers.items d
+taken_all g c d at = subst (λ xs. Contains xs d) (sym (listed g c)) (imminent_all c.args.run.now.at.moments c.args.time d at)
+
+pub make_outputs-requires-clause-rising : goal.make_outputs-requires-clause-rising
+make_outputs-requires-clause-rising g c =
+    subst IsStrictlyIncreasing (sym (c.deref-2.ensures.value ∙ listed g (goal.at.make_outputs-requires-clause-rising g c).In_ok-collect)) (numbers_rising c.args.time 0 (dues c.args.run.now.at.moments))
 
 pub make_outputs-requires-clause-each : goal.make_outputs-requires-clause-each
 make_outputs-requires-clause-each g c =
     let moments = c.deref.ensures.value ∙ ap (λ r. r.at.moments) c.run.view_is in
     subst (λ ms. All (λ d. IsDueAt ms d c.args.time) c.deref-2.result.now) (sym moments)
-    (subst (All (λ d. IsDueAt c.args.run.now.at.moments d c.args.time)) (sym c.deref-2.ensures.value) (taken_due g (goal.at.make_outputs-requires-clause-each g c).In_ok-take))
+    (subst (All (λ d. IsDueAt c.args.run.now.at.moments d c.args.time)) (sym c.deref-2.ensures.value) (taken_due g (goal.at.make_outputs-requires-clause-each g c).In_ok-collect))
 
 pub make_outputs-requires-clause-all : goal.make_outputs-requires-clause-all
 make_outputs-requires-clause-all g c d at =
     let moments = c.deref.ensures.value ∙ ap (λ r. r.at.moments) c.run.view_is in
     subst (λ xs. Contains xs d) (sym c.deref-2.ensures.value)
-    (taken_all g (goal.at.make_outputs-requires-clause-all g c).In_ok-take d (subst (λ ms. IsDueAt ms d c.args.time) moments at))
+    (taken_all g (goal.at.make_outputs-requires-clause-all g c).In_ok-collect d (subst (λ ms. IsDueAt ms d c.args.time) moments at))
 
 pub make_outputs-requires-clause-awake : goal.make_outputs-requires-clause-awake
 make_outputs-requires-clause-awake g c = none_reached (length c.args.run.now.at.moments) c.args.bench.now.arrivals.bags.items c.clear.new.self.items c.requires.bags c.clear.ensures.items
@@ -76,8 +89,8 @@ second_size g c = ap length c.in_ok-given.ensures.bags ∙ length-dealt 0 c.make
 
 pub wake-requires-clause-imminent : goal.wake-requires-clause-imminent
 wake-requires-clause-imminent g c =
-    let within : All (λ d. d < length c.deliver_inputs.new.self.bags.items) c.take.new.imminent.items = λ k d l.
-    let at = taken_due g (goal.at.wake-requires-clause-imminent g c).In_ok-take k d l in
+    let within : All (λ d. d < length c.deliver_inputs.new.self.bags.items) c.collect.new.numbers.items = λ k d l.
+    let at = taken_due g (goal.at.wake-requires-clause-imminent g c).In_ok-collect k d l in
     let m = slice_get_within c.args.run.now.at.moments _ at.0 at.1 in
     let size = second_size g c in
     let whole = c.requires.underway.moments.size in
@@ -100,21 +113,18 @@ pub make_turns-requires-clause-awake : goal.make_turns-requires-clause-awake
 make_turns-requires-clause-awake g c =
     let moments = c.deref_mut.ensures.value ∙ ap (λ r. r.at.moments) c.run.view_is in
     let awake = c.wake.new.self.awake.items in
-    let imminent : All (Contains awake) c.take.new.imminent.items = subst (All (Contains awake)) c.deref-4.ensures.value c.in_ok-wake.ensures.imminent in
+    let imminent : All (Contains awake) c.collect.new.numbers.items = subst (All (Contains awake)) c.deref-4.ensures.value c.in_ok-wake.ensures.imminent in
     record {
       rising = c.in_ok-wake.ensures.rising;
       each = c.in_ok-wake.ensures.awake.each;
       all = λ d h. ⊎_elim
-          (λ at. All-contains (Contains awake) c.take.new.imminent.items d imminent (taken_all g (goal.at.make_turns-requires-clause-awake g c).In_ok-take d (subst (λ ms. IsDueAt ms d c.args.time) moments at)))
+          (λ at. All-contains (Contains awake) c.collect.new.numbers.items d imminent (taken_all g (goal.at.make_turns-requires-clause-awake g c).In_ok-collect d (subst (λ ms. IsDueAt ms d c.args.time) moments at)))
           (λ r. c.in_ok-wake.ensures.awake.all d r)
           h;
     }
 
 pub make_turns-requires-clause-agenda : goal.make_turns-requires-clause-agenda
-make_turns-requires-clause-agenda g c =
-    let moments = c.deref_mut.ensures.value ∙ ap (λ r. r.at.moments) c.run.view_is in
-    subst (IsAgenda (c.args.time + 1) c.take.new.self.steps) (sym moments)
-    (agenda_taken g.M.Atomic.valid g.M.Atomic.meaning c.args.network.now.models c.args.time c.args.run.now.at.moments c.args.bench.now.agenda.steps c.take.new.self.steps c.requires.underway.moments c.requires.agenda c.in_ok-take.ensures.left c.in_ok-take.ensures.kept)
+make_turns-requires-clause-agenda g c = c.requires.agenda ∙ ap dues (sym (c.deref_mut.ensures.value ∙ ap (λ r. r.at.moments) c.run.view_is))
 
 -- the turns of the code are the definition's
 turns_here_are : (g : _) (c : After-make_turns g) → turns_with (network_of g.M.Atomic.meaning c.args.network.now) c.args.time 0 c.deref_mut.result.now c.wake.new.self.bags.items ≡ all_turns (network_of g.M.Atomic.meaning c.args.network.now) c.args.time c.args.run.now
@@ -179,5 +189,4 @@ returns-clause-underway g c none =
 pub returns-clause-agenda : goal.returns-clause-agenda
 returns-clause-agenda g c none =
     let written = all_written c.run.inside.moments c.make_turns.new.moments (c.make_turns.auto.moments ∙ ap length c.deref_mut.ensures.value) in
-    subst (IsAgenda 0 c.make_turns.new.agenda.steps) (sym written)
-    (agenda_whole g.M.Atomic.valid g.M.Atomic.meaning c.args.network.now.models c.args.time c.make_turns.new.moments c.make_turns.new.agenda.steps (c.in_ok-stop.ensures.standing none) (c.in_ok-stop.ensures.agenda none))
+    c.in_ok-stop.ensures.agenda none ∙ ap dues (sym written)

@@ -1,25 +1,24 @@
 -- One component more.
-use Rattle.std.proofs.Common.{◌≡◌, ◌+◌, ◌∷◌, ◌++◌, [], sym, ap, ◌∙◌, subst, arith, take, length, add-one}
-use Rattle.std.proofs.Math.Seq.{take-suc}
-use Rattle.std.proofs.lemmas.List.{take_all, length-take}
-use Rattle.tw_seq.specs.Agenda.{IsAgenda, Puts}
-use Rattle.tw_seq.proofs.AgendaChanges.{agenda_none, agenda_more}
+use Rattle.std.proofs.Common.{◌≡◌, ◌∙◌, length, sym, ap, arith, add-one, slice_set}
+use Rattle.tw_seq.proofs.Dues.{begun, begun_size, begun_more, begun_all}
 use Rattle.tw_seq.proofs.rounds.start_agenda.Goals as goal
 
-pub loop-component-init : goal.loop-component-init
-loop-component-init g c = agenda_none c.new-agenda.result.steps c.new-agenda.ensures
+pub set-requires : goal.set-requires
+set-requires g c =
+    let size = ap length c.loop-component.invariant ∙ begun_size c.loop-component.component c.args.moments.now in
+    let l = c.loop-component-test.true in
+    omega (arith, size, l)
 
 pub loop-component-preserved : goal.loop-component-preserved
 loop-component-preserved g c =
     let moments = c.args.moments.now in
     let i = c.loop-component.component in
     let now = c.index-moments-component.result in
-    let l = c.loop-component-test.true in
-    let size : length (take i moments) ≡ i = (let n = length-take i moments in omega (arith, n, l)) in
-    let more : take i moments ++ now ∷ [] ≡ take (i + 1) moments = ap (λ x. take i moments ++ x ∷ []) c.index-moments-component.is ∙ sym (take-suc moments i now l) ∙ ap (λ n. take n moments) (sym (add-one i)) in
-    let put = subst (λ n. Puts c.loop-component.agenda.steps c.put.new.self.steps n now.due) (sym size)
-    (subst (Puts c.loop-component.agenda.steps c.put.new.self.steps i) (ap (λ m. m.due) c.now.view_is) c.in_ok-put.ensures) in
-    subst (IsAgenda 0 c.put.new.self.steps) more (agenda_more c.loop-component.agenda.steps c.put.new.self.steps (take i moments) now c.loop-component.invariant put)
+    let due = ap (λ m. m.due) c.now.view_is ∙ ap (λ m. m.due) c.index-moments-component.is in
+    c.set.ensures
+    ∙ (λ k. slice_set (c.loop-component.invariant k) i (due k))
+    ∙ begun_more i moments now c.loop-component-test.true
+    ∙ ap (λ n. begun n moments) (sym (add-one i))
 
 pub returns : goal.returns
-returns g c = subst (IsAgenda 0 c.loop-component.agenda.steps) (take_all c.loop-component.component c.args.moments.now c.loop-component-test.false) c.loop-component.invariant
+returns g c = c.loop-component.invariant ∙ begun_all c.loop-component.component c.args.moments.now c.loop-component-test.false

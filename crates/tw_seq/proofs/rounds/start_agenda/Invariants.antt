@@ -1,7 +1,7 @@
--- The agenda of the components so far.
-use Rattle.std.proofs.Common.{take}
-use Rattle.tw_seq.specs.Agenda.{IsAgenda}
+-- The first components are on the agenda.
+use Rattle.std.proofs.Common.{◌≡◌}
+use Rattle.tw_seq.proofs.Dues.{begun}
 use Rattle.tw_seq.proofs.rounds.start_agenda.Given as goal
 
 abbrev pub invariant-loop-component : goal.invariant-loop-component
-invariant-loop-component g l = IsAgenda 0 l.agenda.steps (take l.component l.moments)
+invariant-loop-component g l = l.agenda.times ≡ begun l.component l.moments

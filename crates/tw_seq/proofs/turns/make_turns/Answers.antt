@@ -7,21 +7,21 @@ use Rattle.tw_atomic.specs.Atomic.{FitsBag}
 use Rattle.tw_msgs.specs.declared.record.Record.{Record}
 use Rattle.tw_msgs.specs.Bags.{sorted_bag}
 use Rattle.tw_network.specs.Contents.{network_of}
-use Rattle.tw_seq.specs.Agenda.{IsAgenda, PutsOff}
+use Rattle.tw_seq.specs.Agenda.{dues}
 use Rattle.tw_seq.specs.Receiving.{Receives}
 use Rattle.tw_seq.specs.Turning.{Part, CanGoOn, part_of, turns_with}
 use Rattle.tw_theory.specs.Simulator.{take_turn, after_output, turn_records, turned_moments, first_stop}
-use Rattle.tw_seq.proofs.AgendaChanges.{agenda_put_off}
+use Rattle.tw_seq.proofs.Dues.{dues_set}
 use Rattle.tw_seq.proofs.Places.{drop_all, each_at, all_written}
 use Rattle.tw_seq.proofs.Received.{received_more}
 use Rattle.tw_seq.proofs.RoundOutputs.{transition_of}
 use Rattle.tw_seq.proofs.Sweeping.{onward, onward_more, at_place}
 use Rattle.tw_seq.proofs.TurnsSwept.{entries, goes_on, idle_stays, swept_start, same_here, stop_found, Swept, swept_turn, at_turn, at_end, turn_within, listed_as, all_empty}
 use Rattle.tw_seq.proofs.turns.make_turns.Goals as goal
-use Rattle.tw_seq.proofs.turns.make_turns.Goals.{in-Stays, in-Moves+in_ok-take-in-Moves+in_ok-put_off-in-Moves, After-loop-component, After-replace-bag, In_ok-take_turn}
+use Rattle.tw_seq.proofs.turns.make_turns.Goals.{in-Stays, in-Moves+in_ok-take-in-Moves, After-loop-component, After-index-moments-component, In_ok-take_turn}
 
 -- the component in turn, and where the sweep stands before it
-module _ (g : _) (c : After-replace-bag g) where
+module _ (g : _) (c : After-index-moments-component g) where
   here_within : slice_index c.deref-component-items.result.now c.loop-component.component-index < length c.args.moments.now
   here_within =
       turn_within g.M.Atomic.valid g.M.Atomic.meaning c.args.network.now c.args.time c.args.moments.now c.as_mut_slice-bags.result.now [] c.loop-component.moments c.loop-component.bags c.loop-component.invariant.told c.deref-component-items.result.now
@@ -44,15 +44,9 @@ loop-component-init g c = record {
   agenda = c.requires.agenda;
 }
 
-pub offset_bounds-moments-component : goal.offset_bounds-moments-component
-offset_bounds-moments-component g c =
-    let l = here_within g c in
-    let size = c.loop-component.auto.moments in
-    search rules
-
 pub take_turn-requires-clause-fits : goal.take_turn-requires-clause-fits
 take_turn-requires-clause-fits g c =
-    let before = (goal.at.take_turn-requires-clause-fits g c).After-replace-bag in
+    let before = (goal.at.take_turn-requires-clause-fits g c).After-index-moments-component in
     let i = slice_index c.deref-component-items.result.now c.loop-component.component-index in
     let bags0 = c.as_mut_slice-bags.result.now in
     let bags = c.loop-component.bags in
@@ -62,11 +56,11 @@ take_turn-requires-clause-fits g c =
     let size = c.loop-component.auto.bags in
     let m0 : i < length bags0 = omega (arith, l0, whole) in
     let same = same_here bags bags0 i b (here_swept g before).to_come (omega (arith, m0, size)) m0 in
-    subst FitsBag (sym (c.replace-bag.ensures.value ∙ same)) (each_at FitsBag bags0 i b m0 (subst (Each FitsBag) (sym c.as_mut_slice-bags.ensures.value) c.requires.fits))
+    subst FitsBag (sym same) (each_at FitsBag bags0 i b m0 (subst (Each FitsBag) (sym c.as_mut_slice-bags.ensures.value) c.requires.fits))
 
 pub take_turn-requires-clause-standing : goal.take_turn-requires-clause-standing
 take_turn-requires-clause-standing g c model found =
-    let before = (goal.at.take_turn-requires-clause-standing g c).After-replace-bag in
+    let before = (goal.at.take_turn-requires-clause-standing g c).After-index-moments-component in
     let i = slice_index c.deref-component-items.result.now c.loop-component.component-index in
     let old = c.args.moments.now in
     let d = c.index-moments-component.result in
@@ -80,27 +74,9 @@ take_turn-requires-clause-standing g c model found =
 abbrev what_is : (g : _) → In_ok-take_turn g → Part
 what_is g c = part_of (slice_index c.deref-component-items.result.now c.loop-component.component-index) (c.args.time + 1) c.take_turn.new.bag c.take_turn.new.words.items c.in_ok-take_turn.field-0
 
-pub put_off-requires-clause-there : goal.put_off-requires-clause-there
-put_off-requires-clause-there g c late early =
-    let before = (goal.at.put_off-requires-clause-there g c).After-replace-bag in
-    let i = slice_index c.deref-component-items.result.now c.loop-component.component-index in
-    let old = c.args.moments.now in
-    let moments = c.loop-component.moments in
-    let d = c.index-moments-component.result in
-    let now = slice_index_or moments i d in
-    let size = c.loop-component.auto.moments in
-    let size' = c.requires.moments.size in
-    let l0 = here_within g before in
-    let l : i < length moments = omega (arith, size, l0) in
-    let here = same_here moments old i d (here_swept g before).later l l0 in
-    let model = at_place c.args.network.now.models i (omega (arith, l0, size')) in
-    let from = (c.requires.moments.each i model.0 now model.1 (slice_get-get_or old i d l0 ∙ ap Some (sym here))).stands.from in
-    let was : c.now.inside.due ≡ now.due = ap (λ x. x.due) c.now.view_is in
-    c.loop-component.invariant.agenda.all c.now.inside.due i (now, slice_get-get_or moments i d l, sym was) (omega (arith, from, was, late)) early
-
 pub returns-in-Stops-clause-stop : goal.returns-in-Stops-clause-stop
 returns-in-Stops-clause-stop g c =
-    let before = (goal.at.returns-in-Stops-clause-stop g c).After-replace-bag in
+    let before = (goal.at.returns-in-Stops-clause-stop g c).After-index-moments-component in
     let net = network_of g.M.Atomic.meaning c.args.network.now in
     let t = c.args.time in
     let i = slice_index c.deref-component-items.result.now c.loop-component.component-index in
@@ -117,13 +93,13 @@ returns-in-Stops-clause-stop g c =
     let l0 = here_within g before in
     let m0 : i < length bags0 = omega (arith, l0, whole) in
     let sw = here_swept g before in
-    let turn = c.in_ok-take_turn.ensures.turn ∙ ap (λ x. take_turn net i (after_output net i (slice_index_or moments i d) t) (t + 1) ((slice_index_or moments i d).due == t) (sorted_bag x)) c.replace-bag.ensures.value in
+    let turn = c.in_ok-take_turn.ensures.turn in
     stop_found net t i old moments bags0 bags d b what c.take_turn.new.now sw.later sw.to_come (omega (arith, size, l0)) l0 (omega (arith, size', m0)) m0 turn c.in-Stops.limit (ap (part_of i (t + 1) c.take_turn.new.bag c.take_turn.new.words.items) c.in-Stops.is) _ sw.stop
     ∙ ap (λ bs. first_stop 0 (turns_with net t 0 old bs)) c.as_mut_slice-bags.ensures.value
 
 pub loop-component-preserved : goal.loop-component-preserved
 loop-component-preserved g c =
-    let before = (goal.at.loop-component-preserved g c).After-replace-bag in
+    let before = (goal.at.loop-component-preserved g c).After-index-moments-component in
     let valid = g.M.Atomic.valid in
     let meaning = g.M.Atomic.meaning in
     let contents = c.args.network.now in
@@ -151,10 +127,10 @@ loop-component-preserved g c =
     let l : i < length moments = omega (arith, size, l0) in
     let m : i < length bags = omega (arith, size', m0) in
     let sw = here_swept g before in
-    let turn = c.in_ok-take_turn.ensures.turn ∙ ap (λ x. take_turn net i (after_output net i (slice_index_or moments i d) t) (t + 1) ((slice_index_or moments i d).due == t) (sorted_bag x)) c.replace-bag.ensures.value in
-    let emptied : slice_set bags i c.replace-bag.new.dest ≡ slice_set bags i [] = ap (slice_set bags i) (c.replace-bag.ensures.after ∙ c.new.ensures) in
-    let step : CanGoOn field → Swept valid meaning contents t old bags0 [] (onward items (k + 1)) (slice_set moments i new) (slice_set bags i c.replace-bag.new.dest) (told ++ entries what) =
-    λ on. subst (λ n. Swept valid meaning contents t old bags0 [] n (slice_set moments i new) (slice_set bags i c.replace-bag.new.dest) (told ++ entries what)) (sym (onward_more items k))
+    let turn = c.in_ok-take_turn.ensures.turn in
+    let emptied : slice_set bags i c.clear.new.self ≡ slice_set bags i [] = ap (slice_set bags i) c.clear.ensures in
+    let step : CanGoOn field → Swept valid meaning contents t old bags0 [] (onward items (k + 1)) (slice_set moments i new) (slice_set bags i c.clear.new.self) (told ++ entries what) =
+    λ on. subst (λ n. Swept valid meaning contents t old bags0 [] n (slice_set moments i new) (slice_set bags i c.clear.new.self) (told ++ entries what)) (sym (onward_more items k))
     (subst (λ bs. Swept valid meaning contents t old bags0 [] (i + 1) (slice_set moments i new) bs (told ++ entries what)) (sym emptied)
     (swept_turn valid meaning contents t old bags0 [] i moments bags told sw l0 m0 l m d b what new turn (goes_on i (t + 1) c.take_turn.new.bag c.take_turn.new.words.items field on) (λ idle. c.in_ok-take_turn.ensures.kept (idle_stays i (t + 1) c.take_turn.new.bag c.take_turn.new.words.items field idle)) (c.in_ok-take_turn.ensures.standing on))) in
     elim c.match-branch-2.branch [
@@ -165,25 +141,17 @@ loop-component-preserved g c =
           record {
             told = told;
             received = subst (λ r. Receives g.R.Receiver.takes c.args.receiver.now told r) (sym w.receiver-is) inv.received;
-            swept = subst (λ ms. Swept valid meaning contents t old bags0 [] (onward items (k + 1)) ms (slice_set bags i c.replace-bag.new.dest) told) (sym w.moments-is)
-                (subst (Swept valid meaning contents t old bags0 [] (onward items (k + 1)) (slice_set moments i new) (slice_set bags i c.replace-bag.new.dest)) same (step on));
-            agenda = subst (λ a. IsAgenda (t + 1) a.steps c.match-branch-2.moments) (sym w.agenda-is)
-                (subst (IsAgenda (t + 1) c.loop-component.agenda.steps) (sym (w.moments-is ∙ ap (slice_set moments i) (c.in_ok-take_turn.ensures.kept is) ∙ set-get_or moments i d)) inv.agenda);
+            swept = subst (λ ms. Swept valid meaning contents t old bags0 [] (onward items (k + 1)) ms (slice_set bags i c.clear.new.self) told) (sym w.moments-is)
+                (subst (Swept valid meaning contents t old bags0 [] (onward items (k + 1)) (slice_set moments i new) (slice_set bags i c.clear.new.self)) same (step on));
+            agenda = ap (λ a. a.times) w.agenda-is ∙ inv.agenda ∙ ap dues (sym (w.moments-is ∙ ap (slice_set moments i) (c.in_ok-take_turn.ensures.kept is) ∙ set-get_or moments i d));
           }
-      | in-Moves+in_ok-take-in-Moves+in_ok-put_off-in-Moves w ↦
+      | in-Moves+in_ok-take-in-Moves w ↦
           let is = w.in-Moves.is in
           let on : CanGoOn field = subst CanGoOn (sym is) tt in
           let entry : Record = record { component = i; stamp = t + 1; kind = w.in-Moves.kind; bag = c.take_turn.new.bag; words = c.take_turn.new.words.items } in
           let same : told ++ entries what ≡ told ++ entry ∷ [] = ap (λ f. told ++ entries (part_of i (t + 1) c.take_turn.new.bag c.take_turn.new.words.items f)) is in
           let at = c.transition-at.ensures ∙ transition_of t c.requires.even in
-          let now = slice_index_or moments i d in
-          let size'' = c.requires.moments.size in
-          let model = at_place contents.models i (omega (arith, l0, size'')) in
-          let later : t + 1 ≤ new.due = (let from = (c.in_ok-take_turn.ensures.standing on model.0 model.1).stands.from in omega (arith, from)) in
-          let was : c.now.inside.due ≡ now.due = ap (λ x. x.due) c.now.view_is in
-          let is_now : c.now-in-loop-component.inside.due ≡ new.due = ap (λ x. x.due) c.now-in-loop-component.view_is in
-          let put : PutsOff c.loop-component.agenda.steps w.put_off.new.self.steps i c.now.inside.due c.now-in-loop-component.inside.due = w.in_ok-put_off-in-Moves.ensures in
-          let put' : PutsOff c.loop-component.agenda.steps w.put_off.new.self.steps i now.due new.due = subst (λ n. PutsOff c.loop-component.agenda.steps w.put_off.new.self.steps i n new.due) was (subst (PutsOff c.loop-component.agenda.steps w.put_off.new.self.steps i c.now.inside.due) is_now put) in
+          let is_now : c.now.inside.due ≡ new.due = ap (λ x. x.due) c.now.view_is in
           record {
             told = told ++ entry ∷ [];
             received = subst (λ r. Receives g.R.Receiver.takes c.args.receiver.now (told ++ entry ∷ []) r) (sym w.receiver-is)
@@ -191,10 +159,9 @@ loop-component-preserved g c =
                 (subst (λ e. g.R.Receiver.takes c.loop-component.receiver e w.take.new.self)
                 (λ n. record { component = i; stamp = at n; kind = w.in-Moves.kind; bag = c.take_turn.new.bag; words = w.deref.ensures.value n })
                 w.in_ok-take-in-Moves.ensures));
-            swept = subst (λ ms. Swept valid meaning contents t old bags0 [] (onward items (k + 1)) ms (slice_set bags i c.replace-bag.new.dest) (told ++ entry ∷ [])) (sym w.moments-is)
-                (subst (Swept valid meaning contents t old bags0 [] (onward items (k + 1)) (slice_set moments i new) (slice_set bags i c.replace-bag.new.dest)) same (step on));
-            agenda = subst (λ a. IsAgenda (t + 1) a.steps c.match-branch-2.moments) (sym w.agenda-is)
-                (subst (IsAgenda (t + 1) w.put_off.new.self.steps) (sym w.moments-is) (agenda_put_off (t + 1) c.loop-component.agenda.steps w.put_off.new.self.steps moments i now new inv.agenda (slice_get-get_or moments i d l) later put'));
+            swept = subst (λ ms. Swept valid meaning contents t old bags0 [] (onward items (k + 1)) ms (slice_set bags i c.clear.new.self) (told ++ entry ∷ [])) (sym w.moments-is)
+                (subst (Swept valid meaning contents t old bags0 [] (onward items (k + 1)) (slice_set moments i new) (slice_set bags i c.clear.new.self)) same (step on));
+            agenda = ap (λ a. a.times) w.agenda-is ∙ w.set.ensures ∙ (λ n. slice_set (inv.agenda n) i (is_now n)) ∙ sym (dues_set moments i new) ∙ ap dues (sym w.moments-is);
           }
     ]
 

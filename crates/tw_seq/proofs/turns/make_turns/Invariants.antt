@@ -1,7 +1,7 @@
 -- The components from here on stand as they did and have their bags; what they do completes the round.
-use Rattle.std.proofs.Common.{◌+◌, List, []}
+use Rattle.std.proofs.Common.{◌≡◌, List, []}
 use Rattle.tw_msgs.specs.declared.record.Record.{Record}
-use Rattle.tw_seq.specs.Agenda.{IsAgenda}
+use Rattle.tw_seq.specs.Agenda.{dues}
 use Rattle.tw_seq.specs.Receiving.{Receives}
 use Rattle.tw_seq.proofs.Sweeping.{onward}
 use Rattle.tw_seq.proofs.TurnsSwept.{Swept}
@@ -12,5 +12,5 @@ invariant-loop-component g l = record {
   told : List Record;
   received : Receives g.R.Receiver.takes l.initial.receiver told l.receiver;
   swept : Swept g.M.Atomic.valid g.M.Atomic.meaning l.network l.time l.initial.moments l.initial.bags [] (onward l.component-items l.component-index) l.moments l.bags told;
-  agenda : IsAgenda (l.time + 1) l.agenda.steps l.moments;
+  agenda : l.agenda.times ≡ dues l.moments;
 }

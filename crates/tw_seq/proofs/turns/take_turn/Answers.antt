@@ -51,8 +51,8 @@ some_turn g c e none =
     let some = c.if-not-has_turn.ensures.some refl (c.eq-imminent.ensures ∙ e) in
     cc (sym (c.is_empty-empty.ensures.1 none) ∙ some)
 
-pub forward-requires : goal.forward-requires
-forward-requires g c =
+pub transition-requires : goal.transition-requires
+transition-requires g c =
     let valid = g.M.Atomic.valid c.model-model.result.now in
     let meaning = g.M.Atomic.meaning c.model-model.result.now in
     let t = c.args.time in
@@ -96,8 +96,8 @@ returns-in-Err-clause-turn g c =
     let now : Moment g.row.M-State.Denot = record { state = c.now.inside.state; last = c.now.inside.last; due = c.now.inside.due } in
     let bag = c.sort.new.self in
     let s = c.transition-at.ensures ∙ transition_of t c.requires.even in
-    let made = c.forward.new.state in
-    let next = c.in_ok-forward.ensures.state ∙ ap (λ b. turned (mean model) c.turn_of-turn.result.0 now.state c.saturating_sub-elapsed.result b) c.as_slice.ensures in
+    let made = c.transition.new.state in
+    let next = c.in_ok-transition.ensures.state ∙ ap (λ b. turned (mean model) c.turn_of-turn.result.0 now.state c.saturating_sub-elapsed.result b) c.as_slice.ensures in
     let met : Err c.in-Err.limit ≡ advanced c.transition-at.result ((mean model).ta made) contents.micro_limit =
     sym c.in-Err.is ∙ c.advance.ensures ∙ (λ i. advanced c.transition-at.result (c.ta.ensures i) (c.micro_limit.ensures i)) in
     let net = network_of mean contents in
@@ -105,7 +105,7 @@ returns-in-Err-clause-turn g c =
     ∙ (λ i. take_turn net c.args.component (after_output net c.args.component (c.now.view_is i) t) (t + 1) ((c.now.view_is i).due == t) (c.sort.ensures.sorted i))
 
 -- the next own step that was found
-go_on : (g : _) (c : In-Ok g) → Ok c.in-Ok.due ≡ advanced c.transition-at.result ((g.M.Atomic.meaning c.model-model.result.now).ta c.forward.new.state) c.args.network.now.micro_limit
+go_on : (g : _) (c : In-Ok g) → Ok c.in-Ok.due ≡ advanced c.transition-at.result ((g.M.Atomic.meaning c.model-model.result.now).ta c.transition.new.state) c.args.network.now.micro_limit
 go_on g c = sym c.in-Ok.is ∙ c.advance.ensures ∙ (λ i. advanced c.transition-at.result (c.ta.ensures i) (c.micro_limit.ensures i))
 
 pub returns-in_ok-words-in-Ok-clause-turn : goal.returns-in_ok-words-in-Ok-clause-turn
@@ -119,11 +119,11 @@ returns-in_ok-words-in-Ok-clause-turn g c =
     let now : Moment g.row.M-State.Denot = record { state = c.now.inside.state; last = c.now.inside.last; due = c.now.inside.due } in
     let bag = c.sort.new.self in
     let s = c.transition-at.ensures ∙ transition_of t c.requires.even in
-    let next = c.in_ok-forward.ensures.state ∙ ap (λ b. turned (mean model) c.turn_of-turn.result.0 now.state c.saturating_sub-elapsed.result b) c.as_slice.ensures in
+    let next = c.in_ok-transition.ensures.state ∙ ap (λ b. turned (mean model) c.turn_of-turn.result.0 now.state c.saturating_sub-elapsed.result b) c.as_slice.ensures in
     let net = network_of mean contents in
-    let told : c.words.new.words.items ≡ (mean model).words c.forward.new.state = c.in_ok-words-in-Ok.ensures.ok ∙ ap (λ l. l ++ (mean model).words c.forward.new.state) c.clear.ensures.items in
-    ap (λ a. Moves (record { entry = record { component = c.args.component; stamp = a; kind = c.turn_of-turn.result.1; bag = bag; words = c.words.new.words.items }; after = record { state = c.forward.new.state; last = t; due = c.unwrap_or-now-inside.result } })) (sym s)
-    ∙ moves_turn valid mean contents c.args.component t model now bag c.model-model.ensures (stands g before) c.requires.even c.requires.time c.turn_of-turn.result.0 c.turn_of-turn.result.1 (which g before) c.transition-at.result c.saturating_sub-elapsed.result s (elapsed_is g before) c.forward.new.state next c.in-Ok.due c.unwrap_or-now-inside.result c.words.new.words.items (go_on g (goal.at.returns-in_ok-words-in-Ok-clause-turn g c).In-Ok) (c.unwrap_or-now-inside.ensures ∙ or_never c.in-Ok.due) told
+    let told : c.words.new.words.items ≡ (mean model).words c.transition.new.state = c.in_ok-words-in-Ok.ensures.ok ∙ ap (λ l. l ++ (mean model).words c.transition.new.state) c.clear.ensures.items in
+    ap (λ a. Moves (record { entry = record { component = c.args.component; stamp = a; kind = c.turn_of-turn.result.1; bag = bag; words = c.words.new.words.items }; after = record { state = c.transition.new.state; last = t; due = c.unwrap_or-now-inside.result } })) (sym s)
+    ∙ moves_turn valid mean contents c.args.component t model now bag c.model-model.ensures (stands g before) c.requires.even c.requires.time c.turn_of-turn.result.0 c.turn_of-turn.result.1 (which g before) c.transition-at.result c.saturating_sub-elapsed.result s (elapsed_is g before) c.transition.new.state next c.in-Ok.due c.unwrap_or-now-inside.result c.words.new.words.items (go_on g (goal.at.returns-in_ok-words-in-Ok-clause-turn g c).In-Ok) (c.unwrap_or-now-inside.ensures ∙ or_never c.in-Ok.due) told
     ∙ (λ i. take_turn net c.args.component (after_output net c.args.component (c.now.view_is i) t) (t + 1) ((c.now.view_is i).due == t) (c.sort.ensures.sorted i))
 
 pub returns-in_ok-words-in-Ok-clause-standing : goal.returns-in_ok-words-in-Ok-clause-standing
@@ -134,10 +134,10 @@ returns-in_ok-words-in-Ok-clause-standing g c u model found =
     let meaning = g.M.Atomic.meaning model0 in
     let t = c.args.time in
     let s = c.transition-at.ensures ∙ transition_of t c.requires.even in
-    let state = c.forward.new.state in
+    let state = c.transition.new.state in
     let go : advanced (t + 1) (meaning.ta state) c.args.network.now.micro_limit ≡ Ok c.in-Ok.due = ap (λ a. advanced a (meaning.ta state) c.args.network.now.micro_limit) (sym s) ∙ sym (go_on g (goal.at.returns-in_ok-words-in-Ok-clause-standing g c).In-Ok) in
-    let can = forward-requires g (goal.at.returns-in_ok-words-in-Ok-clause-standing g c).After-as_slice in
-    let kept = subst valid (sym c.in_ok-forward.ensures.state) (g.met.M.Atomic.stays_valid model0 c.turn_of-turn.result.0 c.now.inside.state c.saturating_sub-elapsed.result c.as_slice.result.now can) in
+    let can = transition-requires g (goal.at.returns-in_ok-words-in-Ok-clause-standing g c).After-as_slice in
+    let kept = subst valid (sym c.in_ok-transition.ensures.state) (g.met.M.Atomic.stays_valid model0 c.turn_of-turn.result.0 c.now.inside.state c.saturating_sub-elapsed.result c.as_slice.result.now can) in
     let after : Moment g.row.M-State.Denot = record { state = state; last = t; due = c.unwrap_or-now-inside.result } in
     subst (λ m. IsBetween (g.M.Atomic.valid m) (g.M.Atomic.meaning m) (t + 2) after) same
     (subst (λ d. IsBetween valid meaning (t + 2) (record { state = state; last = t; due = d })) (sym (c.unwrap_or-now-inside.ensures ∙ or_never c.in-Ok.due))

@@ -11,8 +11,9 @@
 //! Times are in ticks. A bag is a slice of items of (port, value), sorted by port, then value.
 #![tactic(auto)]
 
-ghost use Rattle.std.specs.Prelude.{◌≡◌, ℕ, ◌≤◌, ◌↔◌, ◌++◌, [], List, IsTrue, IfOk, OnOk, OnErr, length};
+ghost use Rattle.std.specs.Prelude.{◌≡◌, ℕ, ◌≤◌, ◌↔◌, ◌++◌, [], List, IsTrue, IfOk, IfSome, OnOk, OnErr, length};
 ghost use Rattle.tw_atomic.specs.Atomic.{Bag, Meaning, FitsOutput, turned, CanTurn};
+ghost use Rattle.tw_atomic.specs.Waiting.{AlwaysWaits};
 
 use arrayvec::ArrayVec;
 use std::alloc::{AllocError, Global};
@@ -64,6 +65,17 @@ pub trait Atomic: Drop {
     /// The time advance in ticks; `None` is never. It takes no memory.
     fn ta(&self, state: &Self::State) -> Option<u64>
         ensures { result ≡ (meaning self.now).ta state.now };
+
+    /// The greatest time advance, in ticks, of a model that is never due at once: at its start and after each
+    /// transition it waits for 1 to so many ticks, or is never due. `None` where that is not known, as where a model
+    /// does not write this call. It takes no memory.
+    ///
+    /// A network of such models meets no limit in a run that ends so many ticks before the last tick.
+    fn longest_wait(&self) -> Option<u64>
+        ensures { IfSome result (AlwaysWaits (meaning self.now)) }
+    {
+        None
+    }
 
     /// Puts into the empty box what the component sends just before an internal or a confluent
     /// transition. It may be asked at any time, and takes no memory.

@@ -159,6 +159,7 @@ fn a_counter_counts_and_is_taken_back(rt: HostRuntime) {
         .words(alloc, &state, &mut words)
         .expect(&rt, "memory");
     assert_eq!(rt; words.as_slice(), [2].as_slice());
+    assert_eq!(rt; Counter.longest_wait(), None);
 }
 
 #[test]

@@ -16,3 +16,4 @@ pub mod Hop
 pub mod HopLaws
 pub mod Model
 pub mod ModelLaws
+pub mod Waits

@@ -82,6 +82,10 @@ impl Atomic for Gen {
         state.left
     }
 
+    fn longest_wait(&self) -> Option<u64> {
+        Some(self.period)
+    }
+
     fn output(&self, state: &GenState, outbox: &mut Outbox) {
         let _ = state;
         outbox.push((0, self.value));

@@ -177,6 +177,10 @@ impl Atomic for Hop {
         state.left
     }
 
+    fn longest_wait(&self) -> Option<u64> {
+        Some(self.spread)
+    }
+
     fn output(&self, state: &HopState, outbox: &mut Outbox) {
         outbox.push(drawn_item(self.ports, state.x));
     }

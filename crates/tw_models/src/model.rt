@@ -141,6 +141,16 @@ impl Atomic for Model {
         }
     }
 
+    fn longest_wait(&self) -> Option<u64> {
+        match self {
+            Model::Gen(model) => model.longest_wait(),
+            Model::Tally => Tally.longest_wait(),
+            Model::Relay(model) => model.longest_wait(),
+            Model::Queue(model) => model.longest_wait(),
+            Model::Hop(model) => model.longest_wait(),
+        }
+    }
+
     fn output(&self, state: &State, outbox: &mut Outbox) {
         match (self, state) {
             (Model::Gen(model), State::OfGen(state)) => model.output(state, outbox),

@@ -186,6 +186,13 @@ impl Atomic for Queue {
         state.left
     }
 
+    fn longest_wait(&self) -> Option<u64> {
+        if self.service == 0 {
+            return None;
+        }
+        Some(self.service)
+    }
+
     fn output(&self, state: &QueueState, outbox: &mut Outbox) {
         if let Some(job) = state.jobs.as_slice().first() {
             outbox.push((0, *job));

@@ -154,6 +154,13 @@ impl Atomic for Relay {
         state.left
     }
 
+    fn longest_wait(&self) -> Option<u64> {
+        if self.delay == 0 {
+            return None;
+        }
+        Some(self.delay)
+    }
+
     fn output(&self, state: &RelayState, outbox: &mut Outbox) {
         for value in state.held.as_slice() {
             outbox.push((0, *value));

@@ -88,6 +88,10 @@ impl Atomic for Tally {
         None
     }
 
+    fn longest_wait(&self) -> Option<u64> {
+        Some(0)
+    }
+
     fn output(&self, state: &TallyState, outbox: &mut Outbox) {
         let _ = state;
         let _ = outbox;

@@ -340,6 +340,25 @@ fn gen_counts_its_outputs(rt: HostRuntime) {
 }
 
 #[test]
+fn longest_waits(rt: HostRuntime) {
+    for (made, longest) in [
+        (Model::generator(2, 5), Some(2)),
+        (Model::tally(), Some(0)),
+        (Model::relay(100), Some(100)),
+        (Model::relay(1), Some(1)),
+        (Model::relay(0), None),
+        (Model::queue(100), Some(100)),
+        (Model::queue(1), Some(1)),
+        (Model::queue(0), None),
+        (Model::hop(0, 2, 4), Some(4)),
+        (Model::hop(0, 2, 1), Some(1)),
+    ] {
+        let model = made.expect(&rt, "a model");
+        assert!(rt; model.longest_wait() == longest);
+    }
+}
+
+#[test]
 fn parameters_out_of_range_are_refused(rt: HostRuntime) {
     for (made, number) in [
         (Model::generator(0, 1), 10),

@@ -143,8 +143,8 @@ fn read_all<N: Read>(alloc: Global, net: &mut N) -> Result<Vec<u8>, Exit>
     }
 }
 
-// Simulates the network that a file's bytes mean, and writes its text. It is simulated twice: first for the fault alone,
-// so that nothing is written before the outcome is known.
+// Simulates the network that a file's bytes mean, and writes its text. The fault is worked out
+// first, so that nothing is written before the outcome is known.
 fn run<W: Write>(alloc: Global, bytes: &[u8], until: u64, out: &mut W) -> Exit
     ensures { IsRun bytes.now until result (W.contents out.old) (W.contents out.new) }
 {

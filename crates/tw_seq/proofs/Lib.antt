@@ -5,6 +5,7 @@ pub mod CarriedFits
 pub mod Dealt
 pub mod InputsGiven
 pub mod InputOrder
+pub mod NoLimit
 pub mod Parted
 pub mod Received
 pub mod RoundOutputs

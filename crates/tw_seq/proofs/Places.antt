@@ -1,5 +1,5 @@
 -- The element at a place of a list.
-use Rattle.std.proofs.Common.{◌≡◌, ℕ, zero, suc, ◌+◌, ◌<◌, ◌≤◌, List, [], ◌∷◌, length, drop, sym, ap, ◌∙◌, arith, add-one, slice_index_or, drop-cons, take, ◌++◌, Vec}
+use Rattle.std.proofs.Common.{◌≡◌, ℕ, zero, suc, ◌+◌, ◌<◌, ◌≤◌, List, [], ◌∷◌, length, map, drop, sym, ap, ◌∙◌, arith, add-one, slice_index_or, drop-cons, take, ◌++◌, Vec}
 use Rattle.std.specs.List.{All, AllByRecursion as Each}
 use Rattle.std.proofs.Math.ListN.{drop_of_length-le}
 use Rattle.std.proofs.Math.Seq.{take-append_seam}
@@ -26,3 +26,13 @@ all_written v ws e =
 pub each_of_all : {X : Type 0} (P : X → Type 0) (xs : List X) → All P xs → Each P xs
 each_of_all P [] h = tt
 each_of_all P (x ∷ xs) h = (h 0 x (omega arith), each_of_all P xs (λ k d l. h (suc k) d (omega (arith, l))))
+
+-- of the first elements, one more
+pub each_more : {X : Type 0} (P : X → Type 0) (xs : List X) (i : ℕ) (d : X) → i < length xs → Each P (take i xs) → P (slice_index_or xs i d) → Each P (take (suc i) xs)
+each_more P [] i d l h p = absurd (omega (arith, l))
+each_more P (x ∷ xs) zero d l h p = (p, tt)
+each_more P (x ∷ xs) (suc i) d l h p = (h.0, each_more P xs i d (omega (arith, l)) h.1 p)
+
+pub each_mapped : {X Y : Type 0} (P : Y → Type 0) (f : X → Y) (xs : List X) → Each (λ x. P (f x)) xs → Each P (map f xs)
+each_mapped P f [] h = tt
+each_mapped P f (x ∷ xs) h = (h.0, each_mapped P f xs h.1)

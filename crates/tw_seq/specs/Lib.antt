@@ -1,6 +1,7 @@
 pub mod Agenda
 pub mod Dealing
 pub mod InOrder
+pub mod InTime
 pub mod Invariant
 pub mod Parts
 pub mod Receiving

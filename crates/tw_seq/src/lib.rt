@@ -13,6 +13,7 @@
 #![tactic(auto)]
 
 mod bags;
+mod beforehand;
 mod outputs;
 mod receiver;
 mod refused;

@@ -5,6 +5,7 @@ ghost use Rattle.tw_network.specs.Contents.{network_of};
 ghost use Rattle.tw_theory.specs.Simulator.{sequential};
 ghost use Rattle.tw_vtime.specs.Stamps.{max_tick};
 
+use crate::beforehand::meets_no_limit;
 use crate::receiver::Silent;
 use crate::refused::SeqRefused;
 use crate::simulation::{Step, advance, begin};
@@ -12,7 +13,7 @@ use std::alloc::Global;
 use tw_atomic::Atomic;
 use tw_msgs::Record;
 use tw_network::Network;
-use tw_vtime::{Limit, Stamp};
+use tw_vtime::{Limit, MAX_TICK, Stamp};
 
 /// What a network does up to an end tick.
 #[derive(Debug, Drop)]
@@ -58,7 +59,8 @@ pub fn simulate<M: Atomic>(
 }
 
 /// The limit fault that ends the run of a network up to an end tick, or none: as [`simulate`] gives it, but no record
-/// is kept, so that it takes no more memory for a longer run.
+/// is kept, so that it takes no more memory for a longer run. Where the models tell beforehand that no limit can be met
+/// ([`Atomic::longest_wait`]), no round is made.
 ///
 /// Refused as [`simulate`] is: by [`SeqRefused::BadTick`] (10) exactly where `until` is above 1,099,511,627,774, and by
 /// [`SeqRefused::OutOfMemory`] (4) where a growth of memory was refused.
@@ -70,6 +72,9 @@ pub fn outcome<M: Atomic>(
     ensures fault { IfOk result (λ fault. fault ≡ (sequential (network_of M.meaning network.now) until).fault) }
     ensures bad_tick { IsErrOf result SeqRefused.BadTick ↔ (max_tick < until) }
 {
+    if until <= MAX_TICK && meets_no_limit(network, until) {
+        return Ok(None);
+    }
     let mut simulation = begin(alloc, network, until)?;
     let mut outputs = Silent;
     let mut transitions = Silent;

@@ -350,6 +350,19 @@ fn generator_and_tally(alloc: Global) -> Result<Network<Model>, Refusal> {
     )
 }
 
+/// Models that wait for a tick at least meet no limit before the last tick: the answer comes without a round, or it would not come
+/// for years. Of a wait that may go past the last tick it comes by the rounds.
+#[test]
+fn outcome_is_known_beforehand(rt: HostRuntime) {
+    let pair = generator_and_tally(rt.alloc()).expect(&rt, "memory");
+    assert!(rt; outcome(rt.alloc(), &pair, MAX_TICK - 2) == Ok(None));
+    let period = 600_000_000_000;
+    let models = [Made::Generator(period, 5)];
+    let long = network(rt.alloc(), &models, &[], &[], 100).expect(&rt, "memory");
+    let late = outcome(rt.alloc(), &long, MAX_TICK).expect(&rt, "memory");
+    assert!(rt; is_fault(&late, &Some((0, period, 0, Limit::Tick))));
+}
+
 #[test]
 fn round_is_handed_over(rt: HostRuntime) {
     let network = generator_and_tally(rt.alloc()).expect(&rt, "memory");

@@ -1,5 +1,5 @@
 -- One component more.
-use Rattle.std.proofs.Common.{◌≡◌, ◌∙◌, length, sym, ap, arith, add-one, slice_set}
+use Rattle.std.proofs.Common.{◌∙◌, length, sym, ap, arith, add-one, slice_set}
 use Rattle.tw_seq.proofs.Dues.{begun, begun_size, begun_more, begun_all}
 use Rattle.tw_seq.proofs.rounds.start_agenda.Goals as goal
 

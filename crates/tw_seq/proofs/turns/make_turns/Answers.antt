@@ -1,21 +1,20 @@
 -- One component after another.
-use Rattle.std.proofs.Common.{◌≡◌, ◌+◌, ◌<◌, ◌≤◌, ◌==◌, ◌∙◌, ◌++◌, ◌∷◌, [], refl, ap, sym, subst, arith, length, take, drop, slice_set, slice_index, slice_index_or, Some, append-nil, replicate, rules}
+use Rattle.std.proofs.Common.{◌≡◌, ◌+◌, ◌<◌, ◌∙◌, ◌++◌, ◌∷◌, [], refl, ap, sym, subst, arith, length, take, drop, slice_set, slice_index, slice_index_or, Some, append-nil, replicate}
 use Rattle.std.specs.List.{AllByRecursion as Each}
 use Rattle.std.proofs.lemmas.List.{take_all, set-get_or}
 use Rattle.std.proofs.lemmas.Option.{slice_get-get_or, slice_get_within}
 use Rattle.tw_atomic.specs.Atomic.{FitsBag}
 use Rattle.tw_msgs.specs.declared.record.Record.{Record}
-use Rattle.tw_msgs.specs.Bags.{sorted_bag}
 use Rattle.tw_network.specs.Contents.{network_of}
 use Rattle.tw_seq.specs.Agenda.{dues}
 use Rattle.tw_seq.specs.Receiving.{Receives}
 use Rattle.tw_seq.specs.Turning.{Part, CanGoOn, part_of, turns_with}
-use Rattle.tw_theory.specs.Simulator.{take_turn, after_output, turn_records, turned_moments, first_stop}
+use Rattle.tw_theory.specs.Simulator.{turn_records, turned_moments, first_stop}
 use Rattle.tw_seq.proofs.Dues.{dues_set}
 use Rattle.tw_seq.proofs.Places.{drop_all, each_at, all_written}
 use Rattle.tw_seq.proofs.Received.{received_more}
 use Rattle.tw_seq.proofs.RoundOutputs.{transition_of}
-use Rattle.tw_seq.proofs.Sweeping.{onward, onward_more, at_place}
+use Rattle.tw_seq.proofs.Sweeping.{onward, onward_more}
 use Rattle.tw_seq.proofs.TurnsSwept.{entries, goes_on, idle_stays, swept_start, same_here, stop_found, Swept, swept_turn, at_turn, at_end, turn_within, listed_as, all_empty}
 use Rattle.tw_seq.proofs.turns.make_turns.Goals as goal
 use Rattle.tw_seq.proofs.turns.make_turns.Goals.{in-Stays, in-Moves+in_ok-take-in-Moves, After-loop-component, After-index-moments-component, In_ok-take_turn}

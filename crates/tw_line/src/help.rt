@@ -1,7 +1,7 @@
 //! What help says below the arguments, and the version.
 
 /// The version, and the line of the kit that proves this program.
-pub(crate) const VERSION: &str = "0.1.0 (rattle-kit-13b logic dac8208d650f15bf)";
+pub(crate) const VERSION: &str = "0.1.0 (rattle-kit-13f logic dac8208d650f15bf)";
 
 pub(crate) const TWARP_END: &str = "Example: twarp demo
 

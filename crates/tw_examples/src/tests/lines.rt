@@ -368,7 +368,7 @@ fn helps_with_each_argument_its_unit_and_its_range(rt: HostRuntime) -> Result<()
 fn tells_its_version_and_its_kit_on_one_line(rt: HostRuntime) -> Result<(), Fail> {
     for line in ["twarp --version", "twarp -V"] {
         let text = help_of(rt.alloc(), line)?;
-        let wanted = "twarp 0.1.0 (rattle-kit-13b logic dac8208d650f15bf)\n";
+        let wanted = "twarp 0.1.0 (rattle-kit-13f logic dac8208d650f15bf)\n";
         assert!(rt; text.as_ref().map_or("none", |text| text.as_str()) == wanted);
     }
     Ok(())

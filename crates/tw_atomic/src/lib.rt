@@ -162,6 +162,3 @@ pub trait Atomic: Drop {
     /// Taking back after a transition gives the old state.
     ghost reverses: { (m : Self) (turn : Turn) (s : Self.State) (elapsed : ℕ) (bag : Bag) → CanTurn (valid m) (meaning m) turn s elapsed bag → undone m turn (turned (meaning m) turn s elapsed bag) elapsed bag (residue_of m turn s elapsed bag) ≡ s };
 }
-
-#[cfg(test)]
-mod tests;

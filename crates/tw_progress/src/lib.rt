@@ -10,8 +10,6 @@
 mod bell;
 mod progress;
 mod telling;
-#[cfg(test)]
-mod tests;
 
 pub use progress::Progress;
 pub use telling::while_telling;

@@ -1,0 +1,102 @@
+# Network files: the tables of tests/files/, files that are too long or too deep, and a file that is cut, or has one byte changed,
+# anywhere. `check` answers the number of the first fault, and a line of words.
+
+file=$room/net.json
+
+# Whether the file is taken, or refused with this number and one line of words, or just these.
+checks() {
+    "$program" check "$file" >"$out" 2>"$err"
+    ended=$?
+    if [ "$1" -eq 0 ]; then
+        [[ $ended -eq 0 && ! -s $err && $(<"$out") == "ok: "* ]]
+    else
+        [[ $ended -eq 2 && $(<"$err") == "twarp: $1 "* && $(wc -l <"$out") -eq 1 && (-z ${2:-} || $(<"$out") == "$2") ]]
+    fi
+}
+
+# Counts a file of a table: where it stands, its number, its text and its words.
+check_file() {
+    printf '%s' "$3" >"$file"
+    checks "$2" "$4"
+    count "$1" 0 0 $?
+}
+
+for table in tests/files/*.txt; do
+    at=0
+    begun=0
+    while IFS= read -r line; do
+        at=$((at + 1))
+        case $line in
+            '#'* | '') ;;
+            '> '*) words=${line#> } ;;
+            *)
+                [ "$begun" -eq 0 ] || check_file "$table, line $begun" "$number" "$text" "$words"
+                begun=$at
+                number=${line%% *}
+                text=${line#* }
+                words=
+                ;;
+        esac
+    done <"$table"
+    check_file "$table, line $begun" "$number" "$text" "$words"
+done
+
+# A text, so many times.
+times() {
+    for ((turn = 0; turn < $2; turn++)); do printf '%s' "$1"; done
+}
+
+# Counts a file of format tw-1 or tw-2 with these components and inputs.
+check_long() {
+    printf '{"format":"%s","micro_limit":%s,"components":[%s],"couplings":[],"inputs":[%s]}' "$3" "$4" "$5" "$6" >"$file"
+    checks "$2"
+    count "$1" 0 0 $?
+}
+
+tally='{"name":"u","model":"tally"}'
+relays=$(times '{"name":"a","model":"relay","delay":0},' 1024)
+check_long "1,025 components" 9 tw-1 0 "$relays"'{"name":"a b","model":"tally"}' ""
+check_long "1,025 components, one out of range" 10 tw-1 0 "$relays"'{"name":"a","model":"gen","period":0,"value":0}' ""
+# The number of coupled models in each other, what is in the last of them, and the number that is wanted.
+while read -r depth part number; do
+    [ "$part" = tally ] && part=$tally || part=
+    check_long "$depth models in each other" "$number" tw-2 1 \
+        "$(times '{"name":"a","couplings":[],"components":[' "$depth")$part$(times ']}' "$depth")" ""
+done <<<"15 tally 0
+16 none 0
+16 tally 9
+17 none 9
+62 tally 9
+63 none 20"
+# Far too many parts with a long name take no more memory than the text.
+printf '{"format":"tw-2","micro_limit":1,"components":[{"name":"%s","couplings":[],"components":[%s]}],"couplings":[],"inputs":[]}' \
+    "$(times long 20000)" "$(times "$tally," 20000)$tally" >"$file"
+"$program" seq "$file" --until 1 >"$out" 2>"$err"
+ended=$?
+[[ ! -s $out && $(<"$err") == "twarp: 9 TooMany" ]]
+count "20,001 parts and a name of 80,000 bytes" 2 "$ended" $?
+inputs=$(times '{"tick":1,"to":"u","port":0,"value":0},' 65535)
+unknown='{"tick":1,"to":"no","port":0,"value":0}'
+check_long "65,536 inputs" 5 tw-2 1 "$tally" "$inputs$unknown"
+check_long "65,537 inputs" 9 tw-2 1 "$tally" '{"tick":1,"to":"u","port":0,"value":0},'"$inputs$unknown"
+printf '%s%s' "$(times '[' 127)" "$(times ']' 127)" >"$file"
+checks 21
+count "127 lists in each other" 0 0 $?
+printf '%s%s' "$(times '[' 128)" "$(times ']' 128)" >"$file"
+checks 20
+count "128 lists in each other" 0 0 $?
+
+# No beginning of a JSON object is JSON, the byte 0 stands in no JSON text, and 255 in no UTF-8.
+whole=$room/whole.json
+printf '%s' "$(<tests/program/gen-tally/network.json)" >"$whole"
+length=$(wc -c <"$whole")
+for ((place = 0; place < length; place++)); do
+    head -c "$place" "$whole" >"$file"
+    checks 20
+    count "a file cut at $place" 0 0 $?
+    for byte in 000 377; do
+        { head -c "$place" "$whole" && printf "%b" "\\0$byte" && tail -c "+$((place + 2))" "$whole"; } >"$file"
+        checks 20
+        count "a file with the byte $byte at $place" 0 0 $?
+    done
+done

@@ -1,0 +1,29 @@
+# Executives driven by seeds: whatever is drawn, what is committed is a beginning of the sequential simulator's trace, for both ways
+# of cancelling; and by one seed at least it is the whole trace.
+
+# The networks, each with its end tick and how many actions are drawn.
+while read -r network until steps; do
+    "$program" seq "$network" --until "$until" >"$room/whole" 2>"$err"
+    lines=$(grep -vc '^fault: ' "$room/whole")
+    most=0
+    for cancel in aggressive lazy; do
+        for seed in 0 1 2 3 4 5 6 7 8 9; do
+            "$program" play "$network" --until "$until" --seed "$seed" --steps "$steps" --cancel "$cancel" >"$out" 2>"$err"
+            ended=$?
+            tail -n "+$((steps + 1))" "$out" >"$room/trace"
+            committed=$(wc -l <"$room/trace")
+            head -n "$committed" "$room/whole" | cmp --silent - "$room/trace" && [ "$(grep -c '^refused [^1]\|^refused 1[0-4]' "$out")" -eq 0 ]
+            count "$network by the seed $seed, $cancel" 0 "$ended" $?
+            [ "$committed" -gt "$most" ] && most=$committed
+        done
+    done
+    [ "$most" -eq "$lines" ]
+    count "$network to its end by seeds" 0 0 $?
+done <<NETWORKS
+examples/a-row.json 10 2000
+tests/program/two-gens/network.json 4 2000
+tests/program/mutual-confluent/network.json 3 2000
+tests/program/nested/network.json 3 2000
+tests/program/nested-two-paths/network.json 3 2000
+examples/ring-of-queues.json 16 4000
+NETWORKS

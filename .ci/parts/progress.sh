@@ -1,0 +1,28 @@
+# How far a run is: lines on standard error, while what is written stays as it is.
+
+# Whether each line on standard error is one that tells how far a run until this tick is, there is one at least, neither the tick
+# nor the records fall from line to line, and the last one has records.
+told() {
+    awk -v until="$1" '
+        !/^twarp: tick [0-9]+ of [0-9]+, [0-9]+ records$/ { bad = 1 }
+        { tick = $3 + 0; records = $6 + 0 }
+        $5 + 0 != until || tick > until + 0 || tick < last_tick || records < last_records { bad = 1 }
+        { last_tick = tick; last_records = records }
+        END { exit bad || NR == 0 || last_records == 0 }
+    ' "$err"
+}
+
+# A run of some seconds.
+"$program" run examples/sixty-four-hops.json --until 40000 | sha256sum >"$room/sum"
+"$program" run examples/sixty-four-hops.json --until 40000 --progress >"$out" 2>"$err"
+ended=$?
+sha256sum <"$out" | cmp --silent - "$room/sum" && told 40000
+count "a run that tells how far it is" 0 "$ended" $?
+
+if [ -c /dev/full ]; then
+    # With a standard error that fails it tells nothing, and writes the same.
+    "$program" run examples/sixty-four-hops.json --until 40000 --progress >"$out" 2>/dev/full
+    ended=$?
+    sha256sum <"$out" | cmp --silent - "$room/sum"
+    count "a run that tells how far it is to a standard error that is full" 0 "$ended" $?
+fi

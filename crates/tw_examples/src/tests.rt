@@ -1,9 +1,0 @@
-mod faults;
-mod files;
-mod jobs;
-mod lines;
-mod records;
-mod texts;
-mod traces;
-mod trees;
-mod writers;

@@ -1,0 +1,9 @@
+mod files;
+mod inspect;
+mod jobs;
+mod lines;
+mod records;
+mod scripts;
+mod texts;
+mod traces;
+mod writers;

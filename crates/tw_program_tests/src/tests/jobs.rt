@@ -1,0 +1,234 @@
+//! Jobs on readers and writers that fail, or take one byte a call, and with memory refused. What jobs write is compared in the
+//! program's cases.
+
+use crate::tests::files::GEN_TALLY;
+use crate::tests::writers::{Expecting, OneByteReader, OneByteWriter};
+use std::alloc::Global;
+use std::process::Abort;
+use std::sync::Wait;
+use std::thread::Threads;
+use std::time::Clock;
+use tw_engine::{Exit, engine};
+use tw_line::{Driver, Job, Setting};
+use tw_process::Cancel;
+use tw_vtime::Refusal;
+
+/// The lines of a generator of period 2 and value 5 and its tally, until 5.
+const TRACE: &str =
+    "2.0 g out 0=5\n2.0 g int | 1\n2.0 t ext 0=5 | 1 5 5\n4.0 g out 0=5\n4.0 g int | 2\n4.0 t ext 0=5 | 2 10 5\n";
+
+/// All that they do at tick 2, committed.
+const SCRIPT: &str =
+    "step g\nstep g\nraise\npost g\ndeliver t 0\nstep t\nraise\nharvest g\nharvest t\n";
+
+/// What is answered, and then the trace.
+const PLAYED: &str =
+    "stepped 2.0.0 out\nstepped 2.0.1 int\nraised 2.0.1\nposted 1\nplaced\nstepped 2.0.1 ext\nraised 4.0.0\nharvested 2\nharvested 1\n2.0 g out 0=5\n2.0 g int | 1\n2.0 t ext 0=5 | 1 5 5\n";
+
+/// The first three actions of the seed 1 for two components, worked out apart from this program: a step of the generator, a delivery
+/// to the tally's empty mailbox, a step of the generator.
+const DRAWN: &str = "stepped 2.0.0 out\nrefused 15 NoSuch\nstepped 2.0.1 int\n";
+
+/// A job on the generator and its tally, the script for it, and what it writes.
+struct Example {
+    name: &'static str,
+    job: Job<'static>,
+    script: &'static str,
+    text: &'static str,
+}
+
+/// A job of each kind.
+static JOBS: [Example; 6] = [
+    Example {
+        name: "demo",
+        job: Job::Demo,
+        script: "",
+        text: TRACE,
+    },
+    Example {
+        name: "check",
+        job: Job::Check { net: "net.json" },
+        script: "",
+        text: "ok: 2 components, 1 couplings, 0 inputs\n",
+    },
+    Example {
+        name: "seq",
+        job: Job::Seq {
+            net: "net.json",
+            until: 5,
+        },
+        script: "",
+        text: TRACE,
+    },
+    Example {
+        name: "run",
+        job: Job::Run {
+            net: "net.json",
+            until: 5,
+            cancel: Cancel::Aggressive,
+            setting: Setting {
+                workers: 2,
+                burst: 16,
+                window: 1000,
+                progress: false,
+            },
+        },
+        script: "",
+        text: TRACE,
+    },
+    Example {
+        name: "play by a script",
+        job: Job::Play {
+            net: "net.json",
+            until: 5,
+            cancel: Cancel::Aggressive,
+            driver: Driver::Script("script.txt"),
+        },
+        script: SCRIPT,
+        text: PLAYED,
+    },
+    Example {
+        name: "play by a seed",
+        job: Job::Play {
+            net: "net.json",
+            until: 5,
+            cancel: Cancel::Lazy,
+            driver: Driver::Seed { seed: 1, steps: 3 },
+        },
+        script: "",
+        text: DRAWN,
+    },
+];
+
+/// Asserts how a job ends with a writer of so many calls, and that it has got that beginning of the text.
+fn assert_begun<R: Abort + Threads + Wait + Clock + Eprint + Sync>(
+    rt: &R,
+    alloc: Global,
+    example: &Example,
+    calls: usize,
+) {
+    let mut out = OneByteWriter {
+        taken: Vec::new(alloc),
+        calls,
+    };
+    let end = engine(
+        rt,
+        alloc,
+        &example.job,
+        &mut GEN_TALLY.as_bytes(),
+        &mut example.script.as_bytes(),
+        &mut out,
+    );
+    let wanted = if calls == example.text.len() {
+        Exit::Done
+    } else {
+        Exit::NoWrite
+    };
+    assert!(rt; end == wanted, "{} {calls}", example.name);
+    assert!(rt; example.text.as_bytes().starts_with(out.taken.as_slice()));
+    assert!(rt; out.taken.len() == calls);
+}
+
+#[test]
+fn a_writer_that_fails_gets_a_beginning(rt: HostRuntime) {
+    for example in JOBS.iter() {
+        for calls in 0..=example.text.len() {
+            assert_begun(&rt, rt.alloc(), example, calls);
+        }
+    }
+}
+
+/// Asserts how a job ends with readers of so many calls: unreadable and with nothing written, or with the whole text.
+fn assert_read<R: Abort + Threads + Wait + Clock + Eprint + Sync>(
+    rt: &R,
+    alloc: Global,
+    example: &Example,
+    net_calls: usize,
+    script_calls: usize,
+) {
+    let (net, script) = (GEN_TALLY.as_bytes(), example.script.as_bytes());
+    let is_unreadable = net_calls <= net.len() || script_calls <= script.len();
+    let mut net = OneByteReader {
+        left: net,
+        calls: net_calls,
+    };
+    let mut script = OneByteReader {
+        left: script,
+        calls: script_calls,
+    };
+    let mut out: Vec<u8> = Vec::new(alloc);
+    let end = engine(rt, alloc, &example.job, &mut net, &mut script, &mut out);
+    let (wanted, text) = if is_unreadable {
+        (Exit::Bad(Refusal::Unreadable), "")
+    } else {
+        (Exit::Done, example.text)
+    };
+    assert!(rt;
+        end == wanted,
+        "{} {net_calls} {script_calls}",
+        example.name
+    );
+    assert!(rt; out.as_slice() == text.as_bytes());
+}
+
+// The demonstration reads nothing.
+#[test]
+fn a_reader_that_fails_is_unreadable(rt: HostRuntime) {
+    for example in JOBS.iter().skip(1) {
+        for calls in 0..=GEN_TALLY.len() + 1 {
+            assert_read(&rt, rt.alloc(), example, calls, 1000);
+        }
+    }
+    for example in JOBS.iter().skip(4).take(1) {
+        for calls in 0..=example.script.len() + 1 {
+            assert_read(&rt, rt.alloc(), example, 1000, calls);
+        }
+    }
+}
+
+/// Passes with any request for memory refused, and with none.
+#[test]
+fn refused_memory_leaves_a_beginning(rt: HostRuntime) {
+    for _ in 0..2 {
+        for example in JOBS.iter().take(3) {
+            let mut out = Expecting {
+                left: example.text.as_bytes(),
+            };
+            let end = engine(
+                &rt,
+                rt.alloc(),
+                &example.job,
+                &mut GEN_TALLY.as_bytes(),
+                &mut "".as_bytes(),
+                &mut out,
+            );
+            let is_whole = end == Exit::Done && out.left.is_empty();
+            assert!(rt; is_whole || end == Exit::Want(Refusal::OutOfMemory));
+        }
+    }
+}
+
+/// The exits, each with its status and its line.
+static EXITS: [(Exit, u8, &str); 7] = [
+    (Exit::Done, 0, ""),
+    (Exit::Bad(Refusal::BadTick), 2, "twarp: 10 BadTick\n"),
+    (Exit::Bad(Refusal::BadLine), 2, "twarp: 23 BadLine\n"),
+    (Exit::BadScript(3), 2, "twarp: 22 BadScript line 3\n"),
+    (Exit::Fault, 3, ""),
+    (
+        Exit::Want(Refusal::OutOfMemory),
+        4,
+        "twarp: 4 OutOfMemory\n",
+    ),
+    (Exit::NoWrite, 5, "twarp: 24 WriteFailed\n"),
+];
+
+#[test]
+fn statuses_and_lines(rt: HostRuntime) {
+    for (exit, status, line) in EXITS.iter() {
+        let mut out: Vec<u8> = Vec::new(rt.alloc());
+        assert!(rt; exit.status() == *status);
+        assert!(rt; exit.write_line(&mut out).is_ok());
+        assert!(rt; out.as_slice() == line.as_bytes());
+    }
+}

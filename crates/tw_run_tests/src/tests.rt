@@ -1,0 +1,9 @@
+mod board;
+mod drawn;
+mod exchange;
+mod executive;
+mod helpers;
+mod installs;
+mod marks;
+mod progress;
+mod runs;

@@ -1,9 +1,0 @@
--- The network and the end of the run stay.
-use Rattle.std.proofs.Common.{◌≡◌}
-use Rattle.tw_tests.proofs.tests.exchange.act_all.Given as goal
-
-abbrev pub invariant-loop-step : goal.invariant-loop-step
-invariant-loop-step g l = record {
-  network : l.exchange.executive.network ≡ l.fn.exchange.executive.network;
-  until : l.exchange.executive.until ≡ l.fn.exchange.executive.until;
-}

@@ -1,5 +1,0 @@
-use Rattle.std.proofs.Common.{◌≡◌, length}
-use Rattle.tw_tests.proofs.tests.mail.items_close_up_and_are_put_back.Given as goal
-
-abbrev pub invariant-loop-tick : goal.invariant-loop-tick
-invariant-loop-tick g l = length l.mail.boxes ≡ 2

@@ -58,10 +58,10 @@ relays=$(times '{"name":"a","model":"relay","delay":0},' 1024)
 check_long "1,025 components" 9 tw-1 0 "$relays"'{"name":"a b","model":"tally"}' ""
 check_long "1,025 components, one out of range" 10 tw-1 0 "$relays"'{"name":"a","model":"gen","period":0,"value":0}' ""
 # The number of coupled models in each other, what is in the last of them, and the number that is wanted.
-while read -r depth part number; do
-    [ "$part" = tally ] && part=$tally || part=
+while read -r depth inside number; do
+    [ "$inside" = tally ] && inside=$tally || inside=
     check_long "$depth models in each other" "$number" tw-2 1 \
-        "$(times '{"name":"a","couplings":[],"components":[' "$depth")$part$(times ']}' "$depth")" ""
+        "$(times '{"name":"a","couplings":[],"components":[' "$depth")$inside$(times ']}' "$depth")" ""
 done <<<"15 tally 0
 16 none 0
 16 tally 9

@@ -57,30 +57,42 @@ fn refusals_of_scripts_have_their_numbers(rt: HostRuntime) {
     assert!(rt; Refusal::from(ScriptRefused::BadLine(3)).number() == 22);
 }
 
-// The actions of these seeds were worked out apart from this program; the executive does not move.
+/// Asserts that a seed gives these actions to an executive that does not move.
+fn assert_gives(rt: &impl Abort, executive: &Executive<Model>, seed: u64, actions: &[Action]) {
+    let mut schedule = Schedule::new(seed);
+    for action in actions {
+        assert!(rt; schedule.next_action(executive) == Some(*action));
+    }
+}
+
+// The actions of these seeds were worked out apart from this program.
 #[test]
 fn a_seed_gives_its_actions(rt: HostRuntime) {
     let executive = Executive::new(rt.alloc(), row(&rt, rt.alloc()), 10).expect(&rt, "memory");
-    let first = [
-        Action::Post(T),
-        Action::Step(G),
-        Action::Step(R),
-        Action::Deliver(R, 0),
-        Action::Harvest(T),
-    ];
-    let other = [
-        Action::Raise,
-        Action::Raise,
-        Action::Raise,
-        Action::Post(T),
-        Action::Post(G),
-    ];
-    for (seed, actions) in [(0, first), (42, other)] {
-        let mut schedule = Schedule::new(seed);
-        for action in actions {
-            assert!(rt; schedule.next_action(&executive) == Some(action));
-        }
-    }
+    assert_gives(
+        &rt,
+        &executive,
+        0,
+        &[
+            Action::Post(T),
+            Action::Step(G),
+            Action::Step(R),
+            Action::Deliver(R, 0),
+            Action::Harvest(T),
+        ],
+    );
+    assert_gives(
+        &rt,
+        &executive,
+        42,
+        &[
+            Action::Raise,
+            Action::Raise,
+            Action::Raise,
+            Action::Post(T),
+            Action::Post(G),
+        ],
+    );
 }
 
 /// A network of no components.

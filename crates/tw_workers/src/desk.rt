@@ -120,8 +120,8 @@ impl<M: Atomic, H: Given<M>> Desk<M, H> {
         }
     }
 
-    /// Hands in what was worked out from an order, and sweeps where that is due: after a chain of which not all was made, and after
-    /// so many chains. Once the run has ended nothing is swept any more.
+    /// Hands in what was worked out from an order, and sweeps where that is due: after every chain of which not all was made, and
+    /// after so many chains. Once the run has ended nothing is swept any more.
     pub(crate) fn hand_in(&mut self, prepareds: Prepareds<M>)
         requires { (n : Contents M) (until : ℕ) (board : TableId) → H.is_given n until board → IsMadeFor M.meaning n until prepareds }
     {
@@ -136,9 +136,9 @@ impl<M: Atomic, H: Given<M>> Desk<M, H> {
             }
             Stop::Ended(Cause::Limit) | Stop::Stale => self.sweep(),
             Stop::Ended(Cause::OutOfMemory) | Stop::OutOfMemory => {
-                self.end = Some(Err(SweepRefused::OutOfMemory));
+                self.make_room(SweepRefused::OutOfMemory);
             }
-            Stop::Full => self.make_room(),
+            Stop::Full => self.make_room(SweepRefused::Full),
         }
     }
 
@@ -157,13 +157,13 @@ impl<M: Atomic, H: Given<M>> Desk<M, H> {
         Some(finished.stop)
     }
 
-    // Sweeps because the nodes of a process are used up: what is committed frees some. Where that brings global virtual time no
-    // further, the run has ended.
-    fn make_room(&mut self) {
+    // Sweeps because a component found no memory, or has used up its nodes: what is committed frees some. Where that brings global
+    // virtual time no further, the run has ended.
+    fn make_room(&mut self, why: SweepRefused) {
         let before = self.exchange.executive().gvt();
         self.sweep();
         if self.end.is_none() && self.exchange.executive().gvt() == before {
-            self.end = Some(Err(SweepRefused::Full));
+            self.end = Some(Err(why));
         }
     }
 

@@ -130,8 +130,8 @@ fn gate_of_two(rt: HostRuntime) -> Result<(), Fail> {
 enum Before {
     /// The nth, of the first or second of a pair, waits until the other's was called n times.
     Meet(usize, Arc<Meeting>),
-    /// So many are let through; the next finds no memory; all later ones are let through again.
-    Refuse(AtomicU64),
+    /// Of the calls, which are counted, the two from the first number on find no memory.
+    Refuse(u64, AtomicU64),
 }
 
 /// A generator of period 2 and value 1 that does something before each transition forward.
@@ -155,9 +155,9 @@ impl Watched {
         Watched::new(rt, Before::Meet(place, meeting))
     }
 
-    /// One that finds no memory once, after so many transitions forward.
+    /// One that finds no memory twice, one after the other, after so many transitions forward.
     fn refusing(rt: &impl Abort, count: u64) -> Watched {
-        Watched::new(rt, Before::Refuse(AtomicU64::new(count)))
+        Watched::new(rt, Before::Refuse(count, AtomicU64::new(0)))
     }
 
     /// Does what is to be done before a transition forward.
@@ -170,8 +170,9 @@ impl Watched {
                 }
                 Ok(())
             }
-            Before::Refuse(left) => {
-                if left.fetch_sub(1, SeqCst) == 0 {
+            Before::Refuse(first, calls) => {
+                let before = calls.fetch_add(1, SeqCst);
+                if before >= *first && before - *first < 2 {
                     return Err(AllocError);
                 }
                 Ok(())
@@ -275,6 +276,7 @@ fn forwards_meet(rt: HostRuntime) -> Result<(), Fail> {
     Ok(())
 }
 
+// At the first refusal a sweep brings global virtual time further, and the run goes on; at the second it does not.
 #[test]
 fn a_run_that_was_given_up_goes_on(rt: HostRuntime) -> Result<(), Fail> {
     let models = [Watched::refusing(&rt, 1), Watched::refusing(&rt, 0)];

@@ -18,4 +18,4 @@ pub checked_fault : (bytes : List ℕ) (fault : FileRefused) (exit : Exit) (old 
     → (fault ≢ OutOfMemory → IsFault bytes fault) → IsTold fault exit old new → IsCheck bytes exit old new
 checked_fault bytes fault exit old new first (inl failed) = subst (λ e. IsCheck bytes e old new) (sym failed) tt
 checked_fault bytes fault exit old new first (inr (inl (want, keeps))) = subst (λ e. IsCheck bytes e old new) (sym want) (refl, keeps)
-checked_fault bytes fault exit old new first (inr (inr (other, bad, line))) = subst (λ e. IsCheck bytes e old new) (sym bad) ((fault, first other, refl), line)
+checked_fault bytes fault exit old new first (inr (inr (other, bad, line))) = subst (λ e. IsCheck bytes e old new) (sym bad) ((fault, first other, refl), refl, line)

@@ -1,10 +1,12 @@
 -- From what is played and then traced to what is said of the files' bytes.
-use Rattle.std.proofs.Common.{◌≡◌, ℕ, List, inl, inr, refl, subst}
-use Rattle.std.specs.Prelude.{Option}
+use Rattle.std.proofs.Common.{◌≡◌, ℕ, List, inl, inr, refl, sym, subst}
+use Rattle.std.specs.Prelude.{Option, Some, None}
+use Rattle.std.specs.Io.KnownBytes.{Keeps}
 use Rattle.tw_engine.specs.Plays.{first, IsScripted, IsSeeded, IsTraced}
 use Rattle.tw_engine.specs.declared.exit.Exit.{Exit}
-use Rattle.tw_engine.specs.declared.exit.Exit.TheVariants.{Done, Bad, BadScript, Fault, Want, NoWrite}
+use Rattle.tw_engine.specs.declared.exit.Exit.TheVariants.{Done, Bad, Fault, Want, NoWrite}
 use Rattle.tw_engine.specs.Exits.{exit_of}
+use Rattle.tw_engine.specs.Scripting.{IsScriptExit}
 use Rattle.tw_exec.specs.Running.{Running}
 use Rattle.tw_models.specs.Model.{model_meaning}
 use Rattle.tw_models.specs.declared.model.Model.{Model}
@@ -30,8 +32,7 @@ module _ (bytes : List ℕ) (n : Contents Model) (means : IsMeaning bytes n) (un
       go : (exit : Exit) → IsPlayed model_meaning commands (first n way until) p old mid → IsTraced p.executive exit mid new → IsScripted bytes script until way exit old new
       go Done w t = (n, means, (commands, says, (p, mid, w, t)))
       go Fault w t = t
-      go (Bad why) w t = absurd t
-      go (BadScript line) w t = absurd t
+      go (Bad why line) w t = absurd t
       go (Want why) w t = inr (n, means, (commands, says, inr (p, mid, w, t)))
       go NoWrite w t = t
 
@@ -42,8 +43,7 @@ module _ (bytes : List ℕ) (n : Contents Model) (means : IsMeaning bytes n) (un
       go : (exit : Exit) → IsWhollyDrawn model_meaning (seeded seed) steps (first n way until) p old mid → IsTraced p.executive exit mid new → IsSeeded bytes seed steps until way exit old new
       go Done w t = (n, means, (p, mid, w, t))
       go Fault w t = t
-      go (Bad why) w t = absurd t
-      go (BadScript line) w t = t
+      go (Bad why line) w t = absurd t
       go (Want why) w t = inr (n, means, inr (p, mid, w, t))
       go NoWrite w t = t
 
@@ -51,3 +51,15 @@ module _ (bytes : List ℕ) (n : Contents Model) (means : IsMeaning bytes n) (un
   pub seed_short : (seed steps : ℕ) (why : NotWritten) → (why ≡ OutOfMemory → IsDrawnShort model_meaning (seeded seed) steps begun old new) → IsSeeded bytes seed steps until way (exit_of (not_written_refusal why)) old new
   seed_short seed steps OutOfMemory h = inr (n, means, inl (refl, subst (λ b. IsDrawnShort model_meaning (seeded seed) steps b old new) is (h refl)))
   seed_short seed steps WriteFailed h = tt
+
+-- ---- a script that is refused
+
+keeps_all : (o : Option (List ℕ)) → Keeps o o
+keeps_all None = tt
+keeps_all (Some xs) = refl
+
+pub script_refused : (bytes : List ℕ) (n : Contents Model) → IsMeaning bytes n → (until : ℕ) (way : Cancel) (script : List ℕ) (exit : Exit) (old : Option (List ℕ))
+    → IsScriptExit n.names script exit → IsScripted bytes script until way exit old old
+script_refused bytes n means until way script exit old (inl want) = subst (λ e. IsScripted bytes script until way e old old) (sym want) (inl (refl, keeps_all old))
+script_refused bytes n means until way script exit old (inr (inl many)) = subst (λ e. IsScripted bytes script until way e old old) (sym many.0) (keeps_all old, inr (n, means, (refl, many.1)))
+script_refused bytes n means until way script exit old (inr (inr bad)) = subst (λ e. IsScripted bytes script until way e old old) (sym bad.1) (keeps_all old, refl, (n, means, bad.2))

@@ -12,7 +12,7 @@ use Rattle.tw_theory.specs.Simulator.{sequential, rounds, round}
 use Rattle.tw_netfile.specs.TreeMeaning.{IsMeaning}
 use Rattle.tw_texts.specs.Traces.{AppendsBeginning}
 use Rattle.tw_engine.specs.declared.exit.Exit.{Exit}
-use Rattle.tw_engine.specs.declared.exit.Exit.TheVariants.{Done, Bad, BadScript, Fault, Want, NoWrite}
+use Rattle.tw_engine.specs.declared.exit.Exit.TheVariants.{Done, Bad, Fault, Want, NoWrite}
 use Rattle.tw_engine.specs.Runs.{IsDemo, IsRun, IsRunByWorkers, IsShown, IsWorked, demo_network, name_in, text_or_nothing, run_fault}
 
 pub no_name : (names : List (List ℕ)) (component : ℕ) → length names ≤ component → [] ≡ name_in names component
@@ -31,8 +31,7 @@ run_of_shown : (bytes : List ℕ) (until : ℕ) (n : Contents Model) (exit : Exi
     → IsShown n (sequential (network_of model_meaning n) until).records (run_fault n until) exit old new → IsRun bytes until exit old new
 run_of_shown bytes until n Done old new means shown = (n, means, shown)
 run_of_shown bytes until n Fault old new means shown = (n, means, shown)
-run_of_shown bytes until n (Bad why) old new means shown = absurd shown
-run_of_shown bytes until n (BadScript line) old new means shown = absurd shown
+run_of_shown bytes until n (Bad why line) old new means shown = absurd shown
 run_of_shown bytes until n (Want why) old new means (is, inl keeps) = (is, inl keeps)
 run_of_shown bytes until n (Want why) old new means (is, inr begun) = (is, inr (n, means, begun))
 run_of_shown bytes until n NoWrite old new means shown = shown
@@ -58,8 +57,7 @@ demo_of_shown : (exit : Exit) (old new : Option (List ℕ))
     → IsShown demo_network (sequential (network_of model_meaning demo_network) 5).records (run_fault demo_network 5) exit old new → IsDemo exit old new
 demo_of_shown Done old new shown = shown.1
 demo_of_shown Fault old new shown = none_is_some shown.0.0 (sym demo_no_fault ∙ shown.0.1)
-demo_of_shown (Bad why) old new shown = shown
-demo_of_shown (BadScript line) old new shown = shown
+demo_of_shown (Bad why line) old new shown = shown
 demo_of_shown (Want why) old new shown = inl shown
 demo_of_shown NoWrite old new shown = shown
 
@@ -69,7 +67,7 @@ pub run_of_worked : (bytes : List ℕ) (until : ℕ) (n : Contents Model) (exit 
 run_of_worked bytes until n exit old new means (inl shown) = inl (run_of_shown bytes until n exit old new means shown)
 run_of_worked bytes until n exit old new means (inr (inl full)) = inr full
 run_of_worked bytes until n exit old new means (inr (inr late)) =
-    inl (subst (λ (e : Exit). IsRun bytes until e old new) (sym late.0) (late.2, inl (refl, late.1)))
+    inl (subst (λ (e : Exit). IsRun bytes until e old new) (sym late.0) (late.2, refl, inl (refl, late.1)))
 
 -- what they write of the demonstration
 pub demo_of_worked : (n : Contents Model) (exit : Exit) (old new : Option (List ℕ)) → n ≡ demo_network → IsWorked n 5 exit old new → IsDemo exit old new

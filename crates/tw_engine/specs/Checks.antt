@@ -1,7 +1,7 @@
 -- What a check of a network file writes, and how it ends.
 --     check_text n      what the network n has, in a line
 --     IsCheck given exit old new      how a check of a file ends, and what is then written
-use Rattle.std.specs.Prelude.{◌≡◌, ◌≢◌, ◌⊎◌, ◌++◌, ℕ, List, Option, codes, length}
+use Rattle.std.specs.Prelude.{◌≡◌, ◌≢◌, ◌⊎◌, ◌++◌, ℕ, List, Option, None, codes, length}
 use Rattle.std.specs.Fmt.{decimal}
 use Rattle.std.specs.Io.KnownBytes.{Appends, Keeps}
 use Rattle.tw_models.specs.declared.model.Model.{Model}
@@ -13,7 +13,7 @@ use Rattle.tw_netfile.specs.declared.refused.FileRefused.{FileRefused}
 use Rattle.tw_netfile.specs.declared.refused.FileRefused.TheVariants.{OutOfMemory}
 use Rattle.tw_engine.specs.Runs.{Means}
 use Rattle.tw_engine.specs.declared.exit.Exit.{Exit}
-use Rattle.tw_engine.specs.declared.exit.Exit.TheVariants.{Done, Bad, BadScript, Fault, Want, NoWrite}
+use Rattle.tw_engine.specs.declared.exit.Exit.TheVariants.{Done, Bad, Fault, Want, NoWrite}
 
 -- how many components, couplings and inputs, of a tree those of its flat network
 abbrev pub check_text : Contents Model → List ℕ
@@ -29,9 +29,8 @@ AppendsLine old new = (words : List ℕ) × Appends old new (words ++ codes "\n"
 -- the number is the first fault of the file
 abbrev pub IsCheck : List ℕ → Exit → Option (List ℕ) → Option (List ℕ) → Type 0
 IsCheck bytes Done old new = Means bytes (λ n. Appends old new (check_text n))
-IsCheck bytes (Bad why) old new =
-    ((fault : FileRefused) × IsFault bytes fault × (why ≡ file_refusal fault)) × AppendsLine old new
-IsCheck bytes (BadScript line) old new = ⊥
+IsCheck bytes (Bad why line) old new =
+    ((fault : FileRefused) × IsFault bytes fault × (why ≡ file_refusal fault)) × (line ≡ None) × AppendsLine old new
 IsCheck bytes Fault old new = ⊥
 IsCheck bytes (Want why) old new = (why ≡ refusal.OutOfMemory) × Keeps old new
 IsCheck bytes NoWrite old new = Unit {0}
@@ -47,4 +46,4 @@ abbrev pub IsTold : FileRefused → Exit → Option (List ℕ) → Option (List 
 IsTold fault exit old new =
     (exit ≡ NoWrite)
     ⊎ ((exit ≡ Want refusal.OutOfMemory) × Keeps old new)
-    ⊎ ((fault ≢ OutOfMemory) × (exit ≡ Bad (file_refusal fault)) × AppendsLine old new)
+    ⊎ ((fault ≢ OutOfMemory) × (exit ≡ Bad (file_refusal fault) None) × AppendsLine old new)

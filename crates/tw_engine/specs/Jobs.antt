@@ -1,9 +1,11 @@
 -- How a job ends, and what is then written.
 --     IsDone job exit given script old new      with the bytes of its network file and of its script
-use Rattle.std.specs.Prelude.{◌⊎◌, ℕ, List, Option, IfSome}
+--     ReadsScript job given      its script is read
+use Rattle.std.specs.Prelude.{◌⊎◌, ℕ, List, Option, IfSome, ⊤}
+use Rattle.std.specs.Io.KnownBytes.{Keeps}
 use Rattle.tw_engine.specs.Checks.{IsCheck}
 use Rattle.tw_engine.specs.Plays.{IsScripted, IsSeeded}
-use Rattle.tw_engine.specs.Runs.{IsDemo, IsRun, IsRunByWorkers, IsUnread}
+use Rattle.tw_engine.specs.Runs.{IsDemo, IsFileExit, IsRun, IsRunByWorkers, IsUnread, Means}
 use Rattle.tw_engine.specs.declared.exit.Exit.{Exit}
 use Rattle.tw_line.specs.declared.jobs.Driver.{Driver}
 use Rattle.tw_line.specs.declared.jobs.Driver.TheVariants.{Script, Seed}
@@ -12,8 +14,15 @@ use Rattle.tw_line.specs.declared.jobs.Job.TheVariants.{Demo, Check, Seq, Run, P
 use Rattle.tw_lists.specs.Ways.{way_of}
 use Rattle.tw_theory.specs.Contents.{Cancel}
 
+-- driven by a script: the network's file is at fault, and nothing is written; or it means a network, and no byte of the script is known to
+-- be read (19), or these
+abbrev pub IsScriptedBy : List ℕ → ℕ → Cancel → Exit → Option (List ℕ) → Option (List ℕ) → Option (List ℕ) → Type 0
+IsScriptedBy bytes until way exit script old new =
+    (IsFileExit bytes exit × Keeps old new)
+    ⊎ Means bytes (λ n. IsUnread exit old new ⊎ IfSome script (λ lines. IsScripted bytes lines until way exit old new))
+
 abbrev pub IsPlay : Driver → ℕ → Cancel → Exit → Option (List ℕ) → Option (List ℕ) → Option (List ℕ) → Option (List ℕ) → Type 0
-IsPlay (Script path) until way exit given script old new = IfSome given (λ bytes. IfSome script (λ lines. IsScripted bytes lines until way exit old new))
+IsPlay (Script path) until way exit given script old new = IfSome given (λ bytes. IsScriptedBy bytes until way exit script old new)
 IsPlay (Seed seed steps) until way exit given script old new = IfSome given (λ bytes. IsSeeded bytes seed steps until way exit old new)
 
 abbrev pub IsDone : Job → Exit → Option (List ℕ) → Option (List ℕ) → Option (List ℕ) → Option (List ℕ) → Type 0
@@ -22,3 +31,20 @@ IsDone (Check net) exit given script old new = IsUnread exit old new ⊎ IfSome 
 IsDone (Seq net until) exit given script old new = IsUnread exit old new ⊎ IfSome given (λ bytes. IsRun bytes until exit old new)
 IsDone (Run net until cancel setting) exit given script old new = IsUnread exit old new ⊎ IfSome given (λ bytes. IsRunByWorkers bytes until exit old new)
 IsDone (Play net until cancel driver) exit given script old new = IsUnread exit old new ⊎ IsPlay driver until (way_of cancel) exit given script old new
+
+-- ---- whether the script is read
+
+abbrev pub MeansSome : List ℕ → Type 0
+MeansSome bytes = Means bytes (λ n. ⊤)
+
+-- a script is read only where it drives, and the network's bytes mean a network
+abbrev pub DriverReads : Driver → Option (List ℕ) → Type 0
+DriverReads (Script path) given = IfSome given MeansSome
+DriverReads (Seed seed steps) given = ⊥
+
+abbrev pub ReadsScript : Job → Option (List ℕ) → Type 0
+ReadsScript Demo given = ⊥
+ReadsScript (Check net) given = ⊥
+ReadsScript (Seq net until) given = ⊥
+ReadsScript (Run net until cancel setting) given = ⊥
+ReadsScript (Play net until cancel driver) given = DriverReads driver given

@@ -20,7 +20,7 @@ use Rattle.tw_netfile.specs.declared.refused.FileRefused.{FileRefused}
 use Rattle.tw_texts.specs.Texts.{trace_text, fault_line}
 use Rattle.tw_texts.specs.Traces.{AppendsBeginning}
 use Rattle.tw_engine.specs.declared.exit.Exit.{Exit}
-use Rattle.tw_engine.specs.declared.exit.Exit.TheVariants.{Done, Bad, BadScript, Fault, Want, NoWrite}
+use Rattle.tw_engine.specs.declared.exit.Exit.TheVariants.{Done, Bad, Fault, Want, NoWrite}
 
 -- ---- the text of a run
 
@@ -61,8 +61,7 @@ IsCause bytes until why =
 abbrev pub IsRun : List ℕ → ℕ → Exit → Option (List ℕ) → Option (List ℕ) → Type 0
 IsRun bytes until Done old new = Means bytes (λ n. (run_fault n until ≡ None) × Appends old new (run_text n until))
 IsRun bytes until Fault old new = Means bytes (λ n. ((fault : ℕ × ℕ × Limit) × (run_fault n until ≡ Some fault)) × Appends old new (run_text n until))
-IsRun bytes until (BadScript line) old new = ⊥
-IsRun bytes until (Bad why) old new = Keeps old new × IsCause bytes until why
+IsRun bytes until (Bad why line) old new = Keeps old new × (line ≡ None) × IsCause bytes until why
 IsRun bytes until (Want why) old new =
     (why ≡ refusal.OutOfMemory) × (Keeps old new ⊎ Means bytes (λ n. AppendsBeginning old new (run_text n until)))
 IsRun bytes until NoWrite old new = Unit {0}
@@ -77,14 +76,13 @@ IsRunByWorkers bytes until exit old new = IsRun bytes until exit old new ⊎ ((e
 abbrev pub IsFileExit : List ℕ → Exit → Type 0
 IsFileExit bytes exit =
     (exit ≡ Want refusal.OutOfMemory)
-    ⊎ ((fault : FileRefused) × IsFault bytes fault × (exit ≡ Bad (file_refusal fault)))
+    ⊎ ((fault : FileRefused) × IsFault bytes fault × (exit ≡ Bad (file_refusal fault) None))
 
 -- what is written of records and a fault
 abbrev pub IsShown : Contents Model → List Record → Option (ℕ × ℕ × Limit) → Exit → Option (List ℕ) → Option (List ℕ) → Type 0
 IsShown n records fault Done old new = (fault ≡ None) × Appends old new (text_of n records fault)
 IsShown n records fault Fault old new = ((found : ℕ × ℕ × Limit) × (fault ≡ Some found)) × Appends old new (text_of n records fault)
-IsShown n records fault (Bad why) old new = ⊥
-IsShown n records fault (BadScript line) old new = ⊥
+IsShown n records fault (Bad why line) old new = ⊥
 IsShown n records fault (Want why) old new = (why ≡ refusal.OutOfMemory) × (Keeps old new ⊎ AppendsBeginning old new (text_of n records fault))
 IsShown n records fault NoWrite old new = Unit {0}
 
@@ -93,7 +91,7 @@ abbrev pub IsWorked : Contents Model → ℕ → Exit → Option (List ℕ) → 
 IsWorked n until exit old new =
     IsShown n (sequential (network_of model_meaning n) until).records (run_fault n until) exit old new
     ⊎ ((exit ≡ Want refusal.Full) × Keeps old new)
-    ⊎ ((exit ≡ Bad refusal.BadTick) × (max_tick < until) × Keeps old new)
+    ⊎ ((exit ≡ Bad refusal.BadTick None) × (max_tick < until) × Keeps old new)
 
 -- ---- the jobs
 
@@ -115,8 +113,7 @@ demo_text = codes "2.0 g out 0=5\n2.0 g int | 1\n2.0 t ext 0=5 | 1 5 5\n4.0 g ou
 abbrev pub IsDemo : Exit → Option (List ℕ) → Option (List ℕ) → Type 0
 IsDemo Done old new = Appends old new (run_text demo_network 5)
 IsDemo Fault old new = ⊥
-IsDemo (Bad why) old new = ⊥
-IsDemo (BadScript line) old new = ⊥
+IsDemo (Bad why line) old new = ⊥
 IsDemo (Want why) old new =
     ((why ≡ refusal.OutOfMemory) × (Keeps old new ⊎ AppendsBeginning old new (run_text demo_network 5)))
     ⊎ ((why ≡ refusal.Full) × Keeps old new)
@@ -124,4 +121,4 @@ IsDemo NoWrite old new = Unit {0}
 
 -- no byte of the file is known to be read, and nothing is written
 abbrev pub IsUnread : Exit → Option (List ℕ) → Option (List ℕ) → Type 0
-IsUnread exit old new = ((exit ≡ Bad refusal.Unreadable) ⊎ (exit ≡ Want refusal.OutOfMemory)) × Keeps old new
+IsUnread exit old new = ((exit ≡ Bad refusal.Unreadable None) ⊎ (exit ≡ Want refusal.OutOfMemory)) × Keeps old new

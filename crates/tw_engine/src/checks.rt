@@ -12,7 +12,7 @@ use tw_network::Network;
 use tw_vtime::Refusal;
 
 // Writes what the network has that a file's bytes mean, or where the file is at fault and why.
-pub(crate) fn check<W: Write>(alloc: Global, bytes: &[u8], out: &mut W) -> Exit
+pub(crate) fn check_bytes<W: Write>(alloc: Global, bytes: &[u8], out: &mut W) -> Exit
     ensures { IsCheck bytes.now result (W.contents out.old) (W.contents out.new) }
 {
     match network_of_any_file(alloc, bytes) {
@@ -48,7 +48,10 @@ fn write_fault<W: Write>(alloc: Global, bytes: &[u8], fault: FileRefused, out: &
         return Exit::Want(Refusal::OutOfMemory);
     };
     match writeln!(out, "{words}") {
-        Ok(()) => Exit::Bad(Refusal::from(fault)),
+        Ok(()) => Exit::Bad {
+            refusal: Refusal::from(fault),
+            line: None,
+        },
         Err(_) => Exit::NoWrite,
     }
 }

@@ -13,10 +13,13 @@ use tw_vtime::Refusal;
 pub enum Exit {
     /// All was written, and no limit was met.
     Done,
-    /// The command line or a file is refused, for this. Nothing was written.
-    Bad(Refusal),
-    /// The line of this number, from 1, of the script says nothing: 22. Nothing was written.
-    BadScript(u64),
+    /// The command line or a file is refused. Nothing was written, of `check` a line of words.
+    Bad {
+        /// For this.
+        refusal: Refusal,
+        /// The line of the script that says nothing, from 1, where that is why (22).
+        line: Option<u64>,
+    },
     /// A component met a limit: the trace before it was written, and then the line of the fault.
     Fault,
     /// A growth was refused: 4, or 12. A beginning of the text may be written.
@@ -35,7 +38,10 @@ impl From<Refusal> for Exit {
         match refusal {
             Refusal::OutOfMemory | Refusal::Full => Exit::Want(refusal),
             Refusal::WriteFailed => Exit::NoWrite,
-            _ => Exit::Bad(refusal),
+            _ => Exit::Bad {
+                refusal,
+                line: None,
+            },
         }
     }
 }
@@ -47,7 +53,7 @@ impl Exit {
     {
         match self {
             Exit::Done => 0,
-            Exit::Bad(_) | Exit::BadScript(_) => 2,
+            Exit::Bad { .. } => 2,
             Exit::Fault => 3,
             Exit::Want(_) => 4,
             Exit::NoWrite => 5,
@@ -55,8 +61,7 @@ impl Exit {
     }
 
     /// Writes the line for standard error: `twarp: `, the number and the name of the refusal, and for a script
-    /// the number of the line. After
-    /// [`Exit::Done`] and [`Exit::Fault`] there is none.
+    /// the number of the line. After [`Exit::Done`] and [`Exit::Fault`] there is none.
     ///
     /// Refused where the writer fails.
     pub fn write_line<W: Write>(self, out: &mut W) -> io::Result<()>
@@ -64,11 +69,15 @@ impl Exit {
     {
         match self {
             Exit::Done | Exit::Fault => Ok(()),
-            Exit::Bad(refusal) | Exit::Want(refusal) => writeln!(out, "twarp: {refusal}"),
-            Exit::BadScript(line) => {
-                let refusal = Refusal::BadScript;
-                writeln!(out, "twarp: {refusal} line {line}")
+            Exit::Bad {
+                refusal,
+                line: Some(line),
+            } => writeln!(out, "twarp: {refusal} line {line}"),
+            Exit::Bad {
+                refusal,
+                line: None,
             }
+            | Exit::Want(refusal) => writeln!(out, "twarp: {refusal}"),
             Exit::NoWrite => {
                 let refusal = Refusal::WriteFailed;
                 writeln!(out, "twarp: {refusal}")

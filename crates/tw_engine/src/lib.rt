@@ -4,6 +4,7 @@
 //!   or by workers, and writes the trace, drives an
 //!   executive of it by hand, or runs the demonstration by the executive. Its contract gives the exact bytes written, and what each way to end
 //!   means.
+//! - [`seq`], [`check`] and [`play`]: three of its jobs, which need no thread.
 //! - [`demo_law`]: what `demo` prints, in its bytes.
 //! - [`Exit`]: how a run ended, with the status of the process and the line for standard error.
 #![tactic(auto)]
@@ -19,4 +20,4 @@ mod workers;
 
 pub use demonstration::demo_law;
 pub use exit::Exit;
-pub use runs::engine;
+pub use runs::{check, engine, play, seq};

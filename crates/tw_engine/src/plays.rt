@@ -1,9 +1,10 @@
 //! An executive that is driven by hand, by a script or by a seed.
 
-ghost use Rattle.std.specs.Prelude.{◌≡◌, ◌⊎◌, ◌<◌, IfErr, IfOk};
+ghost use Rattle.std.specs.Prelude.{◌≡◌, ◌⊎◌, ◌<◌, ℕ, List, IfErr, IfOk, None};
 ghost use Rattle.tw_engine.specs.Plays.{first, IsDrawnBy, IsDrivenBy, IsScripted, IsSeeded, IsTraced};
 ghost use Rattle.tw_engine.specs.Scripting.{IsScriptExit};
 ghost use Rattle.tw_lists.specs.Ways.{way_of};
+ghost use Rattle.tw_netfile.specs.TreeMeaning.{IsMeaning};
 ghost use Rattle.tw_script.specs.Scripts.{IsScript};
 ghost use Rattle.tw_vtime.specs.Stamps.{max_tick};
 ghost use Rattle.tw_vtime.specs.declared.refusal.Refusal.TheVariants as refusal;
@@ -22,21 +23,17 @@ use tw_script::{Command, ScriptRefused, commands_of_script};
 use tw_texts::{NotWritten, write_trace};
 use tw_vtime::Refusal;
 
-// Drives the executive of the network that a file's bytes mean by a script.
+// Drives the executive of a network by a script.
 pub(crate) fn play_by_script<W: Write>(
     alloc: Global,
-    bytes: &[u8],
+    network: Network<Model>,
     script: &[u8],
     until: u64,
     cancel: Cancel,
     out: &mut W,
 ) -> Exit
-    ensures { IsScripted bytes.now script.now until (way_of cancel) result (W.contents out.old) (W.contents out.new) }
+    ensures { (bytes : List ℕ) → IsMeaning bytes network → IsScripted bytes script.now until (way_of cancel) result (W.contents out.old) (W.contents out.new) }
 {
-    let network = match network(alloc, bytes) {
-        Ok(network) => network,
-        Err(exit) => return exit,
-    };
     let commands = match commands(alloc, script, &network) {
         Ok(commands) => commands,
         Err(exit) => return exit,
@@ -84,8 +81,11 @@ fn commands(alloc: Global, script: &[u8], network: &Network<Model>) -> Result<Ve
 {
     match commands_of_script(alloc, script, network) {
         Ok(commands) => Ok(commands),
-        Err(ScriptRefused::BadLine(line)) => Err(Exit::BadScript(line)),
-        Err(ScriptRefused::TooMany) => Err(Exit::Bad(Refusal::TooMany)),
+        Err(ScriptRefused::BadLine(line)) => Err(Exit::Bad {
+            refusal: Refusal::BadScript,
+            line: Some(line),
+        }),
+        Err(ScriptRefused::TooMany) => Err(Exit::from(Refusal::TooMany)),
         Err(ScriptRefused::OutOfMemory) => Err(Exit::Want(Refusal::OutOfMemory)),
     }
 }
@@ -98,7 +98,7 @@ fn player(
     cancel: Cancel,
 ) -> Result<Player<Model>, Exit>
     ensures ok { IfOk result (λ player. player ≡ first network (way_of cancel) until) }
-    ensures err { IfErr result (λ exit. (exit ≡ Exit.Want refusal.OutOfMemory) ⊎ ((exit ≡ Exit.Bad refusal.BadTick) × (max_tick < until))) }
+    ensures err { IfErr result (λ exit. (exit ≡ Exit.Want refusal.OutOfMemory) ⊎ ((exit ≡ Exit.Bad refusal.BadTick None) × (max_tick < until))) }
 {
     match Executive::with_cancel(alloc, network, until, cancel) {
         Ok(executive) => Ok(Player::new(executive)),

@@ -1,14 +1,15 @@
 //! From a job and the bytes of its file to the bytes written.
 
-ghost use Rattle.std.specs.Prelude.{◌≡◌, ◌⊎◌, ◌<◌, ◌≤◌, IfOk, IfErr, IfSome, string_bytes};
+ghost use Rattle.std.specs.Prelude.{◌≡◌, ◌⊎◌, ◌<◌, ◌≤◌, IfOk, IfErr, IfSome, string_bytes, None};
 ghost use Rattle.tw_netfile.specs.TreeMeaning.{IsMeaning};
 ghost use Rattle.tw_vtime.specs.Stamps.{max_tick};
 ghost use Rattle.tw_vtime.specs.declared.refusal.Refusal.TheVariants as refusal;
-ghost use Rattle.tw_engine.specs.Jobs.{IsDone, IsPlay};
+ghost use Rattle.tw_engine.specs.Checks.{IsCheck};
+ghost use Rattle.tw_engine.specs.Jobs.{DriverReads, IsDone, IsPlay, IsScriptedBy, MeansSome, ReadsScript};
 ghost use Rattle.tw_engine.specs.Runs.{IsFileExit, IsRun, IsShown, IsUnread, fault_text, run_fault};
 ghost use Rattle.tw_lists.specs.Ways.{way_of};
 
-use crate::checks::check;
+use crate::checks::check_bytes;
 use crate::demonstration::demo;
 use crate::exit::Exit;
 use crate::names::NetworkNames;
@@ -29,23 +30,26 @@ use tw_seq::{Seq, outcome};
 use tw_texts::{Names, NotWritten, push_fault, write_trace};
 use tw_vtime::{Limit, Refusal, Stamp};
 
-/// Does a job: simulates a network by the sequential abstract simulator and writes its trace, and the
-/// line of its fault if there is one. `demo` runs a network of its own by two workers, with the same
-/// text; it reads nothing. `check` reads the network's file to its end and writes what the network has, or the place
-/// and the reason of the file's first fault; it simulates nothing. `seq` reads the network's file to its end. `run` reads it too, and runs the network by
-/// workers in threads of their own, with the same text, whatever the setting; where the setting says so, a thread of its own tells on
-/// standard error how far it is. `play` drives an executive of the network
-/// by hand: by the commands of a script, which it reads to its end, or by actions that a seed gives. It writes
-/// the answer to each as it comes, and then the trace up to the least commit line.
+/// Does a job.
 ///
-/// Of `demo`, `seq` and `run` nothing is written before the outcome of the simulation is known. It ends with
-/// - [`Exit::Done`] or [`Exit::Fault`]: the whole text of the sequential run is written, of `check` its line;
-/// - [`Exit::Bad`]: a file cannot be read (19), the network's is refused (5 to 11, 17, 18, 20 or 21), the
-///   script has too many lines (9), or the end tick is above the greatest one (10), and nothing is written, of `check` a line of words;
-/// - [`Exit::BadScript`]: a line of the script says nothing (22), and nothing is written;
-/// - [`Exit::Want`]: of `demo` and `run`, a process would hold too many nodes (12), and nothing is written; or a growth of memory was refused (4), and a beginning of the text is written; of `play`'s
-///   answers also the line `refused 4 OutOfMemory` after them;
-/// - [`Exit::NoWrite`]: the writer failed, and only it knows what it took.
+/// | Job | Reads | Writes |
+/// |---|---|---|
+/// | `demo` | nothing | the text of a network of its own, run by two workers |
+/// | `check` | the network | what the network has, or the place and the reason of the file's first fault; it simulates nothing |
+/// | `seq` | the network | the trace of its sequential run, and the line of its fault if there is one |
+/// | `run` | the network | the same text, by workers in threads of their own, whatever the setting; where that says so, a thread tells on standard error how far it is |
+/// | `play` | the network, and then the script, if one drives it | the answer to each command as it comes, and then the trace up to the least commit line |
+///
+/// A file is read to its end; a script only where the bytes of the network's file mean a network. Of `demo`, `seq` and `run` nothing
+/// is written before the outcome of the simulation is known.
+///
+/// | Exit | Status | Number | Written |
+/// |---|---|---|---|
+/// | [`Exit::Done`], [`Exit::Fault`] | 0, 3 | | the whole text; of `check` its line |
+/// | [`Exit::Bad`] | 2 | 19: a file cannot be read; 5 to 11, 17, 18, 20, 21: the network's is refused; 10: the end tick is above the greatest one; 9, 22: the script has too many lines, or one that says nothing | nothing; of `check` a line of words |
+/// | [`Exit::Want`] | 4 | 12, of `demo` and `run`: a process would hold too many nodes | nothing |
+/// | [`Exit::Want`] | 4 | 4: a growth of memory was refused | a beginning of the text; of `play`'s answers also the line `refused 4 OutOfMemory` after them |
+/// | [`Exit::NoWrite`] | 5 | 24: the writer failed | only the writer knows |
 pub fn engine<R: Threads + Wait + Clock + Eprint + Sync, N: Read, S: Read, W: Write>(
     rt: &R,
     alloc: Global,
@@ -55,17 +59,12 @@ pub fn engine<R: Threads + Wait + Clock + Eprint + Sync, N: Read, S: Read, W: Wr
     out: &mut W,
 ) -> Exit
     ensures done { IsDone job.now result (N.remaining net.old) (S.remaining script.old) (W.contents out.old) (W.contents out.new) }
+    ensures reads { (script.new ≡ script.old) ⊎ ReadsScript job.now (N.remaining net.old) }
 {
     match job {
         Job::Demo => demo(rt, alloc, out),
-        Job::Check { .. } => match read_all(alloc, net) {
-            Ok(bytes) => check(alloc, bytes.as_slice(), out),
-            Err(exit) => exit,
-        },
-        Job::Seq { until, .. } => match read_all(alloc, net) {
-            Ok(bytes) => run(alloc, bytes.as_slice(), *until, out),
-            Err(exit) => exit,
-        },
+        Job::Check { .. } => check(alloc, net, out),
+        Job::Seq { until, .. } => seq(alloc, net, *until, out),
         Job::Run {
             until,
             cancel,
@@ -92,8 +91,30 @@ pub fn engine<R: Threads + Wait + Clock + Eprint + Sync, N: Read, S: Read, W: Wr
     }
 }
 
-// Drives an executive by hand.
-fn play<N: Read, S: Read, W: Write>(
+/// Does the job `check` of [`engine`]. It takes no handle, and so it returns.
+pub fn check<N: Read, W: Write>(alloc: Global, net: &mut N, out: &mut W) -> Exit
+    ensures { IsUnread result (W.contents out.old) (W.contents out.new)
+        ⊎ IfSome (N.remaining net.old) (λ bytes. IsCheck bytes result (W.contents out.old) (W.contents out.new)) }
+{
+    match read_all(alloc, net) {
+        Ok(bytes) => check_bytes(alloc, bytes.as_slice(), out),
+        Err(exit) => exit,
+    }
+}
+
+/// Does the job `seq` of [`engine`]. It takes no handle, and so it returns.
+pub fn seq<N: Read, W: Write>(alloc: Global, net: &mut N, until: u64, out: &mut W) -> Exit
+    ensures { IsUnread result (W.contents out.old) (W.contents out.new)
+        ⊎ IfSome (N.remaining net.old) (λ bytes. IsRun bytes until result (W.contents out.old) (W.contents out.new)) }
+{
+    match read_all(alloc, net) {
+        Ok(bytes) => run(alloc, bytes.as_slice(), until, out),
+        Err(exit) => exit,
+    }
+}
+
+/// Does the job `play` of [`engine`]. It takes no handle, and so it returns.
+pub fn play<N: Read, S: Read, W: Write>(
     alloc: Global,
     net: &mut N,
     script: &mut S,
@@ -102,35 +123,48 @@ fn play<N: Read, S: Read, W: Write>(
     driver: &Driver<'_>,
     out: &mut W,
 ) -> Exit
-    ensures { IsUnread result (W.contents out.old) (W.contents out.new)
+    ensures done { IsUnread result (W.contents out.old) (W.contents out.new)
         ⊎ IsPlay driver.now until (way_of cancel) result (N.remaining net.old) (S.remaining script.old) (W.contents out.old) (W.contents out.new) }
+    ensures reads { (script.new ≡ script.old) ⊎ DriverReads driver.now (N.remaining net.old) }
 {
     let bytes = match read_all(alloc, net) {
         Ok(bytes) => bytes,
         Err(exit) => return exit,
     };
     match driver {
-        Driver::Script(_) => match read_all(alloc, script) {
-            Ok(lines) => play_by_script(
-                alloc,
-                bytes.as_slice(),
-                lines.as_slice(),
-                until,
-                cancel,
-                out,
-            ),
-            Err(exit) => exit,
-        },
+        Driver::Script(_) => play_script(alloc, bytes.as_slice(), script, until, cancel, out),
         Driver::Seed { seed, steps } => {
             play_by_seed(alloc, bytes.as_slice(), *seed, *steps, until, cancel, out)
         }
     }
 }
 
+// Drives an executive by a script, which is read only where the bytes mean a network.
+fn play_script<S: Read, W: Write>(
+    alloc: Global,
+    bytes: &[u8],
+    script: &mut S,
+    until: u64,
+    cancel: Cancel,
+    out: &mut W,
+) -> Exit
+    ensures done { IsScriptedBy bytes.now until (way_of cancel) result (S.remaining script.old) (W.contents out.old) (W.contents out.new) }
+    ensures reads { (script.new ≡ script.old) ⊎ MeansSome bytes.now }
+{
+    let network = match network(alloc, bytes) {
+        Ok(network) => network,
+        Err(exit) => return exit,
+    };
+    match read_all(alloc, script) {
+        Ok(lines) => play_by_script(alloc, network, lines.as_slice(), until, cancel, out),
+        Err(exit) => exit,
+    }
+}
+
 // All that a reader has left.
 fn read_all<N: Read>(alloc: Global, net: &mut N) -> Result<Vec<u8>, Exit>
     ensures ok { IfOk result (λ bytes. IfSome (N.remaining net.old) (λ all. bytes.items ≡ all)) }
-    ensures err { IfErr result (λ e. (e ≡ Exit.Bad refusal.Unreadable) ⊎ (e ≡ Exit.Want refusal.OutOfMemory)) }
+    ensures err { IfErr result (λ e. (e ≡ Exit.Bad refusal.Unreadable None) ⊎ (e ≡ Exit.Want refusal.OutOfMemory)) }
 {
     let mut bytes = Vec::new(alloc);
     match net.read_to_end(&mut bytes) {
@@ -138,7 +172,7 @@ fn read_all<N: Read>(alloc: Global, net: &mut N) -> Result<Vec<u8>, Exit>
         Err(error) => Err(if error.kind() == ErrorKind::OutOfMemory {
             Exit::Want(Refusal::OutOfMemory)
         } else {
-            Exit::Bad(Refusal::Unreadable)
+            Exit::from(Refusal::Unreadable)
         }),
     }
 }
@@ -178,7 +212,7 @@ fn fault_of(
 ) -> Result<Option<(usize, Stamp, Limit)>, Exit>
     ensures fault { IfOk result (λ fault. fault ≡ run_fault network.now until) }
     ensures small { IfOk result (λ _. until ≤ max_tick) }
-    ensures err { IfErr result (λ e. (e ≡ Exit.Want refusal.OutOfMemory) ⊎ ((e ≡ Exit.Bad refusal.BadTick) × (max_tick < until))) }
+    ensures err { IfErr result (λ e. (e ≡ Exit.Want refusal.OutOfMemory) ⊎ ((e ≡ Exit.Bad refusal.BadTick None) × (max_tick < until))) }
 {
     match outcome(alloc, network, until) {
         Ok(fault) => Ok(fault),

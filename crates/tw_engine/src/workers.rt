@@ -1,6 +1,6 @@
 //! A run by workers.
 
-ghost use Rattle.std.specs.Prelude.{◌≡◌, ◌≤◌, ◌<◌, ◌⊎◌, IfErr, IfOk};
+ghost use Rattle.std.specs.Prelude.{◌≡◌, ◌≤◌, ◌<◌, ◌⊎◌, IfErr, IfOk, None};
 ghost use Rattle.tw_engine.specs.Runs.{IsRunByWorkers, IsWorked};
 ghost use Rattle.tw_models.specs.Model.{model_meaning};
 ghost use Rattle.tw_network.specs.Contents.{network_of};
@@ -82,7 +82,7 @@ fn started(
 ) -> Result<Executive<Model>, Exit>
     ensures network { IfOk result (λ e. e.network ≡ network) }
     ensures until { IfOk result (λ e. e.until ≡ until) }
-    ensures err { IfErr result (λ exit. (exit ≡ Exit.Want refusal.OutOfMemory) ⊎ ((exit ≡ Exit.Bad refusal.BadTick) × (max_tick < until))) }
+    ensures err { IfErr result (λ exit. (exit ≡ Exit.Want refusal.OutOfMemory) ⊎ ((exit ≡ Exit.Bad refusal.BadTick None) × (max_tick < until))) }
 {
     match Executive::with_cancel(alloc, network, until, cancel) {
         Ok(executive) => Ok(executive),

@@ -33,7 +33,7 @@ fn run<T: Threads + Wait + Clock + Eprint + Sync>(rt: &HostRuntime, threads: &T)
             Ok(()) => Exit::Done,
             Err(_) => Exit::NoWrite,
         },
-        Err(NoJob::BadLine) => Exit::Bad(Refusal::BadLine),
+        Err(NoJob::BadLine) => Exit::from(Refusal::BadLine),
         Err(NoJob::OutOfMemory) => Exit::Want(Refusal::OutOfMemory),
     }
 }
@@ -43,7 +43,7 @@ fn exit_of(error: &io::Error) -> Exit {
     if error.kind() == ErrorKind::OutOfMemory {
         Exit::Want(Refusal::OutOfMemory)
     } else {
-        Exit::Bad(Refusal::BadLine)
+        Exit::from(Refusal::BadLine)
     }
 }
 

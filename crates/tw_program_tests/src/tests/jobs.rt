@@ -159,7 +159,7 @@ fn assert_read<R: Abort + Threads + Wait + Clock + Eprint + Sync>(
     let mut out: Vec<u8> = Vec::new(alloc);
     let end = engine(rt, alloc, &example.job, &mut net, &mut script, &mut out);
     let (wanted, text) = if is_unreadable {
-        (Exit::Bad(Refusal::Unreadable), "")
+        (Exit::from(Refusal::Unreadable), "")
     } else {
         (Exit::Done, example.text)
     };
@@ -182,6 +182,34 @@ fn a_reader_that_fails_is_unreadable(rt: HostRuntime) {
     for example in JOBS.iter().skip(4).take(1) {
         for calls in 0..=example.script.len() + 1 {
             assert_read(&rt, rt.alloc(), example, 1000, calls);
+        }
+    }
+}
+
+/// Networks that are at fault, each with its refusal.
+static BAD_NETWORKS: [(&str, Refusal); 2] = [("{", Refusal::NotJson), ("{}", Refusal::BadShape)];
+
+// Whatever is wrong with the script, the network's fault comes first, and the script is not read.
+#[test]
+fn a_bad_network_comes_before_an_unreadable_script(rt: HostRuntime) {
+    for (network, refusal) in BAD_NETWORKS.iter() {
+        for example in JOBS.iter().skip(4).take(1) {
+            let mut script = OneByteReader {
+                left: example.script.as_bytes(),
+                calls: 0,
+            };
+            let mut out: Vec<u8> = Vec::new(rt.alloc());
+            let end = engine(
+                &rt,
+                rt.alloc(),
+                &example.job,
+                &mut network.as_bytes(),
+                &mut script,
+                &mut out,
+            );
+            assert!(rt; end == Exit::from(*refusal));
+            assert!(rt; out.is_empty());
+            assert!(rt; script.left.len() == example.script.len());
         }
     }
 }
@@ -211,9 +239,30 @@ fn refused_memory_leaves_a_beginning(rt: HostRuntime) {
 /// The exits, each with its status and its line.
 static EXITS: [(Exit, u8, &str); 7] = [
     (Exit::Done, 0, ""),
-    (Exit::Bad(Refusal::BadTick), 2, "twarp: 10 BadTick\n"),
-    (Exit::Bad(Refusal::BadLine), 2, "twarp: 23 BadLine\n"),
-    (Exit::BadScript(3), 2, "twarp: 22 BadScript line 3\n"),
+    (
+        Exit::Bad {
+            refusal: Refusal::BadTick,
+            line: None,
+        },
+        2,
+        "twarp: 10 BadTick\n",
+    ),
+    (
+        Exit::Bad {
+            refusal: Refusal::BadLine,
+            line: None,
+        },
+        2,
+        "twarp: 23 BadLine\n",
+    ),
+    (
+        Exit::Bad {
+            refusal: Refusal::BadScript,
+            line: Some(3),
+        },
+        2,
+        "twarp: 22 BadScript line 3\n",
+    ),
     (Exit::Fault, 3, ""),
     (
         Exit::Want(Refusal::OutOfMemory),

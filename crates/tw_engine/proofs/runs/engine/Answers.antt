@@ -3,8 +3,7 @@ use Rattle.tw_line.specs.declared.jobs.Job.{Job}
 use Rattle.tw_engine.specs.Jobs.{IsDone}
 use Rattle.tw_engine.proofs.runs.engine.Goals as goal
 
-pub returns-in-Demo : goal.returns-in-Demo
-returns-in-Demo g c = record {
-  done = subst (λ (job : Job). IsDone job c.demo.result (g.N.Read.remaining c.args.net.now) (g.S.Read.remaining c.args.script.now) (g.W.Write.contents c.args.out.now) (g.W.Write.contents c.demo.new.out))
-      (sym c.in-Demo.is) c.demo.ensures;
-}
+pub returns-in-Demo-clause-done : goal.returns-in-Demo-clause-done
+returns-in-Demo-clause-done g c =
+    subst (λ (job : Job). IsDone job c.demo.result (g.N.Read.remaining c.args.net.now) (g.S.Read.remaining c.args.script.now) (g.W.Write.contents c.args.out.now) (g.W.Write.contents c.demo.new.out))
+    (sym c.in-Demo.is) c.demo.ensures

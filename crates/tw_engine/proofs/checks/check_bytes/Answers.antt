@@ -1,5 +1,5 @@
 use Rattle.tw_engine.proofs.Checked.{checked_fault, checked_network}
-use Rattle.tw_engine.proofs.checks.check.Goals as goal
+use Rattle.tw_engine.proofs.checks.check_bytes.Goals as goal
 
 pub returns-in-Ok : goal.returns-in-Ok
 returns-in-Ok g c =

@@ -1,5 +1,5 @@
 -- The limits of a program, each with its fault; the first that is passed counts.
-use Rattle.std.specs.Prelude.{ℕ, Option, Some, None, List, length, sum, max, nat_lt, if◌then◌else◌}
+use Rattle.std.specs.Prelude.{Option, Some, None, length, sum, max, nat_lt, if◌then◌else◌}
 use Rattle.tw_machine.specs.declared.program.BadProgram.{BadProgram}
 use Rattle.tw_machine.specs.declared.program.BadProgram.TheVariants.{TooManyCells, TooManyQueues, TooMuchRoom, TooManyNumbers, TooMuchLogged}
 use Rattle.tw_machine.specs.Undoing.{needs}

@@ -1,7 +1,7 @@
 -- What an expression does not read does not change its value.
-use Rattle.std.specs.Prelude.{◌≡◌, ◌≢◌, ℕ, zero, suc, ℤ, pos, ◌+◌, ◌<◌, ◌≤◌, max, min, Bool, true, false, ◌&&◌, ◌||◌, List, [], ◌∷◌, slice_index_or, slice_set, if◌then◌else◌, nat_lt, refl}
+use Rattle.std.specs.Prelude.{◌≡◌, ℕ, zero, suc, ℤ, pos, ◌<◌, ◌≤◌, Bool, true, false, ◌&&◌, ◌||◌, List, [], ◌∷◌, slice_index_or, slice_set, if◌then◌else◌, nat_lt, refl}
 use Rattle.std.proofs.Common.{arith, ap, ap₂, ◌∙◌, sym, subst}
-use Rattle.std.proofs.lemmas.Bool.{ltb-true, lt-ltb}
+use Rattle.std.proofs.lemmas.Bool.{lt-ltb}
 use Rattle.tw_machine.specs.declared.language.Span.{Span}
 use Rattle.tw_machine.specs.declared.language.Leaf.{Leaf}
 use Rattle.tw_machine.specs.declared.language.Leaf.TheVariants.{Number, Register, Queue, Port, Value, Elapsed, Left, Now, Turn, Random}
@@ -15,7 +15,7 @@ use Rattle.tw_machine.specs.declared.language.Target.{Target}
 use Rattle.tw_machine.specs.declared.language.Target.TheVariants.{Single, Indexed}
 use Rattle.tw_machine.specs.declared.memory.Input.{Input}
 use Rattle.tw_machine.specs.Memory.{MemoryValue, cell, with_cell}
-use Rattle.tw_machine.specs.Values.{is_set, natural, brought, leaf_value, computed, applied, value_of, target_of}
+use Rattle.tw_machine.specs.Values.{is_set, brought, leaf_value, computed, applied, value_of, target_of}
 use Rattle.tw_machine.specs.Undoing.{end_of, meet, span_at, leaf_reads, unary_reads, reads, rereads}
 
 -- a place of a span

@@ -1,5 +1,5 @@
 -- What is not offered leaves the box as it is.
-use Rattle.std.proofs.Common.{rules, ◌≡◌, ℕ, ℤ, ◌≤◌, List, [], ◌∷◌, ◌++◌, refl, Bool, true, false, length, take, ap, ◌∙◌, sym}
+use Rattle.std.proofs.Common.{rules, ◌≡◌, ℤ, [], refl, Bool, true, false, ◌∙◌, sym}
 use Rattle.std.specs.Prelude.{if◌then◌else◌}
 use Rattle.tw_atomic.specs.Atomic.{Bag}
 use Rattle.tw_machine.specs.Values.{value_of}

@@ -1,5 +1,5 @@
 -- What one more value sends comes behind what the others send.
-use Rattle.std.proofs.Common.{◌≡◌, ℤ, pos, ◌+◌, List, [], ◌∷◌, ◌++◌, take, get_or, refl, ap, ap₂, ◌∙◌, sym, append_assoc}
+use Rattle.std.proofs.Common.{◌≡◌, ℤ, pos, List, [], ◌∷◌, ◌++◌, take, get_or, refl, ap, ap₂, ◌∙◌, sym, append_assoc}
 use Rattle.std.proofs.lemmas.List.{take_more, append-nil}
 use Rattle.tw_atomic.specs.Atomic.{Bag}
 use Rattle.tw_machine.specs.declared.language.Output.{Output}

@@ -1,4 +1,4 @@
-use Rattle.std.proofs.Common.{rules, ◌≡◌, ◌≤◌, ◌++◌, ◌∷◌, [], length, ◌∙◌, sym, arith, length-append}
+use Rattle.std.proofs.Common.{rules, ◌≡◌, ◌++◌, ◌∷◌, [], ◌∙◌, sym, arith, length-append}
 use Rattle.tw_machine.proofs.Takes.{take_whole, take_full}
 use Rattle.tw_machine.proofs.sending.put.Goals as goal
 

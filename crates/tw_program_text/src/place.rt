@@ -1,6 +1,6 @@
 //! A place in a text, as people count.
-ghost use Rattle.std.specs.Prelude.{◌≡◌, ◌≤◌, ◌<◌, ◌+◌, ◌||◌, length, nat_lt, nat_le};
-ghost use Rattle.tw_program_text.specs.Place.{begins_letter, line_at, column_behind, column_at};
+ghost use Rattle.std.specs.Prelude.{◌≡◌, ◌≤◌, ◌<◌, ◌+◌, ◌||◌, length, count_by, nat_lt, nat_le};
+ghost use Rattle.tw_program_text.specs.Place.{begins_letter, last_line, line_at, column_at};
 
 /// A place in a text: the line, and the column in letters, both from 1.
 #[derive(Clone, Copy, Debug, PartialEq, Eq)]
@@ -18,7 +18,7 @@ fn begins_letter(c: u8) -> bool
 
 /// The column behind these bytes.
 fn column_behind(before: &[u8]) -> usize
-    ensures { result ≡ column_behind 1 before.now }
+    ensures { result ≡ count_by begins_letter (last_line before.now) + 1 }
 {
     let mut column = 1;
     for c in before {

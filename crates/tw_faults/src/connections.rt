@@ -38,7 +38,7 @@ fn coupling_of<'a>(value: &'a Value) -> Option<Coupling<'a>> {
 }
 
 // Looks for a name that is not made as names are.
-pub fn bad_names(alloc: Global, outline: &Outline<'_>) -> Result<(), Stop> {
+pub(crate) fn bad_names(alloc: Global, outline: &Outline<'_>) -> Result<(), Stop> {
     for level in &outline.levels {
         for (i, component) in items_at(level.value, "components").iter().enumerate() {
             let name = name_of(component).unwrap_or("");
@@ -66,7 +66,7 @@ fn is_name(name: &str) -> bool {
 }
 
 // Looks for a name that stood before in the same model.
-pub fn repeated_names(alloc: Global, outline: &Outline<'_>) -> Result<(), Stop> {
+pub(crate) fn repeated_names(alloc: Global, outline: &Outline<'_>) -> Result<(), Stop> {
     for level in &outline.levels {
         let components = items_at(level.value, "components");
         for (i, component) in components.iter().enumerate() {
@@ -97,7 +97,11 @@ fn first_named(components: &[Value], name: &str) -> Option<usize> {
 }
 
 // Looks for a name of a coupling or an input that nothing has.
-pub fn unknown_names(alloc: Global, value: &Value, outline: &Outline<'_>) -> Result<(), Stop> {
+pub(crate) fn unknown_names(
+    alloc: Global,
+    value: &Value,
+    outline: &Outline<'_>,
+) -> Result<(), Stop> {
     for level in &outline.levels {
         for (i, item) in items_at(level.value, "couplings").iter().enumerate() {
             if let Some(coupling) = coupling_of(item) {
@@ -149,7 +153,7 @@ fn has_atom(outline: &Outline<'_>, name: &str) -> bool {
 }
 
 // Looks for a port that is too great.
-pub fn bad_ports(alloc: Global, value: &Value, outline: &Outline<'_>) -> Result<(), Stop> {
+pub(crate) fn bad_ports(alloc: Global, value: &Value, outline: &Outline<'_>) -> Result<(), Stop> {
     for level in &outline.levels {
         for (i, item) in items_at(level.value, "couplings").iter().enumerate() {
             if let Some(coupling) = coupling_of(item) {
@@ -176,7 +180,7 @@ pub fn bad_ports(alloc: Global, value: &Value, outline: &Outline<'_>) -> Result<
 }
 
 // Looks for a coupling whose ends are the same.
-pub fn self_couplings(alloc: Global, outline: &Outline<'_>) -> Result<(), Stop> {
+pub(crate) fn self_couplings(alloc: Global, outline: &Outline<'_>) -> Result<(), Stop> {
     for level in &outline.levels {
         for (i, item) in items_at(level.value, "couplings").iter().enumerate() {
             if let Some(coupling) = coupling_of(item) {
@@ -199,7 +203,7 @@ pub fn self_couplings(alloc: Global, outline: &Outline<'_>) -> Result<(), Stop> 
 }
 
 // Looks for a coupling that stood before in the same model.
-pub fn repeated_routes(alloc: Global, outline: &Outline<'_>) -> Result<(), Stop> {
+pub(crate) fn repeated_routes(alloc: Global, outline: &Outline<'_>) -> Result<(), Stop> {
     for level in &outline.levels {
         let couplings = items_at(level.value, "couplings");
         for (i, item) in couplings.iter().enumerate() {
@@ -229,7 +233,7 @@ fn first_like(couplings: &[Value], item: &Value) -> Option<usize> {
 }
 
 // Looks for an input whose tick is too late.
-pub fn bad_ticks(alloc: Global, value: &Value) -> Result<(), Stop> {
+pub(crate) fn bad_ticks(alloc: Global, value: &Value) -> Result<(), Stop> {
     for (i, input) in items_at(value, "inputs").iter().enumerate() {
         let place = format!(in alloc; "inputs[{i}]")?;
         check_range(alloc, place.as_str(), input, "tick", 0, MAX_TICK)?;

@@ -19,7 +19,7 @@ const MAX_INPUTS: usize = 65_536;
 const MAX_MICROSTEP: u64 = 8_388_607;
 
 // Looks for a count above the most that is taken.
-pub fn too_many(alloc: Global, value: &Value, outline: &Outline<'_>) -> Result<(), Stop> {
+pub(crate) fn too_many(alloc: Global, value: &Value, outline: &Outline<'_>) -> Result<(), Stop> {
     let mut depth = 0usize;
     let mut couplings = 0usize;
     for level in &outline.levels {
@@ -50,6 +50,6 @@ fn check_count(alloc: Global, count: usize, of: &str, most: usize) -> Result<(),
 }
 
 // Looks at the greatest microstep.
-pub fn bad_limit(alloc: Global, value: &Value) -> Result<(), Stop> {
+pub(crate) fn bad_limit(alloc: Global, value: &Value) -> Result<(), Stop> {
     check_range(alloc, "the file", value, "micro_limit", 1, MAX_MICROSTEP)
 }

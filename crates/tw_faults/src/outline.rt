@@ -9,42 +9,42 @@ const ROOM: usize = 64;
 
 /// A component that is no coupled model.
 #[derive(Drop)]
-pub struct Atom<'a> {
+pub(crate) struct Atom<'a> {
     /// Its place, with its name: `components[1].components[0] "left.saw"`.
-    pub place: String,
+    pub(crate) place: String,
     /// Its flat name: the names on its way, joined by dots.
-    pub name: String,
-    pub value: &'a Value,
+    pub(crate) name: String,
+    pub(crate) value: &'a Value,
 }
 
 /// The whole file, or a coupled model in it.
 #[derive(Drop)]
-pub struct Level<'a> {
+pub(crate) struct Level<'a> {
     /// Its place, with its name: `the file`, or `components[1] "left"`.
-    pub place: String,
+    pub(crate) place: String,
     /// What stands before the places in it: nothing in the whole file, else as `components[1].`.
-    pub path: String,
+    pub(crate) path: String,
     /// What stands before the flat names in it: nothing in the whole file, else as `left.`.
-    pub prefix: String,
+    pub(crate) prefix: String,
     /// How many models it is in.
-    pub depth: usize,
-    pub value: &'a Value,
+    pub(crate) depth: usize,
+    pub(crate) value: &'a Value,
 }
 
 /// A file's models and atoms in order. What has another shape is passed over.
 #[derive(Drop)]
-pub struct Outline<'a> {
+pub(crate) struct Outline<'a> {
     /// The whole file first, and each model before those in it.
-    pub levels: Vec<Level<'a>>,
+    pub(crate) levels: Vec<Level<'a>>,
     /// Depth first.
-    pub atoms: Vec<Atom<'a>>,
+    pub(crate) atoms: Vec<Atom<'a>>,
     /// Whether components may be coupled models: the format is `tw-2`.
-    pub has_trees: bool,
+    pub(crate) has_trees: bool,
 }
 
 impl<'a> Outline<'a> {
     // The outline of a file.
-    pub fn new(alloc: Global, value: &'a Value) -> Result<Outline<'a>, AllocError> {
+    pub(crate) fn new(alloc: Global, value: &'a Value) -> Result<Outline<'a>, AllocError> {
         let mut outline = Outline {
             levels: Vec::new(alloc),
             atoms: Vec::new(alloc),
@@ -101,7 +101,7 @@ fn add_level<'a>(
 }
 
 // The place of a component with its flat name, where it has a name.
-pub fn place_of(
+pub(crate) fn place_of(
     alloc: Global,
     path: &str,
     prefix: &str,
@@ -119,12 +119,12 @@ pub fn place_of(
 }
 
 // The text that a component has as its name.
-pub fn name_of<'a>(component: &'a Value) -> Option<&'a str> {
+pub(crate) fn name_of<'a>(component: &'a Value) -> Option<&'a str> {
     component.get("name").and_then(Value::as_str)
 }
 
 // The items of a member that is a list, and none of any other.
-pub fn items_at<'a>(value: &'a Value, name: &str) -> &'a [Value] {
+pub(crate) fn items_at<'a>(value: &'a Value, name: &str) -> &'a [Value] {
     match value.get(name).and_then(Value::as_array) {
         Some(items) => items.as_slice(),
         None => &[],

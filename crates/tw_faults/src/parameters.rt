@@ -13,7 +13,7 @@ const MAX_PORTS: u64 = 16;
 const MAX_SPREAD: u64 = 1_048_576;
 
 // Looks for a parameter out of range, by atom in order; of a hop its ports first.
-pub fn bad_parameters(alloc: Global, outline: &Outline<'_>) -> Result<(), Stop> {
+pub(crate) fn bad_parameters(alloc: Global, outline: &Outline<'_>) -> Result<(), Stop> {
     for atom in &outline.atoms {
         let value = atom.value;
         let place = atom.place.as_str();
@@ -32,7 +32,7 @@ pub fn bad_parameters(alloc: Global, outline: &Outline<'_>) -> Result<(), Stop> 
 }
 
 // Stops at a member that is a whole number out of this range.
-pub fn check_range(
+pub(crate) fn check_range(
     alloc: Global,
     place: &str,
     value: &Value,

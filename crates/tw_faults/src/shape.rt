@@ -7,7 +7,7 @@ use serde_json::Value;
 use std::alloc::Global;
 
 // Looks for another shape: first in the members of the file, then in its models in order, then in its inputs.
-pub fn bad_shape(alloc: Global, value: &Value, outline: &Outline<'_>) -> Result<(), Stop> {
+pub(crate) fn bad_shape(alloc: Global, value: &Value, outline: &Outline<'_>) -> Result<(), Stop> {
     check_file(alloc, value)?;
     for level in &outline.levels {
         let place = level.place.as_str();

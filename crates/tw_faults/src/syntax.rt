@@ -28,7 +28,7 @@ struct Scan {
 }
 
 // The line for bytes that are no JSON: where, and what is wanted there.
-pub fn not_json(alloc: Global, bytes: &[u8], error: &Error) -> Result<String, AllocError> {
+pub(crate) fn not_json(alloc: Global, bytes: &[u8], error: &Error) -> Result<String, AllocError> {
     let (line, column) = (error.line(), error.column());
     let reason = reason(alloc, bytes, error)?;
     format!(in alloc; "line {line}, column {column}: not JSON: {reason}")

@@ -7,7 +7,7 @@ use std::alloc::{AllocError, Global};
 const SHOWN: usize = 64;
 
 // A text in quotes, with what would break the line written as an escape, and its end left out where it is long.
-pub fn quoted(alloc: Global, text: &str) -> Result<String, AllocError> {
+pub(crate) fn quoted(alloc: Global, text: &str) -> Result<String, AllocError> {
     let mut shown = String::new(alloc);
     for (count, letter) in text.chars().enumerate() {
         if count == SHOWN {
@@ -19,7 +19,7 @@ pub fn quoted(alloc: Global, text: &str) -> Result<String, AllocError> {
 }
 
 // What a value is: a number, a text, `true`, `false` or `null` as written, and of the others the kind.
-pub fn described(alloc: Global, value: &Value) -> Result<String, AllocError> {
+pub(crate) fn described(alloc: Global, value: &Value) -> Result<String, AllocError> {
     match value {
         Value::Null | Value::Bool(_) | Value::Number(_) => value.to_string(alloc),
         Value::String(text) => quoted(alloc, text.as_str()),
@@ -29,7 +29,7 @@ pub fn described(alloc: Global, value: &Value) -> Result<String, AllocError> {
 }
 
 // Words with a comma between them.
-pub fn listed(alloc: Global, words: &[&str]) -> Result<String, AllocError> {
+pub(crate) fn listed(alloc: Global, words: &[&str]) -> Result<String, AllocError> {
     let mut list = String::new(alloc);
     for word in words {
         if !list.is_empty() {

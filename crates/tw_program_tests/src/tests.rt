@@ -1,9 +1,5 @@
-mod files;
-mod inspect;
 mod jobs;
 mod lines;
-mod records;
 mod scripts;
+mod streams;
 mod texts;
-mod traces;
-mod writers;

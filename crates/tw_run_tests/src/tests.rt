@@ -1,9 +1,6 @@
 mod board;
-mod drawn;
 mod exchange;
 mod executive;
 mod helpers;
-mod installs;
-mod marks;
 mod progress;
 mod runs;

@@ -1,8 +1,7 @@
 //! Jobs on readers and writers that fail, or take one byte a call, and with memory refused. What jobs write is compared in the
 //! program's cases.
 
-use crate::tests::files::GEN_TALLY;
-use crate::tests::writers::{Expecting, OneByteReader, OneByteWriter};
+use crate::tests::streams::{OneByteReader, OneByteWriter};
 use std::alloc::Global;
 use std::process::Abort;
 use std::sync::Wait;
@@ -12,6 +11,10 @@ use tw_engine::{Exit, engine};
 use tw_line::{Driver, Job, Setting};
 use tw_process::Cancel;
 use tw_vtime::Refusal;
+
+/// A generator that sends 5 each 2 ticks, and a tally of what it sends.
+const GEN_TALLY: &str =
+    r#"{"format": "tw-1", "micro_limit": 100, "components": [{"name": "g", "model": "gen", "period": 2, "value": 5}, {"name": "t", "model": "tally"}], "couplings": [["g", 0, "t", 0]], "inputs": []}"#;
 
 /// The lines of a generator of period 2 and value 5 and its tally, until 5.
 const TRACE: &str =
@@ -29,25 +32,36 @@ const PLAYED: &str =
 /// to the tally's empty mailbox, a step of the generator.
 const DRAWN: &str = "stepped 2.0.0 out\nrefused 15 NoSuch\nstepped 2.0.1 int\n";
 
-/// A job on the generator and its tally, the script for it, and what it writes.
+/// A job, the network and the script that it reads, and what it writes.
 struct Example {
     name: &'static str,
     job: Job<'static>,
+    net: &'static str,
     script: &'static str,
     text: &'static str,
 }
+
+/// A job that reads a network and then a script.
+const BY_SCRIPT: Job<'static> = Job::Play {
+    net: "net.json",
+    until: 5,
+    cancel: Cancel::Aggressive,
+    driver: Driver::Script("script.txt"),
+};
 
 /// A job of each kind.
 static JOBS: [Example; 6] = [
     Example {
         name: "demo",
         job: Job::Demo,
+        net: "",
         script: "",
         text: TRACE,
     },
     Example {
         name: "check",
         job: Job::Check { net: "net.json" },
+        net: GEN_TALLY,
         script: "",
         text: "ok: 2 components, 1 couplings, 0 inputs\n",
     },
@@ -57,6 +71,7 @@ static JOBS: [Example; 6] = [
             net: "net.json",
             until: 5,
         },
+        net: GEN_TALLY,
         script: "",
         text: TRACE,
     },
@@ -73,17 +88,14 @@ static JOBS: [Example; 6] = [
                 progress: false,
             },
         },
+        net: GEN_TALLY,
         script: "",
         text: TRACE,
     },
     Example {
         name: "play by a script",
-        job: Job::Play {
-            net: "net.json",
-            until: 5,
-            cancel: Cancel::Aggressive,
-            driver: Driver::Script("script.txt"),
-        },
+        job: BY_SCRIPT,
+        net: GEN_TALLY,
         script: SCRIPT,
         text: PLAYED,
     },
@@ -95,122 +107,91 @@ static JOBS: [Example; 6] = [
             cancel: Cancel::Lazy,
             driver: Driver::Seed { seed: 1, steps: 3 },
         },
+        net: GEN_TALLY,
         script: "",
         text: DRAWN,
     },
 ];
 
-/// Asserts how a job ends with a writer of so many calls, and that it has got that beginning of the text.
-fn assert_begun<R: Abort + Threads + Wait + Clock + Eprint + Sync>(
+/// Asserts how a job ends with readers and a writer of so many calls: unreadable with nothing written, or with a beginning of the
+/// text, or with the whole of it.
+fn assert_ends<R: Abort + Threads + Wait + Clock + Eprint + Sync>(
     rt: &R,
     alloc: Global,
     example: &Example,
-    calls: usize,
+    net_calls: usize,
+    script_calls: usize,
+    out_calls: usize,
 ) {
+    let mut net = OneByteReader {
+        left: example.net.as_bytes(),
+        calls: net_calls,
+    };
+    let mut script = OneByteReader {
+        left: example.script.as_bytes(),
+        calls: script_calls,
+    };
     let mut out = OneByteWriter {
-        taken: Vec::new(alloc),
-        calls,
+        left: example.text.as_bytes(),
+        calls: out_calls,
     };
-    let end = engine(
-        rt,
-        alloc,
-        &example.job,
-        &mut GEN_TALLY.as_bytes(),
-        &mut example.script.as_bytes(),
-        &mut out,
-    );
-    let wanted = if calls == example.text.len() {
-        Exit::Done
+    let end = engine(rt, alloc, &example.job, &mut net, &mut script, &mut out);
+    let is_cut = |text: &str, calls: usize| !text.is_empty() && calls <= text.len();
+    let (wanted, written) = if is_cut(example.net, net_calls)
+        || is_cut(example.script, script_calls)
+    {
+        (Exit::from(Refusal::Unreadable), 0)
+    } else if out_calls < example.text.len() {
+        (Exit::NoWrite, out_calls)
     } else {
-        Exit::NoWrite
+        (Exit::Done, example.text.len())
     };
-    assert!(rt; end == wanted, "{} {calls}", example.name);
-    assert!(rt; example.text.as_bytes().starts_with(out.taken.as_slice()));
-    assert!(rt; out.taken.len() == calls);
+    assert!(rt;
+        (end, out.left.len()) == (wanted, example.text.len().saturating_sub(written)),
+        "{} {net_calls} {script_calls} {out_calls}",
+        example.name
+    );
 }
 
 #[test]
 fn a_writer_that_fails_gets_a_beginning(rt: HostRuntime) {
     for example in JOBS.iter() {
         for calls in 0..=example.text.len() {
-            assert_begun(&rt, rt.alloc(), example, calls);
+            assert_ends(&rt, rt.alloc(), example, 1000, 1000, calls);
         }
     }
 }
 
-/// Asserts how a job ends with readers of so many calls: unreadable and with nothing written, or with the whole text.
-fn assert_read<R: Abort + Threads + Wait + Clock + Eprint + Sync>(
-    rt: &R,
-    alloc: Global,
-    example: &Example,
-    net_calls: usize,
-    script_calls: usize,
-) {
-    let (net, script) = (GEN_TALLY.as_bytes(), example.script.as_bytes());
-    let is_unreadable = net_calls <= net.len() || script_calls <= script.len();
-    let mut net = OneByteReader {
-        left: net,
-        calls: net_calls,
-    };
-    let mut script = OneByteReader {
-        left: script,
-        calls: script_calls,
-    };
-    let mut out: Vec<u8> = Vec::new(alloc);
-    let end = engine(rt, alloc, &example.job, &mut net, &mut script, &mut out);
-    let (wanted, text) = if is_unreadable {
-        (Exit::from(Refusal::Unreadable), "")
-    } else {
-        (Exit::Done, example.text)
-    };
-    assert!(rt;
-        end == wanted,
-        "{} {net_calls} {script_calls}",
-        example.name
-    );
-    assert!(rt; out.as_slice() == text.as_bytes());
-}
-
-// The demonstration reads nothing.
+// The demonstration reads nothing, and scripts are read by one job alone.
 #[test]
 fn a_reader_that_fails_is_unreadable(rt: HostRuntime) {
-    for example in JOBS.iter().skip(1) {
+    for example in JOBS.iter() {
         for calls in 0..=GEN_TALLY.len() + 1 {
-            assert_read(&rt, rt.alloc(), example, calls, 1000);
-        }
-    }
-    for example in JOBS.iter().skip(4).take(1) {
-        for calls in 0..=example.script.len() + 1 {
-            assert_read(&rt, rt.alloc(), example, 1000, calls);
+            assert_ends(&rt, rt.alloc(), example, calls, 1000, 1000);
+            assert_ends(&rt, rt.alloc(), example, 1000, calls, 1000);
         }
     }
 }
-
-/// Networks that are at fault, each with its refusal.
-static BAD_NETWORKS: [(&str, Refusal); 2] = [("{", Refusal::NotJson), ("{}", Refusal::BadShape)];
 
 // Whatever is wrong with the script, the network's fault comes first, and the script is not read.
 #[test]
 fn a_bad_network_comes_before_an_unreadable_script(rt: HostRuntime) {
-    for (network, refusal) in BAD_NETWORKS.iter() {
-        for example in JOBS.iter().skip(4).take(1) {
-            let mut script = OneByteReader {
-                left: example.script.as_bytes(),
-                calls: 0,
-            };
-            let mut out: Vec<u8> = Vec::new(rt.alloc());
-            let end = engine(
-                &rt,
-                rt.alloc(),
-                &example.job,
-                &mut network.as_bytes(),
-                &mut script,
-                &mut out,
-            );
-            assert!(rt; end == Exit::from(*refusal));
-            assert!(rt; out.is_empty());
-            assert!(rt; script.left.len() == example.script.len());
-        }
+    for (network, refusal) in [("{", Refusal::NotJson), ("{}", Refusal::BadShape)] {
+        let mut script = OneByteReader {
+            left: SCRIPT.as_bytes(),
+            calls: 0,
+        };
+        let mut out: Vec<u8> = Vec::new(rt.alloc());
+        let end = engine(
+            &rt,
+            rt.alloc(),
+            &BY_SCRIPT,
+            &mut network.as_bytes(),
+            &mut script,
+            &mut out,
+        );
+        assert!(rt; end == Exit::from(refusal));
+        assert!(rt; (out.len(), script.left.len()) == (0, SCRIPT.len()));
     }
 }
 
@@ -219,8 +200,9 @@ fn a_bad_network_comes_before_an_unreadable_script(rt: HostRuntime) {
 fn refused_memory_leaves_a_beginning(rt: HostRuntime) {
     for _ in 0..2 {
         for example in JOBS.iter().take(3) {
-            let mut out = Expecting {
+            let mut out = OneByteWriter {
                 left: example.text.as_bytes(),
+                calls: 1000,
             };
             let end = engine(
                 &rt,

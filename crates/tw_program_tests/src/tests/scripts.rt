@@ -1,16 +1,13 @@
 //! Scripts and the schedules that seeds give: each form of a line, and the generator's published words. The lines that are refused
 //! are tried on the program.
 
-use crate::tests::files::row;
 use rand_core::utils::NextWord;
 use rand_pcg::Pcg32;
-use std::alloc::Global;
 use std::process::Abort;
 use tw_exec::{Action, Executive};
-use tw_models::Model;
-use tw_network::Network;
-use tw_script::{Command, Schedule, ScriptRefused, commands_of_script};
-use tw_vtime::{Refusal, Stamp};
+use tw_netfile::network_of_file;
+use tw_script::{Command, Schedule, commands_of_script};
+use tw_vtime::Stamp;
 
 /// The generator of the row.
 const G: usize = 0;
@@ -18,6 +15,10 @@ const G: usize = 0;
 const R: usize = 1;
 /// Its tally.
 const T: usize = 2;
+
+/// A generator of period 2 and value 5, a relay of delay 1 and a tally in a row, of which the relay has 0=8 at tick 3.
+const ROW: &str =
+    r#"{"format": "tw-1", "micro_limit": 100, "components": [{"name": "g", "model": "gen", "period": 2, "value": 5}, {"name": "r", "model": "relay", "delay": 1}, {"name": "t", "model": "tally"}], "couplings": [["g", 0, "r", 0], ["r", 0, "t", 0]], "inputs": [{"tick": 3, "to": "r", "port": 0, "value": 8}]}"#;
 
 /// A script that has each form of a line, and some that say nothing.
 const SCRIPT: &[u8] =
@@ -27,7 +28,7 @@ back g 1099511627774.8388607.1\nback r end\n#\nraise\nharvest t\nmark\nrewind\ns
 #[test]
 fn each_form_of_a_line_says_its_command(rt: HostRuntime) {
     let alloc = rt.alloc();
-    let network = row(&rt, alloc);
+    let network = network_of_file(alloc, ROW.as_bytes()).expect(&rt, "a network");
     let last = Stamp::new(1_099_511_627_774, 8_388_607, 1).expect(&rt, "a stamp");
     let wanted = [
         Command::Act(Action::Step(R)),
@@ -44,68 +45,41 @@ fn each_form_of_a_line_says_its_command(rt: HostRuntime) {
     ];
     let said = commands_of_script(alloc, SCRIPT, &network).expect(&rt, "a script");
     assert!(rt; said.as_slice() == wanted.as_slice());
-    for nothing in ["", "\n"] {
-        let said = commands_of_script(alloc, nothing.as_bytes(), &network).expect(&rt, "a script");
-        assert!(rt; said.is_empty());
-    }
-}
-
-#[test]
-fn refusals_of_scripts_have_their_numbers(rt: HostRuntime) {
-    assert!(rt; Refusal::from(ScriptRefused::OutOfMemory).number() == 4);
-    assert!(rt; Refusal::from(ScriptRefused::TooMany).number() == 9);
-    assert!(rt; Refusal::from(ScriptRefused::BadLine(3)).number() == 22);
-}
-
-/// Asserts that a seed gives these actions to an executive that does not move.
-fn assert_gives(rt: &impl Abort, executive: &Executive<Model>, seed: u64, actions: &[Action]) {
-    let mut schedule = Schedule::new(seed);
-    for action in actions {
-        assert!(rt; schedule.next_action(executive) == Some(*action));
-    }
 }
 
 // The actions of these seeds were worked out apart from this program.
 #[test]
 fn a_seed_gives_its_actions(rt: HostRuntime) {
-    let executive = Executive::new(rt.alloc(), row(&rt, rt.alloc()), 10).expect(&rt, "memory");
-    assert_gives(
-        &rt,
-        &executive,
-        0,
-        &[
-            Action::Post(T),
-            Action::Step(G),
-            Action::Step(R),
-            Action::Deliver(R, 0),
-            Action::Harvest(T),
-        ],
-    );
-    assert_gives(
-        &rt,
-        &executive,
-        42,
-        &[
-            Action::Raise,
-            Action::Raise,
-            Action::Raise,
-            Action::Post(T),
-            Action::Post(G),
-        ],
-    );
-}
-
-/// A network of no components.
-fn nothing(rt: &impl Abort, alloc: Global) -> Network<Model> {
-    let (components, couplings, inputs) = (Vec::new(alloc), Vec::new(alloc), Vec::new(alloc));
-    Network::new(alloc, components, couplings, inputs, 100).expect(rt, "a network")
-}
-
-#[test]
-fn without_components_a_seed_gives_nothing(rt: HostRuntime) {
-    let executive = Executive::new(rt.alloc(), nothing(&rt, rt.alloc()), 5).expect(&rt, "memory");
-    let mut schedule = Schedule::new(1);
-    assert!(rt; schedule.next_action(&executive) == None);
+    let alloc = rt.alloc();
+    let network = network_of_file(alloc, ROW.as_bytes()).expect(&rt, "a network");
+    let executive = Executive::new(alloc, network, 10).expect(&rt, "memory");
+    for (seed, actions) in [
+        (
+            0,
+            [
+                Action::Post(T),
+                Action::Step(G),
+                Action::Step(R),
+                Action::Deliver(R, 0),
+                Action::Harvest(T),
+            ],
+        ),
+        (
+            42,
+            [
+                Action::Raise,
+                Action::Raise,
+                Action::Raise,
+                Action::Post(T),
+                Action::Post(G),
+            ],
+        ),
+    ] {
+        let mut schedule = Schedule::new(seed);
+        for action in actions {
+            assert!(rt; schedule.next_action(&executive) == Some(action));
+        }
+    }
 }
 
 // The first words of the generator's own demonstration (O'Neill, pcg32-demo, state 42, stream 54).

@@ -1,91 +1,92 @@
-//! The executive by worked examples, as lists of actions with their answers, and each of its calls once.
+//! The executive by worked examples: lists of actions, and marks.
 
-use super::helpers::{
-    Asked, CUT, R, Reply, SEEN, Shown, T, assert_left, assert_shown, in_a_row, play, row, stamp,
-};
-use tw_exec::{Executive, Refused, StartRefused};
+use super::helpers::{G, Line, R, T, all_show, assert_relay, in_a_row, stamp};
+use tw_exec::Action;
+use tw_inspect::report;
+use tw_msgs::RecordKind;
 use tw_process::Cancel;
-use tw_vtime::{Limit, MAX_TICK, Refusal, Stamp};
-use tw_workers::{NoSuch, SweepRefused};
 
+/// What is seen of the row after the example's fourteen actions.
+const CUT: &str = "\
+gvt 3.0.0 committed 3
+g line 3.0.0 next 4.0.0 due 4.0.0 last 2.0 steps 0 pending 0 waiting 0 outgoing 0 mail 0 | 1
+r line 3.0.0 next 3.0.0 due 3.0.0 last 2.0 steps 0 pending 1 waiting 0 outgoing 2 mail 0 | 0 5
+t line 3.0.0 next end due end last 0.0 steps 0 pending 0 waiting 0 outgoing 0 mail 0 | 0 0 0
+";
+
+/// The relay then, with what it sent and its anti-message.
+const CUT_RELAY: &str = "\
+r line 3.0.0 next 3.0.0 due 3.0.0 last 2.0 steps 0 pending 1 waiting 0 outgoing 2 mail 0 | 0 5
+pending 0=8 at 3.0.1
+outgoing + t 0=5 at 3.0.1
+outgoing - t 0=5 at 3.0.1
+";
+
+/// What is committed then.
+static COMMITTED: [Line; 3] = [
+    Line(2, 0, G, RecordKind::Out, &[(0, 5)], &[]),
+    Line(2, 0, G, RecordKind::Int, &[], &[1]),
+    Line(2, 0, R, RecordKind::Ext, &[(0, 5)], &[0, 5]),
+];
+
+// Of the actions the one that would go back before global virtual time is refused.
 #[test]
-fn gvt_sees_outgoing_then_commit_and_cut(rt: HostRuntime) {
+fn commit_and_cut_by_one_replay(rt: HostRuntime) {
     let alloc = rt.alloc();
     let mut executive = in_a_row(&rt, alloc, Cancel::Aggressive);
-    play(&rt, &mut executive, &SEEN);
-    assert!(rt; executive.gvt() == stamp(&rt, 3, 0, 0));
-    assert!(rt; executive.committed_len() == 0);
-    play(&rt, &mut executive, &CUT);
-    assert_left(&rt, alloc, &executive);
+    let actions = [
+        Action::Step(G),
+        Action::Step(G),
+        Action::Raise,
+        Action::Post(G),
+        Action::Deliver(R, 0),
+        Action::Raise,
+        Action::Step(R),
+        Action::Raise,
+        Action::Step(R),
+        Action::Back(R, stamp(&rt, 2, 0, 1)),
+        Action::Back(R, stamp(&rt, 3, 0, 0)),
+        Action::Harvest(G),
+        Action::Harvest(R),
+        Action::Harvest(T),
+    ];
+    assert!(rt; executive.replay(&actions) == 13);
+    let seen = report(alloc, &executive).expect(&rt, "memory");
+    assert!(rt; seen.as_str() == CUT, "{seen}");
+    assert_relay(&rt, alloc, &executive, CUT_RELAY);
+    let trace = executive.trace(alloc).expect(&rt, "memory");
+    assert!(rt; all_show(trace.as_slice(), &COMMITTED));
 }
 
-/// Why an action is refused, with its number.
-static REFUSALS: [(Refused, u8); 8] = [
-    (Refused::OverLimit(Limit::Microstep), 2),
-    (Refused::OverLimit(Limit::Tick), 3),
-    (Refused::OutOfMemory, 4),
-    (Refused::Full, 12),
-    (Refused::Committed, 13),
-    (Refused::BeforeGvt, 14),
-    (Refused::NoSuch, 15),
-    (Refused::NothingDue, 16),
-];
+/// The relay after three steps were taken back: as it was, with what it sent outgoing, and its anti-message.
+const REWOUND: &str = "\
+r line 0.0.0 next 3.0.1 due end last 0.0 steps 0 pending 1 waiting 0 outgoing 2 mail 0 | 0
+pending 0=8 at 3.0.1
+outgoing + t 0=8 at 4.0.1
+outgoing - t 0=8 at 4.0.1
+";
+
+/// The same where the anti-message is owed.
+const REWOUND_LAZILY: &str = "\
+r line 0.0.0 next 3.0.1 due end last 0.0 steps 0 pending 1 waiting 0 outgoing 1 owed 1 mail 0 | 0
+pending 0=8 at 3.0.1
+outgoing + t 0=8 at 4.0.1
+owed t 0=8 at 4.0.1
+";
 
 #[test]
-fn refusals_have_their_numbers(rt: HostRuntime) {
-    for (refused, number) in REFUSALS.iter() {
-        assert!(rt; Refusal::from(*refused).number() == *number);
-    }
-    assert!(rt; Refusal::from(StartRefused::OutOfMemory).number() == 4);
-    assert!(rt; Refusal::from(StartRefused::BadTick).number() == 10);
-    assert!(rt; Refusal::from(NoSuch).number() == 15);
-    assert!(rt; Refusal::from(SweepRefused::OutOfMemory).number() == 4);
-    assert!(rt; Refusal::from(SweepRefused::Full).number() == 12);
-}
-
-/// The tally to which nothing came.
-static UNTOUCHED: Shown = Shown {
-    component: T,
-    line: (0, 0, 0),
-    next: None,
-    due: None,
-    last: (0, 0, 0),
-    steps: 0,
-    pending: &[],
-    outgoing: &[],
-    owed: &[],
-    mail: &[],
-    words: &[0, 0, 0],
-};
-
-/// What is not there, by component, by place and by step.
-static NOTHING_THERE: [(Asked, Reply); 7] = [
-    (Asked::Deliver(T, 0), Reply::Not(Refused::NoSuch)),
-    (Asked::Step(T), Reply::Not(Refused::NothingDue)),
-    (Asked::Step(3), Reply::Not(Refused::NoSuch)),
-    (Asked::Post(3), Reply::Not(Refused::NoSuch)),
-    (Asked::Deliver(3, 0), Reply::Not(Refused::NoSuch)),
-    (Asked::Back(3, (0, 0, 0)), Reply::Not(Refused::NoSuch)),
-    (Asked::Harvest(3), Reply::Not(Refused::NoSuch)),
-];
-
-#[test]
-fn an_executive_begins_at_the_start(rt: HostRuntime) {
+fn mark_and_rewind(rt: HostRuntime) {
     let alloc = rt.alloc();
-    let late = Executive::new(alloc, row(&rt, alloc, 2, 1, 3), MAX_TICK + 1);
-    assert!(rt; late.err() == Some(StartRefused::BadTick));
-    let mut executive = Executive::new(alloc, row(&rt, alloc, 2, 1, 3), 10).expect(&rt, "memory");
-    executive.facts();
-    assert!(rt; executive.network().len() == 3);
-    assert!(rt; executive.until() == 10);
-    assert!(rt; executive.gvt() == Stamp::START);
-    assert!(rt; executive.committed_len() == 0);
-    assert!(rt; executive.contents(R).cancel() == Cancel::Aggressive);
-    play(&rt, &mut executive, &NOTHING_THERE);
-    assert_shown(&rt, alloc, &executive, &UNTOUCHED);
-    for component in 0..executive.network().len() {
-        assert!(rt; executive.line(component) == Stamp::START);
-        assert!(rt; executive.committed(component).is_empty());
-        assert!(rt; executive.mail(component).is_empty());
+    for (cancel, seen) in [
+        (Cancel::Aggressive, REWOUND),
+        (Cancel::Lazy, REWOUND_LAZILY),
+    ] {
+        let mut executive = in_a_row(&rt, alloc, cancel);
+        let mark = executive.mark().expect(&rt, "memory");
+        assert!(rt; executive.replay(&[Action::Step(R), Action::Step(R), Action::Step(R)]) == 3);
+        for undone in [3, 0] {
+            assert!(rt; executive.rewind(&mark) == Ok(undone));
+            assert_relay(&rt, alloc, &executive, seen);
+        }
     }
 }

@@ -10,7 +10,7 @@ use std::test::Fail;
 use std::thread::Threads;
 use std::time::{Clock, Duration, Instant};
 use std::{io, thread};
-use tw_board::{Board, Reader};
+use tw_board::Board;
 use tw_progress::{Progress, while_telling};
 use tw_vtime::Stamp;
 
@@ -21,23 +21,6 @@ struct Ear<'a, R> {
     lines: AtomicU64,
     most: u64,
     has_clock: bool,
-}
-
-impl<'a, R> Ear<'a, R> {
-    /// An ear that has heard nothing.
-    fn new(rt: &'a R, most: u64, has_clock: bool) -> Ear<'a, R> {
-        Ear {
-            rt,
-            lines: AtomicU64::new(0),
-            most,
-            has_clock,
-        }
-    }
-
-    /// How many lines were told.
-    fn heard(&self) -> u64 {
-        self.lines.load(Ordering::SeqCst)
-    }
 }
 
 impl<R: Wait> Wait for Ear<'_, R> {}
@@ -64,7 +47,7 @@ impl<R> Eprint for Ear<'_, R> {
     }
 
     fn eprintln<D: Display + Drop>(&self, _value: D) -> io::Result<()> {
-        if self.heard() == self.most {
+        if self.lines.load(Ordering::SeqCst) == self.most {
             return Err(io::Error::from(ErrorKind::BrokenPipe));
         }
         self.lines.fetch_add(1, Ordering::SeqCst);
@@ -72,106 +55,71 @@ impl<R> Eprint for Ear<'_, R> {
     }
 }
 
-/// A stamp of a tick.
-fn at(rt: &impl Abort, tick: u64) -> Stamp {
-    Stamp::new(tick, 2, 1).expect(rt, "it is in range")
-}
-
 /// Looks at the board of a run until tick 40, on which these were posted.
-fn look_after(alloc: Global, gvt: Stamp, committed: u64) -> Result<Progress, Fail> {
+fn look_after(alloc: Global, gvt: Stamp, committed: u64) -> Result<String, Fail> {
     let (mut board, mut publisher) = Board::new(alloc)?;
     let mut reader = board.reader()?;
     publisher.post(gvt, committed);
-    Ok(Progress::look(&mut reader, 40))
-}
-
-/// A reader of a board on which nothing is posted.
-fn reader(alloc: Global) -> Result<Reader, Fail> {
-    let (mut board, _) = Board::new(alloc)?;
-    Ok(board.reader()?)
-}
-
-/// Waits for so many lines, and answers 7.
-fn wait_for<R: Wait>(rt: &R, ear: &Ear<'_, R>, lines: u64) -> u64 {
-    for _ in rt.forever() {
-        if ear.heard() >= lines {
-            return 7;
-        }
-        thread::yield_now();
-    }
-    unreachable!()
+    Ok(Progress::look(&mut reader, 40).to_string(alloc)?)
 }
 
 #[test]
 fn a_board_is_told_as_it_was_posted(rt: HostRuntime) -> Result<(), Fail> {
-    let start = look_after(rt.alloc(), Stamp::START, 0)?;
-    assert!(rt;
-        start
-            == Progress {
-                tick: 0,
-                until: 40,
-                records: 0
-            }
-    );
-    let middle = look_after(rt.alloc(), at(&rt, 12), 345)?;
-    assert!(rt;
-        middle
-            == Progress {
-                tick: 12,
-                until: 40,
-                records: 345
-            }
-    );
-    let text = middle.to_string(rt.alloc())?;
-    assert!(rt; text.as_str() == "tick 12 of 40, 345 records");
-    Ok(())
-}
-
-#[test]
-fn no_tick_past_the_end_is_told(rt: HostRuntime) -> Result<(), Fail> {
-    for gvt in [
-        at(&rt, 40),
-        at(&rt, 41),
-        at(&rt, 1_099_511_627_774),
-        Stamp::END,
+    for (gvt, committed, told) in [
+        (Stamp::START, 0, "tick 0 of 40, 0 records"),
+        (Stamp::new(12, 2, 1)?, 345, "tick 12 of 40, 345 records"),
+        (Stamp::new(40, 2, 1)?, 1, "tick 40 of 40, 1 records"),
+        (Stamp::new(41, 2, 1)?, 1, "tick 40 of 40, 1 records"),
+        (
+            Stamp::new(1_099_511_627_774, 2, 1)?,
+            1,
+            "tick 40 of 40, 1 records",
+        ),
+        (Stamp::END, 1, "tick 40 of 40, 1 records"),
     ] {
-        let progress = look_after(rt.alloc(), gvt, 1)?;
-        assert!(rt;
-            progress
-                == Progress {
-                    tick: 40,
-                    until: 40,
-                    records: 1
-                }
-        );
+        let text = look_after(rt.alloc(), gvt, committed)?;
+        assert!(rt; text.as_str() == told);
     }
     Ok(())
 }
 
-#[test]
-fn work_that_is_soon_done_answers_and_tells_nothing(rt: HostRuntime) -> Result<(), Fail> {
-    let ear = Ear::new(&rt, 9, true);
-    let answer = while_telling(&ear, reader(rt.alloc())?, 40, || 7);
-    assert!(rt; answer == 7);
-    assert!(rt; ear.heard() == 0);
-    Ok(())
+/// How many lines are told while work waits for so many of them, where standard error fails after the most.
+fn told<R: Threads + Wait + Clock + Sync>(
+    rt: &R,
+    alloc: Global,
+    lines: u64,
+    most: u64,
+    has_clock: bool,
+) -> Result<u64, Fail> {
+    let (mut board, _) = Board::new(alloc)?;
+    let reader = board.reader()?;
+    let ear = Ear {
+        rt,
+        lines: AtomicU64::new(0),
+        most,
+        has_clock,
+    };
+    while_telling(&ear, reader, 40, || wait_for(rt, &ear.lines, lines));
+    Ok(ear.lines.load(Ordering::SeqCst))
 }
 
+/// Waits for so many lines.
+fn wait_for(rt: &impl Wait, heard: &AtomicU64, lines: u64) {
+    for _ in rt.forever() {
+        if heard.load(Ordering::SeqCst) >= lines {
+            return;
+        }
+        thread::yield_now();
+    }
+}
+
+// Work that is soon done tells nothing; a line comes after a second; and with no clock lines come until standard error is gone.
 #[test]
-fn a_line_comes_after_a_second(rt: HostRuntime) -> Result<(), Fail> {
-    let ear = Ear::new(&rt, 9, true);
+fn lines_come_while_work_goes_on(rt: HostRuntime) -> Result<(), Fail> {
+    assert!(rt; told(&rt, rt.alloc(), 0, 9, true)? == 0);
     let start = Instant::now(&rt)?;
-    let answer = while_telling(&ear, reader(rt.alloc())?, 40, || wait_for(&rt, &ear, 1));
-    assert!(rt; answer == 7);
+    assert!(rt; told(&rt, rt.alloc(), 1, 9, true)? >= 1);
     assert!(rt; start.elapsed(&rt)? >= Duration::from_secs(1));
-    Ok(())
-}
-
-#[test]
-fn with_no_clock_lines_come_until_standard_error_is_gone(rt: HostRuntime) -> Result<(), Fail> {
-    let ear = Ear::new(&rt, 3, false);
-    let answer = while_telling(&ear, reader(rt.alloc())?, 40, || wait_for(&rt, &ear, 3));
-    assert!(rt; answer == 7);
-    assert!(rt; ear.heard() == 3);
+    assert!(rt; told(&rt, rt.alloc(), 3, 3, false)? == 3);
     Ok(())
 }

@@ -1,6 +1,0 @@
--- The publisher stays on its board.
-use Rattle.std.proofs.Common.{◌≡◌}
-use Rattle.tw_run_tests.proofs.tests.board.climb.Given as goal
-
-abbrev pub invariant-loop-tick : goal.invariant-loop-tick
-invariant-loop-tick g l = record { board : l.publisher.board ≡ l.fn.publisher.board }

@@ -1,6 +1,0 @@
--- The reader stays on its board.
-use Rattle.std.proofs.Common.{◌≡◌}
-use Rattle.tw_run_tests.proofs.tests.board.watch.Given as goal
-
-abbrev pub invariant-loop : goal.invariant-loop
-invariant-loop l = record { board : l.reader.board ≡ l.fn.reader.board }

@@ -39,6 +39,7 @@ struct Example {
     net: &'static str,
     script: &'static str,
     text: &'static str,
+    end: Exit,
 }
 
 /// A job that reads a network and then a script.
@@ -50,13 +51,14 @@ const BY_SCRIPT: Job<'static> = Job::Play {
 };
 
 /// A job of each kind.
-static JOBS: [Example; 6] = [
+static JOBS: [Example; 7] = [
     Example {
         name: "demo",
         job: Job::Demo,
         net: "",
         script: "",
         text: TRACE,
+        end: Exit::Done,
     },
     Example {
         name: "check",
@@ -64,6 +66,18 @@ static JOBS: [Example; 6] = [
         net: GEN_TALLY,
         script: "",
         text: "ok: 2 components, 1 couplings, 0 inputs\n",
+        end: Exit::Done,
+    },
+    Example {
+        name: "check of a network without a comma",
+        job: Job::Check { net: "net.json" },
+        net: "{\"format\": \"tw-1\"\n \"micro_limit\": 1}",
+        script: "",
+        text: "line 2, column 2: not JSON: expected a comma\n",
+        end: Exit::Bad {
+            refusal: Refusal::NotJson,
+            line: None,
+        },
     },
     Example {
         name: "seq",
@@ -74,6 +88,7 @@ static JOBS: [Example; 6] = [
         net: GEN_TALLY,
         script: "",
         text: TRACE,
+        end: Exit::Done,
     },
     Example {
         name: "run",
@@ -91,6 +106,7 @@ static JOBS: [Example; 6] = [
         net: GEN_TALLY,
         script: "",
         text: TRACE,
+        end: Exit::Done,
     },
     Example {
         name: "play by a script",
@@ -98,6 +114,7 @@ static JOBS: [Example; 6] = [
         net: GEN_TALLY,
         script: SCRIPT,
         text: PLAYED,
+        end: Exit::Done,
     },
     Example {
         name: "play by a seed",
@@ -110,6 +127,7 @@ static JOBS: [Example; 6] = [
         net: GEN_TALLY,
         script: "",
         text: DRAWN,
+        end: Exit::Done,
     },
 ];
 
@@ -144,7 +162,7 @@ fn assert_ends<R: Abort + Threads + Wait + Clock + Eprint + Sync>(
     } else if out_calls < example.text.len() {
         (Exit::NoWrite, out_calls)
     } else {
-        (Exit::Done, example.text.len())
+        (example.end, example.text.len())
     };
     assert!(rt;
         (end, out.left.len()) == (wanted, example.text.len().saturating_sub(written)),
@@ -199,7 +217,7 @@ fn a_bad_network_comes_before_an_unreadable_script(rt: HostRuntime) {
 #[test]
 fn refused_memory_leaves_a_beginning(rt: HostRuntime) {
     for _ in 0..2 {
-        for example in JOBS.iter().take(3) {
+        for example in JOBS.iter().take(4) {
             let mut out = OneByteWriter {
                 left: example.text.as_bytes(),
                 calls: 1000,
@@ -208,11 +226,11 @@ fn refused_memory_leaves_a_beginning(rt: HostRuntime) {
                 &rt,
                 rt.alloc(),
                 &example.job,
-                &mut GEN_TALLY.as_bytes(),
-                &mut "".as_bytes(),
+                &mut example.net.as_bytes(),
+                &mut example.script.as_bytes(),
                 &mut out,
             );
-            let is_whole = end == Exit::Done && out.left.is_empty();
+            let is_whole = end == example.end && out.left.is_empty();
             assert!(rt; is_whole || end == Exit::Want(Refusal::OutOfMemory));
         }
     }

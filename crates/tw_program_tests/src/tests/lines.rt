@@ -1,8 +1,7 @@
 //! Command lines and the jobs that they ask for. The lines that are refused, and what help says, are tried on the program.
 
-use std::alloc::{AllocError, Global};
+use std::alloc::Global;
 use std::process::Abort;
-use std::test::Fail;
 use tw_line::job;
 
 /// Lines that are taken, and what is answered to each.
@@ -123,23 +122,24 @@ static TAKEN: [(&str, &str); 33] = [
     ("twarp play --help", "None"),
 ];
 
-/// What is answered to a line, whose words have one space between each two: the job, or the refusal, which help has not.
-fn answer(alloc: Global, line: &str) -> Result<String, AllocError> {
+/// Asserts what is answered to a line, whose words have one space between each two: the job, or the refusal, which help has not.
+fn assert_answer(rt: &impl Abort, alloc: Global, line: &str, wanted: &str) {
     let mut words = Vec::new(alloc);
     for word in line.split(' ') {
-        words.push(String::from_str(alloc, word)?)?;
+        let word = String::from_str(alloc, word).expect(rt, "memory");
+        words.push(word).ok().expect(rt, "memory");
     }
-    match job(alloc, words.as_slice()) {
+    let answer = match job(alloc, words.as_slice()) {
         Ok(job) => format!(in alloc; "{job:?}"),
         Err(no_job) => format!(in alloc; "{:?}", no_job.refusal()),
-    }
+    };
+    let found = answer.expect(rt, "memory");
+    assert!(rt; found.as_str() == wanted, "{line}");
 }
 
 #[test]
-fn takes_the_lines_of_demo_check_seq_run_and_play(rt: HostRuntime) -> Result<(), Fail> {
-    for (line, want) in TAKEN.iter() {
-        let found = answer(rt.alloc(), line)?;
-        assert!(rt; found.as_str() == *want, "{line}");
+fn takes_the_lines_of_demo_check_seq_run_and_play(rt: HostRuntime) {
+    for (line, wanted) in TAKEN.iter() {
+        assert_answer(&rt, rt.alloc(), line, wanted);
     }
-    Ok(())
 }

@@ -20,9 +20,9 @@ fault: tick limit: b at 1099511627774.8388607
 ";
 
 #[test]
-fn writes_texts(rt: HostRuntime) -> Result<(), Fail> {
+fn writes_texts(rt: HostRuntime) {
     let alloc = rt.alloc();
-    let stamp = Stamp::new(1_099_511_627_774, 8_388_607, 1)?;
+    let stamp = Stamp::new(1_099_511_627_774, 8_388_607, 1).expect(&rt, "a stamp");
     let message = Message {
         stamp,
         port: 255,
@@ -30,31 +30,31 @@ fn writes_texts(rt: HostRuntime) -> Result<(), Fail> {
         to: 2,
     };
     let mut bag = Bag::new(alloc);
-    bag.push((0, 1))?;
+    bag.push((0, 1)).expect(&rt, "memory");
     let record = Record {
         component: 0,
         stamp,
         kind: RecordKind::Con,
         bag,
-        words: Words::from(Vec::from_slice(alloc, &[7])?),
+        words: Words::from(Vec::from_slice(alloc, &[7]).expect(&rt, "memory")),
     };
     let mut text = String::new(alloc);
-    push_time(&mut text, Stamp::END)?;
-    text.push_str(": ")?;
-    push_bag(&mut text, &[(0, 4), (15, i64::MIN)])?;
-    text.push('\n')?;
+    push_time(&mut text, Stamp::END).expect(&rt, "memory");
+    text.push_str(": ").expect(&rt, "memory");
+    push_bag(&mut text, &[(0, 4), (15, i64::MIN)]).expect(&rt, "memory");
+    text.push('\n').expect(&rt, "memory");
     push_words(
         &mut text,
         &[2, -9_223_372_036_854_775_808, 13_525_302_890_751_722_018],
-    )?;
-    text.push('\n')?;
-    push_message(&mut text, &message)?;
-    text.push('\n')?;
-    push_record(&mut text, "a", &record)?;
-    push_fault(&mut text, "b", stamp, Limit::Tick)?;
-    assert!(rt; text.as_str() == TEXT, "{text}");
+    )
+    .expect(&rt, "memory");
+    text.push('\n').expect(&rt, "memory");
+    push_message(&mut text, &message).expect(&rt, "memory");
+    text.push('\n').expect(&rt, "memory");
+    push_record(&mut text, "a", &record).expect(&rt, "memory");
+    push_fault(&mut text, "b", stamp, Limit::Tick).expect(&rt, "memory");
+    assert!(rt; text.as_str() == TEXT);
     assert!(rt; (sign_name(Sign::Anti), kind_name(RecordKind::Ext)) == ("-", "ext"));
-    Ok(())
 }
 
 /// The replies that no case of the program has.
@@ -78,6 +78,6 @@ fn other_replies(rt: HostRuntime) -> Result<(), Fail> {
     ] {
         push_reply(&mut text, reply)?;
     }
-    assert!(rt; text.as_str() == REPLIES, "{text}");
+    assert!(rt; text.as_str() == REPLIES);
     Ok(())
 }

@@ -126,7 +126,7 @@ fn assert_swept(rt: &impl Abort, alloc: Global, cancel: Cancel, count: usize, se
         assert!(rt; exchange.sweep() == Ok(stamp(rt, 2, 0, 1)));
         assert!(rt; exchange.state() == Ok(State::Going));
         let text = report(alloc, exchange.executive()).expect(rt, "memory");
-        assert!(rt; text.as_str() == seen, "{text}");
+        assert!(rt; text.as_str() == seen);
     }
     assert!(rt; exchange.into_parts().0.committed_len() == 1);
 }

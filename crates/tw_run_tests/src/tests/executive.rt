@@ -1,9 +1,8 @@
 //! The executive by worked examples: lists of actions, and marks.
 
-use super::helpers::{G, Line, R, T, all_show, assert_relay, in_a_row, stamp};
+use super::helpers::{G, R, T, assert_relay, assert_trace, in_a_row, stamp};
 use tw_exec::Action;
 use tw_inspect::report;
-use tw_msgs::RecordKind;
 use tw_process::Cancel;
 
 /// What is seen of the row after the example's fourteen actions.
@@ -23,11 +22,7 @@ outgoing - t 0=5 at 3.0.1
 ";
 
 /// What is committed then.
-static COMMITTED: [Line; 3] = [
-    Line(2, 0, G, RecordKind::Out, &[(0, 5)], &[]),
-    Line(2, 0, G, RecordKind::Int, &[], &[1]),
-    Line(2, 0, R, RecordKind::Ext, &[(0, 5)], &[0, 5]),
-];
+const COMMITTED: &str = "2.0 g out 0=5\n2.0 g int | 1\n2.0 r ext 0=5 | 0 5\n";
 
 // Of the actions the one that would go back before global virtual time is refused.
 #[test]
@@ -52,10 +47,10 @@ fn commit_and_cut_by_one_replay(rt: HostRuntime) {
     ];
     assert!(rt; executive.replay(&actions) == 13);
     let seen = report(alloc, &executive).expect(&rt, "memory");
-    assert!(rt; seen.as_str() == CUT, "{seen}");
+    assert!(rt; seen.as_str() == CUT);
     assert_relay(&rt, alloc, &executive, CUT_RELAY);
     let trace = executive.trace(alloc).expect(&rt, "memory");
-    assert!(rt; all_show(trace.as_slice(), &COMMITTED));
+    assert_trace(&rt, alloc, trace.as_slice(), &["g", "r", "t"], COMMITTED);
 }
 
 /// The relay after three steps were taken back: as it was, with what it sent outgoing, and its anti-message.

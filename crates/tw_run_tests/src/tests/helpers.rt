@@ -1,4 +1,4 @@
-//! What two modules share: stamps, networks, an executive, what is seen of its relay, and records.
+//! What two modules share: stamps, networks, an executive, what is seen of its relay, and traces.
 
 use std::alloc::Global;
 use std::process::Abort;
@@ -6,9 +6,10 @@ use tw_atomic::Atomic;
 use tw_exec::Executive;
 use tw_inspect::describe;
 use tw_models::Model;
-use tw_msgs::{Record, RecordKind};
+use tw_msgs::Record;
 use tw_network::{Coupling, Input, Network};
 use tw_process::Cancel;
+use tw_texts::push_record;
 use tw_vtime::Stamp;
 
 /// The generator of a row.
@@ -27,13 +28,14 @@ pub(crate) fn stamp(rt: &impl Abort, tick: u64, microstep: u32, phase: u8) -> St
 pub(crate) fn network_of<M: Atomic>(
     rt: &impl Abort,
     alloc: Global,
-    models: Vec<(&str, M)>,
+    names: &[&str],
+    models: Vec<M>,
     couplings: &[Coupling],
     inputs: &[Input],
 ) -> Network<M> {
     let mut components = Vec::new(alloc);
-    for (name, model) in models {
-        let name = String::from_str(alloc, name).expect(rt, "memory");
+    for (name, model) in names.iter().zip(models) {
+        let name = String::from_str(alloc, *name).expect(rt, "memory");
         components.push((name, model)).ok().expect(rt, "memory");
     }
     let couplings = Vec::from_slice(alloc, couplings).expect(rt, "memory");
@@ -47,13 +49,20 @@ pub(crate) fn network_of<M: Atomic>(
 /// tick 3, until tick 10.
 pub(crate) fn in_a_row(rt: &impl Abort, alloc: Global, cancel: Cancel) -> Executive<Model> {
     let models = [
-        ("g", Model::generator(2, 5).expect(rt, "a generator")),
-        ("r", Model::relay(1).expect(rt, "a relay")),
-        ("t", Model::tally().expect(rt, "a tally")),
+        Model::generator(2, 5).expect(rt, "a generator"),
+        Model::relay(1).expect(rt, "a relay"),
+        Model::tally().expect(rt, "a tally"),
     ];
     let models = Vec::from_array(alloc, models).expect(rt, "memory");
     let couplings = [(G, 0, R, 0), (R, 0, T, 0)];
-    let network = network_of(rt, alloc, models, &couplings, &[(3, R, 0, 8)]);
+    let network = network_of(
+        rt,
+        alloc,
+        &["g", "r", "t"],
+        models,
+        &couplings,
+        &[(3, R, 0, 8)],
+    );
     Executive::with_cancel(alloc, network, 10, cancel).expect(rt, "an executive")
 }
 
@@ -66,30 +75,21 @@ pub(crate) fn assert_relay(
 ) {
     assert!(rt; R < executive.network().len());
     let text = describe(alloc, executive, R).expect(rt, "memory");
-    assert!(rt; text.as_str() == seen, "{text}");
+    assert!(rt; text.as_str() == seen);
 }
 
-/// A record as the examples write it: tick, microstep, component, kind, bag and words.
-pub(crate) struct Line(
-    pub(crate) u64,
-    pub(crate) u32,
-    pub(crate) usize,
-    pub(crate) RecordKind,
-    pub(crate) &'static [(u8, i64)],
-    pub(crate) &'static [i128],
-);
-
-/// Whether a record is what a line says.
-fn shows(record: &Record, line: &Line) -> bool {
-    let phase = u8::from(line.3 != RecordKind::Out);
-    Stamp::new(line.0, line.1, phase) == Ok(record.stamp)
-        && record.component == line.2
-        && record.kind == line.3
-        && record.bag.as_slice() == line.4
-        && record.words.as_slice() == line.5
-}
-
-/// Whether the records are what the lines say.
-pub(crate) fn all_show(records: &[Record], lines: &[Line]) -> bool {
-    records.len() == lines.len() && records.iter().zip(lines).all(|(r, l)| shows(r, l))
+/// Asserts that the records have these lines, where components have these names.
+pub(crate) fn assert_trace(
+    rt: &impl Abort,
+    alloc: Global,
+    records: &[Record],
+    names: &[&str],
+    lines: &str,
+) {
+    let mut text = String::new(alloc);
+    for record in records {
+        let name = names.get(record.component).expect(rt, "a component");
+        push_record(&mut text, *name, record).expect(rt, "memory");
+    }
+    assert!(rt; text.as_str() == lines);
 }

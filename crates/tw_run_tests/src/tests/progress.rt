@@ -55,12 +55,15 @@ impl<R> Eprint for Ear<'_, R> {
     }
 }
 
-/// Looks at the board of a run until tick 40, on which these were posted.
-fn look_after(alloc: Global, gvt: Stamp, committed: u64) -> Result<String, Fail> {
-    let (mut board, mut publisher) = Board::new(alloc)?;
-    let mut reader = board.reader()?;
+/// Asserts what is told of a run until tick 40, on whose board these were posted.
+fn assert_told(rt: &impl Abort, alloc: Global, gvt: Stamp, committed: u64, told: &str) {
+    let (mut board, mut publisher) = Board::new(alloc).expect(rt, "memory");
+    let mut reader = board.reader().expect(rt, "memory");
     publisher.post(gvt, committed);
-    Ok(Progress::look(&mut reader, 40).to_string(alloc)?)
+    let text = Progress::look(&mut reader, 40)
+        .to_string(alloc)
+        .expect(rt, "memory");
+    assert!(rt; text.as_str() == told);
 }
 
 #[test]
@@ -77,22 +80,21 @@ fn a_board_is_told_as_it_was_posted(rt: HostRuntime) -> Result<(), Fail> {
         ),
         (Stamp::END, 1, "tick 40 of 40, 1 records"),
     ] {
-        let text = look_after(rt.alloc(), gvt, committed)?;
-        assert!(rt; text.as_str() == told);
+        assert_told(&rt, rt.alloc(), gvt, committed, told);
     }
     Ok(())
 }
 
 /// How many lines are told while work waits for so many of them, where standard error fails after the most.
-fn told<R: Threads + Wait + Clock + Sync>(
+fn told<R: Abort + Threads + Wait + Clock + Sync>(
     rt: &R,
     alloc: Global,
     lines: u64,
     most: u64,
     has_clock: bool,
-) -> Result<u64, Fail> {
-    let (mut board, _) = Board::new(alloc)?;
-    let reader = board.reader()?;
+) -> u64 {
+    let (mut board, _) = Board::new(alloc).expect(rt, "memory");
+    let reader = board.reader().expect(rt, "memory");
     let ear = Ear {
         rt,
         lines: AtomicU64::new(0),
@@ -100,7 +102,7 @@ fn told<R: Threads + Wait + Clock + Sync>(
         has_clock,
     };
     while_telling(&ear, reader, 40, || wait_for(rt, &ear.lines, lines));
-    Ok(ear.lines.load(Ordering::SeqCst))
+    ear.lines.load(Ordering::SeqCst)
 }
 
 /// Waits for so many lines.
@@ -116,10 +118,10 @@ fn wait_for(rt: &impl Wait, heard: &AtomicU64, lines: u64) {
 // Work that is soon done tells nothing; a line comes after a second; and with no clock lines come until standard error is gone.
 #[test]
 fn lines_come_while_work_goes_on(rt: HostRuntime) -> Result<(), Fail> {
-    assert!(rt; told(&rt, rt.alloc(), 0, 9, true)? == 0);
+    assert!(rt; told(&rt, rt.alloc(), 0, 9, true) == 0);
     let start = Instant::now(&rt)?;
-    assert!(rt; told(&rt, rt.alloc(), 1, 9, true)? >= 1);
+    assert!(rt; told(&rt, rt.alloc(), 1, 9, true) >= 1);
     assert!(rt; start.elapsed(&rt)? >= Duration::from_secs(1));
-    assert!(rt; told(&rt, rt.alloc(), 3, 3, false)? == 3);
+    assert!(rt; told(&rt, rt.alloc(), 3, 3, false) == 3);
     Ok(())
 }

@@ -1,19 +1,17 @@
 //! Runs by workers: they work at the same time, and what comes out is the sequential run.
 
-use super::helpers::{Line, all_show, network_of, stamp};
+use super::helpers::{assert_trace, network_of, stamp};
 use std::alloc::{AllocError, Global};
 use std::process::Abort;
 use std::sync::atomic::AtomicU64;
 use std::sync::atomic::Ordering::SeqCst;
 use std::sync::{Arc, Wait};
-use std::test::Fail;
 use std::thread;
 use std::thread::Threads;
 use tw_atomic::{Atomic, Outbox, Turn};
 use tw_board::Board;
 use tw_exec::Executive;
 use tw_models::{Gen, GenState};
-use tw_msgs::RecordKind;
 use tw_workers::{Gate, Open, Outcome, Setting, SweepRefused, run};
 
 /// How many turns one waits for the other at most.
@@ -69,27 +67,24 @@ impl Gate for Meeting {
 
 /// The executive of two models, not coupled, until tick 5.
 fn apart<M: Atomic>(rt: &impl Abort, alloc: Global, models: [M; 2]) -> Executive<M> {
-    let [x, y] = models;
-    let models = Vec::from_array(alloc, [("x", x), ("y", y)])
-        .ok()
-        .expect(rt, "memory");
-    let network = network_of(rt, alloc, models, &[], &[]);
+    let models = Vec::from_array(alloc, models).ok().expect(rt, "memory");
+    let network = network_of(rt, alloc, &["x", "y"], models, &[], &[]);
     Executive::new(alloc, network, 5)
         .ok()
         .expect(rt, "an executive")
 }
 
 /// The sequential trace of two generators of period 2 and value 1.
-static APART: [Line; 8] = [
-    Line(2, 0, 0, RecordKind::Out, &[(0, 1)], &[]),
-    Line(2, 0, 1, RecordKind::Out, &[(0, 1)], &[]),
-    Line(2, 0, 0, RecordKind::Int, &[], &[1]),
-    Line(2, 0, 1, RecordKind::Int, &[], &[1]),
-    Line(4, 0, 0, RecordKind::Out, &[(0, 1)], &[]),
-    Line(4, 0, 1, RecordKind::Out, &[(0, 1)], &[]),
-    Line(4, 0, 0, RecordKind::Int, &[], &[2]),
-    Line(4, 0, 1, RecordKind::Int, &[], &[2]),
-];
+const APART: &str = "\
+2.0 x out 0=1
+2.0 y out 0=1
+2.0 x int | 1
+2.0 y int | 1
+4.0 x out 0=1
+4.0 y out 0=1
+4.0 x int | 2
+4.0 y int | 2
+";
 
 /// Two workers, each of which hands in every step.
 const TWO: Setting = Setting {
@@ -104,30 +99,28 @@ fn assert_met<M: Atomic + Send + Sync, G: Gate + Sync, R: Abort + Threads + Wait
     alloc: Global,
     models: [M; 2],
     gate: &G,
-) -> Result<(), Fail>
+)
 where
     M::State: Send,
     M::Residue: Send,
 {
-    let (mut board, publisher) = Board::new(alloc)?;
-    let mut reader = board.reader()?;
+    let (mut board, publisher) = Board::new(alloc).expect(rt, "memory");
+    let mut reader = board.reader().expect(rt, "memory");
     let executive = apart(rt, alloc, models);
     let (outcome, mut publisher) = run(rt, alloc, executive, TWO, gate, publisher);
     let Ok(Outcome::Complete(trace)) = outcome else {
-        return Err(Fail::from("no whole run"));
+        panic!(rt; "no whole run");
     };
-    assert!(rt; all_show(trace.as_slice(), &APART));
+    assert_trace(rt, alloc, trace.as_slice(), &["x", "y"], APART);
     assert!(rt; reader.meet(&mut publisher) == (stamp(rt, 6, 0, 0), 8));
-    Ok(())
 }
 
 #[test]
-fn gate_of_two(rt: HostRuntime) -> Result<(), Fail> {
+fn gate_of_two(rt: HostRuntime) {
     let meeting = Meeting::new();
-    let models = [Gen::new(2, 1)?, Gen::new(2, 1)?];
-    assert_met(&rt, rt.alloc(), models, &meeting)?;
+    let generator = Gen::new(2, 1).expect(&rt, "a model");
+    assert_met(&rt, rt.alloc(), [generator, generator], &meeting);
     assert!(rt; meeting.calls() == (4, 4));
-    Ok(())
 }
 
 /// What a model does before each transition forward.
@@ -247,20 +240,23 @@ impl Atomic for Watched {
 }
 
 #[test]
-fn forwards_meet(rt: HostRuntime) -> Result<(), Fail> {
-    let meeting = Arc::new(rt.alloc(), Meeting::new())?;
+fn forwards_meet(rt: HostRuntime) {
+    let meeting = Arc::new(rt.alloc(), Meeting::new())
+        .ok()
+        .expect(&rt, "memory");
+    let first = Arc::try_clone(&meeting).ok().expect(&rt, "a count");
+    let second = Arc::try_clone(&meeting).ok().expect(&rt, "a count");
     let models = [
-        Watched::new(&rt, Before::Meet(0, Arc::try_clone(&meeting)?)),
-        Watched::new(&rt, Before::Meet(1, Arc::try_clone(&meeting)?)),
+        Watched::new(&rt, Before::Meet(0, first)),
+        Watched::new(&rt, Before::Meet(1, second)),
     ];
-    assert_met(&rt, rt.alloc(), models, &Open)?;
+    assert_met(&rt, rt.alloc(), models, &Open);
     assert!(rt; meeting.calls() == (2, 2));
-    Ok(())
 }
 
 // At the first refusal a sweep brings global virtual time further, and the run goes on; at the second it does not.
 #[test]
-fn a_run_that_was_given_up_goes_on(rt: HostRuntime) -> Result<(), Fail> {
+fn a_run_that_was_given_up_goes_on(rt: HostRuntime) {
     let models = [
         Watched::new(&rt, Before::Refuse(1, AtomicU64::new(0))),
         Watched::new(&rt, Before::Refuse(0, AtomicU64::new(0))),
@@ -270,13 +266,13 @@ fn a_run_that_was_given_up_goes_on(rt: HostRuntime) -> Result<(), Fail> {
         burst: 1,
         window: 0,
     };
-    let (mut board, mut publisher) = Board::new(rt.alloc())?;
-    let mut reader = board.reader()?;
+    let (mut board, mut publisher) = Board::new(rt.alloc()).expect(&rt, "memory");
+    let mut reader = board.reader().expect(&rt, "memory");
     let mut executive = apart(&rt, rt.alloc(), models);
     for _ in 0..2 {
         let (outcome, after) = run(&rt, rt.alloc(), executive, setting, &Open, publisher);
         let Err(fault) = outcome else {
-            return Err(Fail::from("a run found memory"));
+            panic!(rt; "a run found memory");
         };
         publisher = after;
         executive = fault.executive;
@@ -285,9 +281,8 @@ fn a_run_that_was_given_up_goes_on(rt: HostRuntime) -> Result<(), Fail> {
     }
     let (outcome, mut publisher) = run(&rt, rt.alloc(), executive, setting, &Open, publisher);
     let Ok(Outcome::Complete(trace)) = outcome else {
-        return Err(Fail::from("no whole run"));
+        panic!(rt; "no whole run");
     };
-    assert!(rt; all_show(trace.as_slice(), &APART));
+    assert_trace(&rt, rt.alloc(), trace.as_slice(), &["x", "y"], APART);
     assert!(rt; reader.meet(&mut publisher) == (stamp(&rt, 6, 0, 0), 8));
-    Ok(())
 }

@@ -266,21 +266,21 @@ fn a_run_that_was_given_up_goes_on(rt: HostRuntime) {
         burst: 1,
         window: 0,
     };
-    let (mut board, mut publisher) = Board::new(rt.alloc()).expect(&rt, "memory");
+    let (mut board, publisher) = Board::new(rt.alloc()).expect(&rt, "memory");
     let mut reader = board.reader().expect(&rt, "memory");
-    let mut executive = apart(&rt, rt.alloc(), models);
-    for _ in 0..2 {
-        let (outcome, after) = run(&rt, rt.alloc(), executive, setting, &Open, publisher);
-        let Err(fault) = outcome else {
-            panic!(rt; "a run found memory");
-        };
-        publisher = after;
-        executive = fault.executive;
-        assert!(rt; fault.why == SweepRefused::OutOfMemory);
-        assert!(rt; reader.see() == (executive.gvt(), executive.committed_len()));
-    }
-    let (outcome, mut publisher) = run(&rt, rt.alloc(), executive, setting, &Open, publisher);
-    let Ok(Outcome::Complete(trace)) = outcome else {
+    let executive = apart(&rt, rt.alloc(), models);
+    let (first, publisher) = run(&rt, rt.alloc(), executive, setting, &Open, publisher);
+    let Err(fault) = first else {
+        panic!(rt; "the first run found memory");
+    };
+    assert!(rt; fault.why == SweepRefused::OutOfMemory);
+    assert!(rt; reader.see() == (fault.executive.gvt(), fault.executive.committed_len()));
+    let (second, publisher) = run(&rt, rt.alloc(), fault.executive, setting, &Open, publisher);
+    let Err(fault) = second else {
+        panic!(rt; "the second run found memory");
+    };
+    let (third, mut publisher) = run(&rt, rt.alloc(), fault.executive, setting, &Open, publisher);
+    let Ok(Outcome::Complete(trace)) = third else {
         panic!(rt; "no whole run");
     };
     assert_trace(&rt, rt.alloc(), trace.as_slice(), &["x", "y"], APART);

@@ -1,0 +1,6 @@
+pub mod Names
+pub mod Seen
+pub mod Expressions
+pub mod Statements
+pub mod Program
+pub mod Work

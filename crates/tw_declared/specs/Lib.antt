@@ -4,3 +4,5 @@ pub mod Expressions
 pub mod Statements
 pub mod Program
 pub mod Work
+pub mod Limits
+pub mod Examples

@@ -1,0 +1,8 @@
+use Rattle.std.proofs.Common.{◌≡◌, drop}
+use Rattle.tw_declared.specs.Names.{things}
+use Rattle.tw_declared.specs.Limits.{is_queue, all}
+use Rattle.tw_declared.proofs.limits.are_queues.Given as goal
+
+-- what is to come decides
+abbrev pub invariant-loop-named : goal.invariant-loop-named
+invariant-loop-named l = all (is_queue l.given) (things (drop l.named-index l.names)) ≡ all (is_queue l.given) (things l.names)

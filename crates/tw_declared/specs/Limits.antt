@@ -1,0 +1,166 @@
+-- What is wrong with a machine as it is declared, with the numbers that are given: its members in order, then its limits. The first counts.
+use Rattle.std.specs.Prelude.{ℕ, ℤ, pos, negsuc, ◌+◌, ◌*◌, max, Bool, true, false, not, ◌&&◌, ◌||◌, List, [], ◌∷◌, length, sum, sum_by, Option, Some, None, nat_lt, nat_le, nat_eq, if◌then◌else◌, option_and_then, option_map, slice_get}
+use Rattle.tw_machine.specs.declared.language.Span.{Span}
+use Rattle.tw_machine.specs.Undoing.{needs}
+use Rattle.tw_machine.specs.Program.{ProgramText}
+use Rattle.tw_program_text.specs.Tree.{Tree, Number, Name, Indexed, Statement, Assign, Act, Pop, Draw, Wait, Passivate, If, IfElse, Repeat, Block, Empty, Then, Arms, One, More, nodes, nodes_block}
+use Rattle.tw_program_text.specs.declared.tree.Expr.{Expr}
+use Rattle.tw_program_text.specs.Views.{tree, body}
+use Rattle.tw_declared.specs.declared.declaration.Constant.{Constant}
+use Rattle.tw_declared.specs.declared.declaration.Declaration.{Declaration}
+use Rattle.tw_declared.specs.declared.declaration.Given.{Given}
+use Rattle.tw_declared.specs.declared.declaration.OutputText.{OutputText}
+use Rattle.tw_declared.specs.declared.declaration.Thing.{Thing}
+use Rattle.tw_declared.specs.declared.declaration.Thing.TheVariants.{RegisterArray, Queue, QueueArray, Table, ListTable}
+use Rattle.tw_declared.specs.declared.declaration.Value.{Value}
+use Rattle.tw_declared.specs.declared.declaration.Value.TheVariants as v
+use Rattle.tw_declared.specs.declared.limits.BadMachine.{BadMachine}
+use Rattle.tw_declared.specs.declared.limits.BadMachine.TheVariants as bad
+use Rattle.tw_declared.specs.declared.names.Standing.{Standing}
+use Rattle.tw_declared.specs.declared.names.Standing.TheVariants as s
+use Rattle.tw_declared.specs.Names.{constant, things, standing_at, standings_of}
+use Rattle.tw_declared.specs.Program.{program_of}
+use Rattle.tw_declared.specs.Statements.{written_turns}
+use Rattle.tw_declared.specs.Work.{room_at, queue_room, work, block_work}
+
+-- whether a number is from 1 to this
+abbrev pub is_up_to : ℕ → ℤ → Bool
+is_up_to most (pos n) = nat_le 1 n && nat_le n most
+is_up_to most (negsuc n) = false
+
+-- whether a constant is from 1 to this, if it is given
+abbrev pub constant_up_to : ℕ → Option ℤ → Bool
+constant_up_to most (Some n) = is_up_to most n
+constant_up_to most None = true
+
+abbrev pub length_up_to : {A : Type 0} → ℕ → List A → Bool
+length_up_to most items = nat_le 1 (length items) && nat_le (length items) most
+
+abbrev pub list_up_to : ℕ → Option (List ℤ) → Bool
+list_up_to most (Some list) = length_up_to most list
+list_up_to most None = true
+
+-- an array register has 1 to 64 cells
+abbrev pub is_register : Thing → Bool
+is_register (RegisterArray cs) = length_up_to 64 cs.items
+is_register _ = true
+
+-- an array of queues has 1 to 16, and a queue has room for 1 to 1,024
+abbrev pub is_queue : Given → Thing → Bool
+is_queue given (Queue c) = constant_up_to 1024 (constant given c)
+is_queue given (QueueArray n c) = constant_up_to 16 (constant given n) && constant_up_to 1024 (constant given c)
+is_queue given _ = true
+
+-- a table has 1 to 65,536 numbers
+abbrev pub is_table : Given → Thing → Bool
+is_table given (Table ns) = length_up_to 65536 ns.items
+is_table given (ListTable k) = list_up_to 65536 (option_map (λ list. list.items) (slice_get given.lists.items k))
+is_table given _ = true
+
+abbrev pub all : (Thing → Bool) → List Thing → Bool
+all test [] = true
+all test (thing ∷ things) = test thing && all test things
+
+-- a block is repeated 0 to 64 times
+abbrev pub is_turns : Option ℤ → Bool
+is_turns (Some (pos n)) = nat_le n 64
+is_turns (Some (negsuc n)) = false
+is_turns None = true
+
+abbrev mutual
+  pub turns_fit_statement : List Standing → Statement → Bool
+  turns_fit_statement ss (If arms) = turns_fit_arms ss arms
+  turns_fit_statement ss (IfElse arms last) = turns_fit_arms ss arms && turns_fit ss last
+  turns_fit_statement ss (Repeat count each) = is_turns (written_turns ss count) && turns_fit ss each
+  turns_fit_statement ss _ = true
+
+  pub turns_fit : List Standing → Block → Bool
+  turns_fit ss Empty = true
+  turns_fit ss (Then before last marked) = turns_fit ss before && turns_fit_statement ss last
+
+  pub turns_fit_arms : List Standing → Arms → Bool
+  turns_fit_arms ss (One test b) = turns_fit ss b
+  turns_fit_arms ss (More before test b) = turns_fit_arms ss before && turns_fit ss b
+
+-- how many nodes the programs, the outputs and the words have; a whole number is one
+abbrev pub value_nodes : Value → ℕ
+value_nodes (v.Number n) = 1
+value_nodes (v.Text e) = nodes (tree e)
+
+abbrev pub when_nodes : Option Value → ℕ
+when_nodes (Some e) = value_nodes e
+when_nodes None = 0
+
+abbrev pub each_nodes : Option Expr → ℕ
+each_nodes (Some q) = nodes (tree q)
+each_nodes None = 0
+
+abbrev pub output_nodes : OutputText → ℕ
+output_nodes o = value_nodes o.port + value_nodes o.value + when_nodes o.when + each_nodes o.each
+
+abbrev pub all_nodes : Declaration → ℕ
+all_nodes d =
+    nodes_block (body d.internal) + nodes_block (body d.external) + sum_by output_nodes d.outputs.items + sum_by value_nodes d.words.items
+
+-- computations of a member
+abbrev pub value_work : List Standing → Value → ℕ
+value_work ss (v.Number n) = 1
+value_work ss (v.Text e) = work ss (tree e)
+
+abbrev pub when_work : List Standing → Option Value → ℕ
+when_work ss (Some e) = value_work ss e
+when_work ss None = 0
+
+-- an output with a queue makes its computations, the queue's name too, for each place of that queue's room
+abbrev pub each_work : List Standing → Option Expr → ℕ → ℕ
+each_work ss (Some q) once = (once + work ss (tree q)) * queue_room ss (tree q)
+each_work ss None once = once
+
+abbrev pub output_work : List Standing → OutputText → ℕ
+output_work ss o = each_work ss o.each (value_work ss o.port + value_work ss o.value + when_work ss o.when)
+
+-- a queue that is shown counts its room more, an array register its cells
+abbrev pub shown_over : Standing → ℕ
+shown_over (s.Queue k room) = room
+shown_over (s.Cells span) = span.count
+shown_over _ = 0
+
+abbrev pub word_over : List Standing → Tree → ℕ
+word_over ss (Name n) = shown_over (standing_at ss n)
+word_over ss (Indexed n (Number i)) = room_at (standing_at ss n)
+word_over ss _ = 0
+
+abbrev pub word_work : List Standing → Value → ℕ
+word_work ss (v.Number n) = 1
+word_work ss (v.Text e) = work ss (tree e) + word_over ss (tree e)
+
+-- the first of the limits that is passed
+abbrev pub limit_of : Given → Declaration → Option BadMachine
+limit_of given d =
+    let p = program_of given d in
+    let ss = standings_of given d.names.items in
+    if nat_lt 64 (length p.cells) then Some bad.TooManyCells
+    else if nat_lt 16 (length p.rooms) then Some bad.TooManyQueues
+    else if nat_lt 4096 (sum p.rooms) then Some bad.TooMuchRoom
+    else if nat_lt 65536 (length p.numbers) then Some bad.TooManyNumbers
+    else if nat_lt 4096 (all_nodes d) then Some bad.TooManyNodes
+    else if nat_lt 262144 (block_work ss (body d.internal)) then Some bad.TooManyComputations
+    else if nat_lt 262144 (block_work ss (body d.external)) then Some bad.TooManyComputations
+    else if nat_lt 262144 (sum_by (output_work ss) d.outputs.items) then Some bad.TooManyComputations
+    else if nat_lt 262144 (sum_by (word_work ss) d.words.items) then Some bad.TooManyComputations
+    else if nat_lt 1048575 (max (needs p.internal) (needs p.external)) then Some bad.TooMuchLogged
+    else None
+
+-- the first fault
+abbrev pub fault_of : Given → Declaration → Option BadMachine
+fault_of given d =
+    let declared = things d.names.items in
+    let ss = standings_of given d.names.items in
+    if not (all is_register declared) then Some bad.CellCount
+    else if not (all (is_queue given) declared) then Some bad.QueueCount
+    else if not (all (is_table given) declared) then Some bad.TableCount
+    else if not (constant_up_to 1099511627775 (option_and_then (constant given) d.longest)) then Some bad.Longest
+    else if not (turns_fit ss (body d.internal) && turns_fit ss (body d.external)) then Some bad.Turns
+    else if nat_lt 64 (length d.outputs.items) then Some bad.OutputCount
+    else if not (length_up_to 64 d.words.items) then Some bad.WordCount
+    else limit_of given d

@@ -1,0 +1,193 @@
+//! What is wrong with a machine as it is declared, the first of it.
+ghost use Rattle.std.specs.Prelude.{◌≡◌, ◌≤◌, ◌+◌, min, length, sum, sum_by, IsTrue};
+ghost use Rattle.tw_program_text.specs.Tree.{nodes, nodes_statement, nodes_block, nodes_arms};
+ghost use Rattle.tw_program_text.specs.Views.{tree, told, body, chain};
+ghost use Rattle.tw_declared.specs.Names.{constant, things};
+ghost use Rattle.tw_declared.specs.Limits.{is_up_to, constant_up_to, length_up_to, is_register, is_queue, is_table, all, is_turns, turns_fit, turns_fit_statement, turns_fit_arms};
+
+use crate::declaration::{Constant, Given, Named, Thing};
+use crate::names::{Standing, constant};
+use crate::statements::written_turns;
+use thiserror::Error;
+use tw_program_text::{Arms, Block, Statement as Said};
+
+/// Why a machine makes no program: the first fault, in this order, or want of memory. Each but that is refusal 21
+/// (BadShape).
+#[derive(Clone, Copy, Debug, Error, PartialEq, Eq)]
+pub enum BadMachine {
+    /// A growth of memory was refused: refusal 4.
+    #[error("out of memory")]
+    OutOfMemory,
+    #[error("an array register has 1 to 64 cells")]
+    CellCount,
+    #[error("an array of queues has 1 to 16, and a queue has room for 1 to 1,024")]
+    QueueCount,
+    #[error("a table has 1 to 65,536 numbers")]
+    TableCount,
+    #[error("the longest wait is 1 to 1,099,511,627,775")]
+    Longest,
+    #[error("a block is repeated 0 to 64 times")]
+    Turns,
+    #[error("there are at most 64 outputs")]
+    OutputCount,
+    #[error("there are 1 to 64 words")]
+    WordCount,
+    #[error("the registers have more than 64 cells")]
+    TooManyCells,
+    #[error("there are more than 16 queues")]
+    TooManyQueues,
+    #[error("the queues have room for more than 4,096 values together")]
+    TooMuchRoom,
+    #[error("the tables have more than 65,536 numbers together")]
+    TooManyNumbers,
+    #[error("there are more than 4,096 nodes")]
+    TooManyNodes,
+    #[error("a run makes more than 262,144 computations")]
+    TooManyComputations,
+    #[error("a transition logs more than 1,048,575 numbers for an item")]
+    TooMuchLogged,
+}
+
+/// Whether a number is from 1 to this.
+fn is_up_to(most: u64, number: i64) -> bool
+    ensures { result ≡ is_up_to most number }
+{
+    number >= 1 && number as u64 <= most
+}
+
+/// Whether a constant is from 1 to this, if it is given.
+pub fn constant_up_to(most: u64, number: Option<i64>) -> bool
+    ensures { result ≡ constant_up_to most number }
+{
+    match number {
+        Some(number) => is_up_to(most, number),
+        None => true,
+    }
+}
+
+/// Whether an array register has 1 to 64 cells.
+fn is_register(thing: &Thing) -> bool
+    ensures { result ≡ is_register thing.now }
+{
+    match thing {
+        Thing::RegisterArray(cells) => cells.len() >= 1 && cells.len() <= 64,
+        _ => true,
+    }
+}
+
+/// Whether there are as many queues, and as much room, as there may be.
+fn is_queue(given: &Given, thing: &Thing) -> bool
+    ensures { result ≡ is_queue given.now thing.now }
+{
+    match thing {
+        Thing::Queue(room) => constant_up_to(1024, constant(given, *room)),
+        Thing::QueueArray(count, room) => {
+            constant_up_to(16, constant(given, *count))
+                && constant_up_to(1024, constant(given, *room))
+        }
+        _ => true,
+    }
+}
+
+/// Whether a table has 1 to 65,536 numbers.
+fn is_table(given: &Given, thing: &Thing) -> bool
+    ensures { result ≡ is_table given.now thing.now }
+{
+    match thing {
+        Thing::Table(numbers) => numbers.len() >= 1 && numbers.len() <= 65536,
+        Thing::ListTable(place) => match given.lists.get(*place) {
+            Some(list) => list.len() >= 1 && list.len() <= 65536,
+            None => true,
+        },
+        _ => true,
+    }
+}
+
+/// Whether all array registers have as many cells as they may have.
+fn are_registers(names: &[Named]) -> bool
+    ensures { result ≡ all is_register (things names.now) }
+{
+    for named in names {
+        if !is_register(&named.thing) {
+            return false;
+        }
+    }
+    true
+}
+
+/// Whether this is so of all queues.
+fn are_queues(given: &Given, names: &[Named]) -> bool
+    ensures { result ≡ all (is_queue given.now) (things names.now) }
+{
+    for named in names {
+        if !is_queue(given, &named.thing) {
+            return false;
+        }
+    }
+    true
+}
+
+/// Whether this is so of all tables.
+fn are_tables(given: &Given, names: &[Named]) -> bool
+    ensures { result ≡ all (is_table given.now) (things names.now) }
+{
+    for named in names {
+        if !is_table(given, &named.thing) {
+            return false;
+        }
+    }
+    true
+}
+
+/// Whether a block is repeated 0 to 64 times.
+fn is_turns(written: Option<i128>) -> bool
+    ensures { result ≡ is_turns written }
+{
+    match written {
+        Some(turns) => turns >= 0 && turns <= 64,
+        None => true,
+    }
+}
+
+/// Whether all blocks in a statement are repeated 0 to 64 times.
+#[cycle(repeats)]
+fn turns_fit_statement(standings: &[Standing], said: &Said) -> bool
+    ensures { result ≡ turns_fit_statement standings.now (told said.now) }
+{
+    match said {
+        Said::If(arms) => turns_fit_arms(standings, arms),
+        Said::IfElse(arms, last) => {
+            turns_fit_arms(standings, arms) && turns_fit(standings, last)
+        }
+        Said::Repeat(count, each) => {
+            is_turns(written_turns(standings, count)) && turns_fit(standings, each)
+        }
+        _ => true,
+    }
+}
+
+/// Whether all blocks in a program are repeated 0 to 64 times.
+#[cycle(repeats)]
+pub fn turns_fit(standings: &[Standing], program: &Block) -> bool
+    ensures { result ≡ turns_fit standings.now (body program.now) }
+{
+    match program {
+        Block::Empty => true,
+        Block::Then(before, last, _) => {
+            turns_fit(standings, before) && turns_fit_statement(standings, last)
+        }
+    }
+}
+
+/// Whether all blocks in the arms of an `if` are repeated 0 to 64 times.
+#[cycle(repeats)]
+fn turns_fit_arms(standings: &[Standing], arms: &Arms) -> bool
+    ensures { result ≡ turns_fit_arms standings.now (chain arms.now) }
+{
+    match arms {
+        Arms::One(_, then) => turns_fit(standings, then),
+        Arms::More(before, _, then) => {
+            turns_fit_arms(standings, before) && turns_fit(standings, then)
+        }
+    }
+}

@@ -1,7 +1,9 @@
 -- What is wrong with a machine as it is declared, with the numbers that are given: its members in order, then its limits. The first counts.
-use Rattle.std.specs.Prelude.{ℕ, ℤ, pos, negsuc, ◌+◌, ◌*◌, max, Bool, true, false, not, ◌&&◌, ◌||◌, List, [], ◌∷◌, length, sum, sum_by, Option, Some, None, nat_lt, nat_le, nat_eq, if◌then◌else◌, option_and_then, option_map, slice_get}
+use Rattle.std.specs.Prelude.{ℕ, ℤ, pos, negsuc, ◌+◌, ◌*◌, Bool, true, false, not, ◌&&◌, List, [], ◌∷◌, length, sum, sum_by, Option, Some, None, nat_lt, nat_le, nat_eq, if◌then◌else◌, option_and_then, option_map, slice_get}
 use Rattle.tw_machine.specs.declared.language.Span.{Span}
-use Rattle.tw_machine.specs.Undoing.{needs}
+use Rattle.tw_machine.specs.Limits.{fault_of as limits_of}
+use Rattle.tw_machine.specs.declared.program.BadProgram.{BadProgram}
+use Rattle.tw_machine.specs.declared.program.BadProgram.TheVariants as b
 use Rattle.tw_machine.specs.Program.{ProgramText}
 use Rattle.tw_program_text.specs.Tree.{Tree, Number, Name, Indexed, Statement, Assign, Act, Pop, Draw, Wait, Passivate, If, IfElse, Repeat, Block, Empty, Then, Arms, One, More, nodes, nodes_block}
 use Rattle.tw_program_text.specs.declared.tree.Expr.{Expr}
@@ -111,13 +113,21 @@ abbrev pub when_work : List Standing → Option Value → ℕ
 when_work ss (Some e) = value_work ss e
 when_work ss None = 0
 
--- an output with a queue makes its computations, the queue's name too, for each place of that queue's room
-abbrev pub each_work : List Standing → Option Expr → ℕ → ℕ
-each_work ss (Some q) once = (once + work ss (tree q)) * queue_room ss (tree q)
-each_work ss None once = once
+-- the queue that an output goes over is named once for each of its places
+abbrev pub each_work : List Standing → Option Expr → ℕ
+each_work ss (Some q) = work ss (tree q)
+each_work ss None = 0
+
+abbrev pub once_work : List Standing → OutputText → ℕ
+once_work ss o = value_work ss o.port + value_work ss o.value + when_work ss o.when + each_work ss o.each
+
+-- how often an output is sent: for each place of its queue's room, or once
+abbrev pub sendings : List Standing → Option Expr → ℕ
+sendings ss (Some q) = queue_room ss (tree q)
+sendings ss None = 1
 
 abbrev pub output_work : List Standing → OutputText → ℕ
-output_work ss o = each_work ss o.each (value_work ss o.port + value_work ss o.value + when_work ss o.when)
+output_work ss o = sendings ss o.each * once_work ss o
 
 -- a queue that is shown counts its room more, an array register its cells
 abbrev pub shown_over : Standing → ℕ
@@ -134,11 +144,21 @@ abbrev pub word_work : List Standing → Value → ℕ
 word_work ss (v.Number n) = 1
 word_work ss (v.Text e) = work ss (tree e) + word_over ss (tree e)
 
--- the first of the limits that is passed
-abbrev pub limit_of : Given → Declaration → Option BadMachine
-limit_of given d =
-    let p = program_of given d in
-    let ss = standings_of given d.names.items in
+-- the first of a machine's members that is wrong
+abbrev pub members_fault : Given → Declaration → List Standing → Option BadMachine
+members_fault given d ss =
+    if not (all is_register (things d.names.items)) then Some bad.CellCount
+    else if not (all (is_queue given) (things d.names.items)) then Some bad.QueueCount
+    else if not (all (is_table given) (things d.names.items)) then Some bad.TableCount
+    else if not (constant_up_to 1099511627775 (option_and_then (constant given) d.longest)) then Some bad.Longest
+    else if not (turns_fit ss (body d.internal) && turns_fit ss (body d.external)) then Some bad.Turns
+    else if nat_lt 64 (length d.outputs.items) then Some bad.OutputCount
+    else if not (length_up_to 64 d.words.items) then Some bad.WordCount
+    else None
+
+-- the first limit that is passed: of cells, queues and numbers, of nodes, of computations of each kind by itself
+abbrev pub limit : List Standing → Declaration → ProgramText → Option BadMachine
+limit ss d p =
     if nat_lt 64 (length p.cells) then Some bad.TooManyCells
     else if nat_lt 16 (length p.rooms) then Some bad.TooManyQueues
     else if nat_lt 4096 (sum p.rooms) then Some bad.TooMuchRoom
@@ -148,19 +168,23 @@ limit_of given d =
     else if nat_lt 262144 (block_work ss (body d.external)) then Some bad.TooManyComputations
     else if nat_lt 262144 (sum_by (output_work ss) d.outputs.items) then Some bad.TooManyComputations
     else if nat_lt 262144 (sum_by (word_work ss) d.words.items) then Some bad.TooManyComputations
-    else if nat_lt 1048575 (max (needs p.internal) (needs p.external)) then Some bad.TooMuchLogged
     else None
 
--- the first fault
+-- the limits of any program
+abbrev pub bad_program : BadProgram → BadMachine
+bad_program b.TooManyCells = bad.TooManyCells
+bad_program b.TooManyQueues = bad.TooManyQueues
+bad_program b.TooMuchRoom = bad.TooMuchRoom
+bad_program b.TooManyNumbers = bad.TooManyNumbers
+bad_program b.TooMuchLogged = bad.TooMuchLogged
+
+abbrev pub otherwise : Option BadMachine → Option BadMachine → Option BadMachine
+otherwise (Some fault) later = Some fault
+otherwise None later = later
+
+-- the first fault of a machine, with what is given
 abbrev pub fault_of : Given → Declaration → Option BadMachine
 fault_of given d =
-    let declared = things d.names.items in
     let ss = standings_of given d.names.items in
-    if not (all is_register declared) then Some bad.CellCount
-    else if not (all (is_queue given) declared) then Some bad.QueueCount
-    else if not (all (is_table given) declared) then Some bad.TableCount
-    else if not (constant_up_to 1099511627775 (option_and_then (constant given) d.longest)) then Some bad.Longest
-    else if not (turns_fit ss (body d.internal) && turns_fit ss (body d.external)) then Some bad.Turns
-    else if nat_lt 64 (length d.outputs.items) then Some bad.OutputCount
-    else if not (length_up_to 64 d.words.items) then Some bad.WordCount
-    else limit_of given d
+    let p = program_of given d in
+    otherwise (members_fault given d ss) (otherwise (limit ss d p) (option_map bad_program (limits_of p)))

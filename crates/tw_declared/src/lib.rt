@@ -3,6 +3,7 @@
 //! - [`Declaration`]: what a machine declares, as the reader of files hands it over, its texts read into trees.
 //! - [`Given`]: what a component gives for its machine's parameters.
 //! - [`parts_of`]: the parts of the program that both mean.
+//! - [`members_fault`], [`limit`], [`bad_program`]: what is wrong with a machine, the first of it.
 //! - [`Standing`], [`standings_of`]: what each name stands for: cells, queues and numbers of tables, one after another.
 //! - [`expression`], [`queue`], [`block`]: a tree in the machine's own language, where names are places.
 //! - `work`: how many computations a tree makes at the most.
@@ -12,6 +13,7 @@
 //! blocks and parentheses stand in one another is held by the texts' reader.
 #![tactic(auto)]
 
+mod computing;
 mod declaration;
 pub mod examples;
 mod expressions;
@@ -27,7 +29,7 @@ mod work;
 
 pub use declaration::{Constant, Declaration, Given, Named, OutputText, Thing, Value};
 pub use expressions::{expression, queue};
-pub use limits::BadMachine;
+pub use limits::{BadMachine, bad_program, limit, members_fault};
 pub use names::{Standing, standings_of};
 pub use programs::parts_of;
 pub use statements::block;

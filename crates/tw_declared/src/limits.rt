@@ -1,14 +1,20 @@
 //! What is wrong with a machine as it is declared, the first of it.
-ghost use Rattle.std.specs.Prelude.{◌≡◌, ◌≤◌, ◌+◌, min, length, sum, sum_by, IsTrue};
-ghost use Rattle.tw_program_text.specs.Tree.{nodes, nodes_statement, nodes_block, nodes_arms};
-ghost use Rattle.tw_program_text.specs.Views.{tree, told, body, chain};
+ghost use Rattle.std.specs.Prelude.{◌≡◌, ◌≢◌, ◌≤◌, length, sum, option_and_then};
+ghost use Rattle.tw_machine.specs.Program.{text_of};
+ghost use Rattle.tw_program_text.specs.Views.{told, body, chain};
 ghost use Rattle.tw_declared.specs.Names.{constant, things};
-ghost use Rattle.tw_declared.specs.Limits.{is_up_to, constant_up_to, length_up_to, is_register, is_queue, is_table, all, is_turns, turns_fit, turns_fit_statement, turns_fit_arms};
+ghost use Rattle.tw_declared.specs.Limits.{is_up_to, constant_up_to, length_up_to, is_register, is_queue, is_table, all, is_turns, turns_fit, turns_fit_statement, turns_fit_arms, members_fault, limit, bad_program};
+ghost use Rattle.tw_declared.specs.declared.limits.BadMachine.TheVariants.{OutOfMemory};
 
-use crate::declaration::{Constant, Given, Named, Thing};
+use crate::computing::{outputs_work, words_work};
+use crate::declaration::{Constant, Declaration, Given, Named, Thing};
 use crate::names::{Standing, constant};
+use crate::nodes::all_nodes;
 use crate::statements::written_turns;
+use crate::work::block_work;
+use std::alloc::AllocError;
 use thiserror::Error;
+use tw_machine::program::{BadProgram, Parts};
 use tw_program_text::{Arms, Block, Statement as Said};
 
 /// Why a machine makes no program: the first fault, in this order, or want of memory. Each but that is refusal 21
@@ -46,6 +52,50 @@ pub enum BadMachine {
     TooManyComputations,
     #[error("a transition logs more than 1,048,575 numbers for an item")]
     TooMuchLogged,
+}
+
+impl From<AllocError> for BadMachine {
+    ghost from_gives = { λ _ bad. bad ≡ OutOfMemory };
+
+    fn from(_error: AllocError) -> BadMachine {
+        BadMachine::OutOfMemory
+    }
+}
+
+/// The limits of any program.
+pub fn bad_program(bad: BadProgram) -> BadMachine
+    ensures value { result ≡ bad_program bad }
+    ensures memory { result ≢ OutOfMemory }
+{
+    match bad {
+        BadProgram::TooManyCells => BadMachine::TooManyCells,
+        BadProgram::TooManyQueues => BadMachine::TooManyQueues,
+        BadProgram::TooMuchRoom => BadMachine::TooMuchRoom,
+        BadProgram::TooManyNumbers => BadMachine::TooManyNumbers,
+        BadProgram::TooMuchLogged => BadMachine::TooMuchLogged,
+    }
+}
+
+/// Whether the greatest wait is 1 to 1,099,511,627,775, if it is given.
+fn is_longest(given: &Given, longest: Option<Constant>) -> bool
+    ensures { result ≡ constant_up_to 1099511627775 (option_and_then (constant given.now) longest) }
+{
+    match longest {
+        Some(longest) => constant_up_to(1099511627775, constant(given, longest)),
+        None => true,
+    }
+}
+
+/// The rooms of at most 16 queues together.
+fn total_room(rooms: &[u16]) -> usize
+    requires { length rooms.now ≤ 16 }
+    ensures { result ≡ sum rooms.now }
+{
+    let mut total = 0;
+    for room in rooms {
+        total += *room as usize;
+    }
+    total
 }
 
 /// Whether a number is from 1 to this.
@@ -190,4 +240,72 @@ fn turns_fit_arms(standings: &[Standing], arms: &Arms) -> bool
             turns_fit_arms(standings, before) && turns_fit(standings, then)
         }
     }
+}
+
+/// The first of a machine's members that is wrong.
+pub fn members_fault(
+    given: &Given,
+    declaration: &Declaration,
+    standings: &[Standing],
+) -> Option<BadMachine>
+    ensures { result ≡ members_fault given.now declaration.now standings.now }
+{
+    let names = declaration.names.as_slice();
+    if !are_registers(names) {
+        return Some(BadMachine::CellCount);
+    }
+    if !are_queues(given, names) {
+        return Some(BadMachine::QueueCount);
+    }
+    if !are_tables(given, names) {
+        return Some(BadMachine::TableCount);
+    }
+    if !is_longest(given, declaration.longest) {
+        return Some(BadMachine::Longest);
+    }
+    if !(turns_fit(standings, &declaration.internal) && turns_fit(standings, &declaration.external))
+    {
+        return Some(BadMachine::Turns);
+    }
+    if declaration.outputs.len() > 64 {
+        return Some(BadMachine::OutputCount);
+    }
+    if declaration.words.len() < 1 || declaration.words.len() > 64 {
+        return Some(BadMachine::WordCount);
+    }
+    None
+}
+
+/// The first limit that is passed.
+pub fn limit(standings: &[Standing], declaration: &Declaration, parts: &Parts) -> Option<BadMachine>
+    ensures { result ≡ limit standings.now declaration.now (text_of parts.now) }
+{
+    if parts.cells.len() > 64 {
+        return Some(BadMachine::TooManyCells);
+    }
+    if parts.rooms.len() > 16 {
+        return Some(BadMachine::TooManyQueues);
+    }
+    if total_room(parts.rooms.as_slice()) > 4096 {
+        return Some(BadMachine::TooMuchRoom);
+    }
+    if parts.numbers.len() > 65536 {
+        return Some(BadMachine::TooManyNumbers);
+    }
+    if all_nodes(declaration) > 4096 {
+        return Some(BadMachine::TooManyNodes);
+    }
+    if block_work(standings, &declaration.internal) > 262144 {
+        return Some(BadMachine::TooManyComputations);
+    }
+    if block_work(standings, &declaration.external) > 262144 {
+        return Some(BadMachine::TooManyComputations);
+    }
+    if outputs_work(standings, declaration.outputs.as_slice()) > 262144 {
+        return Some(BadMachine::TooManyComputations);
+    }
+    if words_work(standings, declaration.words.as_slice()) > 262144 {
+        return Some(BadMachine::TooManyComputations);
+    }
+    None
 }

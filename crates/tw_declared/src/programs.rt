@@ -1,12 +1,12 @@
 //! The program of a machine with the numbers of a component put in.
-ghost use Rattle.std.specs.Prelude.{◌≡◌, ◌≢◌, IfOk, IfErr, Some, None};
+ghost use Rattle.std.specs.Prelude.{◌≡◌, IfOk};
 ghost use Rattle.tw_machine.specs.Program.{text_of};
 ghost use Rattle.tw_declared.specs.Seen.{seen_program};
 ghost use Rattle.tw_declared.specs.Program.{program_of};
 
 use crate::declaration::{Declaration, Given};
 use crate::members::{outputs, seed, ticks, words};
-use crate::names::{Standing, standings_of};
+use crate::names::standings_of;
 use crate::starts::{all_cells, all_numbers, all_rooms};
 use crate::statements::block;
 use std::alloc::{AllocError, Global};

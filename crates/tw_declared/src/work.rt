@@ -10,7 +10,7 @@ use tw_machine::language::Measure;
 use tw_program_text::{Arms, Block, Expr as Tree, Operator, Statement as Said, Verb};
 
 /// The room of a queue, or of each of an array.
-fn room_at(standing: Standing) -> usize
+pub fn room_at(standing: Standing) -> usize
     ensures value { result ≡ room_at standing }
     ensures small { result ≤ 65535 }
 {
@@ -22,7 +22,7 @@ fn room_at(standing: Standing) -> usize
 }
 
 /// The room of the queue that stands first.
-fn queue_room(standings: &[Standing], written: &Tree) -> usize
+pub fn queue_room(standings: &[Standing], written: &Tree) -> usize
     ensures value { result ≡ queue_room standings.now (tree written.now) }
     ensures small { result ≤ 65535 }
 {

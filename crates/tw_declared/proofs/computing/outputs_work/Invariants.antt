@@ -1,0 +1,12 @@
+use Rattle.std.proofs.Common.{◌≡◌, ◌+◌, ◌≤◌, min, drop}
+use Rattle.std.specs.Prelude.{sum_by}
+use Rattle.tw_declared.specs.Limits.{output_work}
+use Rattle.tw_declared.proofs.computing.outputs_work.Given as goal
+
+-- what has come and what is to come
+abbrev pub invariant-loop-text : goal.invariant-loop-text
+invariant-loop-text l =
+    record {
+      rest : min (l.total + sum_by (output_work l.standings) (drop l.text-index l.texts)) 262145 ≡ min (sum_by (output_work l.standings) l.texts) 262145;
+      small : l.total ≤ 262145;
+    }

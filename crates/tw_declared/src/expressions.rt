@@ -47,7 +47,10 @@ const FUNCTIONS: [Function; 10] = [
 pub fn function_of(number: usize) -> Function
     ensures { result ≡ function_of number }
 {
-    FUNCTIONS.get(number).copied().unwrap_or(Function::Applied(Joining::Least))
+    FUNCTIONS
+        .get(number)
+        .copied()
+        .unwrap_or(Function::Applied(Joining::Least))
 }
 
 /// What a word of the language reads.
@@ -171,11 +174,7 @@ fn place(alloc: Global, queue: Target, value: Expr) -> Result<Expr, AllocError>
 
 /// An expression in the machine's language. The only error is want of memory.
 #[cycle(expressions)]
-pub fn expression(
-    alloc: Global,
-    standings: &[Standing],
-    written: &Tree,
-) -> Result<Expr, AllocError>
+pub fn expression(alloc: Global, standings: &[Standing], written: &Tree) -> Result<Expr, AllocError>
     ensures { IfOk result (λ e. seen e ≡ expression standings.now (tree written.now)) }
 {
     match written {

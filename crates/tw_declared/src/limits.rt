@@ -263,7 +263,8 @@ pub fn members_fault(
     if !is_longest(given, declaration.longest) {
         return Some(BadMachine::Longest);
     }
-    if !(turns_fit(standings, &declaration.internal) && turns_fit(standings, &declaration.external))
+    if !(turns_fit(standings, &declaration.internal)
+        && turns_fit(standings, &declaration.external))
     {
         return Some(BadMachine::Turns);
     }

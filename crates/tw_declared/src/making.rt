@@ -51,11 +51,7 @@ pub fn branch(
 ) -> Result<Statement, AllocError>
     ensures { IfOk result (λ s. seen_statement s ≡ branch (seen test) (seen_statement a) (seen_statement b)) }
 {
-    Ok(Statement::If(
-        test,
-        Box::new(alloc, a)?,
-        Box::new(alloc, b)?,
-    ))
+    Ok(Statement::If(test, Box::new(alloc, a)?, Box::new(alloc, b)?))
 }
 
 /// A statement so many times.

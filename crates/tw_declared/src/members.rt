@@ -53,11 +53,7 @@ fn gone_through(
 }
 
 /// An entry of what is sent.
-fn output(
-    alloc: Global,
-    standings: &[Standing],
-    text: &OutputText,
-) -> Result<Output, AllocError>
+fn output(alloc: Global, standings: &[Standing], text: &OutputText) -> Result<Output, AllocError>
     ensures { IfOk result (λ o. seen_output o ≡ output standings.now text.now) }
 {
     Ok(Output {
@@ -176,7 +172,11 @@ pub fn seed(given: &Given, random: Constant) -> u64
 fn wait(number: i64) -> Option<u64>
     ensures { result ≡ wait number }
 {
-    if number >= 0 { Some(number as u64) } else { None }
+    if number >= 0 {
+        Some(number as u64)
+    } else {
+        None
+    }
 }
 
 /// A time that a constant says, if it is not negative.

@@ -181,11 +181,7 @@ fn standing_of(given: &Given, at: Places, thing: &Thing) -> Standing
 }
 
 /// What the names that are declared stand for.
-fn own_standings(
-    alloc: Global,
-    given: &Given,
-    names: &[Named],
-) -> Result<Vec<Standing>, AllocError>
+fn own_standings(alloc: Global, given: &Given, names: &[Named]) -> Result<Vec<Standing>, AllocError>
     ensures { IfOk result (λ standings. standings.items ≡ own_standings given.now none_taken (things names.now)) }
 {
     let mut standings = Vec::with_capacity(alloc, names.len())?;

@@ -9,7 +9,9 @@ use crate::making::{both, branch, repeated};
 use crate::names::{Standing, standing_at};
 use std::alloc::{AllocError, Global};
 use tw_machine::language::{Change, Expr, Position, Statement, Target, Which};
-use tw_program_text::{Arms, Block, Change as Sign, Expr as Tree, Operator, Statement as Said, Verb};
+use tw_program_text::{
+    Arms, Block, Change as Sign, Expr as Tree, Operator, Statement as Said, Verb,
+};
 
 /// A register by its name.
 fn cell_named(standing: Standing) -> Target
@@ -140,11 +142,7 @@ pub fn turns(written: Option<i128>) -> u8
 
 /// A statement in the machine's language.
 #[cycle(statements)]
-fn statement(
-    alloc: Global,
-    standings: &[Standing],
-    said: &Said,
-) -> Result<Statement, AllocError>
+fn statement(alloc: Global, standings: &[Standing], said: &Said) -> Result<Statement, AllocError>
     ensures { IfOk result (λ s. seen_statement s ≡ statement standings.now (told said.now)) }
 {
     match said {

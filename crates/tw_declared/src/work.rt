@@ -65,9 +65,7 @@ pub fn work(standings: &[Standing], written: &Tree) -> usize
         Tree::Binary(Operator::Comma, a, b) => {
             (work(standings, a) + work(standings, b)).min(262145)
         }
-        Tree::Binary(_, a, b) => {
-            (1 + (work(standings, a) + work(standings, b))).min(262145)
-        }
+        Tree::Binary(_, a, b) => { (1 + (work(standings, a) + work(standings, b))).min(262145) }
     }
 }
 
@@ -172,7 +170,8 @@ fn greatest_work(standings: &[Standing], arms: &Arms) -> usize
 {
     match arms {
         Arms::One(_, then) => block_work(standings, then),
-        Arms::More(before, _, then) => greatest_work(standings, before)
-            .max(block_work(standings, then)),
+        Arms::More(before, _, then) => greatest_work(standings, before).max(block_work(
+            standings, then,
+        )),
     }
 }

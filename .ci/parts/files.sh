@@ -68,6 +68,45 @@ done <<<"15 tally 0
 17 none 9
 62 tally 9
 63 none 20"
+# A text for each number below another, with the number in the place of each @, and commas between.
+each() {
+    local all=
+    for ((turn = 0; turn < $2; turn++)); do all+=,${1//@/$turn}; done
+    printf '%s' "${all:1}"
+}
+
+# Counts a file of format tw-2 with these components and couplings.
+check_tree() {
+    printf '{"format":"tw-2","micro_limit":1,"components":[%s],"couplings":[%s],"inputs":[]}' "$3" "$4" >"$file"
+    checks "$2"
+    count "$1" 0 0 $?
+}
+
+relay='{"name":"r","model":"relay","delay":0}'
+relays=$(each '{"name":"r@","model":"relay","delay":0}' 1024)
+model='{"name":"m","components":[],"couplings":[]}'
+models=$(each '{"name":"m@","components":[],"couplings":[]}' 1024)
+check_tree "1,024 atoms and 1,024 models" 0 "$relays,$models" ""
+check_tree "1,025 atoms" 9 "$relays,$relay" ""
+check_tree "1,025 models" 9 "$models,$model" ""
+# A model whose 512 relays are each at the end of 16 couplings, and one coupling more beside it.
+links=
+for port in {0..15}; do links+=,$(each '["",'"$port"',"r@",'"$port"']' 512); done
+model='{"name":"m","components":['$(each '{"name":"r@","model":"relay","delay":0}' 512)'],"couplings":['${links:1}']}'
+check_tree "8,192 couplings in a tree" 0 "$relay,$model" ""
+check_tree "8,193 couplings in a tree" 9 "$relay,$model" '["r",0,"m",0]'
+# Relays that are all coupled, port 0 to ports 0 and 1 of each of 64, by one coupling between the models around them.
+to='{"name":"to","components":['$(each '{"name":"r@","model":"relay","delay":0}' 64)'],"couplings":['
+to+=$(each '["",0,"r@",0],["",0,"r@",1]' 64)']}'
+# A model of so many relays, each with port 0 to the model's.
+senders() {
+    printf '{"name":"from","components":[%s],"couplings":[%s]}' \
+        "$(each '{"name":"r@","model":"relay","delay":0}' "$1")" "$(each '["r@",0,"",0]' "$1")"
+}
+check_tree "8,192 couplings between atoms" 0 "$(senders 64),$to" '["from",0,"to",0]'
+[[ $(<"$out") == "ok: 128 components, 8192 couplings, 0 inputs" ]]
+count "8,192 couplings between atoms, counted" 0 0 $?
+check_tree "8,320 couplings between atoms" 9 "$(senders 65),$to" '["from",0,"to",0]'
 # Far too many parts with a long name take no more memory than the text.
 printf '{"format":"tw-2","micro_limit":1,"components":[{"name":"%s","couplings":[],"components":[%s]}],"couplings":[],"inputs":[]}' \
     "$(times long 20000)" "$(times "$tally," 20000)$tally" >"$file"

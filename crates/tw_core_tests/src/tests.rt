@@ -11,7 +11,7 @@ mod nested;
 mod networks;
 mod pool;
 mod process;
-mod rollback;
+mod scenes;
 mod sequential;
 mod stamps;
 mod tournament;

@@ -104,7 +104,7 @@ impl Atomic for Counter {
 }
 
 /// The turns of a counter: two items come, and then it sends.
-static COUNTER: [Worked<'static>; 3] = [
+static COUNTER: [Worked; 3] = [
     Worked {
         before: (&[0], None),
         sends: &[],
@@ -137,5 +137,5 @@ static COUNTER: [Worked<'static>; 3] = [
 #[test]
 fn a_counter_is_followed(rt: HostRuntime) {
     follow(&rt, rt.alloc(), &Counter, &COUNTER);
-    assert_eq!(rt; Counter.longest_wait(), None);
+    assert!(rt; Counter.longest_wait() == None);
 }

@@ -1,16 +1,16 @@
-//! Fossil collection by worked examples.
+//! Fossil collection by a worked example.
 
 ghost use Rattle.std.specs.Prelude.{◌≡◌, ◌<◌, ◌+◌, IsTrue};
 ghost use Rattle.std.specs.List.{AllByRecursion as Each};
 ghost use Rattle.tw_fossils.specs.Columns.{AreColumns, IsColumn, IsRising};
 
-use super::helpers::{Line, all_show, come, in_a_row, item, process_of, stamp, step};
-use std::alloc::Global;
+use super::helpers::{Line, assert_records};
+use super::scenes::{Act, Scene, play, stamp_at};
+use std::alloc::{AllocError, Global};
 use std::process::Abort;
 use tw_fossils::{Column, harvest, into_trace, merge};
-use tw_models::Model;
 use tw_msgs::{Record, RecordKind, Sign};
-use tw_process::Process;
+use tw_process::Cancel;
 use tw_rollback::Received;
 use tw_vtime::Stamp;
 
@@ -57,91 +57,102 @@ fn are_columns(component: usize, columns: &[Column]) -> bool
     }
 }
 
-/// The column of a process that is harvested at a stamp, so many records.
+/// The components of the row after four steps, and how many of the steps are before tick 3.
+static COMPONENTS: [(Scene, u64); 3] = [
+    (
+        Scene {
+            input: true,
+            component: 0,
+            cancel: Cancel::Aggressive,
+            acts: &[
+                (Act::Step(2, 0, RecordKind::Out), [1, 0, 0, 1, 0]),
+                (Act::Step(2, 1, RecordKind::Int), [2, 0, 0, 1, 0]),
+            ],
+            times: (Some((4, 0)), Some((2, 0)), Some((4, 0))),
+            pending: &[],
+            waiting: &[],
+            outgoing: &[(Sign::Positive, 2, 5)],
+            owed: &[],
+        },
+        2,
+    ),
+    (
+        Scene {
+            input: true,
+            component: 1,
+            cancel: Cancel::Aggressive,
+            acts: &[
+                (
+                    Act::Come(Sign::Positive, 2, 5, Received::Placed),
+                    [0, 2, 0, 0, 0],
+                ),
+                (Act::Step(2, 1, RecordKind::Ext), [1, 1, 0, 0, 0]),
+                (Act::Step(3, 0, RecordKind::Out), [2, 1, 0, 1, 0]),
+            ],
+            times: (Some((3, 1)), Some((2, 0)), Some((3, 1))),
+            pending: &[(3, 0, 8)],
+            waiting: &[],
+            outgoing: &[(Sign::Positive, 3, 5)],
+            owed: &[],
+        },
+        1,
+    ),
+    (
+        Scene {
+            input: true,
+            component: 2,
+            cancel: Cancel::Aggressive,
+            acts: &[],
+            times: (None, Some((0, 0)), None),
+            pending: &[],
+            waiting: &[],
+            outgoing: &[],
+            owed: &[],
+        },
+        0,
+    ),
+];
+
+/// The column of a component that is harvested at tick 3, so many records.
 fn column_of(
     rt: &impl Abort,
     alloc: Global,
-    process: &mut Process<Model>,
-    line: Stamp,
+    scene: &Scene,
     expected: u64,
-) -> Column {
+) -> Result<Column, AllocError> {
+    let line = stamp_at(rt, Some((3, 0)));
+    let mut process = play(rt, alloc, scene);
     let mut column = Column::new(alloc);
-    let count = harvest(process, &mut column, line).expect(rt, "memory");
-    assert!(rt; count == expected);
-    assert!(rt; process.line() == line);
-    column
+    let count = harvest(&mut process, &mut column, line)?;
+    assert!(rt; count == expected && process.line() == line);
+    Ok(column)
 }
 
-/// The columns of a generator, a relay and a tally in a row, harvested at tick 3 after four steps.
-fn harvested(rt: &impl Abort, alloc: Global) -> Vec<Column> {
-    let network = in_a_row(rt, alloc, true);
-    let line = stamp(rt, 3, 0, 0);
+/// The columns of the three components.
+fn harvested(rt: &impl Abort, alloc: Global) -> Result<Vec<Column>, AllocError> {
     let mut columns = Vec::new(alloc);
-    let mut generator = process_of(rt, alloc, &network, 0);
-    step(
-        rt,
-        alloc,
-        &mut generator,
-        (stamp(rt, 2, 0, 0), RecordKind::Out),
-    );
-    step(
-        rt,
-        alloc,
-        &mut generator,
-        (stamp(rt, 2, 0, 1), RecordKind::Int),
-    );
-    let column = column_of(rt, alloc, &mut generator, line, 2);
-    columns.push(column).expect(rt, "memory");
-    let mut relay = process_of(rt, alloc, &network, 1);
-    let sent = item(rt, Sign::Positive, 2, 1, 5);
-    come(rt, &mut relay, &sent, Received::Placed);
-    step(rt, alloc, &mut relay, (stamp(rt, 2, 0, 1), RecordKind::Ext));
-    step(rt, alloc, &mut relay, (stamp(rt, 3, 0, 0), RecordKind::Out));
-    let column = column_of(rt, alloc, &mut relay, line, 1);
-    columns.push(column).expect(rt, "memory");
-    let mut tally = process_of(rt, alloc, &network, 2);
-    let column = column_of(rt, alloc, &mut tally, line, 0);
-    columns.push(column).expect(rt, "memory");
-    columns
+    for (scene, count) in COMPONENTS.iter() {
+        columns.push(column_of(rt, alloc, scene, *count)?)?;
+    }
+    Ok(columns)
 }
+
+/// What is committed, and the first of it alone.
+static LINES: [Line; 3] = [
+    Line(2, 0, 0, RecordKind::Out, &[(0, 5)], &[]),
+    Line(2, 0, 0, RecordKind::Int, &[], &[1]),
+    Line(2, 0, 1, RecordKind::Ext, &[(0, 5)], &[0, 5]),
+];
+
+static FIRST: [Line; 1] = [Line(2, 0, 0, RecordKind::Out, &[(0, 5)], &[])];
 
 #[test]
 fn committed_records_become_one_trace(rt: HostRuntime) {
-    let alloc = rt.alloc();
-    let columns = harvested(&rt, alloc);
+    let columns = harvested(&rt, rt.alloc()).expect(&rt, "memory");
     assert!(rt; are_columns(0, columns.as_slice()));
-    let lines = [
-        Line(2, 0, 0, RecordKind::Out, &[(0, 5)], &[]),
-        Line(2, 0, 0, RecordKind::Int, &[], &[1]),
-        Line(2, 0, 1, RecordKind::Ext, &[(0, 5)], &[0, 5]),
-    ];
-    let trace = merge(alloc, columns.as_slice(), stamp(&rt, 2, 0, 1)).expect(&rt, "memory");
-    assert!(rt; all_show(trace.as_slice(), &lines[..1]));
-    let trace = into_trace(alloc, columns, Stamp::END).expect(&rt, "memory");
-    assert!(rt; all_show(trace.as_slice(), &lines));
-}
-
-#[test]
-fn a_column_has_its_records(rt: HostRuntime) {
-    let alloc = rt.alloc();
-    let network = in_a_row(&rt, alloc, true);
-    let mut relay = process_of(&rt, alloc, &network, 1);
-    step(
-        &rt,
-        alloc,
-        &mut relay,
-        (stamp(&rt, 3, 0, 1), RecordKind::Ext),
-    );
-    let mut column = Column::new(alloc);
-    assert!(rt; column.is_empty());
-    let done = relay.commit_oldest().expect(&rt, "a step");
-    assert!(rt; column.push(done).is_ok());
-    assert!(rt; column.len() == 1 && !column.is_empty());
-    let records = column.into_records();
-    assert!(rt;
-        all_show(
-            records.as_slice(),
-            &[Line(3, 0, 1, RecordKind::Ext, &[(0, 8)], &[0, 8])]
-        )
-    );
+    let line = stamp_at(&rt, Some((2, 1)));
+    let trace = merge(rt.alloc(), columns.as_slice(), line).expect(&rt, "memory");
+    assert_records(&rt, trace.as_slice(), &FIRST);
+    let trace = into_trace(rt.alloc(), columns, Stamp::END).expect(&rt, "memory");
+    assert_records(&rt, trace.as_slice(), &LINES);
 }

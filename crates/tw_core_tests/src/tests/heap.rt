@@ -1,9 +1,7 @@
-//! Heaps by worked examples.
-
-ghost use Rattle.std.specs.Prelude.{◌≡◌, ◌≤◌, OnOk};
+//! A heap by a worked example.
 
 use super::helpers::message;
-use std::alloc::AllocError;
+use std::alloc::{AllocError, Global};
 use std::process::Abort;
 use tw_heap::EventHeap;
 
@@ -14,54 +12,28 @@ fn take_first(heap: &mut EventHeap) -> Option<usize> {
     Some(index)
 }
 
+/// A heap of four messages, of which the one under index 1 is taken out: left are two equal ones and a later one.
+fn three_of_four(rt: &impl Abort, alloc: Global) -> Result<EventHeap, AllocError> {
+    let mut heap = EventHeap::new(alloc);
+    heap.reserve(4, 4)?;
+    heap.insert(0, message(rt, 3, 0, 0, 8));
+    heap.insert(1, message(rt, 2, 0, 1, 4));
+    heap.insert(2, message(rt, 2, 0, 0, 9));
+    heap.insert(3, message(rt, 2, 0, 0, 9));
+    heap.remove(1);
+    Ok(heap)
+}
+
+/// The second try is made where memory is refused in the first.
 #[test]
 fn orders_messages(rt: HostRuntime) {
-    let mut heap = EventHeap::new(rt.alloc());
-    heap.reserve(4, 4).expect(&rt, "memory");
-    heap.insert(0, message(&rt, 3, 0, 8));
-    heap.insert(1, message(&rt, 2, 1, 4));
-    heap.insert(2, message(&rt, 2, 0, 9));
-    heap.insert(3, message(&rt, 2, 0, 9));
-    let first = heap.first().expect(&rt, "an entry");
-    assert!(rt; first.key == message(&rt, 2, 0, 9));
-
-    heap.remove(1);
-    assert!(rt; take_first(&mut heap) == Some(2));
-    assert!(rt; take_first(&mut heap) == Some(3));
-    let first = heap.first().expect(&rt, "an entry");
-    assert!(rt; first.key == message(&rt, 3, 0, 8));
-    assert!(rt; take_first(&mut heap) == Some(0));
-    assert!(rt; heap.first().is_none());
-}
-
-/// Makes room, at the second try where the first is refused, which keeps the first entry.
-fn reserve_again(
-    rt: &impl Abort,
-    heap: &mut EventHeap,
-    n: usize,
-    top: usize,
-) -> Result<(), AllocError>
-    ensures entries { heap.new.entries ≡ heap.old.entries }
-    ensures room { OnOk result (n ≤ heap.new.room) }
-    ensures top { OnOk result (top ≤ heap.new.top) }
-{
-    let before = heap.first();
-    if heap.reserve(n, top).is_ok() {
-        return Ok(());
+    let mut heap = match three_of_four(&rt, rt.alloc()) {
+        Ok(heap) => heap,
+        Err(_) => three_of_four(&rt, rt.alloc()).expect(&rt, "memory"),
+    };
+    assert!(rt; heap.first().expect(&rt, "an entry").key == message(&rt, 2, 0, 0, 9));
+    for index in [2, 3, 0] {
+        assert!(rt; take_first(&mut heap) == Some(index));
     }
-    assert!(rt; heap.first() == before);
-    heap.reserve(n, top)
-}
-
-/// Each growth may be refused: then the entries are what they were.
-#[test]
-fn grows_or_stays(rt: HostRuntime) {
-    let mut heap = EventHeap::new(rt.alloc());
-    reserve_again(&rt, &mut heap, 1, 1).expect(&rt, "memory");
-    heap.insert(0, message(&rt, 3, 0, 8));
-    reserve_again(&rt, &mut heap, 20, 7).expect(&rt, "memory");
-    heap.insert(6, message(&rt, 2, 1, 4));
-    assert!(rt; take_first(&mut heap) == Some(6));
-    assert!(rt; take_first(&mut heap) == Some(0));
     assert!(rt; heap.first().is_none());
 }

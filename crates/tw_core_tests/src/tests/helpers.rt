@@ -1,18 +1,13 @@
 //! What several modules of tests share: stamps, messages, networks, processes and records as the examples write
 //! them.
 
-ghost use Rattle.std.specs.Prelude.{◌≡◌, ◌<◌, OnErr, OnOk, length};
-ghost use Rattle.std.specs.Arc.{arc_value};
+ghost use Rattle.std.specs.Prelude.{◌≡◌};
 
-use std::alloc::{AllocError, Global};
+use std::alloc::Global;
 use std::process::Abort;
-use std::sync::Arc;
-use tw_mail::Mailboxes;
-use tw_models::Model;
+use tw_models::{BadModel, Model};
 use tw_msgs::{Item, Message, Record, RecordKind, Sign};
-use tw_network::{Coupling, Input, Network, NetworkRefused};
-use tw_process::Process;
-use tw_rollback::{Received, receive};
+use tw_network::{Coupling, Input, Network};
 use tw_vtime::{Refusal, Stamp};
 
 /// A stamp, written as in the examples.
@@ -20,52 +15,41 @@ pub(crate) fn stamp(rt: &impl Abort, tick: u64, microstep: u32, phase: u8) -> St
     Stamp::new(tick, microstep, phase).expect(rt, "a stamp")
 }
 
-/// A message to component 0: a value for a port at a tick.
-pub(crate) fn message(rt: &impl Abort, tick: u64, port: u8, value: i64) -> Message {
+/// A message: a value for a port of a component at a tick.
+pub(crate) fn message(rt: &impl Abort, tick: u64, to: usize, port: u8, value: i64) -> Message
+    ensures { result.to ≡ to }
+{
     Message {
         stamp: stamp(rt, tick, 0, 1),
         port,
         value,
-        to: 0,
+        to,
     }
-}
-
-/// An item with this sign.
-pub(crate) fn signed(sign: Sign, message: Message) -> Item {
-    Item { sign, message }
 }
 
 /// An item with this sign: a value for port 0 of a component at a tick.
 pub(crate) fn item(rt: &impl Abort, sign: Sign, tick: u64, to: usize, value: i64) -> Item
     ensures { result.message.to ≡ to }
 {
-    let stamp = Stamp::new(tick, 0, 1).expect(rt, "a stamp");
-    let message = Message {
-        stamp,
-        port: 0,
-        value,
-        to,
-    };
-    Item { sign, message }
+    Item {
+        sign,
+        message: message(rt, tick, to, 0, value),
+    }
 }
 
 /// A record as the examples write it: tick, microstep, component, kind, bag and words.
-#[derive(Clone, Copy)]
-pub(crate) struct Line<'a>(
+pub(crate) struct Line(
     pub(crate) u64,
     pub(crate) u32,
     pub(crate) usize,
     pub(crate) RecordKind,
-    pub(crate) &'a [(u8, i64)],
-    pub(crate) &'a [i128],
+    pub(crate) &'static [(u8, i64)],
+    pub(crate) &'static [i128],
 );
 
 /// Whether a record is what a line says.
-pub(crate) fn shows(record: &Record, line: &Line) -> bool {
-    let phase = match line.3 {
-        RecordKind::Out => 0,
-        RecordKind::Int | RecordKind::Ext | RecordKind::Con => 1,
-    };
+fn shows(record: &Record, line: &Line) -> bool {
+    let phase = if line.3 == RecordKind::Out { 0 } else { 1 };
     Stamp::new(line.0, line.1, phase) == Ok(record.stamp)
         && record.component == line.2
         && record.kind == line.3
@@ -73,111 +57,96 @@ pub(crate) fn shows(record: &Record, line: &Line) -> bool {
         && record.words.as_slice() == line.5
 }
 
-/// Whether the records are what the lines say.
-pub(crate) fn all_show(records: &[Record], lines: &[Line]) -> bool {
-    records.len() == lines.len() && records.iter().zip(lines).all(|(r, l)| shows(r, l))
+/// Asserts that the records are what the lines say.
+pub(crate) fn assert_records(rt: &impl Abort, records: &[Record], lines: &[Line]) {
+    assert!(rt; records.len() == lines.len());
+    for (record, line) in records.iter().zip(lines) {
+        assert!(rt; shows(record, line));
+    }
 }
 
-/// A network of these models, up to eight, named by letters, shared, in which 100 is the greatest microstep.
-pub(crate) fn network(
-    rt: &impl Abort,
-    alloc: Global,
-    models: &[Model],
-    couplings: &[Coupling],
-    inputs: &[Input],
-) -> Arc<Network<Model>> {
-    let names = ["a", "b", "c", "d", "e", "f", "g", "h"];
-    let mut components = Vec::new(alloc);
-    for (name, model) in names.iter().zip(models.iter()) {
-        let name = String::from_str(alloc, name).expect(rt, "a name");
-        components.push((name, *model)).expect(rt, "memory");
+/// A model, by its parameters.
+#[derive(Clone, Copy)]
+pub(crate) enum Made {
+    /// Period and value.
+    Generator(u64, i64),
+    Tally,
+    /// Its delay.
+    Relay(u64),
+    /// Its service time.
+    Queue(u64),
+    /// Seed, ports and spread.
+    Hop(u64, u64, u64),
+}
+
+impl Made {
+    /// The model, if its parameters are in range.
+    pub(crate) fn model(self) -> Result<Model, BadModel> {
+        match self {
+            Made::Generator(period, value) => Model::generator(period, value),
+            Made::Tally => Model::tally(),
+            Made::Relay(delay) => Model::relay(delay),
+            Made::Queue(service) => Model::queue(service),
+            Made::Hop(seed, ports, spread) => Model::hop(seed, ports, spread),
+        }
     }
-    let couplings = Vec::from_slice(alloc, couplings).expect(rt, "memory");
-    let inputs = Vec::from_slice(alloc, inputs).expect(rt, "memory");
-    let network = Network::new(alloc, components, couplings, inputs, 100).expect(rt, "a network");
-    Arc::new(alloc, network).expect(rt, "memory")
+}
+
+/// What a network is made of: names, models, couplings, inputs and the greatest microstep.
+pub(crate) struct Net {
+    pub(crate) names: &'static [&'static str],
+    pub(crate) models: &'static [Made],
+    pub(crate) couplings: &'static [Coupling],
+    pub(crate) inputs: &'static [Input],
+    pub(crate) micro_limit: u64,
+}
+
+/// The network.
+pub(crate) fn network_of(alloc: Global, net: &Net) -> Result<Network<Model>, Refusal> {
+    let mut components = Vec::new(alloc);
+    for (name, made) in net.names.iter().zip(net.models) {
+        components.push((String::from_str(alloc, name)?, made.model()?))?;
+    }
+    let couplings = Vec::from_slice(alloc, net.couplings)?;
+    let inputs = Vec::from_slice(alloc, net.inputs)?;
+    Ok(Network::new(alloc, components, couplings, inputs, net.micro_limit)?)
 }
 
 /// For what a network is refused, by its number; 0 where it is taken.
-pub(crate) fn refusal(answer: Result<Network<Model>, NetworkRefused>) -> u8 {
+pub(crate) fn number_of(answer: Result<Network<Model>, Refusal>) -> u8 {
     match answer {
         Ok(_) => 0,
-        Err(refused) => Refusal::from(refused).number(),
+        Err(refusal) => refusal.number(),
     }
 }
 
-/// A generator, a relay with delay 1 and a tally in a row, of which the relay has 0=8 at tick 3.
-pub(crate) fn in_a_row(rt: &impl Abort, alloc: Global, input: bool) -> Arc<Network<Model>> {
-    let models = [
-        Model::generator(2, 5).expect(rt, "a generator"),
-        Model::relay(1).expect(rt, "a relay"),
-        Model::tally().expect(rt, "a tally"),
-    ];
-    let couplings = [(0, 0, 1, 0), (1, 0, 2, 0)];
-    let inputs = [(3, 1, 0, 8)];
-    let count = if input { 1 } else { 0 };
-    network(rt, alloc, &models, &couplings, &inputs[..count])
+/// A message to a component that is known: tick, port and value.
+pub(crate) type Said = (u64, u8, i64);
+
+/// The message that is said, to a component.
+pub(crate) fn said(rt: &impl Abort, to: usize, it: &Said) -> Message
+    ensures { result.to ≡ to }
+{
+    message(rt, it.0, to, it.1, it.2)
 }
 
-/// The process of a component.
-pub(crate) fn process_of(
-    rt: &impl Abort,
-    alloc: Global,
-    network: &Arc<Network<Model>>,
-    component: usize,
-) -> Process<Model>
-    ensures component { result.component ≡ component }
-    ensures floor { result.floor ≡ 0 }
-{
-    assert!(rt; component < network.len());
-    let network = Arc::try_clone(network).expect(rt, "a share");
-    Process::new(alloc, network, component).expect(rt, "a process")
-}
-
-/// Makes the next step, which is this one.
-pub(crate) fn step(
-    rt: &impl Abort,
-    alloc: Global,
-    process: &mut Process<Model>,
-    expected: (Stamp, RecordKind),
-)
-    ensures component { process.new.component ≡ process.old.component }
-    ensures floor { process.new.floor ≡ process.old.floor }
-{
-    let made = process.step(alloc).expect(rt, "a step");
-    assert!(rt; made == expected);
-}
-
-/// Lets an item come, of which this comes.
-pub(crate) fn come(rt: &impl Abort, process: &mut Process<Model>, item: &Item, expected: Received)
-    requires { process.old.floor ≡ 0 }
-    ensures component { process.new.component ≡ process.old.component }
-    ensures floor { process.new.floor ≡ process.old.floor }
-{
-    let stamp = item.message.stamp;
-    assert!(rt; item.message.to == process.component());
-    assert!(rt; stamp.pack() < u64::MAX);
-    assert!(rt; stamp.phase() == 1);
-    let _port = item.message.port;
-    let _value = item.message.value;
-    let came = receive(process, *item).expect(rt, "room");
-    assert!(rt; came == expected);
-}
-
-/// Posts an item, at the second try where the first is refused, which leaves the mailbox as it was.
-pub(crate) fn post_again(
-    rt: &impl Abort,
-    mail: &mut Mailboxes,
-    item: &Item,
-) -> Result<(), AllocError>
-    requires { item.now.message.to < length mail.old.boxes }
-    ensures { length mail.new.boxes ≡ length mail.old.boxes }
-{
-    let to = item.message.to;
-    let before = mail.len(to);
-    if mail.post(&[*item]).is_ok() {
-        return Ok(());
+/// Asserts that these are the messages, which are to a component.
+pub(crate) fn assert_messages(rt: &impl Abort, messages: &[Message], to: usize, expected: &[Said]) {
+    assert!(rt; messages.len() == expected.len());
+    for (found, it) in messages.iter().zip(expected) {
+        assert!(rt; *found == said(rt, to, it));
     }
-    assert!(rt; mail.len(to) == before);
-    mail.post(&[*item])
+}
+
+/// Asserts that these are the items, which are to a component: sign, tick and value for its port 0.
+pub(crate) fn assert_items(
+    rt: &impl Abort,
+    items: &[Item],
+    to: usize,
+    expected: &[(Sign, u64, i64)],
+) {
+    assert!(rt; items.len() == expected.len());
+    for (found, (sign, tick, value)) in items.iter().zip(expected) {
+        assert!(rt; *found == item(rt, *sign, *tick, to, *value));
+    }
 }

@@ -1,60 +1,43 @@
-//! The six lists of a process by a worked example: each call once.
+//! The six lists of a process by worked examples: each call once.
 
 ghost use Rattle.std.specs.Prelude.{◌≡◌, ◌≤◌, OnOk};
 
-use super::helpers::{message, signed, stamp};
+use super::helpers::{Said, assert_items, assert_messages, said, stamp};
 use std::alloc::{AllocError, Global};
 use std::process::Abort;
 use tw_lists::{Cancel, EventLists};
 use tw_msgs::{Message, Sign};
+use tw_pool::PoolRefused;
 use tw_vtime::Stamp;
 
-/// One more message is pending.
-fn put(rt: &impl Abort, lists: &mut EventLists, message: &Message) {
-    lists.reserve_pending().expect(rt, "room");
-    lists.put_reserved(message);
-}
-
-/// Lists of which 1=4 and 0=9 at tick 2 and 0=8 at tick 3 are pending.
-fn three_pending(rt: &impl Abort, alloc: Global) -> EventLists {
-    let mut lists = EventLists::new(alloc);
-    put(rt, &mut lists, &message(rt, 3, 0, 8));
-    put(rt, &mut lists, &message(rt, 2, 1, 4));
-    put(rt, &mut lists, &message(rt, 2, 0, 9));
-    lists
-}
-
-#[test]
-fn pending_and_waiting_messages_are_read(rt: HostRuntime) {
-    let alloc = rt.alloc();
-    let mut lists = three_pending(&rt, alloc);
-    let (late, middle, first) = (
-        message(&rt, 3, 0, 8),
-        message(&rt, 2, 1, 4),
-        message(&rt, 2, 0, 9),
-    );
-    lists.order_law();
-    lists.count_law();
-    assert!(rt; lists.first() == Some(first));
-    assert!(rt; lists.pending_len() == 3);
-    let pending = lists.pending(alloc).expect(&rt, "memory");
-    assert!(rt; pending.as_slice() == [first, middle, late].as_slice());
-    let early = lists
-        .pending_before(alloc, late.stamp)
-        .expect(&rt, "memory");
-    assert!(rt; early.as_slice() == [first, middle].as_slice());
-    assert!(rt; lists.withdraw(&middle) && !lists.withdraw(&middle));
-    assert!(rt; lists.pending_len() == 2 && lists.pool().len(0) == 2);
-    let (pool, heap) = lists.nodes();
-    assert!(rt; pool.len(0) == 2);
-    assert!(rt; heap.first().expect(&rt, "an entry").key == first);
-    assert!(rt; lists.heap().first().expect(&rt, "an entry").key == first);
-
-    lists.note_orphan(&middle).expect(&rt, "room");
-    assert!(rt; lists.waiting_len() == 1);
-    let waiting = lists.waiting(alloc).expect(&rt, "memory");
-    assert!(rt; waiting.as_slice() == [middle].as_slice());
-    assert!(rt; lists.clear_orphan(&middle) && !lists.clear_orphan(&middle));
+/// What is done with the lists, and what is answered.
+enum Act {
+    /// One more message is pending.
+    Put(Said),
+    /// A message is no longer pending; whether it was.
+    Withdraw(Said, bool),
+    /// An anti-message waits for this message.
+    Wait(Said),
+    /// The anti-message of this message waits no longer; whether it did.
+    Clear(Said, bool),
+    /// The bag of a tick is consumed, and pending again: so many messages.
+    ThereAndBack(u64, usize),
+    /// The bag of a tick is consumed: these items.
+    Consume(u64, &'static [(u8, i64)]),
+    /// The bag of a tick is consumed if it is this one; whether it is.
+    ConsumeEqual(u64, &'static [(u8, i64)], bool),
+    /// Messages are sent, so many anew.
+    Send(&'static [Said], Cancel, usize),
+    /// One message is sent.
+    SendOne(Said),
+    /// The last sent messages, so many, are taken back.
+    TakeBack(usize, Cancel),
+    /// The next step is at a tick and phase: what is owed for earlier is posted.
+    Settle(u64, u8),
+    /// So many of the oldest consumed and of the oldest sent messages are forgotten.
+    Forget(usize, usize),
+    /// All that is outgoing is posted.
+    Post,
 }
 
 /// The bag of a stamp is consumed, and pending again; answers how many messages it has.
@@ -70,97 +53,247 @@ fn there_and_back(
     Ok(count)
 }
 
-#[test]
-fn a_bag_is_consumed_and_pending_again(rt: HostRuntime) {
-    let alloc = rt.alloc();
-    let mut lists = three_pending(&rt, alloc);
-    let now = stamp(&rt, 2, 0, 1);
-    assert!(rt; there_and_back(alloc, &mut lists, now) == Ok(2));
-    assert!(rt; lists.pending_len() == 3 && lists.pool().len(1) == 0);
-    assert!(rt; lists.first() == Some(message(&rt, 2, 0, 9)));
-    let bag = lists.consume_bag(alloc, now).expect(&rt, "memory");
-    assert!(rt; bag.as_slice() == [(0, 9), (1, 4)].as_slice());
-    assert!(rt; lists.pending_len() == 1 && lists.pool().len(1) == 2);
-    assert!(rt; lists.has_consumed(&message(&rt, 2, 1, 4)));
-    assert!(rt; !lists.has_consumed(&message(&rt, 3, 0, 8)));
-
-    let mut lists = three_pending(&rt, alloc);
-    assert!(rt; !lists.consume_equal(now, &[(0, 9)]));
-    assert!(rt; !lists.consume_equal(now, &[(0, 9), (1, 5)]));
-    assert!(rt; !lists.consume_equal(stamp(&rt, 3, 0, 1), &[(0, 8)]));
-    assert!(rt; lists.pending_len() == 3 && lists.pool().len(1) == 0);
-    assert!(rt; lists.consume_equal(now, &[(0, 9), (1, 4)]));
-    assert!(rt; lists.pending_len() == 1 && lists.pool().len(1) == 2);
-    assert!(rt; lists.first() == Some(message(&rt, 3, 0, 8)));
+/// One more message is pending.
+fn put(lists: &mut EventLists, message: &Message) -> Result<(), PoolRefused> {
+    lists.reserve_pending()?;
+    lists.put_reserved(message);
+    Ok(())
 }
 
 /// These messages are sent.
 fn send(rt: &impl Abort, lists: &mut EventLists, messages: &[Message], way: Cancel, fresh: usize) {
     let count = lists.fresh_count(messages, way);
-    assert!(rt; count == fresh);
-    assert!(rt; messages.len() < 1000);
+    assert!(rt; count == fresh && messages.len() < 1000);
     lists.reserve(2 * count).expect(rt, "room");
     lists.send_all(messages, way);
 }
 
-/// The last sent messages, so many, are taken back.
-fn take_back(rt: &impl Abort, lists: &mut EventLists, n: usize, way: Cancel) {
-    assert!(rt; n <= lists.pool().len(2));
-    lists.cancel(n, way);
+/// Does what concerns one pending or waiting message.
+fn act_on_message(rt: &impl Abort, lists: &mut EventLists, act: &Act) {
+    match act {
+        Act::Put(it) => put(lists, &said(rt, 0, it)).expect(rt, "room"),
+        Act::Withdraw(it, was) => assert!(rt; lists.withdraw(&said(rt, 0, it)) == *was),
+        Act::Wait(it) => lists.note_orphan(&said(rt, 0, it)).expect(rt, "room"),
+        Act::Clear(it, was) => assert!(rt; lists.clear_orphan(&said(rt, 0, it)) == *was),
+        _ => {}
+    }
 }
 
-#[test]
-fn messages_are_sent_owed_and_sent_again(rt: HostRuntime) {
-    let alloc = rt.alloc();
+/// Does what concerns the bag of a tick.
+fn act_on_bag(rt: &impl Abort, alloc: Global, lists: &mut EventLists, act: &Act) {
+    match act {
+        Act::ThereAndBack(tick, count) => {
+            let stamp = stamp(rt, *tick, 0, 1);
+            assert!(rt; there_and_back(alloc, lists, stamp) == Ok(*count));
+        }
+        Act::Consume(tick, items) => {
+            let bag = lists
+                .consume_bag(alloc, stamp(rt, *tick, 0, 1))
+                .expect(rt, "memory");
+            assert!(rt; bag.as_slice() == *items);
+        }
+        Act::ConsumeEqual(tick, items, is_it) => {
+            assert!(rt; lists.consume_equal(stamp(rt, *tick, 0, 1), items) == *is_it);
+        }
+        Act::Forget(consumed, sent) => {
+            assert!(rt; *consumed <= lists.pool().len(1));
+            assert!(rt; *sent <= lists.pool().len(2));
+            lists.forget(*consumed, *sent);
+        }
+        _ => {}
+    }
+}
+
+/// Does what concerns what is sent.
+fn act_on_sent(rt: &impl Abort, alloc: Global, lists: &mut EventLists, act: &Act) {
+    match act {
+        Act::Send(messages, way, fresh) => {
+            let mut sent = Vec::new(alloc);
+            for it in messages.iter() {
+                sent.push(said(rt, 0, it)).expect(rt, "memory");
+            }
+            send(rt, lists, sent.as_slice(), *way, *fresh);
+        }
+        Act::SendOne(it) => {
+            lists.reserve(2).expect(rt, "room");
+            lists.send(&said(rt, 0, it));
+        }
+        Act::TakeBack(count, way) => {
+            assert!(rt; *count <= lists.pool().len(2));
+            lists.cancel(*count, *way);
+        }
+        Act::Settle(tick, phase) => lists.settle(stamp(rt, *tick, 0, *phase)),
+        Act::Post => lists.clear_outgoing(),
+        _ => {}
+    }
+}
+
+/// How many are pending, consumed, sent, outgoing, waiting and owed.
+fn lengths(lists: &EventLists) -> [usize; 6] {
+    [
+        lists.pending_len(),
+        lists.pool().len(1),
+        lists.pool().len(2),
+        lists.outgoing_len(),
+        lists.waiting_len(),
+        lists.owed_len(),
+    ]
+}
+
+/// What is done with empty lists, each with their lengths afterwards, and what is in four of them at the end.
+struct Scene {
+    acts: &'static [(Act, [usize; 6])],
+    pending: &'static [Said],
+    outgoing: &'static [(Sign, u64, i64)],
+    waiting: &'static [Said],
+    owed: &'static [Said],
+}
+
+/// Asserts what is pending, outgoing, waiting and owed.
+fn assert_contents(
+    rt: &impl Abort,
+    alloc: Global,
+    lists: &EventLists,
+    scene: &Scene,
+) -> Result<(), AllocError> {
+    assert_messages(rt, lists.pending(alloc)?.as_slice(), 0, scene.pending);
+    assert_items(rt, lists.outgoing(alloc)?.as_slice(), 0, scene.outgoing);
+    assert_messages(rt, lists.waiting(alloc)?.as_slice(), 0, scene.waiting);
+    assert_messages(rt, lists.owed(alloc)?.as_slice(), 0, scene.owed);
+    Ok(())
+}
+
+/// Does something with the lists, and asserts their lengths afterwards.
+fn make(rt: &impl Abort, alloc: Global, lists: &mut EventLists, act: &Act, expected: [usize; 6]) {
+    act_on_message(rt, lists, act);
+    act_on_bag(rt, alloc, lists, act);
+    act_on_sent(rt, alloc, lists, act);
+    assert!(rt; lengths(lists) == expected);
+}
+
+/// Does what a scene says.
+fn play(rt: &impl Abort, alloc: Global, scene: &Scene) -> EventLists {
     let mut lists = EventLists::new(alloc);
-    let (x, y) = (message(&rt, 5, 0, 1), message(&rt, 6, 0, 2));
-    assert!(rt; lists.least_outgoing() == Stamp::END && lists.least_owed() == Stamp::END);
-    send(&rt, &mut lists, &[x, y], Cancel::Aggressive, 2);
-    assert!(rt; lists.outgoing_len() == 2 && lists.least_outgoing() == x.stamp);
+    for (act, expected) in scene.acts {
+        make(rt, alloc, &mut lists, act, *expected);
+    }
+    assert_contents(rt, alloc, &lists, scene).expect(rt, "memory");
+    lists
+}
 
-    take_back(&rt, &mut lists, 2, Cancel::Lazy);
-    let owed = lists.owed(alloc).expect(&rt, "memory");
-    assert!(rt; owed.as_slice() == [x, y].as_slice());
-    assert!(rt; lists.least_owed() == x.stamp);
-    send(&rt, &mut lists, &[y, y], Cancel::Lazy, 1);
-    assert!(rt; lists.owed_len() == 1 && lists.outgoing_len() == 3);
-    lists.settle(stamp(&rt, 5, 0, 0));
-    assert!(rt; lists.owed_len() == 1);
-    lists.settle(stamp(&rt, 5, 0, 1));
-    assert!(rt; lists.owed_len() == 0);
-    take_back(&rt, &mut lists, 1, Cancel::Aggressive);
-    let outgoing = lists.outgoing(alloc).expect(&rt, "memory");
-    let expected = [
-        signed(Sign::Positive, x),
-        signed(Sign::Positive, y),
-        signed(Sign::Positive, y),
-        signed(Sign::Anti, x),
-        signed(Sign::Anti, y),
-    ];
-    assert!(rt; outgoing.as_slice() == expected.as_slice());
+/// Messages come and go, wait for theirs, and are consumed as the bag of their tick.
+static PENDING: Scene = Scene {
+    acts: &[
+        (Act::Put((3, 0, 8)), [1, 0, 0, 0, 0, 0]),
+        (Act::Put((2, 1, 4)), [2, 0, 0, 0, 0, 0]),
+        (Act::Put((2, 0, 9)), [3, 0, 0, 0, 0, 0]),
+        (Act::Put((4, 1, 1)), [4, 0, 0, 0, 0, 0]),
+        (Act::Put((4, 0, 2)), [5, 0, 0, 0, 0, 0]),
+        (Act::Put((4, 0, 1)), [6, 0, 0, 0, 0, 0]),
+        (Act::Withdraw((4, 0, 1), true), [5, 0, 0, 0, 0, 0]),
+        (Act::Withdraw((4, 0, 1), false), [5, 0, 0, 0, 0, 0]),
+        (Act::Wait((2, 1, 4)), [5, 0, 0, 0, 1, 0]),
+        (Act::Clear((2, 1, 4), true), [5, 0, 0, 0, 0, 0]),
+        (Act::Clear((2, 1, 4), false), [5, 0, 0, 0, 0, 0]),
+        (Act::Wait((5, 1, 4)), [5, 0, 0, 0, 1, 0]),
+        (Act::ThereAndBack(2, 2), [5, 0, 0, 0, 1, 0]),
+        (Act::ConsumeEqual(2, &[(0, 9)], false), [5, 0, 0, 0, 1, 0]),
+        (
+            Act::ConsumeEqual(2, &[(0, 9), (1, 5)], false),
+            [5, 0, 0, 0, 1, 0],
+        ),
+        (Act::ConsumeEqual(3, &[(0, 8)], false), [5, 0, 0, 0, 1, 0]),
+        (
+            Act::ConsumeEqual(2, &[(0, 9), (1, 4)], true),
+            [3, 2, 0, 0, 1, 0],
+        ),
+    ],
+    pending: &[(3, 0, 8), (4, 0, 2), (4, 1, 1)],
+    outgoing: &[],
+    waiting: &[(5, 1, 4)],
+    owed: &[],
+};
 
-    lists.clear_outgoing();
-    assert!(rt; lists.outgoing_len() == 0);
-    lists.reserve(2).expect(&rt, "room");
-    lists.send(&x);
-    assert!(rt; lists.outgoing_len() == 1 && lists.pool().len(2) == 2);
+/// Asserts what is told of the pending and the consumed messages of that scene.
+fn assert_told(rt: &impl Abort, alloc: Global, lists: &EventLists) -> Result<(), AllocError> {
+    let first = said(rt, 0, &(3, 0, 8));
+    assert!(rt; lists.first() == Some(first) && !lists.has_consumed(&first));
+    assert!(rt; lists.has_consumed(&said(rt, 0, &(2, 1, 4))));
+    let early = lists.pending_before(alloc, stamp(rt, 4, 0, 1))?;
+    assert_messages(rt, early.as_slice(), 0, &[(3, 0, 8)]);
+    Ok(())
 }
 
 #[test]
-fn the_oldest_are_forgotten(rt: HostRuntime) {
-    let alloc = rt.alloc();
-    let mut lists = three_pending(&rt, alloc);
-    send(
-        &rt,
-        &mut lists,
-        &[message(&rt, 5, 0, 1), message(&rt, 6, 0, 2)],
-        Cancel::Aggressive,
-        2,
+fn messages_come_and_go_and_are_consumed(rt: HostRuntime) {
+    let lists = play(&rt, rt.alloc(), &PENDING);
+    lists.count_law();
+    assert_told(&rt, rt.alloc(), &lists).expect(&rt, "memory");
+    let (pool, heap) = lists.nodes();
+    assert!(rt; pool.len(0) == 3 && heap.first() == lists.heap().first());
+}
+
+/// Messages are sent, owed and sent again, and posted where they are not.
+static SENT: Scene = Scene {
+    acts: &[
+        (
+            Act::Send(&[(5, 0, 1), (6, 0, 2)], Cancel::Aggressive, 2),
+            [0, 0, 2, 2, 0, 0],
+        ),
+        (Act::TakeBack(2, Cancel::Lazy), [0, 0, 0, 2, 0, 2]),
+        (
+            Act::Send(&[(6, 0, 2), (6, 0, 2)], Cancel::Lazy, 1),
+            [0, 0, 2, 3, 0, 1],
+        ),
+        (Act::Settle(5, 0), [0, 0, 2, 3, 0, 1]),
+        (Act::Settle(5, 1), [0, 0, 2, 4, 0, 0]),
+        (Act::TakeBack(1, Cancel::Aggressive), [0, 0, 1, 5, 0, 0]),
+    ],
+    pending: &[],
+    outgoing: &[
+        (Sign::Positive, 5, 1),
+        (Sign::Positive, 6, 2),
+        (Sign::Positive, 6, 2),
+        (Sign::Anti, 5, 1),
+        (Sign::Anti, 6, 2),
+    ],
+    waiting: &[],
+    owed: &[],
+};
+
+/// The oldest messages are forgotten; those that are owed stay, and what is outgoing goes.
+static FORGOTTEN: Scene = Scene {
+    acts: &[
+        (Act::Put((3, 0, 8)), [1, 0, 0, 0, 0, 0]),
+        (Act::Put((2, 1, 4)), [2, 0, 0, 0, 0, 0]),
+        (Act::Put((2, 0, 9)), [3, 0, 0, 0, 0, 0]),
+        (
+            Act::Send(&[(5, 0, 1), (6, 0, 2)], Cancel::Aggressive, 2),
+            [3, 0, 2, 2, 0, 0],
+        ),
+        (Act::Consume(2, &[(0, 9), (1, 4)]), [1, 2, 2, 2, 0, 0]),
+        (Act::Forget(1, 2), [1, 1, 0, 2, 0, 0]),
+        (Act::Post, [1, 1, 0, 0, 0, 0]),
+        (Act::SendOne((7, 0, 3)), [1, 1, 1, 1, 0, 0]),
+        (Act::SendOne((8, 0, 4)), [1, 1, 2, 2, 0, 0]),
+        (Act::TakeBack(2, Cancel::Lazy), [1, 1, 0, 2, 0, 2]),
+    ],
+    pending: &[(3, 0, 8)],
+    outgoing: &[(Sign::Positive, 7, 3), (Sign::Positive, 8, 4)],
+    waiting: &[],
+    owed: &[(7, 0, 3), (8, 0, 4)],
+};
+
+#[test]
+fn messages_are_sent_owed_sent_again_and_forgotten(rt: HostRuntime) {
+    let lists = play(&rt, rt.alloc(), &SENT);
+    assert!(rt; lists.least_outgoing() == stamp(&rt, 5, 0, 1) && lists.least_owed() == Stamp::END);
+    let lists = play(&rt, rt.alloc(), &FORGOTTEN);
+    assert!(rt;
+        lists.least_outgoing() == stamp(&rt, 7, 0, 1) && lists.least_owed() == stamp(&rt, 7, 0, 1)
     );
-    assert!(rt; lists.consume_equal(stamp(&rt, 2, 0, 1), &[(0, 9), (1, 4)]));
-    assert!(rt; lists.pool().len(1) == 2 && lists.pool().len(2) == 2);
-    lists.forget(1, 2);
-    assert!(rt; lists.pool().len(1) == 1 && lists.pool().len(2) == 0);
-    assert!(rt; !lists.has_consumed(&message(&rt, 2, 0, 9)));
-    assert!(rt; lists.has_consumed(&message(&rt, 2, 1, 4)));
+    assert!(rt;
+        !lists.has_consumed(&said(&rt, 0, &(2, 0, 9)))
+            && lists.has_consumed(&said(&rt, 0, &(2, 1, 4)))
+    );
 }

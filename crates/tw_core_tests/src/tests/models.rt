@@ -1,12 +1,12 @@
 //! The worked examples, by functions that know a model by its trait alone.
-ghost use Rattle.std.specs.Prelude.{◌≡◌, IsTrue};
-ghost use Rattle.tw_atomic.specs.Atomic.{FitsBag, FitsItem, IsDue};
+ghost use Rattle.std.specs.Prelude.{◌≡◌, IfOk, IsTrue};
+ghost use Rattle.tw_atomic.specs.Atomic.{CanTurn, FitsBag, FitsItem, IsDue};
 ghost use Rattle.tw_msgs.specs.Bags.{IsBeforeFirst, IsSorted, by_port};
 
+use super::helpers::Made;
 use std::alloc::{AllocError, Global};
 use std::process::Abort;
 use tw_atomic::{Atomic, Outbox, Turn};
-use tw_models::Model;
 use tw_vtime::Refusal;
 
 /// Whether one item may stand before another.
@@ -59,152 +59,116 @@ fn is_due(ta: Option<u64>, turn: Turn, elapsed: u64, bag: &[(u8, i64)]) -> bool
     }
 }
 
-/// Makes a turn, which has to be allowed.
-fn make<M: Atomic>(
-    rt: &impl Abort,
-    alloc: Global,
-    model: &M,
-    state: &mut M::State,
-    turn: Turn,
-    elapsed: u64,
-    bag: &[(u8, i64)],
-) -> M::Residue
-    requires { M.valid model.now state.old }
-    ensures { M.valid model.now state.new }
-{
-    assert!(rt; is_bag(bag));
-    assert!(rt; is_due(model.ta(state), turn, elapsed, bag));
-    model
-        .forward(alloc, state, turn, elapsed, bag)
-        .expect(rt, "memory")
-}
-
-/// Asserts that this is what an imminent component sends.
-fn assert_sends<M: Atomic>(rt: &impl Abort, model: &M, state: &M::State, items: &[(u8, i64)])
-    requires { M.valid model.now state.now }
-{
-    assert!(rt; model.ta(state).is_some());
-    let mut outbox = Outbox::new();
-    model.output(state, &mut outbox);
-    assert!(rt; outbox.as_slice() == items);
-}
-
-/// Asserts that these are the words of a state. Words that are refused leave the list, and come once memory is back.
-fn assert_words<M: Atomic>(
-    rt: &impl Abort,
-    alloc: Global,
-    model: &M,
-    state: &M::State,
-    words: &[i128],
-) {
-    let mut found = Vec::new(alloc);
-    if model.words(alloc, state, &mut found).is_err() {
-        assert!(rt; found.is_empty());
-        model.words(alloc, state, &mut found).expect(rt, "memory");
-    }
-    assert!(rt; found.as_slice() == words);
-}
-
 /// A turn: the words and the time advance before it, what is sent before it, the turn, the elapsed time and the bag,
 /// the words and the time advance after it, and whether it stays made.
-#[derive(Clone, Copy)]
-pub(crate) struct Worked<'a> {
-    pub(crate) before: (&'a [i128], Option<u64>),
-    pub(crate) sends: &'a [(u8, i64)],
+pub(crate) struct Worked {
+    pub(crate) before: (&'static [i128], Option<u64>),
+    pub(crate) sends: &'static [(u8, i64)],
     pub(crate) turn: Turn,
     pub(crate) elapsed: u64,
-    pub(crate) bag: &'a [(u8, i64)],
-    pub(crate) after: (&'a [i128], Option<u64>),
+    pub(crate) bag: &'static [(u8, i64)],
+    pub(crate) after: (&'static [i128], Option<u64>),
     pub(crate) stays: bool,
 }
 
-/// Makes a turn that has to be allowed on a copy of the state, and keeps nothing: asserts what it gives.
-fn there_for_good<M: Atomic>(
-    rt: &impl Abort,
+/// Whether a state has these words and this time advance.
+fn shows<M: Atomic>(
+    alloc: Global,
+    model: &M,
+    state: &M::State,
+    shown: (&[i128], Option<u64>),
+) -> Result<bool, AllocError> {
+    let mut words = Vec::new(alloc);
+    model.words(alloc, state, &mut words)?;
+    Ok(words.as_slice() == shown.0 && model.ta(state) == shown.1)
+}
+
+/// Whether a state is as it should be before a turn, and sends what it should.
+fn stands<M: Atomic>(
     alloc: Global,
     model: &M,
     state: &M::State,
     worked: &Worked,
-)
+) -> Result<bool, AllocError>
     requires { M.valid model.now state.now }
 {
-    let Worked {
-        turn,
-        elapsed,
-        bag,
-        after,
-        ..
-    } = *worked;
-    let mut state = model.copy(alloc, state).expect(rt, "memory");
-    assert!(rt; is_bag(bag));
-    assert!(rt; is_due(model.ta(&state), turn, elapsed, bag));
-    model
-        .transition(alloc, &mut state, turn, elapsed, bag)
-        .expect(rt, "memory");
-    assert_words(rt, alloc, model, &state, after.0);
-    assert!(rt; model.ta(&state) == after.1);
+    let mut outbox = Outbox::new();
+    if worked.turn != Turn::Ext {
+        model.output(state, &mut outbox);
+    }
+    Ok(outbox.as_slice() == worked.sends && shows(alloc, model, state, worked.before)?)
 }
 
-/// Makes a turn that has to be allowed, for good and to take it back: asserts what it gives both times, and
-/// that the old state is there again.
+/// Makes a turn and takes it back: asserts what both give.
 fn there_and_back<M: Atomic>(
     rt: &impl Abort,
     alloc: Global,
     model: &M,
-    state: &mut M::State,
+    state: &M::State,
     worked: &Worked,
-)
-    requires { M.valid model.now state.old }
-    ensures { M.valid model.now state.new }
+) -> Result<(), AllocError>
+    requires valid { M.valid model.now state.now }
+    requires can { let w = worked.now in
+        CanTurn (M.valid model.now) (M.meaning model.now) w.turn state.now w.elapsed w.bag.now }
 {
-    there_for_good(rt, alloc, model, state, worked);
-    let before = model.copy(alloc, state).expect(rt, "memory");
-    let residue = make(
-        rt,
-        alloc,
-        model,
-        state,
-        worked.turn,
-        worked.elapsed,
-        worked.bag,
-    );
-    assert_words(rt, alloc, model, state, worked.after.0);
-    assert!(rt; model.ta(state) == worked.after.1);
-    model.back(state, worked.turn, worked.elapsed, worked.bag, residue);
-    assert!(rt; model.same(&before, state));
-    assert_words(rt, alloc, model, state, worked.before.0);
-    assert!(rt; model.ta(state) == worked.before.1);
-    *state = before;
+    let mut there = model.copy(alloc, state)?;
+    let residue = model.forward(alloc, &mut there, worked.turn, worked.elapsed, worked.bag)?;
+    assert!(rt; shows(alloc, model, &there, worked.after)?);
+    model.back(&mut there, worked.turn, worked.elapsed, worked.bag, residue);
+    assert!(rt; model.same(state, &there) && shows(alloc, model, &there, worked.before)?);
+    Ok(())
 }
 
-/// Makes these turns from the start state, one after another: each for good and to take it back, and then once
-/// more where it stays made.
-pub(crate) fn follow<M: Atomic>(rt: &impl Abort, alloc: Global, model: &M, turns: &[Worked]) {
-    let mut state = model.start(alloc).expect(rt, "memory");
+/// Makes a turn that has to be allowed, to take it back and for good: asserts what it gives, and answers the state
+/// after it.
+fn turn<M: Atomic>(
+    rt: &impl Abort,
+    alloc: Global,
+    model: &M,
+    state: &M::State,
+    worked: &Worked,
+) -> Result<M::State, AllocError>
+    requires { M.valid model.now state.now }
+    ensures { IfOk result (M.valid model.now) }
+{
+    assert!(rt; is_bag(worked.bag));
+    assert!(rt; is_due(model.ta(state), worked.turn, worked.elapsed, worked.bag));
+    there_and_back(rt, alloc, model, state, worked)?;
+    let mut after = model.copy(alloc, state)?;
+    model.transition(alloc, &mut after, worked.turn, worked.elapsed, worked.bag)?;
+    assert!(rt; shows(alloc, model, &after, worked.after)?);
+    Ok(after)
+}
+
+/// Makes these turns from the start state, one after another: each to take it back and for good, and the next from
+/// there where it stays made.
+fn follow_once<M: Atomic>(
+    rt: &impl Abort,
+    alloc: Global,
+    model: &M,
+    turns: &[Worked],
+) -> Result<(), AllocError> {
+    let mut state = model.start(alloc)?;
     for worked in turns {
-        assert_words(rt, alloc, model, &state, worked.before.0);
-        assert!(rt; model.ta(&state) == worked.before.1);
-        if worked.turn != Turn::Ext {
-            assert_sends(rt, model, &state, worked.sends);
-        }
-        there_and_back(rt, alloc, model, &mut state, worked);
+        assert!(rt; stands(alloc, model, &state, worked)?);
+        let after = turn(rt, alloc, model, &state, worked)?;
         if worked.stays {
-            make(
-                rt,
-                alloc,
-                model,
-                &mut state,
-                worked.turn,
-                worked.elapsed,
-                worked.bag,
-            );
+            state = after;
         }
+    }
+    Ok(())
+}
+
+/// The same, at the second try where a request for memory is refused.
+pub(crate) fn follow<M: Atomic>(rt: &impl Abort, alloc: Global, model: &M, turns: &[Worked]) {
+    if follow_once(rt, alloc, model, turns).is_err() {
+        follow_once(rt, alloc, model, turns).expect(rt, "memory");
     }
 }
 
 /// The turns of a hop with number 0, two ports and waits of up to 4. What comes before the first output stirs the
 /// number.
-static HOP: [Worked<'static>; 3] = [
+const HOP: [Worked; 3] = [
     Worked {
         before: (&[0], Some(1)),
         sends: &[],
@@ -235,7 +199,7 @@ static HOP: [Worked<'static>; 3] = [
 ];
 
 /// The turns of a generator of value 5 each 2 ticks.
-static GENERATOR: [Worked<'static>; 2] = [
+const GENERATOR: [Worked; 2] = [
     Worked {
         before: (&[0], Some(2)),
         sends: &[(0, 5)],
@@ -257,7 +221,7 @@ static GENERATOR: [Worked<'static>; 2] = [
 ];
 
 /// The turn of a tally, whose sum wraps.
-static TALLY: [Worked<'static>; 1] = [Worked {
+const TALLY: [Worked; 1] = [Worked {
     before: (&[0, 0, 0], None),
     sends: &[],
     turn: Turn::Ext,
@@ -277,7 +241,7 @@ const HELD: [i128; 33] = [
 ];
 
 /// The turns of a relay with delay 100: it overflows, and holds two values.
-static RELAY: [Worked<'static>; 4] = [
+const RELAY: [Worked; 4] = [
     Worked {
         before: (&[0], None),
         sends: &[],
@@ -372,7 +336,7 @@ const SHIFTED: [i128; 65] = [
 ];
 
 /// The turns of a queue with service time 100: it is full, and the first job leaves room for one of two.
-static QUEUE: [Worked<'static>; 3] = [
+const QUEUE: [Worked; 3] = [
     Worked {
         before: (&[0], None),
         sends: &[],
@@ -467,62 +431,75 @@ static QUEUE: [Worked<'static>; 3] = [
     },
 ];
 
+/// Models, each with its turns.
+static MODELS: [(Made, &'static [Worked]); 5] = [
+    (Made::Hop(0, 2, 4), &HOP),
+    (Made::Generator(2, 5), &GENERATOR),
+    (Made::Tally, &TALLY),
+    (Made::Relay(100), &RELAY),
+    (Made::Queue(100), &QUEUE),
+];
+
 #[test]
 fn models_are_followed(rt: HostRuntime) {
-    let alloc = rt.alloc();
-    for (made, turns) in [
-        (Model::hop(0, 2, 4), HOP.as_slice()),
-        (Model::generator(2, 5), GENERATOR.as_slice()),
-        (Model::tally(), TALLY.as_slice()),
-        (Model::relay(100), RELAY.as_slice()),
-        (Model::queue(100), QUEUE.as_slice()),
-    ] {
-        let model = made.expect(&rt, "a model");
-        follow(&rt, alloc, &model, turns);
-    }
-
-    // A state of another model is passive, and has no words.
-    let generator = Model::generator(2, 5).expect(&rt, "a generator");
-    let state = generator.start(alloc).expect(&rt, "memory");
-    let tally = Model::tally().expect(&rt, "a tally");
-    assert!(rt; tally.ta(&state) == None);
-    assert_words(&rt, alloc, &tally, &state, &[]);
-}
-
-#[test]
-fn longest_waits(rt: HostRuntime) {
-    for (made, longest) in [
-        (Model::generator(2, 5), Some(2)),
-        (Model::tally(), Some(0)),
-        (Model::relay(100), Some(100)),
-        (Model::relay(1), Some(1)),
-        (Model::relay(0), None),
-        (Model::queue(100), Some(100)),
-        (Model::queue(1), Some(1)),
-        (Model::queue(0), None),
-        (Model::hop(0, 2, 4), Some(4)),
-        (Model::hop(0, 2, 1), Some(1)),
-    ] {
-        let model = made.expect(&rt, "a model");
-        assert!(rt; model.longest_wait() == longest);
+    for (made, turns) in MODELS.iter() {
+        let model = made.model().expect(&rt, "a model");
+        follow(&rt, rt.alloc(), &model, turns);
     }
 }
 
+/// A state of another model is passive, and has no words.
 #[test]
-fn parameters_out_of_range_are_refused(rt: HostRuntime) {
-    for (made, number) in [
-        (Model::generator(0, 1), 10),
-        (Model::generator(1099511627775, 1), 10),
-        (Model::relay(1099511627775), 10),
-        (Model::queue(1099511627775), 10),
-        (Model::hop(0, 17, 0), 6),
-        (Model::hop(0, 16, 0), 10),
-        (Model::hop(0, 16, 1048577), 10),
-    ] {
-        let refused = made.map_err(Refusal::from).err().map(Refusal::number);
-        assert!(rt; refused == Some(number));
+fn a_state_of_another_model_shows_nothing(rt: HostRuntime) {
+    let generator = Made::Generator(2, 5).model().expect(&rt, "a model");
+    let tally = Made::Tally.model().expect(&rt, "a model");
+    let state = generator.start(rt.alloc()).expect(&rt, "memory");
+    assert!(rt; shows(rt.alloc(), &tally, &state, (&[], None)) == Ok(true));
+}
+
+/// Models, each with the longest time that it waits.
+static WAITS: [(Made, Option<u64>); 10] = [
+    (Made::Generator(2, 5), Some(2)),
+    (Made::Tally, Some(0)),
+    (Made::Relay(100), Some(100)),
+    (Made::Relay(1), Some(1)),
+    (Made::Relay(0), None),
+    (Made::Queue(100), Some(100)),
+    (Made::Queue(1), Some(1)),
+    (Made::Queue(0), None),
+    (Made::Hop(0, 2, 4), Some(4)),
+    (Made::Hop(0, 2, 1), Some(1)),
+];
+
+/// Models, each with the number of the refusal of its parameters, 0 where they are taken.
+static PARAMETERS: [(Made, u8); 10] = [
+    (Made::Generator(0, 1), 10),
+    (Made::Generator(1_099_511_627_775, 1), 10),
+    (Made::Generator(1_099_511_627_774, 1), 0),
+    (Made::Relay(1_099_511_627_775), 10),
+    (Made::Relay(0), 0),
+    (Made::Queue(1_099_511_627_775), 10),
+    (Made::Hop(0, 17, 0), 6),
+    (Made::Hop(0, 16, 0), 10),
+    (Made::Hop(0, 16, 1_048_577), 10),
+    (Made::Hop(0, 16, 1_048_576), 0),
+];
+
+/// For what a model is refused, by its number; 0 where it is taken.
+fn number_of(made: Made) -> u8 {
+    match made.model() {
+        Ok(_) => 0,
+        Err(bad) => Refusal::from(bad).number(),
     }
-    assert!(rt; Model::relay(0).is_ok());
-    assert!(rt; Model::generator(1099511627774, 1).is_ok());
-    assert!(rt; Model::hop(0, 16, 1048576).is_ok());
+}
+
+#[test]
+fn longest_waits_and_parameters_out_of_range(rt: HostRuntime) {
+    for (made, longest) in WAITS.iter() {
+        let model = made.model().expect(&rt, "a model");
+        assert!(rt; model.longest_wait() == *longest);
+    }
+    for (made, number) in PARAMETERS.iter() {
+        assert!(rt; number_of(*made) == *number);
+    }
 }

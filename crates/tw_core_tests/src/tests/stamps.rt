@@ -1,7 +1,9 @@
 //! Stamps, their advance and the table of refusals.
 
 use super::helpers::stamp;
-use std::alloc::AllocError;
+use std::alloc::{AllocError, Global};
+use std::fmt::Display;
+use std::process::Abort;
 use tw_vtime::{Limit, Range, Refusal, Stamp, advance};
 
 /// A stamp, its number, that number's eight bytes, the high byte first, and the numbers of the output and the
@@ -74,88 +76,116 @@ static LISTED: [Listed; 6] = [
     },
 ];
 
+/// Asserts that a stamp is as it is listed.
+fn assert_listed(rt: &impl Abort, listed: &Listed) {
+    let stamp = stamp(rt, listed.tick, listed.micro, listed.phase);
+    assert!(rt; stamp < Stamp::END && !stamp.is_end() && stamp != Stamp::END);
+    assert!(rt; stamp.pack() == listed.number && stamp.pack().to_be_bytes() == listed.bytes);
+    assert!(rt; Stamp::unpack(listed.number) == Ok(stamp));
+    assert!(rt;
+        stamp.tick() == listed.tick
+            && stamp.micro() == listed.micro
+            && stamp.phase() == listed.phase
+    );
+    assert!(rt;
+        stamp.output().pack() == listed.output && stamp.transition().pack() == listed.transition
+    );
+}
+
+/// Numbers, and whether each is a stamp's.
+static NUMBERS: [(u64, bool); 5] = [
+    (0, true),
+    (18_446_744_073_692_774_399, true),
+    (18_446_744_073_692_774_400, false),
+    (18_446_744_073_709_551_614, false),
+    (18_446_744_073_709_551_615, true),
+];
+
+/// Ticks, microsteps and phases, and whether there is such a stamp.
+static RANGES: [(u64, u32, u8, bool); 6] = [
+    (1_099_511_627_774, 0, 0, true),
+    (1_099_511_627_775, 0, 0, false),
+    (0, 8_388_607, 0, true),
+    (0, 8_388_608, 0, false),
+    (0, 0, 1, true),
+    (0, 0, 2, false),
+];
+
 #[test]
 fn packs_the_listed_stamps_and_refuses_at_the_ends_of_the_ranges(rt: HostRuntime) {
     for listed in LISTED.iter() {
-        let stamp = stamp(&rt, listed.tick, listed.micro, listed.phase);
-        assert!(rt; stamp.pack() == listed.number);
-        assert!(rt; stamp.pack().to_be_bytes() == listed.bytes);
-        assert!(rt; Stamp::unpack(listed.number) == Ok(stamp));
-        assert!(rt; stamp < Stamp::END && !stamp.is_end());
-        assert!(rt; stamp != Stamp::END);
-        if stamp != Stamp::END {
-            assert!(rt; stamp.output().pack() == listed.output);
-            assert!(rt; stamp.transition().pack() == listed.transition);
-        }
+        assert_listed(&rt, listed);
     }
-    assert!(rt; Stamp::END.pack() == u64::MAX);
-    assert!(rt; Stamp::unpack(u64::MAX) == Ok(Stamp::END));
-    assert!(rt; Stamp::END.is_end());
-    assert!(rt; Stamp::START.pack() == 0);
-
-    for number in [18_446_744_073_692_774_400, 18_446_744_073_709_551_614] {
-        assert!(rt; Stamp::unpack(number) == Err(Range));
+    for (number, is_stamp) in NUMBERS.iter() {
+        assert!(rt; Stamp::unpack(*number).is_ok() == *is_stamp, "{number}");
     }
-    for number in [0, 18_446_744_073_692_774_399, 18_446_744_073_709_551_615] {
-        assert!(rt; Stamp::unpack(number).is_ok());
-    }
-    for (tick, micro, phase, is_stamp) in [
-        (1_099_511_627_774, 0, 0, true),
-        (1_099_511_627_775, 0, 0, false),
-        (0, 8_388_607, 0, true),
-        (0, 8_388_608, 0, false),
-        (0, 0, 1, true),
-        (0, 0, 2, false),
-    ] {
+    for (tick, micro, phase, is_stamp) in RANGES.iter() {
         assert!(rt;
-            Stamp::new(tick, micro, phase).is_ok() == is_stamp,
+            Stamp::new(*tick, *micro, *phase).is_ok() == *is_stamp,
             "{tick}.{micro}.{phase}"
         );
     }
+    assert!(rt; Stamp::END.pack() == u64::MAX && Stamp::END.is_end() && Stamp::START.pack() == 0);
+    assert!(rt; Stamp::unpack(u64::MAX) == Ok(Stamp::END));
+}
+
+/// Stamps in their order.
+static RISING: [(u64, u32, u8); 6] = [
+    (0, 0, 0),
+    (0, 0, 1),
+    (0, 1, 0),
+    (0, 8_388_607, 1),
+    (1, 0, 0),
+    (1_099_511_627_774, 8_388_607, 1),
+];
+
+/// Where a transition is, the time advance after it, and the tick and microstep of the output that comes next; the
+/// greatest microstep is 3.
+static ADVANCES: [(u64, u32, Option<u64>, Result<Option<(u64, u32)>, Limit>); 7] = [
+    (3, 2, Some(0), Ok(Some((3, 3)))),
+    (3, 3, Some(0), Err(Limit::Microstep)),
+    (3, 3, Some(4), Ok(Some((7, 0)))),
+    (
+        3,
+        0,
+        Some(1_099_511_627_771),
+        Ok(Some((1_099_511_627_774, 0))),
+    ),
+    (3, 0, Some(1_099_511_627_772), Err(Limit::Tick)),
+    (3, 0, Some(u64::MAX), Err(Limit::Tick)),
+    (3, 3, None, Ok(None)),
+];
+
+/// Asserts what comes after a transition.
+fn assert_advance(
+    rt: &impl Abort,
+    tick: u64,
+    micro: u32,
+    ta: Option<u64>,
+    expected: Result<Option<(u64, u32)>, Limit>,
+) {
+    let at = stamp(rt, tick, micro, 1);
+    assert!(rt; at != Stamp::END);
+    assert!(rt; at.phase() == 1);
+    let next = match expected {
+        Ok(Some((tick, micro))) => Ok(Some(stamp(rt, tick, micro, 0))),
+        Ok(None) => Ok(None),
+        Err(limit) => Err(limit),
+    };
+    assert!(rt; advance(at, ta, 3) == next);
 }
 
 #[test]
-fn orders_by_tick_then_microstep_then_phase(rt: HostRuntime) {
-    let rising = [
-        stamp(&rt, 0, 0, 0),
-        stamp(&rt, 0, 0, 1),
-        stamp(&rt, 0, 1, 0),
-        stamp(&rt, 0, 8_388_607, 1),
-        stamp(&rt, 1, 0, 0),
-        stamp(&rt, 1_099_511_627_774, 8_388_607, 1),
-        Stamp::END,
-    ];
-    for pair in rising.windows(2) {
-        if let [one, other] = pair {
-            assert!(rt; *one < *other);
-        }
+fn orders_by_tick_then_microstep_then_phase_and_advances_as_listed(rt: HostRuntime) {
+    let mut last = None;
+    for (tick, micro, phase) in RISING.iter() {
+        let next = Some(stamp(&rt, *tick, *micro, *phase));
+        assert!(rt; last < next);
+        last = next;
     }
-}
-
-#[test]
-fn advances_as_listed(rt: HostRuntime) {
-    for (tick, micro, ta, answer) in [
-        (3, 2, Some(0), Ok(Some(stamp(&rt, 3, 3, 0)))),
-        (3, 3, Some(0), Err(Limit::Microstep)),
-        (3, 3, Some(4), Ok(Some(stamp(&rt, 7, 0, 0)))),
-        (
-            3,
-            0,
-            Some(1_099_511_627_771),
-            Ok(Some(stamp(&rt, 1_099_511_627_774, 0, 0))),
-        ),
-        (3, 0, Some(1_099_511_627_772), Err(Limit::Tick)),
-        (3, 0, Some(u64::MAX), Err(Limit::Tick)),
-        (3, 3, None, Ok(None)),
-    ] {
-        let at = stamp(&rt, tick, micro, 1);
-        assert!(rt; at != Stamp::END);
-        if at != Stamp::END {
-            assert!(rt; at.tick() == tick);
-            assert!(rt; at.micro() == micro);
-            assert!(rt; at.phase() == 1);
-            assert!(rt; advance(at, ta, 3) == answer);
-        }
+    assert!(rt; last < Some(Stamp::END));
+    for (tick, micro, ta, next) in ADVANCES.iter() {
+        assert_advance(&rt, *tick, *micro, *ta, *next);
     }
 }
 
@@ -187,28 +217,34 @@ static REFUSALS: [(Refusal, &'static str); 24] = [
     (Refusal::WriteFailed, "24 WriteFailed"),
 ];
 
+/// Stamps, each with its text.
+static SHOWN: [(u64, u32, u8, &'static str); 3] = [
+    (0, 0, 0, "0.0.0"),
+    (3, 0, 1, "3.0.1"),
+    (1_099_511_627_774, 8_388_607, 1, "1099511627774.8388607.1"),
+];
+
+/// Asserts that this is the text of a value.
+fn assert_text<T: Display>(rt: &impl Abort, alloc: Global, value: &T, text: &str) {
+    let shown = value.to_string(alloc).expect(rt, "memory");
+    assert!(rt; shown.as_str() == text);
+}
+
 #[test]
 fn shows_stamps_and_refusals(rt: HostRuntime) {
-    for (tick, micro, phase, text) in [
-        (0, 0, 0, "0.0.0"),
-        (3, 0, 1, "3.0.1"),
-        (1_099_511_627_774, 8_388_607, 1, "1099511627774.8388607.1"),
-    ] {
-        let shown = stamp(&rt, tick, micro, phase)
-            .to_string(rt.alloc())
-            .expect(&rt, "memory");
-        assert!(rt; shown.as_str() == text);
-    }
-    let shown = Stamp::END.to_string(rt.alloc()).expect(&rt, "memory");
-    assert!(rt; shown.as_str() == "end");
-
     let alloc = rt.alloc();
-    assert!(rt; Refusal::from(AllocError) == Refusal::OutOfMemory);
-    assert!(rt; Refusal::from(Range) == Refusal::Range);
-    assert!(rt; Refusal::from(Limit::Microstep) == Refusal::Microstep);
-    assert!(rt; Refusal::from(Limit::Tick) == Refusal::Tick);
-    for (refusal, text) in REFUSALS.iter() {
-        let shown = refusal.to_string(alloc).expect(&rt, "memory");
-        assert!(rt; shown.as_str() == *text);
+    for (tick, micro, phase, text) in SHOWN.iter() {
+        assert_text(&rt, alloc, &stamp(&rt, *tick, *micro, *phase), text);
     }
+    assert_text(&rt, alloc, &Stamp::END, "end");
+    for (refusal, text) in REFUSALS.iter() {
+        assert_text(&rt, alloc, refusal, text);
+    }
+    assert!(rt;
+        Refusal::from(AllocError) == Refusal::OutOfMemory && Refusal::from(Range) == Refusal::Range
+    );
+    assert!(rt;
+        Refusal::from(Limit::Microstep) == Refusal::Microstep
+            && Refusal::from(Limit::Tick) == Refusal::Tick
+    );
 }

@@ -1,41 +1,86 @@
-//! Tournaments of times, small ones.
+//! A tournament of times, a small one.
+
+ghost use Rattle.std.specs.Prelude.{◌≡◌, length};
 
 use super::helpers::stamp;
-use std::alloc::{AllocError, Global};
-use std::test::Fail;
+use std::alloc::Global;
+use std::process::Abort;
 use tw_tournament::Tournament;
 use tw_vtime::Stamp;
 
-/// The numbers of the first time.
-fn first_ones(alloc: Global, times: &Tournament) -> Result<Vec<usize>, AllocError> {
-    let mut numbers = Vec::new(alloc);
+/// A time that is set, none for the end, and then the least tick and whose it is.
+struct Change {
+    number: usize,
+    tick: Option<u64>,
+    least: u64,
+    firsts: &'static [usize],
+}
+
+/// The changes of a tournament of five.
+static CHANGES: [Change; 6] = [
+    Change {
+        number: 0,
+        tick: Some(7),
+        least: 7,
+        firsts: &[0],
+    },
+    Change {
+        number: 1,
+        tick: Some(3),
+        least: 3,
+        firsts: &[1],
+    },
+    Change {
+        number: 2,
+        tick: Some(9),
+        least: 3,
+        firsts: &[1],
+    },
+    Change {
+        number: 4,
+        tick: Some(3),
+        least: 3,
+        firsts: &[1, 4],
+    },
+    Change {
+        number: 1,
+        tick: Some(8),
+        least: 3,
+        firsts: &[4],
+    },
+    Change {
+        number: 4,
+        tick: None,
+        least: 7,
+        firsts: &[0],
+    },
+];
+
+/// Sets a time, and asserts what is first then.
+fn make_change(rt: &impl Abort, alloc: Global, times: &mut Tournament, change: &Change)
+    requires { length times.old.times ≡ 5 }
+    ensures { length times.new.times ≡ 5 }
+{
+    assert!(rt; change.number < 5);
+    let time = match change.tick {
+        Some(tick) => stamp(rt, tick, 0, 0),
+        None => Stamp::END,
+    };
+    times.set(change.number, time);
     let least = times.least();
-    if least < Stamp::END {
-        times.collect(least, &mut numbers)?;
-    }
-    Ok(numbers)
+    assert!(rt; least == stamp(rt, change.least, 0, 0) && least < Stamp::END);
+    let mut firsts = Vec::new(alloc);
+    times.collect(least, &mut firsts).expect(rt, "memory");
+    assert!(rt; firsts.as_slice() == change.firsts);
 }
 
 #[test]
-fn the_first_of_five_of_none_and_of_one(rt: HostRuntime) -> Result<(), Fail> {
-    let mut times = Tournament::new(rt.alloc(), 5)?;
+fn the_first_of_five_and_of_none(rt: HostRuntime) {
+    let mut times = Tournament::new(rt.alloc(), 5).expect(&rt, "memory");
     assert!(rt; times.least() == Stamp::END);
-    times.set(0, stamp(&rt, 7, 0, 0));
-    times.set(1, stamp(&rt, 3, 0, 0));
-    times.set(2, stamp(&rt, 9, 0, 0));
-    times.set(4, stamp(&rt, 3, 0, 0));
-    assert!(rt; times.least() == stamp(&rt, 3, 0, 0));
-    assert!(rt; first_ones(rt.alloc(), &times)?.as_slice() == [1, 4].as_slice());
-    times.set(1, stamp(&rt, 8, 0, 0));
-    assert!(rt; first_ones(rt.alloc(), &times)?.as_slice() == [4].as_slice());
-    times.set(4, Stamp::END);
-    assert!(rt; times.least() == stamp(&rt, 7, 0, 0));
-    assert!(rt; first_ones(rt.alloc(), &times)?.as_slice() == [0].as_slice());
-
-    let none = Tournament::new(rt.alloc(), 0)?;
+    for next in CHANGES.iter() {
+        make_change(&rt, rt.alloc(), &mut times, next);
+    }
+    let none = Tournament::new(rt.alloc(), 0).expect(&rt, "memory");
     assert!(rt; none.least() == Stamp::END);
-    let mut one = Tournament::new(rt.alloc(), 1)?;
-    one.set(0, stamp(&rt, 4, 0, 0));
-    assert!(rt; first_ones(rt.alloc(), &one)?.as_slice() == [0].as_slice());
-    Ok(())
 }

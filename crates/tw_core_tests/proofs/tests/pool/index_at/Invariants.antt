@@ -3,4 +3,4 @@ use Rattle.tw_pool.specs.Lists.{IsLive}
 use Rattle.tw_core_tests.proofs.tests.pool.index_at.Given as goal
 
 abbrev pub invariant-loop : goal.invariant-loop
-invariant-loop g l = record { live : IfSome l.at (λ index. IsLive index l.pool.lists) }
+invariant-loop l = record { live : IfSome l.at (λ index. IsLive index l.pool.lists) }

@@ -102,7 +102,8 @@ impl<M: Atomic, H: Given<M>> Desk<M, H> {
         self.out == 0
     }
 
-    /// Gives out an order. None where there is nothing to be given out, or where memory for it is refused; then the run has ended.
+    /// Gives out an order. None where there is nothing to be given out, or where memory for it is refused; then it sweeps, and where
+    /// that brings global virtual time no further, the run has ended.
     pub(crate) fn draw(&mut self, setting: Setting) -> Option<Order<M>>
         ensures due { IfSome result (IsDue M.valid M.meaning self.old.executive.network self.old.executive.until) }
         ensures given { H.is_given self.old.executive.network self.old.executive.until self.old.publisher.board }
@@ -114,7 +115,7 @@ impl<M: Atomic, H: Given<M>> Desk<M, H> {
             }
             Ok(None) => None,
             Err(_) => {
-                self.end = Some(Err(SweepRefused::OutOfMemory));
+                self.make_room(SweepRefused::OutOfMemory);
                 None
             }
         }
@@ -167,8 +168,11 @@ impl<M: Atomic, H: Given<M>> Desk<M, H> {
         }
     }
 
-    /// Sweeps, and looks whether the run has ended.
+    /// Sweeps, and looks whether the run has ended; nothing where it has.
     pub(crate) fn sweep(&mut self) {
+        if self.end.is_some() {
+            return;
+        }
         self.handed_in = 0;
         if let Err(refused) = self.exchange.sweep() {
             self.end = Some(Err(refused));
@@ -176,7 +180,7 @@ impl<M: Atomic, H: Given<M>> Desk<M, H> {
         }
         match find_outcome(self.alloc, &mut self.exchange) {
             Ok(Some(outcome)) => self.end = Some(Ok(outcome)),
-            Ok(None) => self.end = None,
+            Ok(None) => {}
             Err(_) => self.end = Some(Err(SweepRefused::OutOfMemory)),
         }
     }

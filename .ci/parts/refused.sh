@@ -1,0 +1,54 @@
+# Each request for memory refused in its turn, alone and with all that come later; each write and each read; and reads and writes of
+# one byte: by tests/refuse.c, which stands before the C library. Refused memory gives the whole output, or status 4 with a beginning
+# of it (of `play` with at most one reply more, that the action was refused). Left out where no C compiler is.
+
+# Whether what was written is a beginning of a file, but for a last reply that memory was refused.
+is_beginning() {
+    sed '$ { /^refused 4 OutOfMemory$/d }' "$out" >"$room/begun"
+    head -c "$(wc -c <"$room/begun")" "$1" | cmp --silent - "$room/begun"
+}
+
+# Runs the program in a case's folder by these words, with a variable of tests/refuse.c set.
+with_refused() {
+    (cd "$case" && exec env LD_PRELOAD="$room/refuse.so" "$1=$2" "$program" "${@:3}" >"$out" 2>"$err")
+    ended=$?
+}
+
+# Refuses each of a kind while a case runs by these words: the variable, how many there are, the status and the line of a refusal.
+refuse_each() {
+    local kind=$1 many=$2 refusal=$3 line=$4 bad=0
+    for ((number = 1; number <= many; number++)); do
+        with_refused "$kind" "$number" "${@:5}"
+        if [ "$ended" -eq "$status" ]; then
+            cmp --silent "$out" "$case/stdout" && continue
+        elif [ "$ended" -eq "$refusal" ] && [ "$(cat "$err")" = "$line" ]; then
+            is_beginning "$case/stdout" && continue
+        fi
+        bad=$((bad + 1))
+        echo "${*:5}, $kind=$number: status $ended, $(tail -n 1 "$err")"
+    done
+    [ "$bad" -eq 0 ]
+    count "${*:5} with each of $many $kind" 0 0 $?
+}
+
+if cc -shared -fPIC -O1 -o "$room/refuse.so" tests/refuse.c 2>"$err"; then
+    for case in $PWD/tests/program/{gen-tally,microstep-fault,mutual-confluent,straggler-of-three,nested,check-whole,demonstration}; do
+        mapfile -t words <"$case/args"
+        status=$(cat "$case/status" 2>/dev/null || echo 0)
+        lines=("${words[*]}")
+        [ "${words[0]}" = seq ] && lines+=("run ${words[*]:1} --workers 1" "run ${words[*]:1} --workers 2 --cancel lazy")
+        for line in "${lines[@]}"; do
+            # shellcheck disable=SC2206 # a line is words
+            words=($line)
+            with_refused COUNT_TO "$room/counts" "${words[@]}"
+            read -r requests writes reads < <(od -An -t d8 -w24 "$room/counts")
+            refuse_each REFUSE_REQUEST "$requests" 4 "twarp: 4 OutOfMemory" "${words[@]}"
+            refuse_each REFUSE_FROM "$requests" 4 "twarp: 4 OutOfMemory" "${words[@]}"
+            refuse_each REFUSE_WRITE "$writes" 5 "twarp: 24 WriteFailed" "${words[@]}"
+            refuse_each REFUSE_READ "$reads" 2 "twarp: 19 Unreadable" "${words[@]}"
+            with_refused ONE_BYTE 1 "${words[@]}"
+            cmp --silent "$out" "$case/stdout"
+            count "$line by single bytes" "$status" "$ended" $?
+        done
+    done
+fi

@@ -1,5 +1,5 @@
 -- Machines by hand: the adder of `machine-tally`, the line of `machine-ring`, and parts of the pool of `machine-pool`.
-use Rattle.std.specs.Prelude.{◌≡◌, ℕ, pos, List, [], ◌∷◌, ◌++◌, false, replicate}
+use Rattle.std.specs.Prelude.{◌≡◌, pos, List, [], ◌∷◌, ◌++◌, false, replicate}
 use Rattle.tw_machine.specs.declared.language.Measure.TheVariants.{Length, Room, Front}
 use Rattle.tw_machine.specs.declared.language.Leaf.TheVariants as leaf
 use Rattle.tw_machine.specs.declared.language.Unary.TheVariants as unary

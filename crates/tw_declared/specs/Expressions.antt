@@ -5,7 +5,6 @@ use Rattle.tw_machine.specs.declared.language.Measure.TheVariants.{Length, Room,
 use Rattle.tw_machine.specs.declared.language.Leaf.{Leaf}
 use Rattle.tw_machine.specs.declared.language.Leaf.TheVariants as leaf
 use Rattle.tw_machine.specs.declared.language.Unary.TheVariants as unary
-use Rattle.tw_machine.specs.declared.language.Binary.{Binary}
 use Rattle.tw_machine.specs.declared.language.Binary.TheVariants as binary
 use Rattle.tw_machine.specs.declared.language.Expr.{Expr}
 use Rattle.tw_machine.specs.declared.language.Expr.TheVariants.{Plain}

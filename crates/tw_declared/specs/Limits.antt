@@ -1,14 +1,12 @@
 -- What is wrong with a machine as it is declared, with the numbers that are given: its members in order, then its limits. The first counts.
-use Rattle.std.specs.Prelude.{ℕ, ℤ, pos, negsuc, ◌+◌, ◌*◌, Bool, true, false, not, ◌&&◌, List, [], ◌∷◌, length, sum, sum_by, Option, Some, None, nat_lt, nat_le, nat_eq, if◌then◌else◌, option_and_then, option_map, slice_get}
-use Rattle.tw_machine.specs.declared.language.Span.{Span}
+use Rattle.std.specs.Prelude.{ℕ, ℤ, pos, negsuc, ◌+◌, ◌*◌, Bool, true, false, not, ◌&&◌, List, [], ◌∷◌, length, sum, sum_by, Option, Some, None, nat_lt, nat_le, if◌then◌else◌, option_and_then, option_map, slice_get}
 use Rattle.tw_machine.specs.Limits.{fault_of as limits_of}
 use Rattle.tw_machine.specs.declared.program.BadProgram.{BadProgram}
 use Rattle.tw_machine.specs.declared.program.BadProgram.TheVariants as b
 use Rattle.tw_machine.specs.Program.{ProgramText}
-use Rattle.tw_program_text.specs.Tree.{Tree, Number, Name, Indexed, Statement, Assign, Act, Pop, Draw, Wait, Passivate, If, IfElse, Repeat, Block, Empty, Then, Arms, One, More, nodes, nodes_block}
+use Rattle.tw_program_text.specs.Tree.{Tree, Number, Name, Indexed, Statement, If, IfElse, Repeat, Block, Empty, Then, Arms, One, More, nodes, nodes_block}
 use Rattle.tw_program_text.specs.declared.tree.Expr.{Expr}
 use Rattle.tw_program_text.specs.Views.{tree, body}
-use Rattle.tw_declared.specs.declared.declaration.Constant.{Constant}
 use Rattle.tw_declared.specs.declared.declaration.Declaration.{Declaration}
 use Rattle.tw_declared.specs.declared.declaration.Given.{Given}
 use Rattle.tw_declared.specs.declared.declaration.OutputText.{OutputText}

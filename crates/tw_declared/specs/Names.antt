@@ -1,6 +1,5 @@
 -- What each name of a machine stands for, once the numbers of a component are put in.
-use Rattle.std.specs.Prelude.{◌≤◌, ℕ, zero, suc, ◌+◌, ℤ, pos, negsuc, min, List, [], ◌∷◌, ◌++◌, map, length, Option, Some, None, slice_get, slice_index_or, unwrap_or, replicate, flat_map, string_bytes, if◌then◌else◌}
-use Rattle.tw_machine.specs.declared.language.Span.{Span}
+use Rattle.std.specs.Prelude.{ℕ, ◌+◌, ℤ, pos, min, List, [], ◌∷◌, ◌++◌, map, length, Option, Some, None, slice_get, slice_index_or, unwrap_or, replicate, string_bytes, if◌then◌else◌}
 use Rattle.tw_machine.specs.Values.{natural}
 use Rattle.tw_program_text.specs.Letters.{functions, same_text}
 use Rattle.tw_declared.specs.declared.declaration.Constant.{Constant}

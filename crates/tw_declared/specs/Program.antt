@@ -1,6 +1,5 @@
 -- The program of a machine, once the numbers of a component are put in.
-use Rattle.std.specs.Prelude.{ℕ, ℤ, pos, negsuc, ◌+◌, ◌-◌, min, List, map, Option, Some, None, option_map, option_and_then, flat_map}
-use Rattle.tw_machine.specs.declared.language.Span.{Span}
+use Rattle.std.specs.Prelude.{ℕ, ℤ, pos, negsuc, ◌-◌, min, List, map, Option, Some, None, option_map, option_and_then, flat_map}
 use Rattle.tw_machine.specs.declared.language.Leaf.TheVariants as leaf
 use Rattle.tw_machine.specs.declared.language.Expr.{Expr}
 use Rattle.tw_machine.specs.declared.language.Expr.TheVariants.{Plain}
@@ -8,7 +7,7 @@ use Rattle.tw_machine.specs.declared.language.Output.{Output}
 use Rattle.tw_machine.specs.declared.language.Word.{Word}
 use Rattle.tw_machine.specs.declared.language.Word.TheVariants as word
 use Rattle.tw_machine.specs.Program.{ProgramText}
-use Rattle.tw_machine.specs.Values.{natural, brought}
+use Rattle.tw_machine.specs.Values.{brought}
 use Rattle.tw_program_text.specs.Tree.{Tree, Number, Name, Indexed}
 use Rattle.tw_program_text.specs.Views.{tree, body}
 use Rattle.tw_declared.specs.declared.declaration.Constant.{Constant}

@@ -1,6 +1,5 @@
 -- How many computations a run makes at the most, each node for itself.
-use Rattle.std.specs.Prelude.{ℕ, suc, ℤ, ◌+◌, ◌*◌, min, max, List, Option, Some, None, sum_by}
-use Rattle.tw_machine.specs.declared.language.Span.{Span}
+use Rattle.std.specs.Prelude.{ℕ, ℤ, ◌+◌, ◌*◌, min, max, List, Option, Some, None}
 use Rattle.tw_machine.specs.declared.language.Measure.TheVariants.{Sum}
 use Rattle.tw_machine.specs.Values.{natural}
 use Rattle.tw_program_text.specs.declared.words.Verb.{Verb}

@@ -1,4 +1,4 @@
-use Rattle.std.proofs.Common.{◌≡◌, ◌++◌, ◌-◌, ◌≤◌, replicate}
+use Rattle.std.proofs.Common.{◌≡◌, ◌++◌, replicate}
 use Rattle.tw_declared.proofs.starts.push_rooms.Given as goal
 
 abbrev pub invariant-loop-i : goal.invariant-loop-i

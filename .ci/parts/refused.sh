@@ -10,7 +10,7 @@ is_beginning() {
 
 # Runs the program in a case's folder by these words, with a variable of tests/refuse.c set.
 with_refused() {
-    (cd "$case" && exec env LD_PRELOAD="$room/refuse.so" "$1=$2" "$program" "${@:3}" >"$out" 2>"$err")
+    (cd "$case" && exec timeout 60 env LD_PRELOAD="$room/refuse.so" "$1=$2" "$program" "${@:3}" >"$out" 2>"$err")
     ended=$?
 }
 

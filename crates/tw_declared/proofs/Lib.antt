@@ -1,1 +1,3 @@
 pub mod Capped
+pub mod Places
+pub mod Faults

@@ -180,9 +180,12 @@ abbrev pub otherwise : Option BadMachine → Option BadMachine → Option BadMac
 otherwise (Some fault) later = Some fault
 otherwise None later = later
 
+-- the first limit that is passed, of a machine and of any program
+abbrev pub later_fault : List Standing → Declaration → ProgramText → Option BadMachine
+later_fault ss d p = otherwise (limit ss d p) (option_map bad_program (limits_of p))
+
 -- the first fault of a machine, with what is given
 abbrev pub fault_of : Given → Declaration → Option BadMachine
 fault_of given d =
     let ss = standings_of given d.names.items in
-    let p = program_of given d in
-    otherwise (members_fault given d ss) (otherwise (limit ss d p) (option_map bad_program (limits_of p)))
+    otherwise (members_fault given d ss) (later_fault ss d (program_of given d))

@@ -2,12 +2,12 @@
 //!
 //! - [`Declaration`]: what a machine declares, as the reader of files hands it over, its texts read into trees.
 //! - [`Given`]: what a component gives for its machine's parameters.
-//! - [`parts_of`]: the parts of the program that both mean.
-//! - [`members_fault`], [`limit`], [`bad_program`]: what is wrong with a machine, the first of it.
-//! - [`Standing`], [`standings_of`]: what each name stands for: cells, queues and numbers of tables, one after another.
-//! - [`expression`], [`queue`], [`block`]: a tree in the machine's own language, where names are places.
-//! - `work`: how many computations a tree makes at the most.
+//! - [`declared`]: the program that both mean, or the first fault ([`BadMachine`]).
 //! - [`examples`]: machines by hand.
+//!
+//! Within: `names` says what each name stands for: cells, queues and numbers of tables, one after another;
+//! `expressions`, `statements`, `members` and `starts` put a tree into the machine's own language, where names are
+//! places; `nodes`, `work` and `computing` count, and `limits` compares.
 //!
 //! A tree leans to the left, as deep as it has nodes: the walks over it call themselves up to 4,096 deep. How deep
 //! blocks and parentheses stand in one another is held by the texts' reader.
@@ -28,8 +28,5 @@ mod statements;
 mod work;
 
 pub use declaration::{Constant, Declaration, Given, Named, OutputText, Thing, Value};
-pub use expressions::{expression, queue};
-pub use limits::{BadMachine, bad_program, limit, members_fault};
-pub use names::{Standing, standings_of};
-pub use programs::parts_of;
-pub use statements::block;
+pub use limits::BadMachine;
+pub use programs::declared;

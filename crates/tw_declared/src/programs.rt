@@ -1,27 +1,34 @@
 //! The program of a machine with the numbers of a component put in.
-ghost use Rattle.std.specs.Prelude.{◌≡◌, IfOk};
+ghost use Rattle.std.specs.Prelude.{◌≡◌, ◌≢◌, IfOk, IfErr, Some, None, option_map};
+ghost use Rattle.tw_machine.specs.Limits.{fault_of as limits_of};
 ghost use Rattle.tw_machine.specs.Program.{text_of};
+ghost use Rattle.tw_declared.specs.Names.{standings_of};
 ghost use Rattle.tw_declared.specs.Seen.{seen_program};
 ghost use Rattle.tw_declared.specs.Program.{program_of};
+ghost use Rattle.tw_declared.specs.Limits.{bad_program, later_fault, fault_of};
+ghost use Rattle.tw_declared.specs.declared.limits.BadMachine.TheVariants.{OutOfMemory};
 
 use crate::declaration::{Declaration, Given};
+use crate::limits::{BadMachine, bad_program, limit, members_fault};
 use crate::members::{outputs, seed, ticks, words};
-use crate::names::standings_of;
+use crate::names::{Standing, standings_of};
 use crate::starts::{all_cells, all_numbers, all_rooms};
 use crate::statements::block;
 use std::alloc::{AllocError, Global};
-use tw_machine::program::Parts;
+use tw_machine::program::{Parts, Program};
 
-/// The parts of the program that a machine means with these numbers. The only error is want of memory.
-pub fn parts_of(
+/// The parts of the program that a machine means with these numbers, by what its names stand for. The only error is
+/// want of memory.
+fn parts_of(
     alloc: Global,
     given: &Given,
     declaration: &Declaration,
+    standings: &[Standing],
 ) -> Result<Parts, AllocError>
+    requires { standings.now ≡ standings_of given.now declaration.now.names.items }
     ensures { IfOk result (λ parts. seen_program (text_of parts) ≡ program_of given.now declaration.now) }
 {
     let names = declaration.names.as_slice();
-    let standings = standings_of(alloc, given, names)?;
     Ok(Parts {
         cells: all_cells(alloc, given, names)?,
         rooms: all_rooms(alloc, given, names)?,
@@ -29,9 +36,63 @@ pub fn parts_of(
         first: ticks(given, declaration.first),
         longest: ticks(given, declaration.longest),
         numbers: all_numbers(alloc, given, names)?,
-        internal: block(alloc, &standings, &declaration.internal)?,
-        external: block(alloc, &standings, &declaration.external)?,
-        outputs: outputs(alloc, &standings, declaration.outputs.as_slice())?,
-        words: words(alloc, &standings, declaration.words.as_slice())?,
+        internal: block(alloc, standings, &declaration.internal)?,
+        external: block(alloc, standings, &declaration.external)?,
+        outputs: outputs(alloc, standings, declaration.outputs.as_slice())?,
+        words: words(alloc, standings, declaration.words.as_slice())?,
     })
+}
+
+/// Nothing where there is no fault.
+fn held(fault: Option<BadMachine>) -> Result<(), BadMachine>
+    ensures held { IfOk result (λ _. fault ≡ None) }
+    ensures refused { IfErr result (λ bad. fault ≡ Some bad) }
+{
+    match fault {
+        Some(bad) => Err(bad),
+        None => Ok(()),
+    }
+}
+
+/// The program of these parts, or the first limit of any program that they pass.
+fn program(parts: Parts) -> Result<Program, BadMachine>
+    ensures made { IfOk result (λ program. program ≡ text_of parts) }
+    ensures sound { IfOk result (λ _. limits_of (seen_program (text_of parts)) ≡ None) }
+    ensures refused { IfErr result (λ bad. option_map bad_program (limits_of (seen_program (text_of parts))) ≡ Some bad) }
+{
+    match Program::new(parts) {
+        Ok(program) => Ok(program),
+        Err(bad) => Err(bad_program(bad)),
+    }
+}
+
+/// The program of these parts, or the first limit that they pass.
+fn limited(
+    standings: &[Standing],
+    declaration: &Declaration,
+    parts: Parts,
+) -> Result<Program, BadMachine>
+    ensures made { IfOk result (λ program. program ≡ text_of parts) }
+    ensures sound { IfOk result (λ _. later_fault standings.now declaration.now (seen_program (text_of parts)) ≡ None) }
+    ensures refused { IfErr result (λ bad. later_fault standings.now declaration.now (seen_program (text_of parts)) ≡ Some bad) }
+{
+    held(limit(standings, declaration, &parts))?;
+    program(parts)
+}
+
+/// The program that a machine means with these numbers, or its first fault: refusal 21 (BadShape), or want of memory,
+/// which may come before any of them.
+pub fn declared(
+    alloc: Global,
+    given: &Given,
+    declaration: &Declaration,
+) -> Result<Program, BadMachine>
+    ensures made { IfOk result (λ program. seen_program program ≡ program_of given.now declaration.now) }
+    ensures sound { IfOk result (λ _. fault_of given.now declaration.now ≡ None) }
+    ensures refused { IfErr result (λ bad. bad ≢ OutOfMemory → fault_of given.now declaration.now ≡ Some bad) }
+{
+    let standings = standings_of(alloc, given, declaration.names.as_slice())?;
+    held(members_fault(given, declaration, &standings))?;
+    let parts = parts_of(alloc, given, declaration, &standings)?;
+    limited(&standings, declaration, parts)
 }

@@ -1,0 +1,34 @@
+use Rattle.std.proofs.Common.{◌≡◌, ◌≢◌, ◌∙◌, ap, sym, Option, Some, None, Result, Ok, Err, IfOk, IfErr}
+use Rattle.tw_machine.specs.Program.{text_of}
+use Rattle.tw_declared.specs.Names.{standings_of}
+use Rattle.tw_declared.specs.Seen.{seen_program}
+use Rattle.tw_declared.specs.Limits.{members_fault, later_fault, fault_of}
+use Rattle.tw_declared.specs.declared.limits.BadMachine.{BadMachine}
+use Rattle.tw_declared.specs.declared.limits.BadMachine.TheVariants.{OutOfMemory}
+use Rattle.tw_declared.proofs.Faults.{behind_members}
+use Rattle.tw_declared.proofs.programs.declared.Goals as goal
+
+no_fault : {A : Type 0} (r : Result A BadMachine) (f g : Option BadMachine) → f ≡ g → IfOk r (λ _. g ≡ None) → IfOk r (λ _. f ≡ None)
+no_fault (Ok x) f g e h = e ∙ h
+no_fault (Err bad) f g e h = tt
+
+first_fault : {A : Type 0} (r : Result A BadMachine) (f g : Option BadMachine) → f ≡ g → IfErr r (λ bad. g ≡ Some bad) → IfErr r (λ bad. bad ≢ OutOfMemory → f ≡ Some bad)
+first_fault (Ok x) f g e h = tt
+first_fault (Err bad) f g e h = λ _. e ∙ h
+
+-- what is found of the parts is the machine's
+found : (c : goal.After-drop-standings-2) → fault_of c.args.given.now c.args.declaration.now ≡ later_fault c.deref-3.result.now c.args.declaration.now (seen_program (text_of c.in_ok-parts.parts))
+found c =
+    let given = c.args.given.now in
+    let d = c.args.declaration.now in
+    let p = text_of c.in_ok-parts.parts in
+    let same = c.in_ok-standings.ensures ∙ ap (standings_of given) c.as_slice.ensures.value in
+    let held = ap (members_fault given d) (sym c.deref.ensures.value) ∙ sym c.members_fault.ensures ∙ c.in_ok-held.ensures.held in
+    behind_members given d c.in_ok-standings.standings.items p same c.in_ok-parts.ensures held
+    ∙ ap (λ ss. later_fault ss d (seen_program p)) (sym c.deref-3.ensures.value)
+
+pub returns-clause-sound : goal.returns-clause-sound
+returns-clause-sound c = no_fault c.limited.result _ _ (found c) c.limited.ensures.sound
+
+pub returns-clause-refused : goal.returns-clause-refused
+returns-clause-refused c = first_fault c.limited.result _ _ (found c) c.limited.ensures.refused

@@ -1,4 +1,4 @@
--- Where no member is wrong, the limits decide; what they say does not hang on where boxes lie.
+-- The members decide first; where none is wrong, the limits. What these say does not hang on where boxes lie.
 use Rattle.std.proofs.Common.{◌≡◌, ap, sym, ◌∙◌}
 use Rattle.std.specs.Prelude.{List, Option, None}
 use Rattle.tw_machine.specs.Program.{ProgramText}
@@ -11,8 +11,11 @@ use Rattle.tw_declared.specs.Seen.{seen_program}
 use Rattle.tw_declared.specs.Program.{program_of}
 use Rattle.tw_declared.specs.Limits.{members_fault, later_fault, otherwise, fault_of}
 
+pub from_members : (given : Given) (d : Declaration) (ss : List Standing) → ss ≡ standings_of given d.names.items → fault_of given d ≡ otherwise (members_fault given d ss) (later_fault ss d (program_of given d))
+from_members given d ss e = ap (λ (s : List Standing). otherwise (members_fault given d s) (later_fault s d (program_of given d))) (sym e)
+
 pub behind_members : (given : Given) (d : Declaration) (ss : List Standing) (p : ProgramText) → ss ≡ standings_of given d.names.items → seen_program p ≡ program_of given d → members_fault given d ss ≡ None → fault_of given d ≡ later_fault ss d (seen_program p)
 behind_members given d ss p e f h =
-    ap (λ (s : List Standing). otherwise (members_fault given d s) (later_fault s d (program_of given d))) (sym e)
+    from_members given d ss e
     ∙ ap (λ (q : ProgramText). otherwise (members_fault given d ss) (later_fault ss d q)) (sym f)
     ∙ ap (λ (o : Option BadMachine). otherwise o (later_fault ss d (seen_program p))) h

@@ -1,5 +1,5 @@
 -- Machines by hand: the adder of `machine-tally`, the line of `machine-ring`, and parts of the pool of `machine-pool`.
-use Rattle.std.specs.Prelude.{◌≡◌, pos, List, [], ◌∷◌, ◌++◌, false, replicate}
+use Rattle.std.specs.Prelude.{◌≡◌, pos, List, [], ◌∷◌, ◌++◌, true, false, filter_map, replicate}
 use Rattle.tw_machine.specs.declared.language.Measure.TheVariants.{Length, Room, Front}
 use Rattle.tw_machine.specs.declared.language.Leaf.TheVariants as leaf
 use Rattle.tw_machine.specs.declared.language.Unary.TheVariants as unary
@@ -23,6 +23,7 @@ use Rattle.tw_declared.specs.declared.names.Standing.TheVariants as s
 use Rattle.tw_declared.specs.Names.{none_taken, own_standings}
 use Rattle.tw_declared.specs.Seen.{one, two, both, branch, repeated}
 use Rattle.tw_declared.specs.Statements.{statement, block}
+use Rattle.tw_declared.specs.Rows.{row_of, twice}
 use Rattle.tw_declared.specs.Work.{statement_work, block_work}
 
 -- behind the functions' names, which nothing else has
@@ -107,3 +108,20 @@ pool_repeats = statement pool (Repeat (Name 11) (then Empty Draw)) ≡ repeated 
 -- `repeat` is 2, and three turns of 1 each
 abbrev pub pool_turns : Type 0
 pool_turns = statement_work pool (Repeat (Name 11) (then Empty Draw)) ≡ 5
+
+-- a register `a`, an array register `b` of two, a queue `q`, arrays `r` of two queues and `u` of as many as a parameter says of which nothing is given: the names 10 to 14
+abbrev pub shows : List Standing
+shows = behind_functions (s.Cell 0 ∷ s.Cells (record { first = 1; count = 2 }) ∷ s.Queue 0 4 ∷ s.Queues (record { first = 1; count = 2 }) 3 ∷ s.Queues (record { first = 3; count = 0 }) 3 ∷ [])
+
+-- b, a, b
+abbrev pub array_twice : Type 0
+array_twice = twice (filter_map (row_of shows) (Name 11 ∷ Name 10 ∷ Name 11 ∷ [])) ≡ true
+
+-- r[1], q, r[5]: past the end is the last
+abbrev pub last_twice : Type 0
+last_twice = twice (filter_map (row_of shows) (Indexed 13 (Number 1) ∷ Name 12 ∷ Indexed 13 (Number 5) ∷ [])) ≡ true
+
+-- a, a, b, q, r[0], r[1], b[0], b[0], u[0], u[1]: what is an expression may stand there again
+abbrev pub none_twice : Type 0
+none_twice =
+    twice (filter_map (row_of shows) (Name 10 ∷ Name 10 ∷ Name 11 ∷ Name 12 ∷ Indexed 13 (Number 0) ∷ Indexed 13 (Number 1) ∷ Indexed 11 (Number 0) ∷ Indexed 11 (Number 0) ∷ Indexed 14 (Number 0) ∷ Indexed 14 (Number 1) ∷ [])) ≡ false

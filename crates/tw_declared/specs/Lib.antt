@@ -4,5 +4,6 @@ pub mod Expressions
 pub mod Statements
 pub mod Program
 pub mod Work
+pub mod Rows
 pub mod Limits
 pub mod Examples

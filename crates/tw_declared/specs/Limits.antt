@@ -20,6 +20,7 @@ use Rattle.tw_declared.specs.declared.names.Standing.{Standing}
 use Rattle.tw_declared.specs.declared.names.Standing.TheVariants as s
 use Rattle.tw_declared.specs.Names.{constant, things, standing_at, standings_of}
 use Rattle.tw_declared.specs.Program.{program_of}
+use Rattle.tw_declared.specs.Rows.{rows, twice}
 use Rattle.tw_declared.specs.Statements.{written_turns}
 use Rattle.tw_declared.specs.Work.{room_at, queue_room, work, block_work}
 
@@ -152,6 +153,7 @@ members_fault given d ss =
     else if not (turns_fit ss (body d.internal) && turns_fit ss (body d.external)) then Some bad.Turns
     else if nat_lt 64 (length d.outputs.items) then Some bad.OutputCount
     else if not (length_up_to 64 d.words.items) then Some bad.WordCount
+    else if twice (rows ss d.words.items) then Some bad.WordTwice
     else None
 
 -- the first limit that is passed: of cells, queues and numbers, of nodes, of computations of each kind by itself

@@ -1,7 +1,7 @@
 //! Machines by hand, which the check computes.
-ghost use Rattle.tw_declared.specs.Examples.{adder_names, adder_adds, line_serves, line_computes, line_drops, line_takes, pool_draws, pool_puts, pool_computes, pool_repeats, pool_turns};
+ghost use Rattle.tw_declared.specs.Examples.{adder_names, adder_adds, line_serves, line_computes, line_drops, line_takes, pool_draws, pool_puts, pool_computes, pool_repeats, pool_turns, array_twice, last_twice, none_twice};
 
-/// Each of these statements is that one, and makes so many computations.
+/// Each of these statements is that one, and makes so many computations; a row stands twice among these words or not.
 pub fn machines()
     ensures adder_names { adder_names }
     ensures adder_adds { adder_adds }
@@ -14,4 +14,7 @@ pub fn machines()
     ensures pool_computes { pool_computes }
     ensures pool_repeats { pool_repeats }
     ensures pool_turns { pool_turns }
+    ensures array_twice { array_twice }
+    ensures last_twice { last_twice }
+    ensures none_twice { none_twice }
 {}

@@ -7,7 +7,8 @@
 //!
 //! Within: `names` says what each name stands for: cells, queues and numbers of tables, one after another;
 //! `expressions`, `statements`, `members` and `starts` put a tree into the machine's own language, where names are
-//! places; `nodes`, `work` and `computing` count, and `limits` compares.
+//! places; `nodes`, `work` and `computing` count, `rows` looks for what stands twice among the words, and `limits`
+//! compares.
 //!
 //! A tree leans to the left, as deep as it has nodes: the walks over it call themselves up to 4,096 deep. How deep
 //! blocks and parentheses stand in one another is held by the texts' reader.
@@ -23,6 +24,7 @@ mod members;
 mod names;
 mod nodes;
 mod programs;
+mod rows;
 mod starts;
 mod statements;
 mod work;

@@ -10,6 +10,7 @@ use crate::computing::{outputs_work, words_work};
 use crate::declaration::{Constant, Declaration, Given, Named, Thing};
 use crate::names::{Standing, constant};
 use crate::nodes::all_nodes;
+use crate::rows::twice;
 use crate::statements::written_turns;
 use crate::work::block_work;
 use std::alloc::AllocError;
@@ -38,6 +39,8 @@ pub enum BadMachine {
     OutputCount,
     #[error("there are 1 to 64 words")]
     WordCount,
+    #[error("no queue and no array register stands twice among the words")]
+    WordTwice,
     #[error("the registers have more than 64 cells")]
     TooManyCells,
     #[error("there are more than 16 queues")]
@@ -273,6 +276,9 @@ pub fn members_fault(
     }
     if declaration.words.len() < 1 || declaration.words.len() > 64 {
         return Some(BadMachine::WordCount);
+    }
+    if twice(standings, declaration.words.as_slice()) {
+        return Some(BadMachine::WordTwice);
     }
     None
 }

@@ -5,7 +5,7 @@ ghost use Rattle.tw_machine.specs.Program.{text_of};
 ghost use Rattle.tw_declared.specs.Names.{standings_of};
 ghost use Rattle.tw_declared.specs.Seen.{seen_program};
 ghost use Rattle.tw_declared.specs.Program.{program_of};
-ghost use Rattle.tw_declared.specs.Limits.{bad_program, later_fault, fault_of};
+ghost use Rattle.tw_declared.specs.Limits.{members_fault, bad_program, later_fault, fault_of};
 ghost use Rattle.tw_declared.specs.declared.limits.BadMachine.TheVariants.{OutOfMemory};
 
 use crate::declaration::{Declaration, Given};
@@ -54,6 +54,19 @@ fn held(fault: Option<BadMachine>) -> Result<(), BadMachine>
     }
 }
 
+/// The first of a machine's members that is wrong is refused.
+fn members_held(
+    given: &Given,
+    declaration: &Declaration,
+    standings: &[Standing],
+) -> Result<(), BadMachine>
+    requires { standings.now ≡ standings_of given.now declaration.now.names.items }
+    ensures held { IfOk result (λ _. members_fault given.now declaration.now standings.now ≡ None) }
+    ensures refused { IfErr result (λ bad. fault_of given.now declaration.now ≡ Some bad) }
+{
+    held(members_fault(given, declaration, standings))
+}
+
 /// The program of these parts, or the first limit of any program that they pass.
 fn program(parts: Parts) -> Result<Program, BadMachine>
     ensures made { IfOk result (λ program. program ≡ text_of parts) }
@@ -92,7 +105,7 @@ pub fn declared(
     ensures refused { IfErr result (λ bad. bad ≢ OutOfMemory → fault_of given.now declaration.now ≡ Some bad) }
 {
     let standings = standings_of(alloc, given, declaration.names.as_slice())?;
-    held(members_fault(given, declaration, &standings))?;
+    members_held(given, declaration, &standings)?;
     let parts = parts_of(alloc, given, declaration, &standings)?;
     limited(&standings, declaration, parts)
 }

@@ -23,7 +23,7 @@ found c =
     let d = c.args.declaration.now in
     let p = text_of c.in_ok-parts.parts in
     let same = c.in_ok-standings.ensures ∙ ap (standings_of given) c.as_slice.ensures.value in
-    let held = ap (members_fault given d) (sym c.deref.ensures.value) ∙ sym c.members_fault.ensures ∙ c.in_ok-held.ensures.held in
+    let held = ap (members_fault given d) (sym c.deref.ensures.value) ∙ c.in_ok-members_held.ensures.held in
     behind_members given d c.in_ok-standings.standings.items p same c.in_ok-parts.ensures held
     ∙ ap (λ ss. later_fault ss d (seen_program p)) (sym c.deref-3.ensures.value)
 

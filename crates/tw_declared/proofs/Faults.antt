@@ -2,11 +2,11 @@
 use Rattle.std.proofs.Common.{◌≡◌, ap, sym, ◌∙◌}
 use Rattle.std.specs.Prelude.{List, Option, None}
 use Rattle.tw_machine.specs.Program.{ProgramText}
-use Rattle.tw_declared.specs.declared.declaration.Declaration.{Declaration}
-use Rattle.tw_declared.specs.declared.declaration.Given.{Given}
+use Rattle.tw_costs.specs.declared.declaration.Declaration.{Declaration}
+use Rattle.tw_costs.specs.declared.declaration.Given.{Given}
 use Rattle.tw_declared.specs.declared.limits.BadMachine.{BadMachine}
-use Rattle.tw_declared.specs.declared.names.Standing.{Standing}
-use Rattle.tw_declared.specs.Names.{standings_of}
+use Rattle.tw_costs.specs.declared.names.Standing.{Standing}
+use Rattle.tw_costs.specs.Names.{standings_of}
 use Rattle.tw_declared.specs.Seen.{seen_program}
 use Rattle.tw_declared.specs.Program.{program_of}
 use Rattle.tw_declared.specs.Limits.{members_fault, later_fault, otherwise, fault_of}

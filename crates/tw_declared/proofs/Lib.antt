@@ -1,3 +1,2 @@
-pub mod Capped
 pub mod Places
 pub mod Faults

@@ -15,16 +15,16 @@ use Rattle.tw_program_text.specs.declared.words.Change.TheVariants.{Set, Add}
 use Rattle.tw_program_text.specs.declared.words.Operator.TheVariants.{Comma, Equal, Greater, Plus}
 use Rattle.tw_program_text.specs.declared.words.Verb.TheVariants.{Push, Put}
 use Rattle.tw_program_text.specs.Tree.{Tree, Number, Name, Known, Indexed, Call, RandomBelow, Binary, Statement, Assign, Act, Pop, Draw, Wait, If, Repeat, Block, Empty, Then, One}
-use Rattle.tw_declared.specs.declared.declaration.Constant.TheVariants as c
-use Rattle.tw_declared.specs.declared.declaration.Given.{Given}
-use Rattle.tw_declared.specs.declared.declaration.Thing.TheVariants as thing
-use Rattle.tw_declared.specs.declared.names.Standing.{Standing}
-use Rattle.tw_declared.specs.declared.names.Standing.TheVariants as s
-use Rattle.tw_declared.specs.Names.{none_taken, own_standings}
+use Rattle.tw_costs.specs.declared.declaration.Constant.TheVariants as c
+use Rattle.tw_costs.specs.declared.declaration.Given.{Given}
+use Rattle.tw_costs.specs.declared.declaration.Thing.TheVariants as thing
+use Rattle.tw_costs.specs.declared.names.Standing.{Standing}
+use Rattle.tw_costs.specs.declared.names.Standing.TheVariants as s
+use Rattle.tw_costs.specs.Names.{none_taken, own_standings}
 use Rattle.tw_declared.specs.Seen.{one, two, both, branch, repeated}
 use Rattle.tw_declared.specs.Statements.{statement, block}
 use Rattle.tw_declared.specs.Rows.{row_of, twice}
-use Rattle.tw_declared.specs.Work.{statement_work, block_work}
+use Rattle.tw_costs.specs.Work.{statement_work, block_work}
 
 -- behind the functions' names, which nothing else has
 abbrev pub behind_functions : List Standing → List Standing

@@ -1,7 +1,6 @@
 -- What an expression of a text is in the machine's language. A tree that no text spells is 0, and a queue that is none is nowhere.
-use Rattle.std.specs.Prelude.{ℕ, ℤ, pos, min, List, [], ◌∷◌, slice_index_or}
+use Rattle.std.specs.Prelude.{ℕ, ℤ, pos, min, List}
 use Rattle.tw_machine.specs.declared.language.Measure.{Measure}
-use Rattle.tw_machine.specs.declared.language.Measure.TheVariants.{Length, Room, Front, Last, Sum}
 use Rattle.tw_machine.specs.declared.language.Leaf.{Leaf}
 use Rattle.tw_machine.specs.declared.language.Leaf.TheVariants as leaf
 use Rattle.tw_machine.specs.declared.language.Unary.TheVariants as unary
@@ -15,13 +14,14 @@ use Rattle.tw_program_text.specs.declared.words.Builtin.TheVariants as builtin
 use Rattle.tw_program_text.specs.declared.words.Operator.{Operator}
 use Rattle.tw_program_text.specs.declared.words.Operator.TheVariants.{Comma, Or, And, Equal, NotEqual, Less, LessEqual, Greater, GreaterEqual, Plus, Minus, Times, Divide, Modulo}
 use Rattle.tw_program_text.specs.Tree.{Tree, Number, Name, Known, Indexed, Call, RandomBelow, Group, Negate, Not, Binary as Joined}
-use Rattle.tw_declared.specs.declared.expressions.Function.{Function}
-use Rattle.tw_declared.specs.declared.expressions.Function.TheVariants.{Measured, Applied}
-use Rattle.tw_declared.specs.declared.expressions.Joining.{Joining}
-use Rattle.tw_declared.specs.declared.expressions.Joining.TheVariants as j
-use Rattle.tw_declared.specs.declared.names.Standing.{Standing}
-use Rattle.tw_declared.specs.declared.names.Standing.TheVariants as s
-use Rattle.tw_declared.specs.Names.{standing_at}
+use Rattle.tw_costs.specs.declared.functions.Function.{Function}
+use Rattle.tw_costs.specs.declared.functions.Function.TheVariants.{Measured, Applied}
+use Rattle.tw_costs.specs.declared.functions.Joining.{Joining}
+use Rattle.tw_costs.specs.declared.functions.Joining.TheVariants as j
+use Rattle.tw_costs.specs.declared.names.Standing.{Standing}
+use Rattle.tw_costs.specs.declared.names.Standing.TheVariants as s
+use Rattle.tw_costs.specs.Names.{standing_at}
+use Rattle.tw_costs.specs.Functions.{function_of}
 use Rattle.tw_declared.specs.Seen.{one, two, choose}
 
 abbrev pub zero_expr : Expr
@@ -81,11 +81,6 @@ operation Minus a b = two binary.Minus a b
 operation Times a b = two binary.Times a b
 operation Divide a b = two binary.Over a b
 operation Modulo a b = two binary.Rest a b
-
--- the functions by their numbers
-abbrev pub function_of : ℕ → Function
-function_of n =
-    slice_index_or (Applied j.Least ∷ Applied j.Greatest ∷ Applied j.Choose ∷ Measured Length ∷ Measured Room ∷ Measured Front ∷ Measured Last ∷ Measured Sum ∷ Applied j.At ∷ Applied j.Place ∷ []) n (Applied j.Least)
 
 -- what is read of a queue
 abbrev pub measured : Measure → Target → Expr

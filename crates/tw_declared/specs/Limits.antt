@@ -1,28 +1,24 @@
 -- What is wrong with a machine as it is declared, with the numbers that are given: its members in order, then its limits. The first counts.
-use Rattle.std.specs.Prelude.{ℕ, ℤ, pos, negsuc, ◌+◌, ◌*◌, Bool, true, false, not, ◌&&◌, List, [], ◌∷◌, length, sum, sum_by, Option, Some, None, nat_lt, nat_le, if◌then◌else◌, option_and_then, option_map, slice_get}
+use Rattle.std.specs.Prelude.{ℕ, ℤ, pos, negsuc, Bool, true, false, not, ◌&&◌, List, [], ◌∷◌, length, sum, sum_by, Option, Some, None, nat_lt, nat_le, if◌then◌else◌, option_and_then, option_map, slice_get}
 use Rattle.tw_machine.specs.Limits.{fault_of as limits_of}
 use Rattle.tw_machine.specs.declared.program.BadProgram.{BadProgram}
 use Rattle.tw_machine.specs.declared.program.BadProgram.TheVariants as b
 use Rattle.tw_machine.specs.Program.{ProgramText}
-use Rattle.tw_program_text.specs.Tree.{Tree, Number, Name, Indexed, Statement, If, IfElse, Repeat, Block, Empty, Then, Arms, One, More, nodes, nodes_block}
-use Rattle.tw_program_text.specs.declared.tree.Expr.{Expr}
-use Rattle.tw_program_text.specs.Views.{tree, body}
-use Rattle.tw_declared.specs.declared.declaration.Declaration.{Declaration}
-use Rattle.tw_declared.specs.declared.declaration.Given.{Given}
-use Rattle.tw_declared.specs.declared.declaration.OutputText.{OutputText}
-use Rattle.tw_declared.specs.declared.declaration.Thing.{Thing}
-use Rattle.tw_declared.specs.declared.declaration.Thing.TheVariants.{RegisterArray, Queue, QueueArray, Table, ListTable}
-use Rattle.tw_declared.specs.declared.declaration.Value.{Value}
-use Rattle.tw_declared.specs.declared.declaration.Value.TheVariants as v
+use Rattle.tw_program_text.specs.Tree.{Statement, If, IfElse, Repeat, Block, Empty, Then, Arms, One, More}
+use Rattle.tw_program_text.specs.Views.{body}
+use Rattle.tw_costs.specs.declared.declaration.Declaration.{Declaration}
+use Rattle.tw_costs.specs.declared.declaration.Given.{Given}
+use Rattle.tw_costs.specs.declared.declaration.Thing.{Thing}
+use Rattle.tw_costs.specs.declared.declaration.Thing.TheVariants.{RegisterArray, Queue, QueueArray, Table, ListTable}
 use Rattle.tw_declared.specs.declared.limits.BadMachine.{BadMachine}
 use Rattle.tw_declared.specs.declared.limits.BadMachine.TheVariants as bad
-use Rattle.tw_declared.specs.declared.names.Standing.{Standing}
-use Rattle.tw_declared.specs.declared.names.Standing.TheVariants as s
-use Rattle.tw_declared.specs.Names.{constant, things, standing_at, standings_of}
+use Rattle.tw_costs.specs.declared.names.Standing.{Standing}
+use Rattle.tw_costs.specs.Names.{constant, things, standings_of}
 use Rattle.tw_declared.specs.Program.{program_of}
 use Rattle.tw_declared.specs.Rows.{rows, twice}
-use Rattle.tw_declared.specs.Statements.{written_turns}
-use Rattle.tw_declared.specs.Work.{room_at, queue_room, work, block_work}
+use Rattle.tw_costs.specs.Turns.{written_turns}
+use Rattle.tw_costs.specs.Work.{block_work}
+use Rattle.tw_costs.specs.Members.{all_nodes, output_work, word_work}
 
 -- whether a number is from 1 to this
 abbrev pub is_up_to : ℕ → ℤ → Bool
@@ -82,66 +78,6 @@ abbrev mutual
   pub turns_fit_arms : List Standing → Arms → Bool
   turns_fit_arms ss (One test b) = turns_fit ss b
   turns_fit_arms ss (More before test b) = turns_fit_arms ss before && turns_fit ss b
-
--- how many nodes the programs, the outputs and the words have; a whole number is one
-abbrev pub value_nodes : Value → ℕ
-value_nodes (v.Number n) = 1
-value_nodes (v.Text e) = nodes (tree e)
-
-abbrev pub when_nodes : Option Value → ℕ
-when_nodes (Some e) = value_nodes e
-when_nodes None = 0
-
-abbrev pub each_nodes : Option Expr → ℕ
-each_nodes (Some q) = nodes (tree q)
-each_nodes None = 0
-
-abbrev pub output_nodes : OutputText → ℕ
-output_nodes o = value_nodes o.port + value_nodes o.value + when_nodes o.when + each_nodes o.each
-
-abbrev pub all_nodes : Declaration → ℕ
-all_nodes d =
-    nodes_block (body d.internal) + nodes_block (body d.external) + sum_by output_nodes d.outputs.items + sum_by value_nodes d.words.items
-
--- computations of a member
-abbrev pub value_work : List Standing → Value → ℕ
-value_work ss (v.Number n) = 1
-value_work ss (v.Text e) = work ss (tree e)
-
-abbrev pub when_work : List Standing → Option Value → ℕ
-when_work ss (Some e) = value_work ss e
-when_work ss None = 0
-
--- the queue that an output goes over is named once for each of its places
-abbrev pub each_work : List Standing → Option Expr → ℕ
-each_work ss (Some q) = work ss (tree q)
-each_work ss None = 0
-
-abbrev pub once_work : List Standing → OutputText → ℕ
-once_work ss o = value_work ss o.port + value_work ss o.value + when_work ss o.when + each_work ss o.each
-
--- how often an output is sent: for each place of its queue's room, or once
-abbrev pub sendings : List Standing → Option Expr → ℕ
-sendings ss (Some q) = queue_room ss (tree q)
-sendings ss None = 1
-
-abbrev pub output_work : List Standing → OutputText → ℕ
-output_work ss o = sendings ss o.each * once_work ss o
-
--- a queue that is shown counts its room more, an array register its cells
-abbrev pub shown_over : Standing → ℕ
-shown_over (s.Queue k room) = room
-shown_over (s.Cells span) = span.count
-shown_over _ = 0
-
-abbrev pub word_over : List Standing → Tree → ℕ
-word_over ss (Name n) = shown_over (standing_at ss n)
-word_over ss (Indexed n (Number i)) = room_at (standing_at ss n)
-word_over ss _ = 0
-
-abbrev pub word_work : List Standing → Value → ℕ
-word_work ss (v.Number n) = 1
-word_work ss (v.Text e) = work ss (tree e) + word_over ss (tree e)
 
 -- the first of a machine's members that is wrong
 abbrev pub members_fault : Given → Declaration → List Standing → Option BadMachine

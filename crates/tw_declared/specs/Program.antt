@@ -10,15 +10,15 @@ use Rattle.tw_machine.specs.Program.{ProgramText}
 use Rattle.tw_machine.specs.Values.{brought}
 use Rattle.tw_program_text.specs.Tree.{Tree, Number, Name, Indexed}
 use Rattle.tw_program_text.specs.Views.{tree, body}
-use Rattle.tw_declared.specs.declared.declaration.Constant.{Constant}
-use Rattle.tw_declared.specs.declared.declaration.Declaration.{Declaration}
-use Rattle.tw_declared.specs.declared.declaration.Given.{Given}
-use Rattle.tw_declared.specs.declared.declaration.OutputText.{OutputText}
-use Rattle.tw_declared.specs.declared.declaration.Value.{Value}
-use Rattle.tw_declared.specs.declared.declaration.Value.TheVariants as v
-use Rattle.tw_declared.specs.declared.names.Standing.{Standing}
-use Rattle.tw_declared.specs.declared.names.Standing.TheVariants as s
-use Rattle.tw_declared.specs.Names.{constant, start_of, cells, rooms, numbers, things, standing_at, standings_of}
+use Rattle.tw_costs.specs.declared.declaration.Constant.{Constant}
+use Rattle.tw_costs.specs.declared.declaration.Declaration.{Declaration}
+use Rattle.tw_costs.specs.declared.declaration.Given.{Given}
+use Rattle.tw_costs.specs.declared.declaration.OutputText.{OutputText}
+use Rattle.tw_costs.specs.declared.declaration.Value.{Value}
+use Rattle.tw_costs.specs.declared.declaration.Value.TheVariants as v
+use Rattle.tw_costs.specs.declared.names.Standing.{Standing}
+use Rattle.tw_costs.specs.declared.names.Standing.TheVariants as s
+use Rattle.tw_costs.specs.Names.{constant, start_of, cells, rooms, numbers, things, standing_at, standings_of}
 use Rattle.tw_declared.specs.Expressions.{number, expression, queue}
 use Rattle.tw_declared.specs.Statements.{block}
 

@@ -3,12 +3,12 @@ use Rattle.std.specs.Prelude.{ℕ, ◌-◌, min, Bool, false, ◌&&◌, ◌||◌
 use Rattle.tw_machine.specs.declared.language.Span.{Span}
 use Rattle.tw_program_text.specs.Tree.{Tree, Number, Name, Indexed}
 use Rattle.tw_program_text.specs.Views.{tree}
-use Rattle.tw_declared.specs.declared.declaration.Value.{Value}
-use Rattle.tw_declared.specs.declared.declaration.Value.TheVariants as v
-use Rattle.tw_declared.specs.declared.names.Standing.{Standing}
-use Rattle.tw_declared.specs.declared.names.Standing.TheVariants as s
+use Rattle.tw_costs.specs.declared.declaration.Value.{Value}
+use Rattle.tw_costs.specs.declared.declaration.Value.TheVariants as v
+use Rattle.tw_costs.specs.declared.names.Standing.{Standing}
+use Rattle.tw_costs.specs.declared.names.Standing.TheVariants as s
 use Rattle.tw_declared.specs.declared.rows.Row.{Row}
-use Rattle.tw_declared.specs.Names.{standing_at}
+use Rattle.tw_costs.specs.Names.{standing_at}
 
 -- which queue of an array a number says: past the end the last; where it is not given how many there are, each another
 abbrev pub which : Span → ℕ → ℕ

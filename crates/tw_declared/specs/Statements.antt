@@ -1,5 +1,5 @@
 -- What the statements of a text are in the machine's language. A name that may not stand where it does is nowhere, and changes nothing.
-use Rattle.std.specs.Prelude.{ℕ, ℤ, pos, min, List, Option, Some, None}
+use Rattle.std.specs.Prelude.{ℕ, ℤ, min, List, Option, Some, None}
 use Rattle.tw_machine.specs.declared.language.Expr.{Expr}
 use Rattle.tw_machine.specs.declared.language.Target.{Target}
 use Rattle.tw_machine.specs.declared.language.Target.TheVariants.{Single, Indexed as Among}
@@ -14,10 +14,11 @@ use Rattle.tw_program_text.specs.declared.words.Change.TheVariants.{Set, Add, Su
 use Rattle.tw_program_text.specs.declared.words.Verb.{Verb}
 use Rattle.tw_program_text.specs.declared.words.Verb.TheVariants.{Push, Insert, Remove, Put}
 use Rattle.tw_program_text.specs.declared.words.Operator.TheVariants.{Comma}
-use Rattle.tw_program_text.specs.Tree.{Tree, Number, Name, Indexed, Binary, Statement as Said, Assign, Act, Pop, Draw, Wait, Passivate, If, IfElse, Repeat, Block, Empty, Then, Arms, One, More}
-use Rattle.tw_declared.specs.declared.names.Standing.{Standing}
-use Rattle.tw_declared.specs.declared.names.Standing.TheVariants as s
-use Rattle.tw_declared.specs.Names.{standing_at}
+use Rattle.tw_program_text.specs.Tree.{Tree, Name, Indexed, Binary, Statement as Said, Assign, Act, Pop, Draw, Wait, Passivate, If, IfElse, Repeat, Block, Empty, Then, Arms, One, More}
+use Rattle.tw_costs.specs.declared.names.Standing.{Standing}
+use Rattle.tw_costs.specs.declared.names.Standing.TheVariants as s
+use Rattle.tw_costs.specs.Names.{standing_at}
+use Rattle.tw_costs.specs.Turns.{written_turns}
 use Rattle.tw_declared.specs.Seen.{both, branch, repeated}
 use Rattle.tw_declared.specs.Expressions.{no_target, expression, queue}
 
@@ -53,17 +54,6 @@ acted ss Push q e = m.Put q End (expression ss e)
 acted ss Insert q e = m.Put q Sorted (expression ss e)
 acted ss Remove q e = m.Take q (Chosen (expression ss e))
 acted ss Put q e = put ss q e
-
--- the number of a parameter, if it is given
-abbrev pub number_of : Standing → Option ℤ
-number_of (s.Number n) = Some n
-number_of _ = None
-
--- how often a block is repeated, as it is written; none where a parameter says it of which nothing is given
-abbrev pub written_turns : List Standing → Tree → Option ℤ
-written_turns ss (Number n) = Some (pos n)
-written_turns ss (Name n) = number_of (standing_at ss n)
-written_turns ss _ = None
 
 -- how often it is repeated: other numbers than 0 to 64 are refused
 abbrev pub turns : Option ℤ → ℕ

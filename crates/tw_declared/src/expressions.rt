@@ -2,56 +2,13 @@
 ghost use Rattle.std.specs.Prelude.{◌≡◌, IfOk};
 ghost use Rattle.tw_program_text.specs.Views.{tree};
 ghost use Rattle.tw_declared.specs.Seen.{seen, seen_target, one, two, choose};
-ghost use Rattle.tw_declared.specs.Expressions.{known, number, named, indexed, queue_named, queue_indexed, operation, function_of, measured, at, place, expression, applied, choice, queue};
+ghost use Rattle.tw_declared.specs.Expressions.{known, number, named, indexed, queue_named, queue_indexed, operation, measured, at, place, expression, applied, choice, queue};
 
 use crate::making::{choose, one, two, zero};
-use crate::names::{Standing, standing_at};
 use std::alloc::{AllocError, Global};
+use tw_costs::{Function, Joining, Standing, function_of, standing_at};
 use tw_machine::language::{Binary, Expr, Leaf, Measure, Target, Unary};
 use tw_program_text::{Builtin, Expr as Tree, Operator};
-
-/// A function of the texts.
-#[derive(Clone, Copy, Debug, PartialEq, Eq)]
-pub enum Function {
-    /// Of a queue alone.
-    Measured(Measure),
-    /// Of several arguments.
-    Applied(Joining),
-}
-
-/// A function of several arguments.
-#[derive(Clone, Copy, Debug, PartialEq, Eq)]
-pub enum Joining {
-    Least,
-    Greatest,
-    Choose,
-    At,
-    Place,
-}
-
-/// min, max, choose, length, room, front, last, sum, at, place.
-const FUNCTIONS: [Function; 10] = [
-    Function::Applied(Joining::Least),
-    Function::Applied(Joining::Greatest),
-    Function::Applied(Joining::Choose),
-    Function::Measured(Measure::Length),
-    Function::Measured(Measure::Room),
-    Function::Measured(Measure::Front),
-    Function::Measured(Measure::Last),
-    Function::Measured(Measure::Sum),
-    Function::Applied(Joining::At),
-    Function::Applied(Joining::Place),
-];
-
-/// The function of this number.
-pub fn function_of(number: usize) -> Function
-    ensures { result ≡ function_of number }
-{
-    FUNCTIONS
-        .get(number)
-        .copied()
-        .unwrap_or(Function::Applied(Joining::Least))
-}
 
 /// What a word of the language reads.
 fn known(builtin: Builtin) -> Leaf

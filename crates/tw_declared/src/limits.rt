@@ -2,19 +2,17 @@
 ghost use Rattle.std.specs.Prelude.{◌≡◌, ◌≢◌, ◌≤◌, length, sum, option_and_then};
 ghost use Rattle.tw_machine.specs.Program.{text_of};
 ghost use Rattle.tw_program_text.specs.Views.{told, body, chain};
-ghost use Rattle.tw_declared.specs.Names.{constant, things};
+ghost use Rattle.tw_costs.specs.Names.{constant, things};
 ghost use Rattle.tw_declared.specs.Limits.{is_up_to, constant_up_to, length_up_to, is_register, is_queue, is_table, all, is_turns, turns_fit, turns_fit_statement, turns_fit_arms, members_fault, limit, bad_program};
 ghost use Rattle.tw_declared.specs.declared.limits.BadMachine.TheVariants.{OutOfMemory};
 
-use crate::computing::{outputs_work, words_work};
-use crate::declaration::{Constant, Declaration, Given, Named, Thing};
-use crate::names::{Standing, constant};
-use crate::nodes::all_nodes;
 use crate::rows::twice;
-use crate::statements::written_turns;
-use crate::work::block_work;
 use std::alloc::AllocError;
 use thiserror::Error;
+use tw_costs::{
+    Constant, Declaration, Given, Named, Standing, Thing, all_nodes, block_work, constant,
+    outputs_work, words_work, written_turns,
+};
 use tw_machine::program::{BadProgram, Parts};
 use tw_program_text::{Arms, Block, Statement as Said};
 

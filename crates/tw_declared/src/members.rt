@@ -2,15 +2,14 @@
 ghost use Rattle.std.specs.Prelude.{◌≡◌, ◌≤◌, min, IfOk, map, option_map};
 ghost use Rattle.tw_program_text.specs.Views.{tree};
 ghost use Rattle.tw_machine.specs.Values.{brought};
-ghost use Rattle.tw_declared.specs.Names.{start_of};
+ghost use Rattle.tw_costs.specs.Names.{start_of};
 ghost use Rattle.tw_declared.specs.Seen.{seen, seen_target, seen_output, seen_word};
 ghost use Rattle.tw_declared.specs.Expressions.{number, queue};
 ghost use Rattle.tw_declared.specs.Program.{value, output, word_named, word_numbered, word_of, shown_word, seed, wait, ticks};
 
-use crate::declaration::{Constant, Given, OutputText, Value};
 use crate::expressions::{expression, number, queue};
-use crate::names::{Standing, constant, standing_at, start_of};
 use std::alloc::{AllocError, Global};
+use tw_costs::{Constant, Given, OutputText, Standing, Value, constant, standing_at, start_of};
 use tw_machine::language::{Expr, Leaf, Output, Span, Target, Word};
 use tw_program_text::Expr as Tree;
 

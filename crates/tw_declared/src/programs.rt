@@ -2,19 +2,18 @@
 ghost use Rattle.std.specs.Prelude.{◌≡◌, ◌≢◌, IfOk, IfErr, Some, None, option_map};
 ghost use Rattle.tw_machine.specs.Limits.{fault_of as limits_of};
 ghost use Rattle.tw_machine.specs.Program.{text_of};
-ghost use Rattle.tw_declared.specs.Names.{standings_of};
+ghost use Rattle.tw_costs.specs.Names.{standings_of};
 ghost use Rattle.tw_declared.specs.Seen.{seen_program};
 ghost use Rattle.tw_declared.specs.Program.{program_of};
 ghost use Rattle.tw_declared.specs.Limits.{members_fault, bad_program, later_fault, fault_of};
 ghost use Rattle.tw_declared.specs.declared.limits.BadMachine.TheVariants.{OutOfMemory};
 
-use crate::declaration::{Declaration, Given};
 use crate::limits::{BadMachine, bad_program, limit, members_fault};
 use crate::members::{outputs, seed, ticks, words};
-use crate::names::{Standing, standings_of};
 use crate::starts::{all_cells, all_numbers, all_rooms};
 use crate::statements::block;
 use std::alloc::{AllocError, Global};
+use tw_costs::{Declaration, Given, Standing, standings_of};
 use tw_machine::program::{Parts, Program};
 
 /// The parts of the program that a machine means with these numbers, by what its names stand for. The only error is

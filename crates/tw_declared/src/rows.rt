@@ -3,8 +3,7 @@ ghost use Rattle.std.specs.Prelude.{◌≡◌};
 ghost use Rattle.tw_program_text.specs.Views.{tree};
 ghost use Rattle.tw_declared.specs.Rows.{which, row_named, row_numbered, row_of, shown_row, rows, among, twice};
 
-use crate::declaration::Value;
-use crate::names::{Standing, standing_at};
+use tw_costs::{Standing, Value, standing_at};
 use tw_machine::language::Span;
 use tw_program_text::Expr as Tree;
 

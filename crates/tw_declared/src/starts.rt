@@ -1,10 +1,9 @@
 //! What a machine has at the start: the cells of its registers, the rooms of its queues, the numbers of its tables.
 ghost use Rattle.std.specs.Prelude.{◌≡◌, ◌++◌, ◌≤◌, IfOk, OnOk, flat_map, map, replicate};
-ghost use Rattle.tw_declared.specs.Names.{start_of, cells, rooms, numbers, things};
+ghost use Rattle.tw_costs.specs.Names.{start_of, cells, rooms, numbers, things};
 
-use crate::declaration::{Constant, Given, Named, Thing};
-use crate::names::{count_of, list_given, room_of, start_of};
 use std::alloc::{AllocError, Global};
+use tw_costs::{Constant, Given, Named, Thing, count_of, list_given, room_of, start_of};
 
 /// Appends what the cells of an array register have at the start.
 fn push_starts(given: &Given, starts: &[Constant], cells: &mut Vec<i64>) -> Result<(), AllocError>

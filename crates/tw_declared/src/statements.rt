@@ -2,12 +2,12 @@
 ghost use Rattle.std.specs.Prelude.{◌≡◌, ◌≤◌, IfOk};
 ghost use Rattle.tw_program_text.specs.Views.{tree, told, body, chain};
 ghost use Rattle.tw_declared.specs.Seen.{seen, seen_target, seen_statement};
-ghost use Rattle.tw_declared.specs.Statements.{cell_named, cell_indexed, cell, assigned, put, acted, number_of, written_turns, turns, statement, block, chosen};
+ghost use Rattle.tw_declared.specs.Statements.{cell_named, cell_indexed, cell, assigned, put, acted, turns, statement, block, chosen};
 
 use crate::expressions::{expression, queue};
 use crate::making::{both, branch, repeated};
-use crate::names::{Standing, standing_at};
 use std::alloc::{AllocError, Global};
+use tw_costs::{Standing, standing_at, written_turns};
 use tw_machine::language::{Change, Expr, Position, Statement, Target, Which};
 use tw_program_text::{
     Arms, Block, Change as Sign, Expr as Tree, Operator, Statement as Said, Verb,
@@ -102,30 +102,6 @@ fn acted(
             Ok(Statement::Take(queue, Which::Chosen(place)))
         }
         Verb::Put => put(alloc, standings, queue, operands),
-    }
-}
-
-/// The number of a parameter, if it is given.
-fn number_of(standing: Standing) -> Option<i64>
-    ensures { result ≡ number_of standing }
-{
-    match standing {
-        Standing::Number(number) => Some(number),
-        _ => None,
-    }
-}
-
-/// How often a block is repeated, as it is written, if that is given.
-pub fn written_turns(standings: &[Standing], count: &Tree) -> Option<i128>
-    ensures { result ≡ written_turns standings.now (tree count.now) }
-{
-    match count {
-        Tree::Number(number) => Some(*number as i128),
-        Tree::Name(name) => match number_of(standing_at(standings, *name)) {
-            Some(number) => Some(number as i128),
-            None => None,
-        },
-        _ => None,
     }
 }
 

@@ -1,5 +1,5 @@
 use Rattle.std.proofs.Common.{◌≡◌, drop}
-use Rattle.tw_declared.specs.Names.{things}
+use Rattle.tw_costs.specs.Names.{things}
 use Rattle.tw_declared.specs.Limits.{is_queue, all}
 use Rattle.tw_declared.proofs.limits.are_queues.Given as goal
 

@@ -1,6 +1,6 @@
 use Rattle.std.proofs.Common.{◌≡◌, ◌≢◌, ◌∙◌, ap, sym, Option, Some, None, Result, Ok, Err, IfOk, IfErr}
 use Rattle.tw_machine.specs.Program.{text_of}
-use Rattle.tw_declared.specs.Names.{standings_of}
+use Rattle.tw_costs.specs.Names.{standings_of}
 use Rattle.tw_declared.specs.Seen.{seen_program}
 use Rattle.tw_declared.specs.Limits.{members_fault, later_fault, fault_of}
 use Rattle.tw_declared.specs.declared.limits.BadMachine.{BadMachine}

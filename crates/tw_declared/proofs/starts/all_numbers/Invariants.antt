@@ -1,6 +1,6 @@
 use Rattle.std.proofs.Common.{◌≡◌, ◌++◌, drop}
 use Rattle.std.specs.Prelude.{flat_map}
-use Rattle.tw_declared.specs.Names.{numbers, things}
+use Rattle.tw_costs.specs.Names.{numbers, things}
 use Rattle.tw_declared.proofs.starts.all_numbers.Given as goal
 
 -- what has come and what is to come

@@ -1,6 +1,6 @@
 use Rattle.std.proofs.Common.{◌≡◌, ◌++◌, drop}
 use Rattle.std.specs.Prelude.{flat_map}
-use Rattle.tw_declared.specs.Names.{rooms, things}
+use Rattle.tw_costs.specs.Names.{rooms, things}
 use Rattle.tw_declared.proofs.starts.all_rooms.Given as goal
 
 -- what has come and what is to come

@@ -1,5 +1,5 @@
 use Rattle.std.proofs.Common.{◌≡◌, ◌++◌, drop, map}
-use Rattle.tw_declared.specs.Names.{start_of}
+use Rattle.tw_costs.specs.Names.{start_of}
 use Rattle.tw_declared.proofs.starts.push_starts.Given as goal
 
 -- what has come and what is to come

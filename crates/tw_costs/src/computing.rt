@@ -1,7 +1,7 @@
 //! How many computations what is sent and the words make. Counts end at 262,145, one past what is allowed.
 ghost use Rattle.std.specs.Prelude.{◌≡◌, ◌≤◌, ◌*◌, min, sum_by};
 ghost use Rattle.tw_program_text.specs.Views.{tree};
-ghost use Rattle.tw_declared.specs.Limits.{value_work, when_work, each_work, once_work, sendings, output_work, shown_over, word_over, word_work};
+ghost use Rattle.tw_costs.specs.Members.{value_work, when_work, each_work, once_work, sendings, output_work, shown_over, word_over, word_work};
 
 use crate::declaration::{OutputText, Value};
 use crate::names::{Standing, standing_at};

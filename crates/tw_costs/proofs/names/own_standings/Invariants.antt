@@ -1,6 +1,6 @@
 use Rattle.std.proofs.Common.{◌≡◌, ◌++◌, drop}
-use Rattle.tw_declared.specs.Names.{things, own_standings, none_taken}
-use Rattle.tw_declared.proofs.names.own_standings.Given as goal
+use Rattle.tw_costs.specs.Names.{things, own_standings, none_taken}
+use Rattle.tw_costs.proofs.names.own_standings.Given as goal
 
 -- what has come and what is to come
 abbrev pub invariant-loop-named : goal.invariant-loop-named

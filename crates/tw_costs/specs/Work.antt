@@ -6,14 +6,14 @@ use Rattle.tw_program_text.specs.declared.words.Verb.{Verb}
 use Rattle.tw_program_text.specs.declared.words.Verb.TheVariants.{Push, Insert, Remove, Put}
 use Rattle.tw_program_text.specs.declared.words.Operator.TheVariants.{Comma}
 use Rattle.tw_program_text.specs.Tree.{Tree, Number, Name, Known, Indexed, Call, RandomBelow, Group, Negate, Not, Binary, Statement, Assign, Act, Pop, Draw, Wait, Passivate, If, IfElse, Repeat, Block, Empty, Then, Arms, One, More}
-use Rattle.tw_declared.specs.declared.expressions.Function.{Function}
-use Rattle.tw_declared.specs.declared.expressions.Function.TheVariants.{Measured, Applied}
-use Rattle.tw_declared.specs.declared.expressions.Joining.TheVariants.{Place}
-use Rattle.tw_declared.specs.declared.names.Standing.{Standing}
-use Rattle.tw_declared.specs.declared.names.Standing.TheVariants as s
-use Rattle.tw_declared.specs.Names.{standing_at}
-use Rattle.tw_declared.specs.Expressions.{function_of}
-use Rattle.tw_declared.specs.Statements.{written_turns}
+use Rattle.tw_costs.specs.declared.functions.Function.{Function}
+use Rattle.tw_costs.specs.declared.functions.Function.TheVariants.{Measured, Applied}
+use Rattle.tw_costs.specs.declared.functions.Joining.TheVariants.{Place}
+use Rattle.tw_costs.specs.declared.names.Standing.{Standing}
+use Rattle.tw_costs.specs.declared.names.Standing.TheVariants as s
+use Rattle.tw_costs.specs.Names.{standing_at}
+use Rattle.tw_costs.specs.Functions.{function_of}
+use Rattle.tw_costs.specs.Turns.{written_turns}
 
 -- the room of a queue, or of each of an array
 abbrev pub room_at : Standing → ℕ

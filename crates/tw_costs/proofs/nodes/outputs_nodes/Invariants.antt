@@ -1,7 +1,7 @@
 use Rattle.std.proofs.Common.{◌≡◌, ◌+◌, ◌≤◌, min, drop}
 use Rattle.std.specs.Prelude.{sum_by}
-use Rattle.tw_declared.specs.Limits.{output_nodes}
-use Rattle.tw_declared.proofs.nodes.outputs_nodes.Given as goal
+use Rattle.tw_costs.specs.Members.{output_nodes}
+use Rattle.tw_costs.proofs.nodes.outputs_nodes.Given as goal
 
 -- what has come and what is to come
 abbrev pub invariant-loop-text : goal.invariant-loop-text

@@ -1,8 +1,8 @@
 //! What each name of a machine stands for.
 ghost use Rattle.std.specs.Prelude.{◌≡◌, ◌+◌, ◌≤◌, min, IfOk, map, length, slice_index_or, string_bytes};
 ghost use Rattle.tw_program_text.specs.Letters.{functions, same_text};
-ghost use Rattle.tw_declared.specs.Names.{constant, start_of, room_of, count_of, list_given, cells, rooms, numbers, given_number, none_taken, taken, things, place_named, standing_of, own_standings, texts, standings_of, standing_at};
-ghost use Rattle.tw_declared.specs.declared.names.Standing.TheVariants.{Nothing};
+ghost use Rattle.tw_costs.specs.Names.{constant, start_of, room_of, count_of, list_given, cells, rooms, numbers, given_number, none_taken, taken, things, place_named, standing_of, own_standings, texts, standings_of, standing_at};
+ghost use Rattle.tw_costs.specs.declared.names.Standing.TheVariants.{Nothing};
 
 use crate::declaration::{Constant, Given, Named, Thing};
 use std::alloc::{AllocError, Global};

@@ -2,15 +2,15 @@
 use Rattle.std.specs.Prelude.{ℕ, ◌+◌, ℤ, pos, min, List, [], ◌∷◌, ◌++◌, map, length, Option, Some, None, slice_get, slice_index_or, unwrap_or, replicate, string_bytes, if◌then◌else◌}
 use Rattle.tw_machine.specs.Values.{natural}
 use Rattle.tw_program_text.specs.Letters.{functions, same_text}
-use Rattle.tw_declared.specs.declared.declaration.Constant.{Constant}
-use Rattle.tw_declared.specs.declared.declaration.Constant.TheVariants as c
-use Rattle.tw_declared.specs.declared.declaration.Thing.{Thing}
-use Rattle.tw_declared.specs.declared.declaration.Thing.TheVariants.{Parameter, ListParameter, Register, RegisterArray, Queue, QueueArray, Table, ListTable}
-use Rattle.tw_declared.specs.declared.declaration.Named.{Named}
-use Rattle.tw_declared.specs.declared.declaration.Given.{Given}
-use Rattle.tw_declared.specs.declared.names.Places.{Places}
-use Rattle.tw_declared.specs.declared.names.Standing.{Standing}
-use Rattle.tw_declared.specs.declared.names.Standing.TheVariants as s
+use Rattle.tw_costs.specs.declared.declaration.Constant.{Constant}
+use Rattle.tw_costs.specs.declared.declaration.Constant.TheVariants as c
+use Rattle.tw_costs.specs.declared.declaration.Thing.{Thing}
+use Rattle.tw_costs.specs.declared.declaration.Thing.TheVariants.{Parameter, ListParameter, Register, RegisterArray, Queue, QueueArray, Table, ListTable}
+use Rattle.tw_costs.specs.declared.declaration.Named.{Named}
+use Rattle.tw_costs.specs.declared.declaration.Given.{Given}
+use Rattle.tw_costs.specs.declared.names.Places.{Places}
+use Rattle.tw_costs.specs.declared.names.Standing.{Standing}
+use Rattle.tw_costs.specs.declared.names.Standing.TheVariants as s
 
 -- the number that a constant is; none where it is a parameter of which nothing is given
 abbrev pub constant : Given → Constant → Option ℤ

@@ -1,11 +1,11 @@
 //! How many computations a run makes at the most. Counts end at 262,145, one past what is allowed.
 ghost use Rattle.std.specs.Prelude.{◌≡◌, ◌≤◌, ◌*◌, min};
 ghost use Rattle.tw_program_text.specs.Views.{tree, told, body, chain};
-ghost use Rattle.tw_declared.specs.Work.{room_at, queue_room, gone_over, work, moved, counted_turns, statement_work, block_work, tests_work, greatest_work};
+ghost use Rattle.tw_costs.specs.Work.{room_at, queue_room, gone_over, work, moved, counted_turns, statement_work, block_work, tests_work, greatest_work};
 
-use crate::expressions::{Function, Joining, function_of};
+use crate::functions::{Function, Joining, function_of};
 use crate::names::{Standing, standing_at};
-use crate::statements::written_turns;
+use crate::turns::written_turns;
 use tw_machine::language::Measure;
 use tw_program_text::{Arms, Block, Expr as Tree, Operator, Statement as Said, Verb};
 

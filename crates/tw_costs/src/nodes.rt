@@ -2,7 +2,7 @@
 ghost use Rattle.std.specs.Prelude.{◌≡◌, ◌≤◌, min, sum_by};
 ghost use Rattle.tw_program_text.specs.Tree.{nodes, nodes_statement, nodes_block, nodes_arms};
 ghost use Rattle.tw_program_text.specs.Views.{tree, told, body, chain};
-ghost use Rattle.tw_declared.specs.Limits.{value_nodes, when_nodes, each_nodes, output_nodes, all_nodes};
+ghost use Rattle.tw_costs.specs.Members.{value_nodes, when_nodes, each_nodes, output_nodes, all_nodes};
 
 use crate::declaration::{Declaration, OutputText, Value};
 use tw_program_text::{Arms, Block, Expr as Tree, Operator, Statement as Said};

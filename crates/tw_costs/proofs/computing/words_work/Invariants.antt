@@ -1,7 +1,7 @@
 use Rattle.std.proofs.Common.{◌≡◌, ◌+◌, ◌≤◌, min, drop}
 use Rattle.std.specs.Prelude.{sum_by}
-use Rattle.tw_declared.specs.Limits.{word_work}
-use Rattle.tw_declared.proofs.computing.words_work.Given as goal
+use Rattle.tw_costs.specs.Members.{word_work}
+use Rattle.tw_costs.proofs.computing.words_work.Given as goal
 
 -- what has come and what is to come
 abbrev pub invariant-loop-text : goal.invariant-loop-text

@@ -1,6 +1,6 @@
 use Rattle.std.proofs.Common.{◌≡◌, ◌++◌, drop, map}
-use Rattle.tw_declared.specs.Names.{texts, place_named, standing_at}
-use Rattle.tw_declared.proofs.names.named_standings.Given as goal
+use Rattle.tw_costs.specs.Names.{texts, place_named, standing_at}
+use Rattle.tw_costs.proofs.names.named_standings.Given as goal
 
 -- what has come and what is to come
 abbrev pub invariant-loop-function : goal.invariant-loop-function

@@ -1,0 +1,5 @@
+pub mod Names
+pub mod Functions
+pub mod Turns
+pub mod Work
+pub mod Members

@@ -1,0 +1,73 @@
+-- What the members of a machine cost: nodes, and computations.
+use Rattle.std.specs.Prelude.{ℕ, ◌+◌, ◌*◌, List, sum_by, Option, Some, None}
+use Rattle.tw_program_text.specs.Tree.{Tree, Number, Name, Indexed, nodes, nodes_block}
+use Rattle.tw_program_text.specs.declared.tree.Expr.{Expr}
+use Rattle.tw_program_text.specs.Views.{tree, body}
+use Rattle.tw_costs.specs.declared.declaration.Declaration.{Declaration}
+use Rattle.tw_costs.specs.declared.declaration.OutputText.{OutputText}
+use Rattle.tw_costs.specs.declared.declaration.Value.{Value}
+use Rattle.tw_costs.specs.declared.declaration.Value.TheVariants as v
+use Rattle.tw_costs.specs.declared.names.Standing.{Standing}
+use Rattle.tw_costs.specs.declared.names.Standing.TheVariants as s
+use Rattle.tw_costs.specs.Names.{standing_at}
+use Rattle.tw_costs.specs.Work.{room_at, queue_room, work}
+
+-- how many nodes the programs, the outputs and the words have; a whole number is one
+abbrev pub value_nodes : Value → ℕ
+value_nodes (v.Number n) = 1
+value_nodes (v.Text e) = nodes (tree e)
+
+abbrev pub when_nodes : Option Value → ℕ
+when_nodes (Some e) = value_nodes e
+when_nodes None = 0
+
+abbrev pub each_nodes : Option Expr → ℕ
+each_nodes (Some q) = nodes (tree q)
+each_nodes None = 0
+
+abbrev pub output_nodes : OutputText → ℕ
+output_nodes o = value_nodes o.port + value_nodes o.value + when_nodes o.when + each_nodes o.each
+
+abbrev pub all_nodes : Declaration → ℕ
+all_nodes d =
+    nodes_block (body d.internal) + nodes_block (body d.external) + sum_by output_nodes d.outputs.items + sum_by value_nodes d.words.items
+
+-- computations of a member
+abbrev pub value_work : List Standing → Value → ℕ
+value_work ss (v.Number n) = 1
+value_work ss (v.Text e) = work ss (tree e)
+
+abbrev pub when_work : List Standing → Option Value → ℕ
+when_work ss (Some e) = value_work ss e
+when_work ss None = 0
+
+-- the queue that an output goes over is named once for each of its places
+abbrev pub each_work : List Standing → Option Expr → ℕ
+each_work ss (Some q) = work ss (tree q)
+each_work ss None = 0
+
+abbrev pub once_work : List Standing → OutputText → ℕ
+once_work ss o = value_work ss o.port + value_work ss o.value + when_work ss o.when + each_work ss o.each
+
+-- how often an output is sent: for each place of its queue's room, or once
+abbrev pub sendings : List Standing → Option Expr → ℕ
+sendings ss (Some q) = queue_room ss (tree q)
+sendings ss None = 1
+
+abbrev pub output_work : List Standing → OutputText → ℕ
+output_work ss o = sendings ss o.each * once_work ss o
+
+-- a queue that is shown counts its room more, an array register its cells
+abbrev pub shown_over : Standing → ℕ
+shown_over (s.Queue k room) = room
+shown_over (s.Cells span) = span.count
+shown_over _ = 0
+
+abbrev pub word_over : List Standing → Tree → ℕ
+word_over ss (Name n) = shown_over (standing_at ss n)
+word_over ss (Indexed n (Number i)) = room_at (standing_at ss n)
+word_over ss _ = 0
+
+abbrev pub word_work : List Standing → Value → ℕ
+word_work ss (v.Number n) = 1
+word_work ss (v.Text e) = work ss (tree e) + word_over ss (tree e)

@@ -1,8 +1,5 @@
 -- What is wrong with a machine as it is declared, with the numbers that are given: its members in order, then its limits. The first counts.
 use Rattle.std.specs.Prelude.{ℕ, ℤ, pos, negsuc, Bool, true, false, not, ◌&&◌, List, [], ◌∷◌, length, sum, sum_by, Option, Some, None, nat_lt, nat_le, if◌then◌else◌, option_and_then, option_map, slice_get}
-use Rattle.tw_machine.specs.Limits.{fault_of as limits_of}
-use Rattle.tw_machine.specs.declared.program.BadProgram.{BadProgram}
-use Rattle.tw_machine.specs.declared.program.BadProgram.TheVariants as b
 use Rattle.tw_machine.specs.Program.{ProgramText}
 use Rattle.tw_program_text.specs.Tree.{Statement, If, IfElse, Repeat, Block, Empty, Then, Arms, One, More}
 use Rattle.tw_program_text.specs.Views.{body}
@@ -106,24 +103,12 @@ limit ss d p =
     else if nat_lt 262144 (sum_by (word_work ss) d.words.items) then Some bad.TooManyComputations
     else None
 
--- the limits of any program
-abbrev pub bad_program : BadProgram → BadMachine
-bad_program b.TooManyCells = bad.TooManyCells
-bad_program b.TooManyQueues = bad.TooManyQueues
-bad_program b.TooMuchRoom = bad.TooMuchRoom
-bad_program b.TooManyNumbers = bad.TooManyNumbers
-bad_program b.TooMuchLogged = bad.TooMuchLogged
-
 abbrev pub otherwise : Option BadMachine → Option BadMachine → Option BadMachine
 otherwise (Some fault) later = Some fault
 otherwise None later = later
-
--- the first limit that is passed, of a machine and of any program
-abbrev pub later_fault : List Standing → Declaration → ProgramText → Option BadMachine
-later_fault ss d p = otherwise (limit ss d p) (option_map bad_program (limits_of p))
 
 -- the first fault of a machine, with what is given
 abbrev pub fault_of : Given → Declaration → Option BadMachine
 fault_of given d =
     let ss = standings_of given d.names.items in
-    otherwise (members_fault given d ss) (later_fault ss d (program_of given d))
+    otherwise (members_fault given d ss) (limit ss d (program_of given d))

@@ -1,9 +1,9 @@
 //! What is wrong with a machine as it is declared, the first of it.
-ghost use Rattle.std.specs.Prelude.{◌≡◌, ◌≢◌, ◌≤◌, length, sum, option_and_then};
+ghost use Rattle.std.specs.Prelude.{◌≡◌, ◌≤◌, length, sum, option_and_then};
 ghost use Rattle.tw_machine.specs.Program.{text_of};
 ghost use Rattle.tw_program_text.specs.Views.{told, body, chain};
 ghost use Rattle.tw_costs.specs.Names.{constant, things};
-ghost use Rattle.tw_declared.specs.Limits.{is_up_to, constant_up_to, length_up_to, is_register, is_queue, is_table, all, is_turns, turns_fit, turns_fit_statement, turns_fit_arms, members_fault, limit, bad_program};
+ghost use Rattle.tw_declared.specs.Limits.{is_up_to, constant_up_to, length_up_to, is_register, is_queue, is_table, all, is_turns, turns_fit, turns_fit_statement, turns_fit_arms, members_fault, limit};
 ghost use Rattle.tw_declared.specs.declared.limits.BadMachine.TheVariants.{OutOfMemory};
 
 use crate::rows::twice;
@@ -13,7 +13,7 @@ use tw_costs::{
     Constant, Declaration, Given, Named, Standing, Thing, all_nodes, block_work, constant,
     outputs_work, words_work, written_turns,
 };
-use tw_machine::program::{BadProgram, Parts};
+use tw_machine::program::Parts;
 use tw_program_text::{Arms, Block, Statement as Said};
 
 /// Why a machine makes no program: the first fault, in this order, or want of memory. Each but that is refusal 21
@@ -51,8 +51,6 @@ pub enum BadMachine {
     TooManyNodes,
     #[error("a run makes more than 262,144 computations")]
     TooManyComputations,
-    #[error("a transition logs more than 1,048,575 numbers for an item")]
-    TooMuchLogged,
 }
 
 impl From<AllocError> for BadMachine {
@@ -60,20 +58,6 @@ impl From<AllocError> for BadMachine {
 
     fn from(_error: AllocError) -> BadMachine {
         BadMachine::OutOfMemory
-    }
-}
-
-/// The limits of any program.
-pub fn bad_program(bad: BadProgram) -> BadMachine
-    ensures value { result ≡ bad_program bad }
-    ensures memory { result ≢ OutOfMemory }
-{
-    match bad {
-        BadProgram::TooManyCells => BadMachine::TooManyCells,
-        BadProgram::TooManyQueues => BadMachine::TooManyQueues,
-        BadProgram::TooMuchRoom => BadMachine::TooMuchRoom,
-        BadProgram::TooManyNumbers => BadMachine::TooManyNumbers,
-        BadProgram::TooMuchLogged => BadMachine::TooMuchLogged,
     }
 }
 

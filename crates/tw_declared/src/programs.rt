@@ -1,14 +1,16 @@
 //! The program of a machine with the numbers of a component put in.
-ghost use Rattle.std.specs.Prelude.{◌≡◌, ◌≢◌, IfOk, IfErr, Some, None, option_map};
+ghost use Rattle.std.specs.Prelude.{◌≡◌, ◌≢◌, IfOk, IfErr, Some, None};
 ghost use Rattle.tw_machine.specs.Limits.{fault_of as limits_of};
 ghost use Rattle.tw_machine.specs.Program.{text_of};
+ghost use Rattle.tw_program_text.specs.Views.{body};
 ghost use Rattle.tw_costs.specs.Names.{standings_of};
-ghost use Rattle.tw_declared.specs.Seen.{seen_program};
+ghost use Rattle.tw_declared.specs.Seen.{seen_statement, seen_program};
+ghost use Rattle.tw_declared.specs.Statements.{block};
 ghost use Rattle.tw_declared.specs.Program.{program_of};
-ghost use Rattle.tw_declared.specs.Limits.{members_fault, bad_program, later_fault, fault_of};
+ghost use Rattle.tw_declared.specs.Limits.{members_fault, limit, fault_of};
 ghost use Rattle.tw_declared.specs.declared.limits.BadMachine.TheVariants.{OutOfMemory};
 
-use crate::limits::{BadMachine, bad_program, limit, members_fault};
+use crate::limits::{BadMachine, limit, members_fault};
 use crate::members::{outputs, seed, ticks, words};
 use crate::starts::{all_cells, all_numbers, all_rooms};
 use crate::statements::block;
@@ -66,34 +68,36 @@ fn members_held(
     held(members_fault(given, declaration, standings))
 }
 
-/// The program of these parts, or the first limit of any program that they pass.
-fn program(parts: Parts) -> Result<Program, BadMachine>
-    ensures made { IfOk result (λ program. program ≡ text_of parts) }
-    ensures sound { IfOk result (λ _. limits_of (seen_program (text_of parts)) ≡ None) }
-    ensures refused { IfErr result (λ bad. option_map bad_program (limits_of (seen_program (text_of parts))) ≡ Some bad) }
+/// The program of parts that are within the limits of any.
+fn program(parts: Parts) -> Program
+    requires { limits_of (text_of parts) ≡ None }
+    ensures { result ≡ text_of parts }
 {
     match Program::new(parts) {
-        Ok(program) => Ok(program),
-        Err(bad) => Err(bad_program(bad)),
+        Ok(program) => program,
+        Err(_) => unreachable!(),
     }
 }
 
-/// The program of these parts, or the first limit that they pass.
+/// The program of these parts, or the first limit that they pass. Two numbers at the most are logged for each
+/// computation, so these limits are the narrower ones.
 fn limited(
     standings: &[Standing],
     declaration: &Declaration,
     parts: Parts,
 ) -> Result<Program, BadMachine>
+    requires internal { seen_statement parts.internal ≡ block standings.now (body declaration.now.internal) }
+    requires external { seen_statement parts.external ≡ block standings.now (body declaration.now.external) }
     ensures made { IfOk result (λ program. program ≡ text_of parts) }
-    ensures sound { IfOk result (λ _. later_fault standings.now declaration.now (seen_program (text_of parts)) ≡ None) }
-    ensures refused { IfErr result (λ bad. later_fault standings.now declaration.now (seen_program (text_of parts)) ≡ Some bad) }
+    ensures sound { IfOk result (λ _. limit standings.now declaration.now (text_of parts) ≡ None) }
+    ensures refused { IfErr result (λ bad. limit standings.now declaration.now (text_of parts) ≡ Some bad) }
 {
     held(limit(standings, declaration, &parts))?;
-    program(parts)
+    Ok(program(parts))
 }
 
-/// The program that a machine means with these numbers, or its first fault: refusal 21 (BadShape), or want of memory,
-/// which may come before any of them.
+/// The program that a machine means with these numbers, or its first fault: 21 (BadShape). Want of memory (4) may come
+/// before any fault.
 pub fn declared(
     alloc: Global,
     given: &Given,

@@ -1,8 +1,7 @@
 use Rattle.std.proofs.Common.{◌≡◌, ◌≢◌, ◌∙◌, ap, sym, Option, Some, None, Result, Ok, Err, IfOk, IfErr}
 use Rattle.tw_machine.specs.Program.{text_of}
 use Rattle.tw_costs.specs.Names.{standings_of}
-use Rattle.tw_declared.specs.Seen.{seen_program}
-use Rattle.tw_declared.specs.Limits.{members_fault, later_fault, fault_of}
+use Rattle.tw_declared.specs.Limits.{members_fault, limit, fault_of}
 use Rattle.tw_declared.specs.declared.limits.BadMachine.{BadMachine}
 use Rattle.tw_declared.specs.declared.limits.BadMachine.TheVariants.{OutOfMemory}
 use Rattle.tw_declared.proofs.Faults.{behind_members}
@@ -17,7 +16,7 @@ first_fault (Ok x) f g e h = tt
 first_fault (Err bad) f g e h = λ _. e ∙ h
 
 -- what is found of the parts is the machine's
-found : (c : goal.After-drop-standings-2) → fault_of c.args.given.now c.args.declaration.now ≡ later_fault c.deref-3.result.now c.args.declaration.now (seen_program (text_of c.in_ok-parts.parts))
+found : (c : goal.After-drop-standings-2) → fault_of c.args.given.now c.args.declaration.now ≡ limit c.deref-3.result.now c.args.declaration.now (text_of c.in_ok-parts.parts)
 found c =
     let given = c.args.given.now in
     let d = c.args.declaration.now in
@@ -25,7 +24,7 @@ found c =
     let same = c.in_ok-standings.ensures ∙ ap (standings_of given) c.as_slice.ensures.value in
     let held = ap (members_fault given d) (sym c.deref.ensures.value) ∙ c.in_ok-members_held.ensures.held in
     behind_members given d c.in_ok-standings.standings.items p same c.in_ok-parts.ensures held
-    ∙ ap (λ ss. later_fault ss d (seen_program p)) (sym c.deref-3.ensures.value)
+    ∙ ap (λ ss. limit ss d p) (sym c.deref-3.ensures.value)
 
 pub returns-clause-sound : goal.returns-clause-sound
 returns-clause-sound c = no_fault c.limited.result _ _ (found c) c.limited.ensures.sound

@@ -1,0 +1,12 @@
+use Rattle.std.proofs.Common.{◌≡◌, drop}
+use Rattle.std.specs.Prelude.{option_map}
+use Rattle.serde_json.specs.View.{view, items_view}
+use Rattle.tw_machine_file.specs.Declares.{nothing_declared, parameters_of}
+use Rattle.tw_machine_file.specs.Seen.{scope}
+use Rattle.tw_machine_file.proofs.declarations.parameters_of.Given as goal
+
+-- what has come, and what is to come
+abbrev pub invariant-loop-value : goal.invariant-loop-value
+invariant-loop-value l =
+    parameters_of (option_map (λ v. view v.now) l.tables) (scope l.all) (items_view (drop l.value-index l.values))
+    ≡ parameters_of (option_map (λ v. view v.now) l.tables) nothing_declared (items_view l.values)

@@ -1,0 +1,127 @@
+-- What a machine declares: its parameters, and the members `registers`, `queues` and `tables`, whose members are names.
+use Rattle.std.specs.Prelude.{◌++◌, ◌∷◌, [], ◌==◌, ◌||◌, ℕ, List, Bool, true, false, Option, Some, None, Result, Ok, Err, codes, length, map, option_and_then, option_map, if◌then◌else◌}
+use Rattle.std.specs.Option.{option_map_or}
+use Rattle.serde_json.specs.Data.{Data, Items, no_items, item, Members, no_members, member}
+use Rattle.serde_json.specs.Find.{get, as_array, as_object, as_str, at}
+use Rattle.serde_json.specs.Events.{items_len}
+use Rattle.tw_program_text.specs.Letters.{same_text}
+use Rattle.tw_program_text.specs.Text.{position}
+use Rattle.tw_costs.specs.declared.declaration.Constant.{Constant}
+use Rattle.tw_machine_file.specs.Constants.{constant, constants, count, wholes}
+use Rattle.tw_machine_file.specs.Fault.{Fault, wrong, once, made, expected}
+use Rattle.tw_machine_file.specs.Names.{is_among, is_name, is_own_name}
+use Rattle.tw_machine_file.specs.Seen.{Declares, parameter, list_parameter, register, registers, queue, queues, table, list_table, Name, Scope}
+use Rattle.tw_machine_file.specs.Values.{is_long}
+use Rattle.tw_machine_file.specs.declared.declarations.Section.{Section}
+use Rattle.tw_machine_file.specs.declared.declarations.Section.TheVariants as section
+use Rattle.tw_machine_file.specs.declared.fault.Part.{Part}
+use Rattle.tw_machine_file.specs.declared.fault.Part.TheVariants as part
+use Rattle.tw_machine_file.specs.declared.fault.Why.TheVariants as why
+
+-- ---- what is declared by a name
+
+-- a register: a constant, or an array of 1 to 64
+abbrev pub register_by : List (List ℕ) → Data → Option Items → Result Declares Fault
+register_by numbers d None = made register (constant part.Registers numbers d)
+register_by numbers d (Some items) =
+    if is_long 64 items then made registers (constants part.Registers numbers [] items) else Err (wrong part.Registers why.Count)
+
+-- in an array: from 1 to this
+abbrev pub queue_part : ℕ → List (List ℕ) → Option Data → Result Constant Fault
+queue_part most numbers d = once (expected part.Queues why.Shape d) (count part.Queues most numbers)
+
+-- a queue: a room of 1 to 1,024, or an array of a count of 1 to 16 and a room
+abbrev pub queue_by : List (List ℕ) → Data → Option Items → Result Declares Fault
+queue_by numbers d None = made queue (count part.Queues 1024 numbers d)
+queue_by numbers d (Some items) =
+    if items_len items == 2
+    then once (queue_part 16 numbers (at 0 d)) (λ n. made (queues n) (queue_part 1024 numbers (at 1 d)))
+    else Err (wrong part.Queues why.Shape)
+
+-- a table: an array of 1 to 65,536 whole numbers, or the name of a parameter, which is a list then
+abbrev pub table_by : List (List ℕ) → Data → Option Items → Result Declares Fault
+table_by lists d None = expected part.Tables why.Constant (option_map list_table (option_and_then (position 0 lists) (as_str d)))
+table_by lists d (Some items) = if is_long 65536 items then made table (wholes part.Tables [] items) else Err (wrong part.Tables why.Count)
+
+abbrev pub part_of : Section → Part
+part_of section.Registers = part.Registers
+part_of section.Queues = part.Queues
+part_of section.Tables = part.Tables
+
+abbrev pub thing_of : Section → Scope → Data → Result Declares Fault
+thing_of section.Registers s d = register_by s.numbers d (as_array d)
+thing_of section.Queues s d = queue_by s.numbers d (as_array d)
+thing_of section.Tables s d = table_by s.lists d (as_array d)
+
+-- ---- names
+
+abbrev pub texts : List Name → List (List ℕ)
+texts names = map (λ n. n.0) names
+
+-- a name that may be one, and has not come before
+abbrev pub new_name : Part → Bool → List Name → List ℕ → Result (List ℕ) Fault
+new_name part may before name =
+    if may then (if is_among (texts before) name then Err (wrong part why.Twice) else Ok name) else Err (wrong part why.Name)
+
+abbrev pub with_name : Scope → Name → Scope
+with_name s n = record { names = s.names ++ n ∷ []; numbers = s.numbers; lists = s.lists }
+
+-- one member: its name, and then what it declares
+abbrev pub declare : Section → Scope → List ℕ → Data → Result Scope Fault
+declare at s name d =
+    once (new_name (part_of at) (is_name name) s.names name) (λ name. made (λ thing. with_name s (name, thing)) (thing_of at s d))
+
+abbrev pub declare_all : Section → Scope → Members → Result Scope Fault
+declare_all at s no_members = Ok s
+declare_all at s (member name d ms) = once (declare at s name d) (λ next. declare_all at next ms)
+
+-- a member `registers`, `queues` or `tables`, if there is one
+abbrev pub declared_in : Section → Scope → Option Data → Result Scope Fault
+declared_in at s None = Ok s
+declared_in at s (Some d) = once (expected (part_of at) why.Shape (as_object d)) (declare_all at s)
+
+-- ---- parameters
+
+-- whether a table is named after a parameter, which is a list then
+abbrev pub is_text : List ℕ → Data → Bool
+is_text name d = option_map_or (λ t. same_text t name) (as_str d) false
+
+abbrev pub names_list : List ℕ → Members → Bool
+names_list name no_members = false
+names_list name (member k d ms) = is_text name d || names_list name ms
+
+abbrev pub is_list : Option Data → List ℕ → Bool
+is_list tables name = option_map_or (names_list name) (option_and_then as_object tables) false
+
+-- a parameter is the next of those that are numbers, or of the lists
+abbrev pub with_parameter : Bool → Scope → List ℕ → Scope
+with_parameter true s name = record { names = s.names ++ (name, list_parameter (length s.lists)) ∷ []; numbers = s.numbers; lists = s.lists ++ name ∷ [] }
+with_parameter false s name = record { names = s.names ++ (name, parameter (length s.numbers)) ∷ []; numbers = s.numbers ++ name ∷ []; lists = s.lists }
+
+abbrev pub parameter_named : Option Data → Scope → List ℕ → Result Scope Fault
+parameter_named tables s name = made (with_parameter (is_list tables name) s) (new_name part.Parameters (is_own_name name) s.names name)
+
+abbrev pub parameter_of : Option Data → Scope → Data → Result Scope Fault
+parameter_of tables s d = once (expected part.Parameters why.Shape (as_str d)) (parameter_named tables s)
+
+abbrev pub parameters_of : Option Data → Scope → Items → Result Scope Fault
+parameters_of tables s no_items = Ok s
+parameters_of tables s (item d ds) = once (parameter_of tables s d) (λ next. parameters_of tables next ds)
+
+abbrev pub nothing_declared : Scope
+nothing_declared = record { names = []; numbers = []; lists = [] }
+
+-- the member `parameters`, if there is one
+abbrev pub parameters_in : Option Data → Option Data → Result Scope Fault
+parameters_in tables None = Ok nothing_declared
+parameters_in tables (Some d) = once (expected part.Parameters why.Shape (as_array d)) (parameters_of tables nothing_declared)
+
+-- ---- all names
+
+-- parameters, registers, queues and tables, in this order
+abbrev pub scope_of : Data → Result Scope Fault
+scope_of d =
+    once (parameters_in (get (codes "tables") d) (get (codes "parameters") d)) (λ s.
+    once (declared_in section.Registers s (get (codes "registers") d)) (λ s.
+    once (declared_in section.Queues s (get (codes "queues") d)) (λ s.
+    declared_in section.Tables s (get (codes "tables") d))))

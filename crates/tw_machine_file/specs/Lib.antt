@@ -1,0 +1,13 @@
+pub mod Constants
+pub mod Declares
+pub mod Examples
+pub mod Fault
+pub mod Given
+pub mod Machine
+pub mod Names
+pub mod Outputs
+pub mod Said
+pub mod Seen
+pub mod Texts
+pub mod Values
+pub mod Words

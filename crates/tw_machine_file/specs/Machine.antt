@@ -1,0 +1,94 @@
+-- The machine that one object of `models` declares, or the first thing that is wrong with it.
+use Rattle.std.specs.Prelude.{◌∷◌, [], ℕ, List, map, Option, Some, None, Result, Ok, Err, codes, pos, if◌then◌else◌}
+use Rattle.serde_json.specs.Data.{Data}
+use Rattle.serde_json.specs.Find.{as_object, as_str, get}
+use Rattle.tw_program_text.specs.Kinds.{kinds_of}
+use Rattle.tw_program_text.specs.Tree.{Block}
+use Rattle.tw_costs.specs.declared.declaration.Constant.{Constant}
+use Rattle.tw_costs.specs.declared.declaration.Constant.TheVariants as c
+use Rattle.tw_machine_file.specs.Constants.{constant, count}
+use Rattle.tw_machine_file.specs.Declares.{scope_of, texts}
+use Rattle.tw_machine_file.specs.Fault.{Fault, wrong, once, made, expected, provided}
+use Rattle.tw_machine_file.specs.Names.{is_among, is_machine_name}
+use Rattle.tw_machine_file.specs.Outputs.{outputs_in}
+use Rattle.tw_machine_file.specs.Seen.{Machine, Name, Output, Scope, Starts, Texts, Value, kind_of}
+use Rattle.tw_machine_file.specs.Texts.{Language, program_in}
+use Rattle.tw_machine_file.specs.Values.{are_among}
+use Rattle.tw_machine_file.specs.Words.{words_in}
+use Rattle.tw_machine_file.specs.declared.fault.Part.TheVariants as part
+use Rattle.tw_machine_file.specs.declared.fault.Why.TheVariants as why
+
+-- ---- the name
+
+-- a text that may be the name of a machine, and is not that of one before
+abbrev pub new_name : List (List ℕ) → List ℕ → Result (List ℕ) Fault
+new_name before name =
+    if is_machine_name name then (if is_among before name then Err (wrong part.Name why.Twice) else Ok name) else Err (wrong part.Name why.Name)
+
+abbrev pub name_of : List (List ℕ) → Option Data → Result (List ℕ) Fault
+name_of before d = once (expected part.Name why.Missing d) (λ d. once (expected part.Name why.Shape (as_str d)) (new_name before))
+
+abbrev pub machine_members : List (List ℕ)
+machine_members =
+    codes "name" ∷ codes "parameters" ∷ codes "registers" ∷ codes "queues" ∷ codes "tables" ∷ codes "random" ∷ codes "first" ∷ codes "longest" ∷ codes "internal"
+    ∷ codes "external" ∷ codes "output" ∷ codes "words" ∷ []
+
+-- an object with a name, and with no member that no machine has
+abbrev pub head_of : List (List ℕ) → Data → Result (List ℕ) Fault
+head_of before d =
+    once (expected part.Whole why.Shape (as_object d)) (λ ms. once (name_of before (get (codes "name") d)) (λ name. provided (are_among machine_members ms) (wrong part.Whole why.Unknown) name))
+
+-- ---- constants
+
+-- the draw at the start is from 0 where nothing is said
+abbrev pub random_in : List (List ℕ) → Option Data → Result Constant Fault
+random_in numbers None = Ok (c.Number (pos 0))
+random_in numbers (Some d) = constant part.Random numbers d
+
+abbrev pub first_in : List (List ℕ) → Option Data → Result (Option Constant) Fault
+first_in numbers None = Ok None
+first_in numbers (Some d) = made Some (constant part.First numbers d)
+
+-- from 1 to the last tick
+abbrev pub longest_in : List (List ℕ) → Option Data → Result (Option Constant) Fault
+longest_in numbers None = Ok None
+longest_in numbers (Some d) = made Some (count part.Longest 1099511627775 numbers d)
+
+abbrev pub starts_made : Constant → Option Constant → Option Constant → Starts
+starts_made random first longest = record { random = random; first = first; longest = longest }
+
+abbrev pub starts_of : Data → List (List ℕ) → Result Starts Fault
+starts_of d numbers =
+    once (random_in numbers (get (codes "random") d)) (λ random.
+    once (first_in numbers (get (codes "first") d)) (λ first.
+    made (starts_made random first) (longest_in numbers (get (codes "longest") d))))
+
+-- ---- texts
+
+-- the names in a machine's texts
+unfoldable pub language : List Name → Language
+language names = record { names = texts names; kinds = kinds_of (map (λ n. (n.0, kind_of n.1)) names) }
+
+abbrev pub texts_made : Block → Block → List Output → List Value → Texts
+texts_made internal external outputs words = record { internal = internal; external = external; outputs = outputs; words = words }
+
+-- what is said in the machine's language, by its members in order
+abbrev pub texts_of : Data → Language → Result Texts Fault
+texts_of d l =
+    once (program_in l part.Internal (get (codes "internal") d)) (λ internal.
+    once (program_in l part.External (get (codes "external") d)) (λ external.
+    once (outputs_in l (get (codes "output") d)) (λ outputs.
+    made (texts_made internal external outputs) (words_in l (get (codes "words") d)))))
+
+-- ---- the machine, by its members in order
+
+abbrev pub machine_made : List ℕ → Scope → Starts → Texts → Machine
+machine_made name s starts texts = record { name = name; scope = s; starts = starts; texts = texts }
+
+-- behind machines of these names
+abbrev pub machine_of : List (List ℕ) → Data → Result Machine Fault
+machine_of before d =
+    once (head_of before d) (λ name.
+    once (scope_of d) (λ s.
+    once (starts_of d s.numbers) (λ starts.
+    made (machine_made name s starts) (texts_of d (language s.names)))))

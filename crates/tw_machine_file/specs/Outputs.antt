@@ -1,0 +1,58 @@
+-- The member `output`: what is sent.
+use Rattle.std.specs.Prelude.{◌++◌, ◌∷◌, [], ℕ, ◌+◌, List, Option, Some, None, Result, Ok, codes, nat_le}
+use Rattle.serde_json.specs.Data.{Data, Items, no_items, item, Members}
+use Rattle.serde_json.specs.Events.{items_len}
+use Rattle.serde_json.specs.Find.{as_array, as_object, get}
+use Rattle.tw_program_text.specs.declared.kinds.Member.TheVariants as member
+use Rattle.tw_machine_file.specs.Fault.{Fault, wrong, once, made, expected, provided}
+use Rattle.tw_machine_file.specs.Seen.{Value, Output}
+use Rattle.tw_machine_file.specs.Texts.{Language, tree_in, value_in}
+use Rattle.tw_machine_file.specs.Values.{are_among}
+use Rattle.tw_machine_file.specs.declared.fault.Part.{Part}
+use Rattle.tw_machine_file.specs.declared.fault.Part.TheVariants as part
+use Rattle.tw_machine_file.specs.declared.fault.Why.TheVariants as why
+
+abbrev pub output_members : List (List ℕ)
+output_members = codes "port" ∷ codes "value" ∷ codes "when" ∷ codes "each" ∷ []
+
+-- an object of these members alone
+abbrev pub entry_of : ℕ → Data → Result Members Fault
+entry_of i d =
+    once (expected (part.Entry i) why.Shape (as_object d)) (λ ms. provided (are_among output_members ms) (wrong (part.Entry i) why.Unknown) ms)
+
+-- a member that must be there
+abbrev pub sent_value : Language → Part → Option Data → Result Value Fault
+sent_value l at d = once (expected at why.Missing d) (value_in l at member.Value)
+
+abbrev pub when_of : Language → ℕ → Option Data → Result (Option Value) Fault
+when_of l i None = Ok None
+when_of l i (Some d) = made Some (value_in l (part.When i) member.Value d)
+
+abbrev pub each_of : Language → ℕ → Option Data → Result (Option Value) Fault
+each_of l i None = Ok None
+each_of l i (Some d) = made Some (tree_in l (part.Each i) member.Each d)
+
+abbrev pub output_made : Value → Value → Option Value → Option Value → Output
+output_made port sent when each = record { port = port; sent = sent; when = when; each = each }
+
+-- its members in order
+abbrev pub output_of : Language → ℕ → Data → Result Output Fault
+output_of l i d =
+    once (entry_of i d) (λ ms.
+    once (sent_value l (part.Port i) (get (codes "port") d)) (λ port.
+    once (sent_value l (part.Value i) (get (codes "value") d)) (λ sent.
+    once (when_of l i (get (codes "when") d)) (λ when.
+    made (output_made port sent when) (each_of l i (get (codes "each") d))))))
+
+abbrev pub outputs_of : Language → ℕ → List Output → Items → Result (List Output) Fault
+outputs_of l i before no_items = Ok before
+outputs_of l i before (item d ds) = once (output_of l i d) (λ o. outputs_of l (i + 1) (before ++ o ∷ []) ds)
+
+-- an array of at most 64
+abbrev pub few_outputs : Data → Result Items Fault
+few_outputs d = once (expected part.Output why.Shape (as_array d)) (λ items. provided (nat_le (items_len items) 64) (wrong part.Output why.Count) items)
+
+-- the member, if there is one
+abbrev pub outputs_in : Language → Option Data → Result (List Output) Fault
+outputs_in l None = Ok []
+outputs_in l (Some d) = once (few_outputs d) (outputs_of l 0 [])

@@ -1,0 +1,368 @@
+//! What a machine declares: parameters, registers, queues and tables.
+ghost use Rattle.std.specs.Prelude.{◌≡◌, ◌≢◌, ◌++◌, ◌∷◌, [], Ok, Err, IfOk, IfErr, map, codes, option_and_then, option_map, string_bytes};
+ghost use Rattle.serde_json.specs.Find.{as_array, as_object, as_str, at, get};
+ghost use Rattle.serde_json.specs.View.{view, items_view, members_view};
+ghost use Rattle.tw_program_text.specs.Text.{position};
+ghost use Rattle.tw_machine_file.specs.Declares.{
+  declare,
+  declare_all,
+  declared_in,
+  is_list,
+  is_text,
+  names_list,
+  new_name,
+  nothing_declared,
+  parameter_named,
+  parameter_of,
+  parameters_in,
+  parameters_of,
+  part_of,
+  queue_by,
+  queue_part,
+  register_by,
+  scope_of,
+  table_by,
+  texts,
+  thing_of,
+  with_name,
+  with_parameter,
+};
+ghost use Rattle.tw_machine_file.specs.Fault.{fault};
+ghost use Rattle.tw_machine_file.specs.Names.{is_among};
+ghost use Rattle.tw_machine_file.specs.Seen.{name, scope, thing};
+
+use crate::constants::{constant, constants, count, wholes};
+use crate::fault::{MachineFault, Part, Why};
+use crate::names::{is_name, is_own_name, place_in, same_text};
+use crate::values::{has_items, is_long, items_of};
+use serde_json::{Map, Value};
+use std::alloc::{AllocError, Global};
+use tw_declared::{Constant, Named, Thing};
+
+/// What is declared so far: all names in order, and of these the parameters that are numbers and those that are lists.
+#[derive(Drop)]
+pub struct Scope {
+    pub names: Vec<Named>,
+    pub numbers: Vec<String>,
+    pub lists: Vec<String>,
+}
+
+/// A member of a machine whose members are names.
+#[derive(Clone, Copy, Debug, PartialEq, Eq)]
+pub enum Section {
+    Registers,
+    Queues,
+    Tables,
+}
+
+impl Section {
+    fn part(self) -> Part
+        ensures { result ≡ part_of self }
+    {
+        match self {
+            Section::Registers => Part::Registers,
+            Section::Queues => Part::Queues,
+            Section::Tables => Part::Tables,
+        }
+    }
+}
+
+fn register(alloc: Global, numbers: &[String], value: &Value) -> Result<Thing, MachineFault>
+    ensures ok { IfOk result (λ t. register_by (map string_bytes numbers.now) (view value.now) (as_array (view value.now)) ≡ Ok (thing t)) }
+    ensures err { IfErr result (λ e. e ≢ MachineFault.OutOfMemory → register_by (map string_bytes numbers.now) (view value.now) (as_array (view value.now)) ≡ Err (fault e)) }
+{
+    let Some(starts) = items_of(value) else {
+        return Ok(Thing::Register(constant(Part::Registers, numbers, value)?));
+    };
+    if !is_long(64, starts) {
+        return Err(MachineFault::Wrong(Part::Registers, Why::Count));
+    }
+    Ok(Thing::RegisterArray(constants(alloc, Part::Registers, numbers, starts)?))
+}
+
+/// A count in the array of a queue.
+fn queue_part(
+    most: u64,
+    numbers: &[String],
+    value: &Value,
+    index: usize,
+) -> Result<Constant, MachineFault>
+    ensures ok { IfOk result (λ c. queue_part most (map string_bytes numbers.now) (at index (view value.now)) ≡ Ok c) }
+    ensures err { IfErr result (λ e. e ≢ MachineFault.OutOfMemory → queue_part most (map string_bytes numbers.now) (at index (view value.now)) ≡ Err (fault e)) }
+{
+    match value.get(index) {
+        Some(part) => count(Part::Queues, most, numbers, part),
+        None => Err(MachineFault::Wrong(Part::Queues, Why::Shape)),
+    }
+}
+
+fn queue(numbers: &[String], value: &Value) -> Result<Thing, MachineFault>
+    ensures ok { IfOk result (λ t. queue_by (map string_bytes numbers.now) (view value.now) (as_array (view value.now)) ≡ Ok (thing t)) }
+    ensures err { IfErr result (λ e. e ≢ MachineFault.OutOfMemory → queue_by (map string_bytes numbers.now) (view value.now) (as_array (view value.now)) ≡ Err (fault e)) }
+{
+    let Some(parts) = items_of(value) else {
+        return Ok(Thing::Queue(count(Part::Queues, 1024, numbers, value)?));
+    };
+    if !has_items(2, parts) {
+        return Err(MachineFault::Wrong(Part::Queues, Why::Shape));
+    }
+    let many = queue_part(16, numbers, value, 0)?;
+    let room = queue_part(1024, numbers, value, 1)?;
+    Ok(Thing::QueueArray(many, room))
+}
+
+/// The place of a parameter among the lists, if the value is its name.
+fn list_named(lists: &[String], value: &Value) -> Option<usize>
+    ensures { result ≡ option_and_then (position 0 (map string_bytes lists.now)) (as_str (view value.now)) }
+{
+    place_in(lists, value.as_str()?.as_bytes())
+}
+
+fn table(alloc: Global, lists: &[String], value: &Value) -> Result<Thing, MachineFault>
+    ensures ok { IfOk result (λ t. table_by (map string_bytes lists.now) (view value.now) (as_array (view value.now)) ≡ Ok (thing t)) }
+    ensures err { IfErr result (λ e. e ≢ MachineFault.OutOfMemory → table_by (map string_bytes lists.now) (view value.now) (as_array (view value.now)) ≡ Err (fault e)) }
+{
+    let Some(numbers) = items_of(value) else {
+        return match list_named(lists, value) {
+            Some(place) => Ok(Thing::ListTable(place)),
+            None => Err(MachineFault::Wrong(Part::Tables, Why::Constant)),
+        };
+    };
+    if !is_long(65536, numbers) {
+        return Err(MachineFault::Wrong(Part::Tables, Why::Count));
+    }
+    Ok(Thing::Table(wholes(alloc, Part::Tables, numbers)?))
+}
+
+/// What the value of a member declares.
+fn thing_of(
+    alloc: Global,
+    section: Section,
+    so_far: &Scope,
+    value: &Value,
+) -> Result<Thing, MachineFault>
+    ensures ok { IfOk result (λ t. thing_of section (scope so_far.now) (view value.now) ≡ Ok (thing t)) }
+    ensures err { IfErr result (λ e. e ≢ MachineFault.OutOfMemory → thing_of section (scope so_far.now) (view value.now) ≡ Err (fault e)) }
+{
+    match section {
+        Section::Registers => register(alloc, so_far.numbers.as_slice(), value),
+        Section::Queues => queue(so_far.numbers.as_slice(), value),
+        Section::Tables => table(alloc, so_far.lists.as_slice(), value),
+    }
+}
+
+/// Whether a name has come before.
+fn is_declared(names: &[Named], text: &[u8]) -> bool
+    ensures { result ≡ is_among (texts (map name names.now)) text.now }
+{
+    for named in names {
+        if same_text(named.name.as_bytes(), text) {
+            return true;
+        }
+    }
+    false
+}
+
+/// Looks at a name: whether it may be one, as is said, and has not come before.
+fn new_name(part: Part, may: bool, names: &[Named], text: &str) -> Result<(), MachineFault>
+    ensures ok { IfOk result (λ _. new_name part may (map name names.now) text.now ≡ Ok text.now) }
+    ensures err { IfErr result (λ e. e ≢ MachineFault.OutOfMemory → new_name part may (map name names.now) text.now ≡ Err (fault e)) }
+{
+    if !may {
+        return Err(MachineFault::Wrong(part, Why::Name));
+    }
+    if is_declared(names, text.as_bytes()) {
+        return Err(MachineFault::Wrong(part, Why::Twice));
+    }
+    Ok(())
+}
+
+/// One name more.
+fn declare(
+    alloc: Global,
+    section: Section,
+    so_far: Scope,
+    text: &str,
+    value: &Value,
+) -> Result<Scope, MachineFault>
+    ensures ok { IfOk result (λ s. declare section (scope so_far) text.now (view value.now) ≡ Ok (scope s)) }
+    ensures err { IfErr result (λ e. e ≢ MachineFault.OutOfMemory → declare section (scope so_far) text.now (view value.now) ≡ Err (fault e)) }
+{
+    let mut so_far = so_far;
+    let may = is_name(text.as_bytes());
+    new_name(section.part(), may, so_far.names.as_slice(), text)?;
+    let thing = thing_of(alloc, section, &so_far, value)?;
+    let name = String::from_str(alloc, text)?;
+    so_far.names.push(Named { name, thing })?;
+    Ok(so_far)
+}
+
+/// The names of a member.
+fn declare_all(
+    alloc: Global,
+    section: Section,
+    so_far: Scope,
+    members: &Map<String, Value>,
+) -> Result<Scope, MachineFault>
+    ensures ok { IfOk result (λ s. declare_all section (scope so_far) (members_view members.now.entries) ≡ Ok (scope s)) }
+    ensures err { IfErr result (λ e. e ≢ MachineFault.OutOfMemory → declare_all section (scope so_far) (members_view members.now.entries) ≡ Err (fault e)) }
+{
+    let mut all = so_far;
+    for (name, value) in members.iter() {
+        all = declare(alloc, section, all, name.as_str(), value)?;
+    }
+    Ok(all)
+}
+
+fn declared_in(
+    alloc: Global,
+    section: Section,
+    so_far: Scope,
+    member: Option<&Value>,
+) -> Result<Scope, MachineFault>
+    ensures ok { IfOk result (λ s. declared_in section (scope so_far) (option_map (λ v. view v.now) member.entry) ≡ Ok (scope s)) }
+    ensures err { IfErr result (λ e. e ≢ MachineFault.OutOfMemory → declared_in section (scope so_far) (option_map (λ v. view v.now) member.entry) ≡ Err (fault e)) }
+{
+    let Some(value) = member else {
+        return Ok(so_far);
+    };
+    let Some(members) = value.as_object() else {
+        return Err(MachineFault::Wrong(section.part(), Why::Shape));
+    };
+    declare_all(alloc, section, so_far, members)
+}
+
+fn is_text(text: &[u8], value: &Value) -> bool
+    ensures { result ≡ is_text text.now (view value.now) }
+{
+    match value.as_str() {
+        Some(other) => same_text(other.as_bytes(), text),
+        None => false,
+    }
+}
+
+fn names_list(text: &[u8], tables: &Map<String, Value>) -> bool
+    ensures { result ≡ names_list text.now (members_view tables.now.entries) }
+{
+    for (_, value) in tables.iter() {
+        if is_text(text, value) {
+            return true;
+        }
+    }
+    false
+}
+
+/// Whether a table is named after a parameter.
+fn is_list(tables: Option<&Value>, text: &[u8]) -> bool
+    ensures { result ≡ is_list (option_map (λ v. view v.now) tables.entry) text.now }
+{
+    let Some(tables) = tables else {
+        return false;
+    };
+    match tables.as_object() {
+        Some(tables) => names_list(text, tables),
+        None => false,
+    }
+}
+
+/// One parameter more.
+fn with_parameter(
+    alloc: Global,
+    is_list: bool,
+    so_far: Scope,
+    text: &str,
+) -> Result<Scope, AllocError>
+    ensures { IfOk result (λ s. with_parameter is_list (scope so_far) text.now ≡ scope s) }
+{
+    let mut so_far = so_far;
+    let name = String::from_str(alloc, text)?;
+    let again = String::from_str(alloc, text)?;
+    if is_list {
+        let thing = Thing::ListParameter(so_far.lists.len());
+        so_far.lists.push(again)?;
+        so_far.names.push(Named { name, thing })?;
+    } else {
+        let thing = Thing::Parameter(so_far.numbers.len());
+        so_far.numbers.push(again)?;
+        so_far.names.push(Named { name, thing })?;
+    }
+    Ok(so_far)
+}
+
+fn parameter_named(
+    alloc: Global,
+    tables: Option<&Value>,
+    so_far: Scope,
+    text: &str,
+) -> Result<Scope, MachineFault>
+    ensures ok { IfOk result (λ s. parameter_named (option_map (λ v. view v.now) tables.entry) (scope so_far) text.now ≡ Ok (scope s)) }
+    ensures err { IfErr result (λ e. e ≢ MachineFault.OutOfMemory → parameter_named (option_map (λ v. view v.now) tables.entry) (scope so_far) text.now ≡ Err (fault e)) }
+{
+    let may = is_own_name(text.as_bytes());
+    new_name(Part::Parameters, may, so_far.names.as_slice(), text)?;
+    let is_list = is_list(tables, text.as_bytes());
+    Ok(with_parameter(alloc, is_list, so_far, text)?)
+}
+
+fn parameter_of(
+    alloc: Global,
+    tables: Option<&Value>,
+    so_far: Scope,
+    value: &Value,
+) -> Result<Scope, MachineFault>
+    ensures ok { IfOk result (λ s. parameter_of (option_map (λ v. view v.now) tables.entry) (scope so_far) (view value.now) ≡ Ok (scope s)) }
+    ensures err { IfErr result (λ e. e ≢ MachineFault.OutOfMemory → parameter_of (option_map (λ v. view v.now) tables.entry) (scope so_far) (view value.now) ≡ Err (fault e)) }
+{
+    match value.as_str() {
+        Some(text) => parameter_named(alloc, tables, so_far, text),
+        None => Err(MachineFault::Wrong(Part::Parameters, Why::Shape)),
+    }
+}
+
+fn parameters_of(
+    alloc: Global,
+    tables: Option<&Value>,
+    values: &[Value],
+) -> Result<Scope, MachineFault>
+    ensures ok { IfOk result (λ s. parameters_of (option_map (λ v. view v.now) tables.entry) nothing_declared (items_view values.now) ≡ Ok (scope s)) }
+    ensures err { IfErr result (λ e. e ≢ MachineFault.OutOfMemory → parameters_of (option_map (λ v. view v.now) tables.entry) nothing_declared (items_view values.now) ≡ Err (fault e)) }
+{
+    let mut all = Scope {
+        names: Vec::new(alloc),
+        numbers: Vec::new(alloc),
+        lists: Vec::new(alloc),
+    };
+    for value in values {
+        all = parameter_of(alloc, tables, all, value)?;
+    }
+    Ok(all)
+}
+
+fn parameters_in(
+    alloc: Global,
+    tables: Option<&Value>,
+    member: Option<&Value>,
+) -> Result<Scope, MachineFault>
+    ensures ok { IfOk result (λ s. parameters_in (option_map (λ v. view v.now) tables.entry) (option_map (λ v. view v.now) member.entry) ≡ Ok (scope s)) }
+    ensures err { IfErr result (λ e. e ≢ MachineFault.OutOfMemory → parameters_in (option_map (λ v. view v.now) tables.entry) (option_map (λ v. view v.now) member.entry) ≡ Err (fault e)) }
+{
+    let Some(value) = member else {
+        return parameters_of(alloc, tables, &[]);
+    };
+    let Some(values) = items_of(value) else {
+        return Err(MachineFault::Wrong(Part::Parameters, Why::Shape));
+    };
+    parameters_of(alloc, tables, values)
+}
+
+/// All names of a machine, in this order: its parameters, registers, queues and tables.
+pub fn scope_of(alloc: Global, value: &Value) -> Result<Scope, MachineFault>
+    ensures ok { IfOk result (λ s. scope_of (view value.now) ≡ Ok (scope s)) }
+    ensures err { IfErr result (λ e. e ≢ MachineFault.OutOfMemory → scope_of (view value.now) ≡ Err (fault e)) }
+{
+    let tables = value.get("tables");
+    let all = parameters_in(alloc, tables, value.get("parameters"))?;
+    let all = declared_in(alloc, Section::Registers, all, value.get("registers"))?;
+    let all = declared_in(alloc, Section::Queues, all, value.get("queues"))?;
+    declared_in(alloc, Section::Tables, all, tables)
+}

@@ -1,0 +1,41 @@
+//! Machines by hand, which the check computes.
+ghost use Rattle.tw_machine_file.specs.Examples.{
+  EmptyList,
+  Gives,
+  ListAsConstant,
+  ListForNumber,
+  MachineTwice,
+  MissingParameter,
+  MoreThanParameters,
+  NameOfTwoKinds,
+  NoName,
+  NumberForList,
+  OpenProgram,
+  QueueOfThree,
+  QueueTwice,
+  ReservedRegister,
+  Source,
+};
+
+/// What a value declares, and what is the first thing that is wrong with eight others.
+pub fn machines()
+    ensures source { Source }
+    ensures no_name { NoName }
+    ensures machine_twice { MachineTwice }
+    ensures reserved_register { ReservedRegister }
+    ensures list_as_constant { ListAsConstant }
+    ensures queue_of_three { QueueOfThree }
+    ensures name_of_two_kinds { NameOfTwoKinds }
+    ensures open_program { OpenProgram }
+    ensures queue_twice { QueueTwice }
+{}
+
+/// What a component gives, and what is wrong with five others.
+pub fn components()
+    ensures gives { Gives }
+    ensures list_for_number { ListForNumber }
+    ensures number_for_list { NumberForList }
+    ensures empty_list { EmptyList }
+    ensures missing_parameter { MissingParameter }
+    ensures more_than_parameters { MoreThanParameters }
+{}

@@ -1,0 +1,98 @@
+//! What is wrong with a machine.
+ghost use Rattle.std.specs.Prelude.{◌≡◌};
+ghost use Rattle.tw_machine_file.specs.declared.fault.MachineFault.TheVariants.{OutOfMemory};
+
+use std::alloc::{AllocError, AllocFailed};
+use thiserror::Error;
+use tw_program_text::Place;
+
+/// A part of a machine, or of a component of one. Entries are numbered from 0.
+#[derive(Clone, Copy, Debug, PartialEq, Eq)]
+pub enum Part {
+    /// The machine itself, or a member that no machine has.
+    Whole,
+    Name,
+    Parameters,
+    Registers,
+    Queues,
+    Tables,
+    Random,
+    First,
+    Longest,
+    Internal,
+    External,
+    /// The whole of `output`.
+    Output,
+    /// An entry of `output`.
+    Entry(usize),
+    /// The member `port` of an entry of `output`.
+    Port(usize),
+    /// The member `value` of an entry of `output`.
+    Value(usize),
+    /// The member `when` of an entry of `output`.
+    When(usize),
+    /// The member `each` of an entry of `output`.
+    Each(usize),
+    /// The whole of `words`.
+    Words,
+    /// An entry of `words`.
+    Word(usize),
+    /// A component: it has a member that is none of its name, its model and its machine's parameters, or not these.
+    Component,
+    /// What a component gives for the parameter at this place among those that are numbers.
+    Number(usize),
+    /// What it gives for the one at this place among those that are lists.
+    List(usize),
+}
+
+/// How a part is wrong.
+#[derive(Clone, Copy, Debug, PartialEq, Eq)]
+pub enum Why {
+    /// It has to be there.
+    Missing,
+    /// It has a member that it may not have.
+    Unknown,
+    /// It is of another type.
+    Shape,
+    /// A name that may not be one.
+    Name,
+    /// A name, a queue or an array register that has come before.
+    Twice,
+    /// Neither a whole number of 64 bits with a sign nor the name of a parameter that is a number; of a table, the name
+    /// of no parameter.
+    Constant,
+    /// A number out of its range, or too few or too many entries.
+    Count,
+}
+
+/// Why a value declares no machine: the first fault in the order of its members, or want of memory. Each but that is
+/// refusal 21 (BadShape).
+#[derive(Clone, Copy, Debug, Error, PartialEq, Eq)]
+pub enum MachineFault {
+    /// A growth of memory was refused: refusal 4.
+    #[error("out of memory")]
+    OutOfMemory,
+    /// A part has not the form that it must have.
+    #[error("a part of a machine has not its form")]
+    Wrong(Part, Why),
+    /// The text of a part says nothing in the machine's language. The place is in this text; the lines of an array are
+    /// joined.
+    #[error("a text of a machine says nothing")]
+    Text(Part, Place),
+}
+
+impl From<AllocError> for MachineFault {
+    ghost from_gives = { λ _ fault. fault ≡ OutOfMemory };
+
+    fn from(_error: AllocError) -> MachineFault {
+        MachineFault::OutOfMemory
+    }
+}
+
+impl<T: Drop> From<AllocFailed<T>> for MachineFault {
+    ghost from_gives = { λ _ fault. fault ≡ OutOfMemory };
+
+    fn from(_failed: AllocFailed<T>) -> MachineFault {
+        MachineFault::OutOfMemory
+    }
+}

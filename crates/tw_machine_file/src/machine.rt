@@ -1,0 +1,229 @@
+//! A machine of its JSON value.
+ghost use Rattle.std.specs.Prelude.{◌≡◌, ◌≢◌, Ok, Err, IfOk, IfErr, map, option_map, string_bytes};
+ghost use Rattle.serde_json.specs.View.{view};
+ghost use Rattle.tw_machine_file.specs.Fault.{fault};
+ghost use Rattle.tw_machine_file.specs.Machine.{first_in, head_of, language, longest_in, machine_of, name_of, new_name, random_in, starts_of, texts_of};
+ghost use Rattle.tw_machine_file.specs.Seen.{machine, scope, starts, texts};
+ghost use Rattle.tw_machine_file.specs.Texts.{language_of};
+
+use crate::constants::{constant, count};
+use crate::declarations::{Scope, scope_of};
+use crate::fault::{MachineFault, Part, Why};
+use crate::names::{is_machine_name, is_named};
+use crate::outputs::outputs_in;
+use crate::texts::{declared_of, program_in};
+use crate::values::are_among;
+use crate::words::words_in;
+use serde_json::Value;
+use std::alloc::Global;
+use tw_declared::{Constant, Declaration, OutputText, Value as Said};
+use tw_program_text::{Block, Declared};
+
+/// A machine of a file.
+#[derive(Drop)]
+pub struct FileMachine {
+    pub name: String,
+    pub declaration: Declaration,
+    /// The names of its parameters that are numbers, in order.
+    pub numbers: Vec<String>,
+    /// The names of its parameters that are lists, in order.
+    pub lists: Vec<String>,
+}
+
+/// What a machine starts with, and its greatest wait.
+#[derive(Clone, Copy, Debug, PartialEq, Eq)]
+pub struct Starts {
+    pub random: Constant,
+    pub first: Option<Constant>,
+    pub longest: Option<Constant>,
+}
+
+/// What a machine does, sends and shows.
+#[derive(Drop)]
+pub struct Texts {
+    pub internal: Block,
+    pub external: Block,
+    pub outputs: Vec<OutputText>,
+    pub words: Vec<Said>,
+}
+
+/// The members of a machine.
+const MEMBERS: [&[u8]; 12] = [
+    b"name",
+    b"parameters",
+    b"registers",
+    b"queues",
+    b"tables",
+    b"random",
+    b"first",
+    b"longest",
+    b"internal",
+    b"external",
+    b"output",
+    b"words",
+];
+
+/// The last tick.
+const MAX_TICK: u64 = 1_099_511_627_775;
+
+/// Looks at the name of a machine: whether it may be one, and has not come before.
+fn new_name(before: &[String], name: &str) -> Result<(), MachineFault>
+    ensures ok { IfOk result (λ _. new_name (map string_bytes before.now) name.now ≡ Ok name.now) }
+    ensures err { IfErr result (λ e. e ≢ MachineFault.OutOfMemory → new_name (map string_bytes before.now) name.now ≡ Err (fault e)) }
+{
+    if !is_machine_name(name.as_bytes()) {
+        return Err(MachineFault::Wrong(Part::Name, Why::Name));
+    }
+    if is_named(before, name.as_bytes()) {
+        return Err(MachineFault::Wrong(Part::Name, Why::Twice));
+    }
+    Ok(())
+}
+
+/// The name of a machine, which must be there.
+fn name_of<'a>(before: &[String], member: Option<&'a Value>) -> Result<&'a str, MachineFault>
+    ensures ok { IfOk result (λ t. name_of (map string_bytes before.now) (option_map (λ v. view v.now) member.entry) ≡ Ok t.now) }
+    ensures err { IfErr result (λ e. e ≢ MachineFault.OutOfMemory → name_of (map string_bytes before.now) (option_map (λ v. view v.now) member.entry) ≡ Err (fault e)) }
+{
+    let Some(value) = member else {
+        return Err(MachineFault::Wrong(Part::Name, Why::Missing));
+    };
+    let Some(name) = value.as_str() else {
+        return Err(MachineFault::Wrong(Part::Name, Why::Shape));
+    };
+    new_name(before, name)?;
+    Ok(name)
+}
+
+/// The name of an object that has no member that no machine has.
+fn head_of<'a>(before: &[String], value: &'a Value) -> Result<&'a str, MachineFault>
+    ensures ok { IfOk result (λ t. head_of (map string_bytes before.now) (view value.now) ≡ Ok t.now) }
+    ensures err { IfErr result (λ e. e ≢ MachineFault.OutOfMemory → head_of (map string_bytes before.now) (view value.now) ≡ Err (fault e)) }
+{
+    let Some(members) = value.as_object() else {
+        return Err(MachineFault::Wrong(Part::Whole, Why::Shape));
+    };
+    let name = name_of(before, value.get("name"))?;
+    if !are_among(&MEMBERS, members) {
+        return Err(MachineFault::Wrong(Part::Whole, Why::Unknown));
+    }
+    Ok(name)
+}
+
+fn random_in(numbers: &[String], member: Option<&Value>) -> Result<Constant, MachineFault>
+    ensures ok { IfOk result (λ c. random_in (map string_bytes numbers.now) (option_map (λ v. view v.now) member.entry) ≡ Ok c) }
+    ensures err { IfErr result (λ e. e ≢ MachineFault.OutOfMemory → random_in (map string_bytes numbers.now) (option_map (λ v. view v.now) member.entry) ≡ Err (fault e)) }
+{
+    match member {
+        Some(value) => constant(Part::Random, numbers, value),
+        None => Ok(Constant::Number(0)),
+    }
+}
+
+fn first_in(numbers: &[String], member: Option<&Value>) -> Result<Option<Constant>, MachineFault>
+    ensures ok { IfOk result (λ c. first_in (map string_bytes numbers.now) (option_map (λ v. view v.now) member.entry) ≡ Ok c) }
+    ensures err { IfErr result (λ e. e ≢ MachineFault.OutOfMemory → first_in (map string_bytes numbers.now) (option_map (λ v. view v.now) member.entry) ≡ Err (fault e)) }
+{
+    match member {
+        Some(value) => Ok(Some(constant(Part::First, numbers, value)?)),
+        None => Ok(None),
+    }
+}
+
+fn longest_in(numbers: &[String], member: Option<&Value>) -> Result<Option<Constant>, MachineFault>
+    ensures ok { IfOk result (λ c. longest_in (map string_bytes numbers.now) (option_map (λ v. view v.now) member.entry) ≡ Ok c) }
+    ensures err { IfErr result (λ e. e ≢ MachineFault.OutOfMemory → longest_in (map string_bytes numbers.now) (option_map (λ v. view v.now) member.entry) ≡ Err (fault e)) }
+{
+    match member {
+        Some(value) => Ok(Some(count(Part::Longest, MAX_TICK, numbers, value)?)),
+        None => Ok(None),
+    }
+}
+
+/// The members that are constants.
+fn constants_of(numbers: &[String], value: &Value) -> Result<Starts, MachineFault>
+    ensures ok { IfOk result (λ s. starts_of (view value.now) (map string_bytes numbers.now) ≡ Ok (starts s)) }
+    ensures err { IfErr result (λ e. e ≢ MachineFault.OutOfMemory → starts_of (view value.now) (map string_bytes numbers.now) ≡ Err (fault e)) }
+{
+    let random = random_in(numbers, value.get("random"))?;
+    let first = first_in(numbers, value.get("first"))?;
+    let longest = longest_in(numbers, value.get("longest"))?;
+    Ok(Starts {
+        random,
+        first,
+        longest,
+    })
+}
+
+/// What a machine of these names starts with.
+fn starts_of(all: &Scope, value: &Value) -> Result<Starts, MachineFault>
+    ensures ok { IfOk result (λ s. starts_of (view value.now) (scope all.now).numbers ≡ Ok (starts s)) }
+    ensures err { IfErr result (λ e. e ≢ MachineFault.OutOfMemory → starts_of (view value.now) (scope all.now).numbers ≡ Err (fault e)) }
+{
+    constants_of(&all.numbers, value)
+}
+
+/// What is said by these names.
+fn texts_of(alloc: Global, declared: &[Declared], value: &Value) -> Result<Texts, MachineFault>
+    ensures ok { IfOk result (λ t. texts_of (view value.now) (language_of declared.now) ≡ Ok (texts t)) }
+    ensures err { IfErr result (λ e. e ≢ MachineFault.OutOfMemory → texts_of (view value.now) (language_of declared.now) ≡ Err (fault e)) }
+{
+    let internal = program_in(alloc, declared, Part::Internal, value.get("internal"))?;
+    let external = program_in(alloc, declared, Part::External, value.get("external"))?;
+    let outputs = outputs_in(alloc, declared, value.get("output"))?;
+    let words = words_in(alloc, declared, value.get("words"))?;
+    Ok(Texts {
+        internal,
+        external,
+        outputs,
+        words,
+    })
+}
+
+/// What is said in the language of a machine of these names.
+fn texts_in(alloc: Global, all: &Scope, value: &Value) -> Result<Texts, MachineFault>
+    ensures ok { IfOk result (λ t. texts_of (view value.now) (language (scope all.now).names) ≡ Ok (texts t)) }
+    ensures err { IfErr result (λ e. e ≢ MachineFault.OutOfMemory → texts_of (view value.now) (language (scope all.now).names) ≡ Err (fault e)) }
+{
+    let declared = declared_of(alloc, &all.names)?;
+    texts_of(alloc, &declared, value)
+}
+
+/// The machine that an object of `models` declares, behind machines of these names.
+///
+/// The first fault in the order of its members is answered ([`MachineFault`], refusal 21): the value is no object; its
+/// name, which none before has; a member that no machine has; then parameters, registers, queues, tables, random,
+/// first, longest, internal, external, output (of an entry its members, then port, value, when, each) and words. In
+/// registers, queues and tables the order is that of the value's names, and of each its name comes before what it
+/// declares. Want of memory (4) may come at any point instead. After any of them nothing is left. What hangs on the
+/// numbers of a component, and the limits of the whole machine, is not looked at; a text has at most 4,096 nodes and 64
+/// levels by itself. The place in a text is meant to be that of the first word that cannot stand there.
+pub fn machine_of(
+    alloc: Global,
+    before: &[String],
+    value: &Value,
+) -> Result<FileMachine, MachineFault>
+    ensures ok { IfOk result (λ m. machine_of (map string_bytes before.now) (view value.now) ≡ Ok (machine m)) }
+    ensures err { IfErr result (λ e. e ≢ MachineFault.OutOfMemory → machine_of (map string_bytes before.now) (view value.now) ≡ Err (fault e)) }
+{
+    let name = head_of(before, value)?;
+    let scope = scope_of(alloc, value)?;
+    let starts = starts_of(&scope, value)?;
+    let texts = texts_in(alloc, &scope, value)?;
+    let name = String::from_str(alloc, name)?;
+    Ok(FileMachine {
+        name,
+        declaration: Declaration {
+            names: scope.names,
+            random: starts.random,
+            first: starts.first,
+            longest: starts.longest,
+            internal: texts.internal,
+            external: texts.external,
+            outputs: texts.outputs,
+            words: texts.words,
+        },
+        numbers: scope.numbers,
+        lists: scope.lists,
+    })
+}

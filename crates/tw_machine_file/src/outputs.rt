@@ -1,0 +1,158 @@
+//! What a machine sends.
+ghost use Rattle.std.specs.Prelude.{◌≡◌, ◌≢◌, [], Ok, Err, IfOk, IfErr, map, option_map};
+ghost use Rattle.serde_json.specs.View.{view, items_view, members_view};
+ghost use Rattle.tw_program_text.specs.Views.{tree as spelled};
+ghost use Rattle.tw_machine_file.specs.Fault.{fault};
+ghost use Rattle.tw_machine_file.specs.Outputs.{each_of, entry_of, few_outputs, output_of, outputs_in, outputs_of, sent_value, when_of};
+ghost use Rattle.tw_machine_file.specs.Seen.{output, tree, value};
+ghost use Rattle.tw_machine_file.specs.Texts.{language_of};
+
+use crate::fault::{MachineFault, Part, Why};
+use crate::texts::{tree_in, value_in};
+use crate::values::{are_among, are_few, items_of};
+use serde_json::{Map, Value};
+use std::alloc::Global;
+use tw_declared::{OutputText, Value as Said};
+use tw_program_text::{Declared, Expr, Member};
+
+/// The members of an entry.
+const MEMBERS: [&[u8]; 4] = [b"port", b"value", b"when", b"each"];
+
+/// The members of an entry, an object of these alone.
+fn entry(index: usize, written: &Value) -> Result<&Map<String, Value>, MachineFault>
+    ensures ok { IfOk result (λ ms. entry_of index (view written.now) ≡ Ok (members_view ms.now.entries)) }
+    ensures err { IfErr result (λ e. e ≢ MachineFault.OutOfMemory → entry_of index (view written.now) ≡ Err (fault e)) }
+{
+    let Some(members) = written.as_object() else {
+        return Err(MachineFault::Wrong(Part::Entry(index), Why::Shape));
+    };
+    if !are_among(&MEMBERS, members) {
+        return Err(MachineFault::Wrong(Part::Entry(index), Why::Unknown));
+    }
+    Ok(members)
+}
+
+/// A member that must be there.
+fn sent_value(
+    alloc: Global,
+    declared: &[Declared],
+    part: Part,
+    member: Option<&Value>,
+) -> Result<Said, MachineFault>
+    ensures ok { IfOk result (λ v. sent_value (language_of declared.now) part (option_map (λ v. view v.now) member.entry) ≡ Ok (value v)) }
+    ensures err { IfErr result (λ e. e ≢ MachineFault.OutOfMemory → sent_value (language_of declared.now) part (option_map (λ v. view v.now) member.entry) ≡ Err (fault e)) }
+{
+    match member {
+        Some(written) => value_in(alloc, declared, part, Member::Value, written),
+        None => Err(MachineFault::Wrong(part, Why::Missing)),
+    }
+}
+
+fn when_of(
+    alloc: Global,
+    declared: &[Declared],
+    index: usize,
+    member: Option<&Value>,
+) -> Result<Option<Said>, MachineFault>
+    ensures ok { IfOk result (λ w. when_of (language_of declared.now) index (option_map (λ v. view v.now) member.entry) ≡ Ok (option_map value w)) }
+    ensures err { IfErr result (λ e. e ≢ MachineFault.OutOfMemory → when_of (language_of declared.now) index (option_map (λ v. view v.now) member.entry) ≡ Err (fault e)) }
+{
+    match member {
+        Some(written) => Ok(Some(value_in(
+            alloc,
+            declared,
+            Part::When(index),
+            Member::Value,
+            written,
+        )?)),
+        None => Ok(None),
+    }
+}
+
+fn each_of(
+    alloc: Global,
+    declared: &[Declared],
+    index: usize,
+    member: Option<&Value>,
+) -> Result<Option<Expr>, MachineFault>
+    ensures ok { IfOk result (λ q. each_of (language_of declared.now) index (option_map (λ v. view v.now) member.entry) ≡ Ok (option_map (λ q. tree (spelled q)) q)) }
+    ensures err { IfErr result (λ e. e ≢ MachineFault.OutOfMemory → each_of (language_of declared.now) index (option_map (λ v. view v.now) member.entry) ≡ Err (fault e)) }
+{
+    match member {
+        Some(written) => Ok(Some(tree_in(
+            alloc,
+            declared,
+            Part::Each(index),
+            Member::Each,
+            written,
+        )?)),
+        None => Ok(None),
+    }
+}
+
+/// An entry.
+fn output_of(
+    alloc: Global,
+    declared: &[Declared],
+    index: usize,
+    written: &Value,
+) -> Result<OutputText, MachineFault>
+    ensures ok { IfOk result (λ o. output_of (language_of declared.now) index (view written.now) ≡ Ok (output o)) }
+    ensures err { IfErr result (λ e. e ≢ MachineFault.OutOfMemory → output_of (language_of declared.now) index (view written.now) ≡ Err (fault e)) }
+{
+    let _ = entry(index, written)?;
+    let port = sent_value(alloc, declared, Part::Port(index), written.get("port"))?;
+    let value = sent_value(alloc, declared, Part::Value(index), written.get("value"))?;
+    let when = when_of(alloc, declared, index, written.get("when"))?;
+    let each = each_of(alloc, declared, index, written.get("each"))?;
+    Ok(OutputText {
+        port,
+        value,
+        when,
+        each,
+    })
+}
+
+fn outputs_of(
+    alloc: Global,
+    declared: &[Declared],
+    values: &[Value],
+) -> Result<Vec<OutputText>, MachineFault>
+    ensures ok { IfOk result (λ v. outputs_of (language_of declared.now) 0 [] (items_view values.now) ≡ Ok (map output v.items)) }
+    ensures err { IfErr result (λ e. e ≢ MachineFault.OutOfMemory → outputs_of (language_of declared.now) 0 [] (items_view values.now) ≡ Err (fault e)) }
+{
+    let mut outputs = Vec::new(alloc);
+    for (index, value) in values.iter().enumerate() {
+        outputs.push(output_of(alloc, declared, index, value)?)?;
+    }
+    Ok(outputs)
+}
+
+/// An array of at most 64.
+fn few_outputs(written: &Value) -> Result<&[Value], MachineFault>
+    ensures ok { IfOk result (λ vs. few_outputs (view written.now) ≡ Ok (items_view vs.now)) }
+    ensures err { IfErr result (λ e. e ≢ MachineFault.OutOfMemory → few_outputs (view written.now) ≡ Err (fault e)) }
+{
+    let Some(values) = items_of(written) else {
+        return Err(MachineFault::Wrong(Part::Output, Why::Shape));
+    };
+    if !are_few(64, values) {
+        return Err(MachineFault::Wrong(Part::Output, Why::Count));
+    }
+    Ok(values)
+}
+
+/// The member `output`; nothing is sent where there is none.
+pub fn outputs_in(
+    alloc: Global,
+    declared: &[Declared],
+    member: Option<&Value>,
+) -> Result<Vec<OutputText>, MachineFault>
+    ensures ok { IfOk result (λ v. outputs_in (language_of declared.now) (option_map (λ v. view v.now) member.entry) ≡ Ok (map output v.items)) }
+    ensures err { IfErr result (λ e. e ≢ MachineFault.OutOfMemory → outputs_in (language_of declared.now) (option_map (λ v. view v.now) member.entry) ≡ Err (fault e)) }
+{
+    match member {
+        Some(written) => outputs_of(alloc, declared, few_outputs(written)?),
+        None => Ok(Vec::new(alloc)),
+    }
+}

@@ -1,0 +1,190 @@
+//! The texts of a machine: programs, and expressions in members.
+ghost use Rattle.std.specs.Prelude.{◌≡◌, ◌≢◌, ◌++◌, ◌∷◌, [], Some, None, Ok, Err, IfOk, IfErr, map, option_map, string_bytes};
+ghost use Rattle.serde_json.specs.View.{view, items_view};
+ghost use Rattle.tw_program_text.specs.TextViews.{declarations, names_of};
+ghost use Rattle.tw_program_text.specs.Views.{body, tree as spelled};
+ghost use Rattle.tw_machine_file.specs.Declares.{texts};
+ghost use Rattle.tw_machine_file.specs.Fault.{fault};
+ghost use Rattle.tw_machine_file.specs.Said.{SaysPrograms, SaysTrees};
+ghost use Rattle.tw_machine_file.specs.Seen.{kind_of, name, thing, tree, value};
+ghost use Rattle.tw_machine_file.specs.Texts.{language_of, lines, lines_behind, program_in, program_text, text_of, tree_in, tree_text, value_in};
+
+use crate::fault::{MachineFault, Part, Why};
+use crate::values::items_of;
+use serde_json::Value;
+use std::alloc::{AllocError, Global};
+use tw_declared::{Named, Thing, Value as Said};
+use tw_program_text::{
+    Block, Declared, Expr, Kind, Member, NODES, TextRefused, kinds_of, read_member, read_program,
+};
+
+/// What a thing is, for the texts' reader.
+fn kind_of(declared: &Thing) -> Kind
+    ensures { result ≡ kind_of (thing declared.now) }
+{
+    match declared {
+        Thing::Parameter(_) => Kind::Parameter,
+        Thing::ListParameter(_) => Kind::ListParameter,
+        Thing::Register(_) => Kind::Register,
+        Thing::RegisterArray(_) => Kind::RegisterArray,
+        Thing::Queue(_) => Kind::Queue,
+        Thing::QueueArray(..) => Kind::QueueArray,
+        Thing::Table(_) => Kind::Table,
+        Thing::ListTable(_) => Kind::Table,
+    }
+}
+
+/// The names that may stand in a machine's texts.
+pub fn declared_of(alloc: Global, names: &[Named]) -> Result<Vec<Declared>, AllocError>
+    ensures { IfOk result (λ v. declarations v.items ≡ map (λ n. (n.0, kind_of n.1)) (map name names.now)) }
+{
+    let mut declared = Vec::with_capacity(alloc, names.len())?;
+    for named in names {
+        let kind = kind_of(&named.thing);
+        let name = String::from_str(alloc, named.name.as_str())?;
+        declared.push(Declared { name, kind })?;
+    }
+    Ok(declared)
+}
+
+/// What each name stands for, by its number.
+pub fn kinds_in(alloc: Global, declared: &[Declared]) -> Result<Vec<Kind>, AllocError>
+    ensures { IfOk result (λ v. v.items ≡ (language_of declared.now).kinds) }
+{
+    kinds_of(alloc, declared)
+}
+
+/// The lines behind a first one.
+fn lines_behind(alloc: Global, first: &str, values: &[Value]) -> Result<Option<String>, AllocError>
+    ensures { IfOk result (λ o. option_map string_bytes o ≡ lines_behind first.now (items_view values.now)) }
+{
+    let mut text = String::from_str(alloc, first)?;
+    for value in values {
+        let Some(line) = value.as_str() else {
+            return Ok(None);
+        };
+        text.push_str("\n")?;
+        text.push_str(line)?;
+    }
+    Ok(Some(text))
+}
+
+/// The lines of an array, joined.
+fn lines(alloc: Global, values: &[Value]) -> Result<Option<String>, AllocError>
+    ensures { IfOk result (λ o. option_map string_bytes o ≡ lines (items_view values.now)) }
+{
+    let Some((first, rest)) = values.split_first() else {
+        return Ok(Some(String::new(alloc)));
+    };
+    match first.as_str() {
+        Some(line) => lines_behind(alloc, line, rest),
+        None => Ok(None),
+    }
+}
+
+/// A text, or the lines of an array of texts.
+fn text_of(alloc: Global, value: &Value) -> Result<Option<String>, AllocError>
+    ensures { IfOk result (λ o. option_map string_bytes o ≡ text_of (view value.now)) }
+{
+    if let Some(text) = value.as_str() {
+        return Ok(Some(String::from_str(alloc, text)?));
+    }
+    match items_of(value) {
+        Some(values) => lines(alloc, values),
+        None => Ok(None),
+    }
+}
+
+/// The program that a text says.
+fn program(
+    alloc: Global,
+    declared: &[Declared],
+    part: Part,
+    text: &str,
+) -> Result<Block, MachineFault>
+    ensures ok { IfOk result (λ b. program_text (language_of declared.now) part text.now ≡ Ok (body b)) }
+    ensures err { IfErr result (λ e. e ≢ MachineFault.OutOfMemory → program_text (language_of declared.now) part text.now ≡ Err (fault e)) }
+{
+    match read_program(alloc, declared, text, NODES) {
+        Ok(read) => Ok(read.block),
+        Err(TextRefused::OutOfMemory) => Err(MachineFault::OutOfMemory),
+        Err(TextRefused::Wrong(place)) => Err(MachineFault::Text(part, place)),
+    }
+}
+
+/// The expression, queue or array register that a text says.
+fn expression(
+    alloc: Global,
+    declared: &[Declared],
+    part: Part,
+    member: Member,
+    text: &str,
+) -> Result<Expr, MachineFault>
+    ensures ok { IfOk result (λ e. tree_text (language_of declared.now) part member text.now ≡ Ok (spelled e)) }
+    ensures err { IfErr result (λ e. e ≢ MachineFault.OutOfMemory → tree_text (language_of declared.now) part member text.now ≡ Err (fault e)) }
+{
+    match read_member(alloc, member, declared, text, NODES) {
+        Ok(read) => Ok(read.tree),
+        Err(TextRefused::OutOfMemory) => Err(MachineFault::OutOfMemory),
+        Err(TextRefused::Wrong(place)) => Err(MachineFault::Text(part, place)),
+    }
+}
+
+/// The program of a member, which does nothing where there is none.
+pub fn program_in(
+    alloc: Global,
+    declared: &[Declared],
+    part: Part,
+    member: Option<&Value>,
+) -> Result<Block, MachineFault>
+    ensures ok { IfOk result (λ b. program_in (language_of declared.now) part (option_map (λ v. view v.now) member.entry) ≡ Ok (body b)) }
+    ensures err { IfErr result (λ e. e ≢ MachineFault.OutOfMemory → program_in (language_of declared.now) part (option_map (λ v. view v.now) member.entry) ≡ Err (fault e)) }
+{
+    let Some(value) = member else {
+        return Ok(Block::Empty);
+    };
+    match text_of(alloc, value)? {
+        Some(text) => program(alloc, declared, part, text.as_str()),
+        None => Err(MachineFault::Wrong(part, Why::Shape)),
+    }
+}
+
+/// The text of a member.
+pub fn tree_in(
+    alloc: Global,
+    declared: &[Declared],
+    part: Part,
+    member: Member,
+    value: &Value,
+) -> Result<Expr, MachineFault>
+    ensures ok { IfOk result (λ e. tree_in (language_of declared.now) part member (view value.now) ≡ Ok (tree (spelled e))) }
+    ensures err { IfErr result (λ e. e ≢ MachineFault.OutOfMemory → tree_in (language_of declared.now) part member (view value.now) ≡ Err (fault e)) }
+{
+    match value.as_str() {
+        Some(text) => expression(alloc, declared, part, member, text),
+        None => Err(MachineFault::Wrong(part, Why::Shape)),
+    }
+}
+
+/// A whole number, or a text.
+pub fn value_in(
+    alloc: Global,
+    declared: &[Declared],
+    part: Part,
+    member: Member,
+    written: &Value,
+) -> Result<Said, MachineFault>
+    ensures ok { IfOk result (λ v. value_in (language_of declared.now) part member (view written.now) ≡ Ok (value v)) }
+    ensures err { IfErr result (λ e. e ≢ MachineFault.OutOfMemory → value_in (language_of declared.now) part member (view written.now) ≡ Err (fault e)) }
+{
+    match written.as_i64() {
+        Some(number) => Ok(Said::Number(number)),
+        None => Ok(Said::Text(tree_in(alloc, declared, part, member, written)?)),
+    }
+}
+
+/// What a text says is what the grammar gives it: no other program and no other expression. It does nothing.
+pub fn said_law()
+    ensures programs { SaysPrograms }
+    ensures trees { SaysTrees }
+{}

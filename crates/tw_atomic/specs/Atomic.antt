@@ -2,6 +2,7 @@
 --     Meaning S      the start state, the time advance, the output, the three transitions, and the words of a state
 --     turned m turn s elapsed bag      the state after a turn
 --     CanTurn valid m turn s elapsed bag      the turn may be made from this state
+--     AreAlike meaning undone m n      the models m and n mean the same, and take back alike
 use Rattle.std.specs.Int.{w64}
 use Rattle.std.specs.Prelude.{◌≡◌, ◌≢◌, ℕ, ℤ, ◌<◌, List, [], ◌∷◌, Option, Some, None, ⊤, FitsSigned}
 use Rattle.tw_atomic.specs.declared.Turn.{Turn}
@@ -58,3 +59,8 @@ pub record CanTurn {S : Type 0} (IsValid : S → Type 0) (m : Meaning S) (turn :
   pub sorted : IsSorted bag
   pub elapsed_fits : elapsed < 18446744073709551616
   pub bag_fits : FitsBag bag
+
+-- two models that mean the same and take a turn back alike, so that each can take back what the other made
+pub record AreAlike {M S R : Type 0} (meaning : M → Meaning S) (undone : M → Turn → S → ℕ → Bag → R → S) (m n : M) : Type 0 where
+  pub means : meaning m ≡ meaning n
+  pub takes_back : undone m ≡ undone n

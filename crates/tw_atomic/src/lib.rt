@@ -156,9 +156,6 @@ pub trait Atomic: Drop {
     /// An output has at most 64 items, on ports 0 to 15, with values that fit.
     ghost output_fits: { (m : Self) (s : Self.State) → valid m s → (length ((meaning m).out s) ≤ 64) × FitsOutput ((meaning m).out s) };
 
-    /// Models of one meaning take back alike.
-    ghost alike: { (m n : Self) → meaning m ≡ meaning n → undone m ≡ undone n };
-
     /// Taking back after a transition gives the old state.
     ghost reverses: { (m : Self) (turn : Turn) (s : Self.State) (elapsed : ℕ) (bag : Bag) → CanTurn (valid m) (meaning m) turn s elapsed bag → undone m turn (turned (meaning m) turn s elapsed bag) elapsed bag (residue_of m turn s elapsed bag) ≡ s };
 }

@@ -11,7 +11,6 @@ use Rattle.tw_line.specs.declared.jobs.Driver.{Driver}
 use Rattle.tw_line.specs.declared.jobs.Driver.TheVariants.{Script, Seed}
 use Rattle.tw_line.specs.declared.jobs.Job.{Job}
 use Rattle.tw_line.specs.declared.jobs.Job.TheVariants.{Demo, Check, Seq, Run, Play}
-use Rattle.tw_lists.specs.Ways.{way_of}
 use Rattle.tw_theory.specs.Contents.{Cancel}
 
 -- driven by a script: the network's file is at fault, and nothing is written; or it means a network, and no byte of the script is known to
@@ -30,7 +29,7 @@ IsDone Demo exit given script old new = IsDemo exit old new
 IsDone (Check net) exit given script old new = IsUnread exit old new ⊎ IfSome given (λ bytes. IsCheck bytes exit old new)
 IsDone (Seq net until) exit given script old new = IsUnread exit old new ⊎ IfSome given (λ bytes. IsRun bytes until exit old new)
 IsDone (Run net until cancel setting) exit given script old new = IsUnread exit old new ⊎ IfSome given (λ bytes. IsRunByWorkers bytes until exit old new)
-IsDone (Play net until cancel driver) exit given script old new = IsUnread exit old new ⊎ IsPlay driver until (way_of cancel) exit given script old new
+IsDone (Play net until cancel driver) exit given script old new = IsUnread exit old new ⊎ IsPlay driver until cancel exit given script old new
 
 -- ---- whether the script is read
 

@@ -3,7 +3,6 @@
 ghost use Rattle.std.specs.Prelude.{◌≡◌, ◌⊎◌, ◌<◌, ℕ, List, IfErr, IfOk, None};
 ghost use Rattle.tw_engine.specs.Plays.{first, IsDrawnBy, IsDrivenBy, IsScripted, IsSeeded, IsTraced};
 ghost use Rattle.tw_engine.specs.Scripting.{IsScriptExit};
-ghost use Rattle.tw_lists.specs.Ways.{way_of};
 ghost use Rattle.tw_netfile.specs.TreeMeaning.{IsMeaning};
 ghost use Rattle.tw_script.specs.Scripts.{IsScript};
 ghost use Rattle.tw_vtime.specs.Stamps.{max_tick};
@@ -32,7 +31,7 @@ pub(crate) fn play_by_script<W: Write>(
     cancel: Cancel,
     out: &mut W,
 ) -> Exit
-    ensures { (bytes : List ℕ) → IsMeaning bytes network → IsScripted bytes script.now until (way_of cancel) result (W.contents out.old) (W.contents out.new) }
+    ensures { (bytes : List ℕ) → IsMeaning bytes network → IsScripted bytes script.now until cancel result (W.contents out.old) (W.contents out.new) }
 {
     let commands = match commands(alloc, script, &network) {
         Ok(commands) => commands,
@@ -58,7 +57,7 @@ pub(crate) fn play_by_seed<W: Write>(
     cancel: Cancel,
     out: &mut W,
 ) -> Exit
-    ensures { IsSeeded bytes.now seed steps until (way_of cancel) result (W.contents out.old) (W.contents out.new) }
+    ensures { IsSeeded bytes.now seed steps until cancel result (W.contents out.old) (W.contents out.new) }
 {
     let network = match network(alloc, bytes) {
         Ok(network) => network,
@@ -97,7 +96,7 @@ fn player(
     until: u64,
     cancel: Cancel,
 ) -> Result<Player<Model>, Exit>
-    ensures ok { IfOk result (λ player. player ≡ first network (way_of cancel) until) }
+    ensures ok { IfOk result (λ player. player ≡ first network cancel until) }
     ensures err { IfErr result (λ exit. (exit ≡ Exit.Want refusal.OutOfMemory) ⊎ ((exit ≡ Exit.Bad refusal.BadTick None) × (max_tick < until))) }
 {
     match Executive::with_cancel(alloc, network, until, cancel) {

@@ -7,7 +7,6 @@ ghost use Rattle.tw_vtime.specs.declared.refusal.Refusal.TheVariants as refusal;
 ghost use Rattle.tw_engine.specs.Checks.{IsCheck};
 ghost use Rattle.tw_engine.specs.Jobs.{DriverReads, IsDone, IsPlay, IsScriptedBy, MeansSome, ReadsScript};
 ghost use Rattle.tw_engine.specs.Runs.{IsFileExit, IsRun, IsShown, IsUnread, fault_text, run_fault};
-ghost use Rattle.tw_lists.specs.Ways.{way_of};
 
 use crate::checks::check_bytes;
 use crate::demonstration::demo;
@@ -124,7 +123,7 @@ pub fn play<N: Read, S: Read, W: Write>(
     out: &mut W,
 ) -> Exit
     ensures done { IsUnread result (W.contents out.old) (W.contents out.new)
-        ⊎ IsPlay driver.now until (way_of cancel) result (N.remaining net.old) (S.remaining script.old) (W.contents out.old) (W.contents out.new) }
+        ⊎ IsPlay driver.now until cancel result (N.remaining net.old) (S.remaining script.old) (W.contents out.old) (W.contents out.new) }
     ensures reads { (script.new ≡ script.old) ⊎ DriverReads driver.now (N.remaining net.old) }
 {
     let bytes = match read_all(alloc, net) {
@@ -148,7 +147,7 @@ fn play_script<S: Read, W: Write>(
     cancel: Cancel,
     out: &mut W,
 ) -> Exit
-    ensures done { IsScriptedBy bytes.now until (way_of cancel) result (S.remaining script.old) (W.contents out.old) (W.contents out.new) }
+    ensures done { IsScriptedBy bytes.now until cancel result (S.remaining script.old) (W.contents out.old) (W.contents out.new) }
     ensures reads { (script.new ≡ script.old) ⊎ MeansSome bytes.now }
 {
     let network = match network(alloc, bytes) {

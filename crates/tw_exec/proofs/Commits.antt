@@ -1,6 +1,6 @@
 -- Harvests: the line that they set stands after all that is committed.
 use Rattle.std.proofs.Common.{◌≡◌, ℕ, suc, ◌+◌, ◌≤◌, List, [], ◌∷◌, ◌++◌, length, take, Some, sym, ap, ◌∙◌, subst, arith}
-use Rattle.std.specs.Prelude.{nat_lt, slice_get, slice_set}
+use Rattle.std.specs.Prelude.{nat_lt, slice_get, slice_set, Ok}
 use Rattle.std.proofs.lemmas.Bool.{cond_both, ltb-true}
 use Rattle.tw_atomic.specs.Atomic.{Meaning}
 use Rattle.tw_exec.specs.Running.{IsOwn, IsHeld}
@@ -31,12 +31,12 @@ floor_le g floor (step ∷ steps) l =
 module _ {M S : Type 0} {meaning : M → Meaning S} {n : Contents M} {until end gvt : ℕ} {ps : List (Held M S)} {mail : List (List Item)} {columns : List (List Record)} (h : IsHeld meaning n until end gvt ps mail columns) where
   pub harvest_acted : (c : ℕ) (old new : Held M S) (column : List Record) → slice_get ps c ≡ Some old → new ≡ with_spare new.spare (with_harvested gvt old)
       → column ≡ column_of columns c ++ records_of (take (steps_before gvt old.process.history) old.process.history)
-      → IsActed meaning n until end gvt gvt ps (slice_set ps c new) mail mail columns (slice_set columns c column) (Harvest c) (Harvested (steps_before gvt old.process.history))
+      → IsActed meaning n until end gvt gvt ps (slice_set ps c new) mail mail columns (slice_set columns c column) (Harvest c) (Ok (Harvested (steps_before gvt old.process.history)))
   harvest_acted c old new column at new_is column_is =
       let o = h.own c old at in
       let sound = h.sound.each c old.process (process_at ps mail columns gvt c old at) in
       let floor : floor_after old.floor (take (steps_before gvt old.process.history) old.process.history) ≤ gvt = floor_le gvt old.floor old.process.history (omega (arith, o.floor_le, sound.line_le)) in
-      acted_by h gvt (slice_set ps c new) mail (slice_set columns c column) (Harvest c) (Harvested (steps_before gvt old.process.history))
+      acted_by h gvt (slice_set ps c new) mail (slice_set columns c column) (Harvest c) (Ok (Harvested (steps_before gvt old.process.history)))
       (harvest_acts meaning n until gvt ps mail columns c old new column at new_is column_is)
       (own_set h c new (subst (IsOwn n c) (sym new_is) (record { network_is = o.network_is; component_is = o.component_is; floor_le = floor })))
 

@@ -1,6 +1,6 @@
 -- Deliveries: what a receipt asks for, and that it keeps the line.
 use Rattle.std.proofs.Common.{◌≡◌, ℕ, zero, suc, ◌+◌, ◌==◌, ◌<◌, ◌≤◌, FitsSigned, w64, List, [], ◌∷◌, length, Some, refl, sym, ap, ◌∙◌, subst, arith}
-use Rattle.std.specs.Prelude.{insert, remove, slice_get, slice_set}
+use Rattle.std.specs.Prelude.{insert, remove, slice_get, slice_set, Ok}
 use Rattle.std.proofs.lemmas.Bool.{cond_both}
 use Rattle.std.proofs.lemmas.List.{get_or-set_same, set-get_or, set-set}
 use Rattle.std.proofs.lemmas.Option.{same_Some, slice_get_within}
@@ -21,11 +21,10 @@ use Rattle.tw_msgs.specs.declared.message.Sign.TheVariants.{Positive, Anti}
 use Rattle.tw_msgs.specs.declared.record.Record.{Record}
 use Rattle.tw_network.specs.Contents.{Contents, network_of}
 use Rattle.tw_process.specs.Process.{Held, IsFullBy}
-use Rattle.tw_rollback.specs.Received.{IsCame, meant, need}
-use Rattle.tw_rollback.specs.declared.received.Received.{Received as Came}
+use Rattle.tw_rollback.specs.Received.{IsCame, need}
 use Rattle.tw_theory.proofs.Elements.{each-get}
 use Rattle.tw_theory.specs.Contents.{Process, Received, back_to_first, consumed_by, receive, receive_signed, steps_from}
-use Rattle.tw_theory.specs.Executive.{Deliver, Delivered, least_of, mail_of}
+use Rattle.tw_theory.specs.Executive.{Deliver, Received as Came, least_of, mail_of}
 use Rattle.tw_theory.specs.Memory.{live, need_if_there}
 use Rattle.tw_theory.specs.Soundness.{IsFor}
 use Rattle.tw_theory.specs.Standing.{CanTake}
@@ -70,13 +69,13 @@ module _ {M S : Type 0} {meaning : M → Meaning S} {n : Contents M} {until end 
       let least = each-get (λ (i : Item). least_of (shown ps mail columns gvt) ≤ i.message.stamp) (mail_of mail q) k item item_at (((gvt_law {S = S}).at_or_before (shown ps mail columns gvt)).mail q) in
       (record { to = is_for.to ∙ sym o.component_is; phase = is_for.fits.phase; before_end = is_for.fits.stamp; fits = (port, value) }, omega (arith, o.floor_le, sound.line_le, h.sound.gvt_le, least))
 
-  pub deliver_acted : (q k : ℕ) (old new : Held M S) (item : Item) (came : Came) → slice_get ps q ≡ Some old → slice_get (mail_of mail q) k ≡ Some item → IsCame old new (receive old.process item) came
-      → IsActed meaning n until end gvt gvt ps (slice_set ps q new) mail (slice_set mail q (remove (mail_of mail q) k)) columns columns (Deliver q k) (Delivered (meant came))
+  pub deliver_acted : (q k : ℕ) (old new : Held M S) (item : Item) (came : Received) → slice_get ps q ≡ Some old → slice_get (mail_of mail q) k ≡ Some item → IsCame old new (receive old.process item) came
+      → IsActed meaning n until end gvt gvt ps (slice_set ps q new) mail (slice_set mail q (remove (mail_of mail q) k)) columns columns (Deliver q k) (Ok (Came came))
   deliver_acted q k old new item came at item_at is =
       let o = h.own q old at in
-      acted_by h gvt (slice_set ps q new) (slice_set mail q (remove (mail_of mail q) k)) columns (Deliver q k) (Delivered (meant came))
+      acted_by h gvt (slice_set ps q new) (slice_set mail q (remove (mail_of mail q) k)) columns (Deliver q k) (Ok (Came came))
       (deliver_acts meaning n until gvt ps mail columns q k old new item at item_at (ap (λ (x : Held M S). x.process) is.process)
-      ∙ ap (λ r. (Delivered r, shown (slice_set ps q new) (slice_set mail q (remove (mail_of mail q) k)) columns gvt)) (sym is.answer))
+      ∙ ap (λ r. (Ok (Came r), shown (slice_set ps q new) (slice_set mail q (remove (mail_of mail q) k)) columns gvt)) (sym is.answer))
       (own_set h q new (subst (IsOwn n q) (sym is.process) (record { network_is = o.network_is; component_is = o.component_is; floor_le = omega (arith, o.floor_le, line_stays old.process item) })))
 
   -- where a receipt is refused for want of nodes

@@ -4,11 +4,10 @@ use Rattle.std.specs.Prelude.{◌==◌, IfSome, IsErrOf, nat_le, nat_lt, slice_g
 use Rattle.std.proofs.lemmas.Bool.{cond-true, cond-false, cond_both, lt-leb, lt-ltb}
 use Rattle.std.proofs.lemmas.Option.{none-some}
 use Rattle.tw_atomic.specs.Atomic.{Meaning}
-use Rattle.tw_exec.specs.Actions.{answered, reason}
+use Rattle.tw_exec.specs.Actions.{reason}
 use Rattle.tw_exec.specs.Refusals.{of_pool, of_step}
 use Rattle.tw_exec.specs.Running.{Running, AreExact, IsHeld, answer, shown}
-use Rattle.tw_exec.specs.declared.action.Done.{Done}
-use Rattle.tw_exec.specs.declared.action.Done.TheVariants.{Stepped, Posted, Delivered, Undone, Raised, Harvested}
+use Rattle.tw_actions.specs.declared.action.Done.{Done}
 use Rattle.tw_exec.specs.declared.refused.Refused.{Refused}
 use Rattle.tw_exec.specs.declared.refused.Refused.TheVariants.{OutOfMemory, Full, NothingDue, OverLimit, NoSuch, BeforeGvt, Committed}
 use Rattle.tw_exec.proofs.Kept.{step_refused}
@@ -33,25 +32,12 @@ use Rattle.tw_vtime.specs.declared.limits.Limit.{Limit}
 
 -- an answer that is none of these three refusals
 abbrev pub IsOther : theory.Answer → Type 0
-IsOther (theory.Stepped s kind) = Unit {0}
-IsOther (theory.Posted n) = Unit {0}
-IsOther (theory.Delivered came) = Unit {0}
-IsOther (theory.Undone n) = Unit {0}
-IsOther (theory.Raised gvt) = Unit {0}
-IsOther (theory.Harvested n) = Unit {0}
-IsOther (theory.Refused theory.NothingDue) = ⊥
-IsOther (theory.Refused (theory.OverLimit limit)) = Unit {0}
-IsOther (theory.Refused theory.NoSuch) = ⊥
-IsOther (theory.Refused theory.BeforeGvt) = ⊥
-IsOther (theory.Refused theory.Committed) = Unit {0}
-
-other_done : (done : Done) → IsOther (answered done)
-other_done (Stepped s kind) = tt
-other_done (Posted n) = tt
-other_done (Delivered came) = tt
-other_done (Undone n) = tt
-other_done (Raised gvt) = tt
-other_done (Harvested n) = tt
+IsOther (Ok done) = Unit {0}
+IsOther (Err theory.NothingDue) = ⊥
+IsOther (Err (theory.OverLimit limit)) = Unit {0}
+IsOther (Err theory.NoSuch) = ⊥
+IsOther (Err theory.BeforeGvt) = ⊥
+IsOther (Err theory.Committed) = Unit {0}
 
 pub ok_err : {T E : Type 0} {x : T} {y : E} → ◌≡◌ {A = Result T E} (Ok x) (Err y) → ⊥
 ok_err k = cc
@@ -60,7 +46,7 @@ pub same_Err : {T E : Type 0} (x y : E) → ◌≡◌ {A = Result T E} (Err x) (
 same_Err x y k = cc
 
 module _ {M S : Type 0} (meaning : M → Meaning S) (action : theory.Action) (e : Running M S) where
-  not_so : (r : theory.Refusal) → (IsOther (theory.Refused r) → ⊥) → IsOther (answer meaning action e) → answer meaning action e ≡ theory.Refused r → ⊥
+  not_so : (r : theory.Refusal) → (IsOther (Err r) → ⊥) → IsOther (answer meaning action e) → answer meaning action e ≡ Err r → ⊥
   not_so r none other is = none (subst IsOther is other)
 
   -- what is none of the three comes of what is none of the three
@@ -71,10 +57,10 @@ module _ {M S : Type 0} (meaning : M → Meaning S) (action : theory.Action) (e 
     nothing_due = (λ is. absurd (not_so theory.NothingDue (λ o. o) other is), λ is. absurd (c is));
   }
 
-  pub exact_taken : (done : Done) → answer meaning action e ≡ answered done → AreExact meaning action e (Ok done)
-  exact_taken done is = others (Ok done) (subst IsOther (sym is) (other_done done)) (λ k. ok_err k) (λ k. ok_err k) (λ k. ok_err k)
+  pub exact_taken : (done : Done) → answer meaning action e ≡ Ok done → AreExact meaning action e (Ok done)
+  exact_taken done is = others (Ok done) (subst IsOther (sym is) tt) (λ k. ok_err k) (λ k. ok_err k) (λ k. ok_err k)
 
-  pub exact_refused : (why : Refused) → IfSome (reason why) (λ r. answer meaning action e ≡ theory.Refused r) → (reason why ≡ None → IsOther (answer meaning action e)) → AreExact meaning action e (Err why)
+  pub exact_refused : (why : Refused) → IfSome (reason why) (λ r. answer meaning action e ≡ Err r) → (reason why ≡ None → IsOther (answer meaning action e)) → AreExact meaning action e (Err why)
   exact_refused OutOfMemory known other = others (Err OutOfMemory) (other refl) (λ k. cc) (λ k. cc) (λ k. cc)
   exact_refused Full known other = others (Err Full) (other refl) (λ k. cc) (λ k. cc) (λ k. cc)
   exact_refused (OverLimit limit) known other = others (Err (OverLimit limit)) (subst IsOther (sym known) tt) (λ k. cc) (λ k. cc) (λ k. cc)
@@ -96,13 +82,13 @@ module _ {M S : Type 0} (meaning : M → Meaning S) (action : theory.Action) (e 
   }
 
   -- as the theory refuses it
-  pub exact_known : (why : Refused) (r : theory.Refusal) → reason why ≡ Some r → answer meaning action e ≡ theory.Refused r → AreExact meaning action e (Err why)
+  pub exact_known : (why : Refused) (r : theory.Refusal) → reason why ≡ Some r → answer meaning action e ≡ Err r → AreExact meaning action e (Err why)
   exact_known why r is known =
-      exact_refused why (subst (λ o. IfSome o (λ r. answer meaning action e ≡ theory.Refused r)) (sym is) known) (λ none. absurd (none-some r (sym none ∙ is)))
+      exact_refused why (subst (λ o. IfSome o (λ r. answer meaning action e ≡ Err r)) (sym is) known) (λ none. absurd (none-some r (sym none ∙ is)))
 
   -- for want of memory or nodes, of an action that the theory takes or stops at a limit
   exact_wanting : (why : Refused) → reason why ≡ None → IsOther (answer meaning action e) → AreExact meaning action e (Err why)
-  exact_wanting why none other = exact_refused why (subst (λ o. IfSome o (λ r. answer meaning action e ≡ theory.Refused r)) (sym none) tt) (λ n. other)
+  exact_wanting why none other = exact_refused why (subst (λ o. IfSome o (λ r. answer meaning action e ≡ Err r)) (sym none) tt) (λ n. other)
 
 -- ---- what the theory answers of a component and an item that are there
 

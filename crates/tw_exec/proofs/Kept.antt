@@ -1,7 +1,7 @@
 -- Every action makes another executive of an executive: what it makes of the world is `act`, so it is sound by the laws; and each process knows its network and component still.
 use Rattle.std.proofs.Common.{◌≡◌, inl, inr, ℕ, ◌<◌, ◌≤◌, ◌-◌, List, [], ◌∷◌, length, Option, None, Some, Ok, refl, sym, ap, ◌∙◌, subst, subst₂, arith}
 use Rattle.std.specs.List.{AllByRecursion as Each}
-use Rattle.std.specs.Prelude.{IfSome, nat_lt, slice_get, slice_set}
+use Rattle.std.specs.Prelude.{IfSome, nat_lt, slice_get, slice_set, Ok, Err}
 use Rattle.std.proofs.lemmas.Bool.{cond_both}
 use Rattle.std.proofs.lemmas.List.{length-map}
 use Rattle.tw_atomic.specs.Atomic.{Meaning}
@@ -22,7 +22,7 @@ use Rattle.tw_process.specs.declared.refused.StepRefused.TheVariants.{OutOfMemor
 use Rattle.tw_theory.proofs.Elements.{each-append, each-antis, each_weaker, get_of_set}
 use Rattle.tw_theory.specs.Bundles.{antis, overdue}
 use Rattle.tw_theory.specs.Contents.{Aggressive, Cancel, Lazy, Process, back_to_first, next, settle, settled_as, steps_from}
-use Rattle.tw_theory.specs.Executive.{Action, Answer, Back, Post, Posted, Raise, Raised, Refused, Step, Stepped, Undone, act, column_of, least_of, posted}
+use Rattle.tw_theory.specs.Executive.{Action, Answer, Back, Post, Posted, Raise, Raised, Step, Stepped, Undone, act, column_of, least_of, posted}
 use Rattle.tw_theory.specs.Executive as theory
 use Rattle.tw_theory.specs.LocalRun as local
 use Rattle.tw_theory.specs.LocalRun.{local_step}
@@ -93,19 +93,19 @@ module _ {M S : Type 0} {meaning : M → Meaning S} {n : Contents M} {until end 
 
   -- ---- Step
 
-  pub late_step : (c : ℕ) (old : Held M S) → slice_get ps c ≡ Some old → end ≤ next old.process → act (network_of meaning n) until (shown ps mail columns gvt) (Step c) ≡ (Refused theory.NothingDue, shown ps mail columns gvt)
+  pub late_step : (c : ℕ) (old : Held M S) → slice_get ps c ≡ Some old → end ≤ next old.process → act (network_of meaning n) until (shown ps mail columns gvt) (Step c) ≡ (Err theory.NothingDue, shown ps mail columns gvt)
   late_step c old at late = step_late meaning n until gvt ps mail columns c old at (omega (arith, late, h.end_is))
 
   pub step_acted : (c : ℕ) (old new : Held M S) (s : ℕ) (kind : RecordKind) → slice_get ps c ≡ Some old → next old.process < end → IsStepped meaning old new s kind
-      → IsActed meaning n until end gvt gvt ps (slice_set ps c new) mail mail columns columns (Step c) (Stepped s kind)
+      → IsActed meaning n until end gvt gvt ps (slice_set ps c new) mail mail columns columns (Step c) (Ok (Stepped s kind))
   step_acted c old new s kind at early stepped =
       let o = h.own c old at in
-      acted_by gvt (slice_set ps c new) mail columns (Step c) (Stepped s kind)
+      acted_by gvt (slice_set ps c new) mail columns (Step c) (Ok (Stepped s kind))
       (step_acts meaning n until gvt ps mail columns c old new s kind at o (omega (arith, early, h.end_is)) stepped)
       (own_set c new (subst (IsOwn n c) (sym stepped.process) (record { network_is = o.network_is; component_is = o.component_is; floor_le = o.floor_le })))
 
   pub step_refused : (c : ℕ) (old : Held M S) (e : StepRefused) → slice_get ps c ≡ Some old → next old.process < end → IsStop meaning old e
-      → IfSome (reason (of_step e)) (λ why. (act (network_of meaning n) until (shown ps mail columns gvt) (Step c)).0 ≡ Refused why)
+      → IfSome (reason (of_step e)) (λ why. (act (network_of meaning n) until (shown ps mail columns gvt) (Step c)).0 ≡ Err why)
   step_refused c old OutOfMemory at early stop = tt
   step_refused c old Full at early stop = tt
   step_refused c old NothingDue at early stop = ap (λ x. x.0) (step_stops meaning n until gvt ps mail columns c old local.NothingDue at (h.own c old at) (omega (arith, early, h.end_is)) stop)
@@ -133,17 +133,17 @@ module _ {M S : Type 0} {meaning : M → Meaning S} {n : Contents M} {until end 
   cut_own c s old new new_is o = subst (IsOwn n c) (sym new_is) (record { network_is = o.network_is; component_is = o.component_is; floor_le = o.floor_le })
 
   pub back_acted : (c s : ℕ) (old new : Held M S) → slice_get ps c ≡ Some old → gvt ≤ s → new ≡ with_cut s old
-      → IsActed meaning n until end gvt gvt ps (slice_set ps c new) mail mail columns columns (Back c s) (Undone (steps_from s old.process))
+      → IsActed meaning n until end gvt gvt ps (slice_set ps c new) mail mail columns columns (Back c s) (Ok (Undone (steps_from s old.process)))
   back_acted c s old new at late new_is =
-      acted_by gvt (slice_set ps c new) mail columns (Back c s) (Undone (steps_from s old.process))
+      acted_by gvt (slice_set ps c new) mail columns (Back c s) (Ok (Undone (steps_from s old.process)))
       (back_acts meaning n until gvt ps mail columns c s old new at late new_is)
       (own_set c new (cut_own c s old new new_is (h.own c old at)))
 
   -- ---- Raise
 
-  pub raise_acted : (g : ℕ) → g ≡ least_of (shown ps mail columns gvt) → IsActed meaning n until end gvt g ps ps mail mail columns columns Raise (Raised g)
+  pub raise_acted : (g : ℕ) → g ≡ least_of (shown ps mail columns gvt) → IsActed meaning n until end gvt g ps ps mail mail columns columns Raise (Ok (Raised g))
   unfolding act
-  raise_acted g is = acted_by g ps mail columns Raise (Raised g) (ap (λ (k : ℕ). (Raised k, shown ps mail columns k)) (sym is)) h.own
+  raise_acted g is = acted_by g ps mail columns Raise (Ok (Raised g)) (ap (λ (k : ℕ). (Ok (Raised k), shown ps mail columns k)) (sym is)) h.own
 
   -- ---- Post
 
@@ -165,11 +165,11 @@ module _ {M S : Type 0} {meaning : M → Meaning S} {n : Contents M} {until end 
       each_weaker (λ (i : Item). Fits (network_of meaning n) i.message) (λ (i : Item). i.message.to < length mail) (λ i f. omega (arith, f.to, h.sound.mail)) (settle old.process).outgoing (fit_settled old.process.cancel old.process sound.fit_outgoing sound.fit_owed)
 
   pub post_acted : (c : ℕ) (old settled new : Held M S) (mail' : List (List Item)) → slice_get ps c ≡ Some old → settled ≡ with_settled old → new ≡ with_spare new.spare (with_posted settled) → mail' ≡ posted mail (settle old.process).outgoing
-      → IsActed meaning n until end gvt gvt ps (slice_set ps c new) mail mail' columns columns (Post c) (Posted (length (settle old.process).outgoing))
+      → IsActed meaning n until end gvt gvt ps (slice_set ps c new) mail mail' columns columns (Post c) (Ok (Posted (length (settle old.process).outgoing)))
   post_acted c old settled new mail' at settled_is new_is mail_is =
       let o = h.own c old at in
       let process : new ≡ with_spare new.spare (with_posted (with_settled old)) = new_is ∙ ap (λ x. with_spare new.spare (with_posted x)) settled_is in
-      acted_by gvt (slice_set ps c new) mail' columns (Post c) (Posted (length (settle old.process).outgoing))
+      acted_by gvt (slice_set ps c new) mail' columns (Post c) (Ok (Posted (length (settle old.process).outgoing)))
       (post_acts meaning n until gvt ps mail columns c old new mail' at (ap (λ (x : Held M S). x.process) process) mail_is)
       (own_set c new (subst (IsOwn n c) (sym process) (record { network_is = o.network_is; component_is = o.component_is; floor_le = floor_settled old.process.cancel old.process old.floor o.floor_le })))
     where

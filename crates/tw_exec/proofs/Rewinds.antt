@@ -1,7 +1,7 @@
 -- What a rewind answers and makes of the world, where the code has found out what is the case; and that the columns of an executive rise, all before global virtual time.
 use Rattle.std.proofs.Common.{◌≡◌, ◌≢◌, ℕ, zero, suc, ◌==◌, ◌+◌, ◌&&◌, ◌<◌, List, [], ◌∷◌, length, map, filter, not, Some, true, false, refl, sym, ap, ◌∙◌, subst, arith}
 use Rattle.std.specs.List.{AllByRecursion as Each}
-use Rattle.std.specs.Prelude.{nat_lt, slice_get}
+use Rattle.std.specs.Prelude.{nat_lt, slice_get, Ok, Err}
 use Rattle.std.proofs.lemmas.Bool.{and_parts, cond-true, cond-false, cond_both, eq-eqb, ne_eqb, ltb-true}
 use Rattle.std.proofs.lemmas.Option.{get_or_from_slice_get, none-some, same_Some, slice_get_within}
 use Rattle.tw_atomic.specs.Atomic.{Meaning}
@@ -19,21 +19,21 @@ use Rattle.tw_msgs.specs.declared.record.Record.{Record}
 use Rattle.tw_network.specs.Contents.{Contents, network_of}
 use Rattle.tw_process.specs.Process.{Held, with_cut}
 use Rattle.tw_theory.proofs.Elements.{each_weaker}
-use Rattle.tw_theory.specs.Executive.{Committed, NoSuch, Refused, Undone, World}
+use Rattle.tw_theory.specs.Executive.{Committed, NoSuch, Undone, World}
 use Rattle.tw_theory.specs.Marks.{any_committed, rewind, rewound, rewound_steps}
 use Rattle.tw_theory.specs.Simulator.{records_before, sequential, up_to}
 use Rattle.tw_theory.specs.Soundness.{IsSound}
 
 module _ {S : Type 0} (w : World S) (ss : List ℕ) where
-  pub wrong : length ss ≢ length w.processes → rewind w ss ≡ (Refused NoSuch, w)
+  pub wrong : length ss ≢ length w.processes → rewind w ss ≡ (Err NoSuch, w)
   unfolding rewind
   wrong other = cond-true (not (length ss == length w.processes)) _ _ (ap not (ne_eqb (length ss) (length w.processes) other))
 
-  pub since : length ss ≡ length w.processes → any_committed w.gvt ss w.processes w.columns ≡ true → rewind w ss ≡ (Refused Committed, w)
+  pub since : length ss ≡ length w.processes → any_committed w.gvt ss w.processes w.columns ≡ true → rewind w ss ≡ (Err Committed, w)
   unfolding rewind
   since same any = cond-false (not (length ss == length w.processes)) _ _ (ap not (eq-eqb (length ss) (length w.processes) same)) ∙ cond-true (any_committed w.gvt ss w.processes w.columns) _ _ any
 
-  pub taken : length ss ≡ length w.processes → any_committed w.gvt ss w.processes w.columns ≡ false → rewind w ss ≡ (Undone (rewound_steps ss w.processes), record w { processes = rewound ss w.processes })
+  pub taken : length ss ≡ length w.processes → any_committed w.gvt ss w.processes w.columns ≡ false → rewind w ss ≡ (Ok (Undone (rewound_steps ss w.processes)), record w { processes = rewound ss w.processes })
   unfolding rewind
   taken same none = cond-false (not (length ss == length w.processes)) _ _ (ap not (eq-eqb (length ss) (length w.processes) same)) ∙ cond-false (any_committed w.gvt ss w.processes w.columns) _ _ none
 
@@ -70,10 +70,10 @@ module _ {M S : Type 0} {meaning : M → Meaning S} {n : Contents M} {until end 
 
   -- processes that were cut at their marks, none of whose steps since then may be committed
   pub rewound_world : (ss : List ℕ) (qs : List (Held M S)) → length ss ≡ length ps → any_committed gvt ss (map (λ p. p.process) ps) columns ≡ false → qs ≡ at_marks ss ps
-      → rewind (shown ps mail columns gvt) ss ≡ (Undone (rewound_steps ss (map (λ p. p.process) ps)), shown qs mail columns gvt)
+      → rewind (shown ps mail columns gvt) ss ≡ (Ok (Undone (rewound_steps ss (map (λ p. p.process) ps))), shown qs mail columns gvt)
   rewound_world ss qs same none is =
       taken (shown ps mail columns gvt) ss (same ∙ sym (length-map ps (λ (p : Held M S). p.process))) none
-      ∙ ap (λ rs. (Undone (rewound_steps ss (map (λ p. p.process) ps)), record { processes = rs; mail = mail; columns = columns; gvt = gvt })) (sym (rewound_contents ss ps) ∙ ap (map (λ p. p.process)) (sym is))
+      ∙ ap (λ rs. (Ok (Undone (rewound_steps ss (map (λ p. p.process) ps))), record { processes = rs; mail = mail; columns = columns; gvt = gvt })) (sym (rewound_contents ss ps) ∙ ap (map (λ p. p.process)) (sym is))
 
   pub rewound_held : (ss : List ℕ) (qs : List (Held M S)) → length ss ≡ length ps → any_committed gvt ss (map (λ p. p.process) ps) columns ≡ false → qs ≡ at_marks ss ps → IsHeld meaning n until end gvt qs mail columns
   rewound_held ss qs same none is = record {

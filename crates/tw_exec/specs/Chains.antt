@@ -4,9 +4,8 @@ use Rattle.tw_atomic.specs.Atomic.{Meaning}
 use Rattle.tw_exec.specs.Running.{Running}
 use Rattle.tw_laws.specs.Chains.{steps_of_one}
 use Rattle.tw_network.specs.Contents.{Contents, network_of}
-use Rattle.tw_process.specs.Installing.{finished_of}
 use Rattle.tw_process.specs.Process.{start_of}
-use Rattle.tw_process.specs.declared.finished.Finished.{Finished}
+use Rattle.tw_actions.specs.declared.chain.Finished.{Finished}
 use Rattle.tw_theory.specs.Chains.{Chain, Start}
 use Rattle.tw_theory.specs.Contents.{Process}
 use Rattle.tw_theory.specs.Executive.{replay}
@@ -21,5 +20,5 @@ pub record IsInstalledOn {M S : Type 0} (meaning : M → Meaning S) (chain : Cha
   pub before : Process S
   pub after : Process S
   pub at : slice_get old.world.processes chain.run.start.component ≡ Some before
-  pub made : IsInstalled (network_of meaning old.network) chain.run chain.cause before after (finished_of finished)
+  pub made : IsInstalled (network_of meaning old.network) chain.run chain.cause before after finished
   pub steps : new ≡ record old { world = replay (network_of meaning old.network) old.until old.world (steps_of_one chain.run.start.component finished.installed) }

@@ -8,10 +8,10 @@
 --     IsWanting meaning action e why      where that is why, it would
 --     IsDelivery action      want of nodes is found before want of memory
 --     IsSoundly meaning e      what is true of every executive
-use Rattle.std.specs.Prelude.{ℕ, ◌≡◌, ◌≤◌, ◌↔◌, IfSome, IsErrOf, List, map, Result, Some, slice_get, ⊤}
+use Rattle.std.specs.Prelude.{ℕ, ◌≡◌, ◌≤◌, ◌↔◌, IfSome, IsErrOf, List, map, Result, Some, slice_get, ⊤, Err}
 use Rattle.tw_atomic.specs.Atomic.{Meaning}
 use Rattle.tw_exec.specs.Actions.{reason}
-use Rattle.tw_exec.specs.declared.action.Done.{Done}
+use Rattle.tw_actions.specs.declared.action.Done.{Done}
 use Rattle.tw_exec.specs.declared.refused.Refused.{Refused}
 use Rattle.tw_exec.specs.declared.refused.Refused.TheVariants.{OutOfMemory, Full, NothingDue, OverLimit, NoSuch, BeforeGvt, Committed}
 use Rattle.tw_msgs.specs.declared.message.Item.{Item}
@@ -20,7 +20,7 @@ use Rattle.tw_network.specs.Contents.{Contents, network_of}
 use Rattle.tw_process.specs.Process.{Held, IsNew}
 use Rattle.tw_theory.specs.Contents.{Cancel}
 use Rattle.tw_theory.specs.Executive as theory
-use Rattle.tw_theory.specs.Executive.{World, Action, Answer, Refused as refused_for, act}
+use Rattle.tw_theory.specs.Executive.{World, Action, Answer, act}
 use Rattle.tw_theory.specs.Memory.{WantsNodes}
 use Rattle.tw_theory.specs.Network.{IsNetwork}
 use Rattle.tw_theory.specs.Soundness.{IsSound, new_world}
@@ -46,13 +46,13 @@ after meaning action e = record e { world = (acted meaning action e).1 }
 
 -- where the theory knows this reason, it refuses the action for it
 abbrev pub IsReason : {M S : Type 0} → (M → Meaning S) → Action → Running M S → Refused → Type 0
-IsReason meaning action e why = IfSome (reason why) (λ r. answer meaning action e ≡ refused_for r)
+IsReason meaning action e why = IfSome (reason why) (λ r. answer meaning action e ≡ Err r)
 
 -- these three are found before memory or nodes can be wanting: each comes exactly where the theory refuses the action so
 pub record AreExact {M S : Type 0} (meaning : M → Meaning S) (action : Action) (e : Running M S) (result : Result Done Refused) : Type 0 where
-  pub no_such : answer meaning action e ≡ refused_for theory.NoSuch ↔ IsErrOf result NoSuch
-  pub before_gvt : answer meaning action e ≡ refused_for theory.BeforeGvt ↔ IsErrOf result BeforeGvt
-  pub nothing_due : answer meaning action e ≡ refused_for theory.NothingDue ↔ IsErrOf result NothingDue
+  pub no_such : answer meaning action e ≡ Err theory.NoSuch ↔ IsErrOf result NoSuch
+  pub before_gvt : answer meaning action e ≡ Err theory.BeforeGvt ↔ IsErrOf result BeforeGvt
+  pub nothing_due : answer meaning action e ≡ Err theory.NothingDue ↔ IsErrOf result NothingDue
 
 -- its process would hold more nodes than there may be
 abbrev pub WantsRoom : {M S : Type 0} → (M → Meaning S) → Action → Running M S → Type 0

@@ -1,7 +1,7 @@
 //! The actions.
 
 ghost use Rattle.std.specs.Prelude.{◌≡◌, ◌≢◌, ◌↔◌, ◌++◌, None, IfOk, IfErr, IsErrOf, OnOk, OnErr};
-ghost use Rattle.tw_exec.specs.Actions.{answered, meant, reason};
+ghost use Rattle.tw_exec.specs.Actions.{reason};
 ghost use Rattle.tw_exec.specs.Running.{answer, after, AreExact, IsDelivery, IsReason, IsWanting, WantsRoom};
 ghost use Rattle.tw_exec.specs.declared.refused.Refused.TheVariants as refused;
 ghost use Rattle.tw_theory.specs.Bundles.{antis, overdue};
@@ -9,10 +9,10 @@ ghost use Rattle.tw_theory.specs.Contents.{settle};
 ghost use Rattle.tw_theory.specs.Executive.{Back, Deliver, Harvest, Post, Raise, Step};
 ghost use Rattle.tw_theory.specs.Memory.{TakesMemory};
 
-use crate::action::{Action, Done};
 use crate::executive::Executive;
 use crate::refused::Refused;
-use std::alloc::{AllocError, Global};
+use std::alloc::AllocError;
+use tw_actions::{Action, Done};
 use tw_atomic::Atomic;
 use tw_fossils::harvest;
 use tw_gvt::least_of;
@@ -30,13 +30,13 @@ impl<M: Atomic> Executive<M> {
     /// come of Step in place of 2, 3 and 12, and never of Back and Raise, which take none. A refused action changes nothing: the
     /// item of a refused Deliver keeps its place.
     pub fn act(&mut self, action: Action) -> Result<Done, Refused>
-        ensures done { OnOk result (self.new ≡ after M.meaning (meant action) self.old) }
-        ensures answer { IfOk result (λ done. answer M.meaning (meant action) self.old ≡ answered done) }
-        ensures refused { IfErr result (IsReason M.meaning (meant action) self.old) }
-        ensures exact { AreExact M.meaning (meant action) self.old result }
-        ensures full { IfErr result (IsWanting M.meaning (meant action) self.old) }
-        ensures limit { IsDelivery (meant action) → (WantsRoom M.meaning (meant action) self.old ↔ IsErrOf result refused.Full) }
-        ensures memory { IfErr result (λ why. reason why ≡ None → TakesMemory (meant action)) }
+        ensures done { OnOk result (self.new ≡ after M.meaning action self.old) }
+        ensures answer { IfOk result (λ done. answer M.meaning action self.old ≡ Ok done) }
+        ensures refused { IfErr result (IsReason M.meaning action self.old) }
+        ensures exact { AreExact M.meaning action self.old result }
+        ensures full { IfErr result (IsWanting M.meaning action self.old) }
+        ensures limit { IsDelivery action → (WantsRoom M.meaning action self.old ↔ IsErrOf result refused.Full) }
+        ensures memory { IfErr result (λ why. reason why ≡ None → TakesMemory action) }
         ensures stays { OnErr result (self.new ≡ self.old) }
     {
         match action {
@@ -52,7 +52,7 @@ impl<M: Atomic> Executive<M> {
     // The next step of a component is made.
     fn step(&mut self, component: usize) -> Result<Done, Refused>
         ensures done { OnOk result (self.new ≡ after M.meaning (Step component) self.old) }
-        ensures answer { IfOk result (λ done. answer M.meaning (Step component) self.old ≡ answered done) }
+        ensures answer { IfOk result (λ done. answer M.meaning (Step component) self.old ≡ Ok done) }
         ensures refused { IfErr result (IsReason M.meaning (Step component) self.old) }
         ensures exact { AreExact M.meaning (Step component) self.old result }
         ensures full { IfErr result (IsWanting M.meaning (Step component) self.old) }
@@ -65,14 +65,14 @@ impl<M: Atomic> Executive<M> {
         if process.next() >= self.end {
             return Err(Refused::NothingDue);
         }
-        let (stamp, kind) = process.step(self.alloc)?;
+        let (stamp, kind) = process.step()?;
         Ok(Done::Stepped(stamp, kind))
     }
 
     // What a component sends goes to the mailboxes.
     fn post(&mut self, component: usize) -> Result<Done, Refused>
         ensures done { OnOk result (self.new ≡ after M.meaning (Post component) self.old) }
-        ensures answer { IfOk result (λ done. answer M.meaning (Post component) self.old ≡ answered done) }
+        ensures answer { IfOk result (λ done. answer M.meaning (Post component) self.old ≡ Ok done) }
         ensures refused { IfErr result (IsReason M.meaning (Post component) self.old) }
         ensures exact { AreExact M.meaning (Post component) self.old result }
         ensures full { IfErr result (IsWanting M.meaning (Post component) self.old) }
@@ -82,7 +82,7 @@ impl<M: Atomic> Executive<M> {
             return Err(Refused::NoSuch);
         }
         let process = &mut self.processes[component];
-        let items = to_post(self.alloc, process)?;
+        let items = to_post(process)?;
         self.mail.post(items.as_slice())?;
         process.settle();
         process.clear_outgoing();
@@ -92,7 +92,7 @@ impl<M: Atomic> Executive<M> {
     // A component receives an item of its mailbox; a refused one goes back to its place.
     fn deliver(&mut self, receiver: usize, place: usize) -> Result<Done, Refused>
         ensures done { OnOk result (self.new ≡ after M.meaning (Deliver receiver place) self.old) }
-        ensures answer { IfOk result (λ done. answer M.meaning (Deliver receiver place) self.old ≡ answered done) }
+        ensures answer { IfOk result (λ done. answer M.meaning (Deliver receiver place) self.old ≡ Ok done) }
         ensures refused { IfErr result (IsReason M.meaning (Deliver receiver place) self.old) }
         ensures exact { AreExact M.meaning (Deliver receiver place) self.old result }
         ensures full { IfErr result (IsWanting M.meaning (Deliver receiver place) self.old) }
@@ -107,7 +107,7 @@ impl<M: Atomic> Executive<M> {
             return Err(Refused::NoSuch);
         };
         match receive(&mut self.processes[receiver], item) {
-            Ok(came) => Ok(Done::Delivered(came)),
+            Ok(came) => Ok(Done::Received(came)),
             Err((item, refused)) => {
                 self.mail.put_back(receiver, place, item);
                 Err(refused.into())
@@ -118,7 +118,7 @@ impl<M: Atomic> Executive<M> {
     // The steps of a component at or after a stamp are taken back.
     fn back(&mut self, component: usize, stamp: Stamp) -> Result<Done, Refused>
         ensures done { OnOk result (self.new ≡ after M.meaning (Back component stamp) self.old) }
-        ensures answer { IfOk result (λ done. answer M.meaning (Back component stamp) self.old ≡ answered done) }
+        ensures answer { IfOk result (λ done. answer M.meaning (Back component stamp) self.old ≡ Ok done) }
         ensures refused { IfErr result (IsReason M.meaning (Back component stamp) self.old) }
         ensures exact { AreExact M.meaning (Back component stamp) self.old result }
         ensures full { IfErr result (IsWanting M.meaning (Back component stamp) self.old) }
@@ -138,7 +138,7 @@ impl<M: Atomic> Executive<M> {
     // Global virtual time rises.
     fn raise(&mut self) -> Done
         ensures done { self.new ≡ after M.meaning Raise self.old }
-        ensures answer { answer M.meaning Raise self.old ≡ answered result }
+        ensures answer { answer M.meaning Raise self.old ≡ Ok result }
     {
         let gvt = least_of(self.processes.as_slice(), &self.mail);
         self.gvt = gvt;
@@ -148,7 +148,7 @@ impl<M: Atomic> Executive<M> {
     // The records of a component from before global virtual time go to its column.
     fn harvest(&mut self, component: usize) -> Result<Done, Refused>
         ensures done { OnOk result (self.new ≡ after M.meaning (Harvest component) self.old) }
-        ensures answer { IfOk result (λ done. answer M.meaning (Harvest component) self.old ≡ answered done) }
+        ensures answer { IfOk result (λ done. answer M.meaning (Harvest component) self.old ≡ Ok done) }
         ensures refused { IfErr result (IsReason M.meaning (Harvest component) self.old) }
         ensures exact { AreExact M.meaning (Harvest component) self.old result }
         ensures full { IfErr result (IsWanting M.meaning (Harvest component) self.old) }
@@ -169,14 +169,14 @@ impl<M: Atomic> Executive<M> {
 }
 
 // What a post moves: the outgoing items, and the anti-messages of what is owed from before the next step.
-fn to_post<M: Atomic>(alloc: Global, process: &Process<M>) -> Result<Vec<Item>, AllocError>
+fn to_post<M: Atomic>(process: &Process<M>) -> Result<Vec<Item>, AllocError>
     ensures { IfOk result (λ items. items.items ≡ (settle process.now.process).outgoing) }
 {
-    let mut items = process.outgoing(alloc)?;
+    let mut items = process.outgoing()?;
     match process.cancel() {
         Cancel::Aggressive => Ok(items),
         Cancel::Lazy => {
-            let owed = process.owed(alloc)?;
+            let owed = process.owed()?;
             push_overdue(&mut items, owed.as_slice(), process.next())?;
             Ok(items)
         }

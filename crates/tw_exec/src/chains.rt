@@ -1,6 +1,7 @@
 //! Chains: worked out apart from the executive, and installed.
 
 ghost use Rattle.std.specs.Prelude.{◌≡◌, ◌↔◌, ◌≤◌, Err, Some, IfErr, IfOk, IfSome, OnErr, length, slice_get};
+ghost use Rattle.tw_atomic.specs.Atomic.{AreAlike};
 ghost use Rattle.tw_exec.specs.Chains.{start_at, IsInstalledOn};
 ghost use Rattle.tw_exec.specs.declared.refused.Refused.TheVariants.{NoSuch};
 ghost use Rattle.tw_theory.specs.Standing.{IsReady};
@@ -33,7 +34,7 @@ impl<M: Atomic> Executive<M> {
         if component >= self.processes.len() {
             return Err(Refused::NoSuch);
         }
-        Ok(self.processes[component].start(self.alloc, before, burst)?)
+        Ok(self.processes[component].start(before, burst)?)
     }
 
     /// Installs a chain of a component: makes the steps of it that are the component's own next ones, as so many Step actions
@@ -44,7 +45,7 @@ impl<M: Atomic> Executive<M> {
         requires component { chain.run.start.component ≡ component }
         requires limit { chain.run.start.micro_limit ≡ self.old.network.micro_limit }
         requires bound { chain.run.start.before ≤ stamp self.old.until 0 0 }
-        requires meaning { (m : M) → slice_get self.old.network.models component ≡ Some m → M.meaning m ≡ M.meaning chain.model }
+        requires alike { (m : M) → slice_get self.old.network.models component ≡ Some m → AreAlike M.meaning M.undone m chain.model }
         ensures installed { IfOk result (IsInstalledOn M.meaning chain self.old self.new) }
         ensures no_such { result ≡ Err NoSuch ↔ length self.old.network.models ≤ component }
         ensures only { IfErr result (λ why. why ≡ NoSuch) }
@@ -55,6 +56,6 @@ impl<M: Atomic> Executive<M> {
         }
         chain.facts();
         let process = &mut self.processes[component];
-        Ok(process.install(self.alloc, chain))
+        Ok(process.install(chain))
     }
 }

@@ -5,7 +5,6 @@ ghost use Rattle.std.specs.Arc.{arc_value};
 ghost use Rattle.tw_exec.specs.Running.{start, AreNew, IsSoundly};
 ghost use Rattle.tw_exec.specs.declared.refused.StartRefused.TheVariants as refused;
 ghost use Rattle.tw_msgs.specs.Counting.{total};
-ghost use Rattle.tw_lists.specs.Ways.{way_of};
 ghost use Rattle.tw_network.specs.Contents.{network_of};
 ghost use Rattle.tw_theory.specs.Contents.{Aggressive};
 ghost use Rattle.tw_theory.specs.Executive.{column_of, mail_of};
@@ -79,7 +78,7 @@ impl<M: Atomic> Executive<M> {
         until: u64,
         cancel: Cancel,
     ) -> Result<Self, StartRefused>
-        ensures start { IfOk result (λ e. e ≡ start M.meaning network (way_of cancel) until) }
+        ensures start { IfOk result (λ e. e ≡ start M.meaning network cancel until) }
         ensures bad_tick { IsErrOf result refused.BadTick ↔ (max_tick < until) }
     {
         let Ok(end) = Stamp::new(until, 0, 0) else {
@@ -189,7 +188,7 @@ fn processes_of<M: Atomic>(
     cancel: Cancel,
 ) -> Result<Vec<Process<M>>, StartRefused>
     requires { count ≡ length (arc_value network.now).models }
-    ensures made { IfOk result (λ made. AreNew M.meaning (arc_value network.now) (way_of cancel) made.items) }
+    ensures made { IfOk result (λ made. AreNew M.meaning (arc_value network.now) cancel made.items) }
     ensures count { IfOk result (λ made. length made.items ≡ count) }
     ensures no_tick { IfErr result (λ why. why ≢ refused.BadTick) }
 {

@@ -18,7 +18,6 @@
 #![tactic(auto)]
 
 mod acting;
-mod action;
 mod chains;
 mod executive;
 mod laws;
@@ -26,7 +25,7 @@ mod marking;
 mod refused;
 mod traces;
 
-pub use action::{Action, Done};
 pub use executive::Executive;
 pub use marking::Mark;
 pub use refused::{Refused, StartRefused};
+pub use tw_actions::{Action, Done};

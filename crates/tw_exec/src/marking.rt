@@ -1,21 +1,21 @@
 //! Marks, rewinding to them, and lists of actions.
 
-ghost use Rattle.std.specs.Prelude.{◌≡◌, ◌≢◌, ◌<◌, ◌||◌, min, None, IfOk, IfErr, IfSome, OnOk, OnErr, length, map};
+ghost use Rattle.std.specs.Prelude.{◌≡◌, ◌≢◌, ◌<◌, ◌||◌, min, None, IfOk, IfErr, IfSome, OnOk, OnErr, length, map, Ok, Err};
 ghost use Rattle.std.specs.List.{AllByRecursion as Each};
-ghost use Rattle.tw_exec.specs.Actions.{meant, reason};
+ghost use Rattle.tw_exec.specs.Actions.{reason};
 ghost use Rattle.tw_exec.specs.Rewinding.{at_marks, greatest_count};
 ghost use Rattle.tw_fossils.specs.Columns.{IsRising};
 ghost use Rattle.tw_network.specs.Contents.{network_of};
 ghost use Rattle.tw_theory.specs.Contents.{records_of};
-ghost use Rattle.tw_theory.specs.Executive.{Undone, Refused as refused_for};
+ghost use Rattle.tw_theory.specs.Executive.{Undone};
 ghost use Rattle.tw_theory.specs.Marks.{any_between, any_committed, marks, rewind, rewound_steps};
 ghost use Rattle.tw_theory.specs.Memory.{IsReplayed};
 
-use crate::action::Action;
 use crate::executive::Executive;
 use crate::refused::Refused;
 use std::alloc::AllocError;
 use std::marker::Model;
+use tw_actions::Action;
 use tw_atomic::Atomic;
 use tw_fossils::Column;
 use tw_process::Process;
@@ -57,9 +57,9 @@ impl<M: Atomic> Executive<M> {
     /// has one before global virtual time (13). Then nothing changes. A count above 18,446,744,073,709,551,615 is answered as
     /// that number.
     pub fn rewind(&mut self, mark: &Mark) -> Result<u64, Refused>
-        ensures done { OnOk result (rewind self.old.world mark.now ≡ (Undone (rewound_steps mark.now self.old.world.processes), self.new.world)) }
+        ensures done { OnOk result (rewind self.old.world mark.now ≡ (Ok (Undone (rewound_steps mark.now self.old.world.processes)), self.new.world)) }
         ensures count { IfOk result (λ n. n ≡ min (rewound_steps mark.now self.old.world.processes) greatest_count) }
-        ensures refused { IfErr result (λ why. IfSome (reason why) (λ r. (rewind self.old.world mark.now).0 ≡ refused_for r)) }
+        ensures refused { IfErr result (λ why. IfSome (reason why) (λ r. (rewind self.old.world mark.now).0 ≡ Err r)) }
         ensures known { IfErr result (λ why. reason why ≢ None) }
         ensures others { self.new ≡ record self.old { world = self.new.world } }
         ensures stays { OnErr result (self.new ≡ self.old) }
@@ -81,7 +81,7 @@ impl<M: Atomic> Executive<M> {
 
     /// Takes each action in turn, and answers how many were not refused. A refused one changes nothing.
     pub fn replay(&mut self, actions: &[Action]) -> u64
-        ensures replayed { IsReplayed (network_of M.meaning self.old.network) self.old.until self.old.world (map meant actions.now) result self.new.world }
+        ensures replayed { IsReplayed (network_of M.meaning self.old.network) self.old.until self.old.world actions.now result self.new.world }
         ensures others { self.new ≡ record self.old { world = self.new.world } }
     {
         let mut taken = 0;

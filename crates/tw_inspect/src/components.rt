@@ -3,7 +3,6 @@
 
 ghost use Rattle.std.specs.Prelude.{◌≡◌, ◌++◌, IfOk, OnOk, string_bytes};
 ghost use Rattle.tw_inspect.specs.Reports.{component_line, counts_part, owed_part, seen, stamps_part, words_part};
-ghost use Rattle.tw_lists.specs.Ways.{way_of};
 
 use std::alloc::{AllocError, Global};
 use tw_atomic::Atomic;
@@ -76,7 +75,7 @@ fn add_words(text: &mut String, mail: usize, words: &[i128]) -> Result<(), Alloc
 
 // How many messages are owed, where steps are cancelled lazily.
 fn add_owed_count(text: &mut String, cancel: Cancel, count: usize) -> Result<(), AllocError>
-    ensures { OnOk result (string_bytes text.new ≡ string_bytes text.old ++ owed_part (way_of cancel) count) }
+    ensures { OnOk result (string_bytes text.new ≡ string_bytes text.old ++ owed_part cancel count) }
 {
     match cancel {
         Cancel::Aggressive => Ok(()),

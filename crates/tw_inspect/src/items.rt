@@ -3,7 +3,6 @@
 
 ghost use Rattle.std.specs.Prelude.{◌≡◌, ◌++◌, OnOk, codes, flat_map, string_bytes};
 ghost use Rattle.tw_inspect.specs.Reports.{mail_line, name_at, outgoing_line, owed_line, owed_lines, pending_line, waiting_line};
-ghost use Rattle.tw_lists.specs.Ways.{way_of};
 ghost use Rattle.tw_texts.specs.Items.{message_text, sign_text};
 
 use std::alloc::AllocError;
@@ -55,7 +54,7 @@ pub(crate) fn add_owed<M: Atomic>(
     cancel: Cancel,
     messages: &[Message],
 ) -> Result<(), AllocError>
-    ensures { OnOk result (string_bytes text.new ≡ string_bytes text.old ++ owed_lines network.now.names (way_of cancel) messages.now) }
+    ensures { OnOk result (string_bytes text.new ≡ string_bytes text.old ++ owed_lines network.now.names cancel messages.now) }
 {
     match cancel {
         Cancel::Aggressive => Ok(()),

@@ -1,14 +1,12 @@
 //! Replies to the lines of a script.
 
-ghost use Rattle.std.specs.Prelude.{◌≡◌, ◌++◌, OnOk, OnErr, Some, codes, string_bytes};
-ghost use Rattle.tw_exec.specs.Actions.{answered, reason};
-ghost use Rattle.tw_inspect.specs.Replies.{answer_text, received_text, reply_text, replied};
-ghost use Rattle.tw_rollback.specs.Received.{meant};
-ghost use Rattle.tw_theory.specs.Executive as theory;
+ghost use Rattle.std.specs.Prelude.{◌≡◌, ◌++◌, OnOk, OnErr, Ok, Err, Some, codes, string_bytes};
+ghost use Rattle.tw_exec.specs.Actions.{reason};
+ghost use Rattle.tw_inspect.specs.Replies.{answer_text, done_text, received_text, reply_text, replied};
 
 use std::alloc::AllocError;
-use tw_exec::{Done, Refused};
-use tw_rollback::Received;
+use tw_actions::{Done, Received};
+use tw_exec::Refused;
 use tw_texts::kind_name;
 use tw_vtime::Refusal;
 
@@ -35,7 +33,7 @@ impl From<Result<Done, Refused>> for Reply {
 }
 
 fn add_received(text: &mut String, came: Received) -> Result<(), AllocError>
-    ensures { OnOk result (string_bytes text.new ≡ string_bytes text.old ++ received_text (meant came)) }
+    ensures { OnOk result (string_bytes text.new ≡ string_bytes text.old ++ received_text came) }
 {
     match came {
         Received::Placed => text.push_str("placed"),
@@ -46,7 +44,7 @@ fn add_received(text: &mut String, came: Received) -> Result<(), AllocError>
 }
 
 fn add_done(text: &mut String, done: Done) -> Result<(), AllocError>
-    ensures { OnOk result (string_bytes text.new ≡ string_bytes text.old ++ answer_text (answered done)) }
+    ensures { OnOk result (string_bytes text.new ≡ string_bytes text.old ++ done_text done) }
 {
     match done {
         Done::Stepped(stamp, kind) => {
@@ -54,7 +52,7 @@ fn add_done(text: &mut String, done: Done) -> Result<(), AllocError>
             write!(text, "stepped {stamp} {kind}")
         }
         Done::Posted(count) => write!(text, "posted {count}"),
-        Done::Delivered(came) => add_received(text, came),
+        Done::Received(came) => add_received(text, came),
         Done::Undone(count) => write!(text, "undone {count}"),
         Done::Raised(gvt) => write!(text, "raised {gvt}"),
         Done::Harvested(count) => write!(text, "harvested {count}"),
@@ -94,6 +92,6 @@ pub fn push_reply(text: &mut String, reply: Reply) -> Result<(), AllocError>
 /// A reply is the line of what the theory answers to the action, where the theory has an answer: of a
 /// refusal for want of memory or of nodes (4, 12) it knows nothing. The call does nothing.
 pub fn replies_law()
-    ensures done { (done : _) → reply_text (Reply.Done done) ≡ answer_text (answered done) ++ codes "\n" }
-    ensures refused { (why : _) (known : _) → reason why ≡ Some known → reply_text (Reply.Refused why) ≡ answer_text (theory.Refused known) ++ codes "\n" }
+    ensures done { (done : _) → reply_text (Reply.Done done) ≡ answer_text (Ok done) ++ codes "\n" }
+    ensures refused { (why : _) (known : _) → reason why ≡ Some known → reply_text (Reply.Refused why) ≡ answer_text (Err known) ++ codes "\n" }
 {}

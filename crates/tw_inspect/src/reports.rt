@@ -64,7 +64,7 @@ pub fn describe<M: Atomic>(
         process,
         mail,
     )?;
-    add_messages(alloc, &mut text, network, process, mail)?;
+    add_messages(&mut text, network, process, mail)?;
     Ok(text)
 }
 
@@ -110,7 +110,6 @@ fn add_line<M: Atomic>(
 
 // The lines of the messages of a process and of its mailbox.
 fn add_messages<M: Atomic>(
-    alloc: Global,
     text: &mut String,
     network: &Network<M>,
     process: &Process<M>,
@@ -119,10 +118,10 @@ fn add_messages<M: Atomic>(
     requires { Sorted process.now.process.pending }
     ensures { OnOk result (string_bytes text.new ≡ string_bytes text.old ++ messages_part network.now.names process.now.process mail.now) }
 {
-    let pending = process.pending(alloc)?;
-    let waiting = process.waiting(alloc)?;
-    let outgoing = process.outgoing(alloc)?;
-    let owed = process.owed(alloc)?;
+    let pending = process.pending()?;
+    let waiting = process.waiting()?;
+    let outgoing = process.outgoing()?;
+    let owed = process.owed()?;
     add_pending(text, pending.as_slice())?;
     add_waiting(text, waiting.as_slice())?;
     add_outgoing(text, network, outgoing.as_slice())?;

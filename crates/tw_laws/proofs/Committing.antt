@@ -1,11 +1,11 @@
 -- When a rewind is refused.
 use Rattle.std.proofs.Common.{◌≡◌, ℕ, zero, suc, ◌≤◌, ◌<◌, List, [], ◌∷◌, ◌++◌, length, Bool, true, false, cond, not, ◌&&◌, ◌||◌, true≢false, Some, refl, sym, ap, ◌∙◌, subst, arith, ⊎_elim}
-use Rattle.std.specs.Prelude.{slice_get, ◌==◌, ◌≢◌, nat_lt, nat_le}
+use Rattle.std.specs.Prelude.{slice_get, ◌==◌, ◌≢◌, nat_lt, nat_le, Ok, Err}
 use Rattle.std.proofs.lemmas.Bool.{and_parts, or_cases, or_left, or_right, leb-true, le-leb, ltb-true, lt-ltb, eq-eqb, ne_eqb, cases_Bool}
 use Rattle.std.proofs.lemmas.Option.{same_Some, none-some}
 use Rattle.tw_msgs.specs.declared.record.Record.{Record}
 use Rattle.tw_theory.specs.Contents.{Process, records_of}
-use Rattle.tw_theory.specs.Executive.{World, Answer, Undone, Refused, NoSuch, Committed, column_of}
+use Rattle.tw_theory.specs.Executive.{World, Answer, Undone, NoSuch, Committed, column_of}
 use Rattle.tw_theory.specs.Marks.{any_between, any_committed, rewound, rewound_steps, rewind}
 use Rattle.tw_laws.specs.Rewinding.{IsCommittedSince, RewindAnswers, RewindAnswersLaw}
 
@@ -92,7 +92,7 @@ module _ {S : Type 0} (w : World S) (ss : List ℕ) (n : length w.columns ≡ le
 
   -- what it gives, and its answer, by the two tests
   abbrev outcome : Bool → Bool → Answer × World S
-  outcome same committed = cond (not same) (Refused NoSuch, w) (cond committed (Refused Committed, w) (Undone (rewound_steps ss w.processes), record w { processes = rewound ss w.processes }))
+  outcome same committed = cond (not same) (Err NoSuch, w) (cond committed (Err Committed, w) (Ok (Undone (rewound_steps ss w.processes)), record w { processes = rewound ss w.processes }))
 
   abbrev answer : Bool → Bool → Answer
   answer same committed = (outcome same committed).0
@@ -101,17 +101,17 @@ module _ {S : Type 0} (w : World S) (ss : List ℕ) (n : length w.columns ≡ le
   unfolding rewind
   answer_is same committed e f = λ i. answer (e i) (f i)
 
-  wrong_answer : length ss ≢ length w.processes → (rewind w ss).0 ≡ Refused NoSuch
+  wrong_answer : length ss ≢ length w.processes → (rewind w ss).0 ≡ Err NoSuch
   wrong_answer ne = answer_is false (any_committed w.gvt ss w.processes w.columns) (ne_eqb (length ss) (length w.processes) ne) refl
 
   right : (committed : Bool) → length ss ≡ length w.processes → any_committed w.gvt ss w.processes w.columns ≡ committed → (rewind w ss).0 ≡ answer true committed
   right committed e f = answer_is true committed (eq-eqb (length ss) (length w.processes) e) f
 
-  never_wrong : (committed : Bool) → answer true committed ≡ Refused NoSuch → ⊥
-  never_wrong true e = let bad : Refused Committed ≡ Refused NoSuch = e in cc
-  never_wrong false e = let bad : Undone (rewound_steps ss w.processes) ≡ Refused NoSuch = e in cc
+  never_wrong : (committed : Bool) → answer true committed ≡ Err NoSuch → ⊥
+  never_wrong true e = let bad : Err Committed ≡ Err NoSuch = e in cc
+  never_wrong false e = let bad : Ok (Undone (rewound_steps ss w.processes)) ≡ Err NoSuch = e in cc
 
-  never_refused : Undone (rewound_steps ss w.processes) ≡ Refused Committed → ⊥
+  never_refused : Ok (Undone (rewound_steps ss w.processes)) ≡ Err Committed → ⊥
   never_refused bad = cc
 
   pub rewind_answer : RewindAnswers w ss

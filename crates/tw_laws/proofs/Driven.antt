@@ -1,6 +1,6 @@
 -- Sweeps and outcomes on concrete networks.
 use Rattle.std.proofs.Common.{◌≡◌, ℕ, zero, suc, ◌<◌, ◌≤◌, ◌⊎◌, inl, inr, List, [], ◌∷◌, ◌++◌, true, false, true≢false, Some, refl, sym, ap, ◌∙◌, subst, arith, ⊎_elim}
-use Rattle.std.specs.Prelude.{slice_get, ◌≢◌, ◌==◌}
+use Rattle.std.specs.Prelude.{slice_get, ◌≢◌, ◌==◌, Ok}
 use Rattle.std.specs.List.{AllByRecursion as Each}
 use Rattle.std.proofs.lemmas.Option.{same_Some, none-some}
 use Rattle.std.proofs.lemmas.Bool.{cond-false, ne_eqb, cases_lt}
@@ -11,7 +11,7 @@ use Rattle.tw_theory.specs.Contents.{Process, Cancel, Aggressive, Lazy, Placed, 
 use Rattle.tw_theory.specs.ExampleModels.{State}
 use Rattle.tw_theory.specs.ExampleNetworks.{three, gen_tally, lone}
 use Rattle.tw_theory.specs.Exchange.{sweep, MayDraw, IsDrawn}
-use Rattle.tw_theory.specs.Executive.{World, Action, Step, Deliver, Posted, Delivered, Raised, Harvested, act, replay, answers, column_of}
+use Rattle.tw_theory.specs.Executive.{World, Action, Step, Deliver, Posted, Received, Raised, Harvested, act, replay, answers, column_of}
 use Rattle.tw_theory.specs.LocalRun.{step_at, local_step}
 use Rattle.tw_theory.specs.Network.{Network, IsNetwork}
 use Rattle.tw_theory.specs.Outcomes.{RunState, state, Complete, Fault, Going, IsOutcome}
@@ -46,8 +46,8 @@ unfolding act local_step step_at output moved transition back_to_first
 two_passes = refl
 
 aggressive_answers : answers three 10 (ahead Aggressive) (sweep three 10 (ahead Aggressive))
-    ≡ Posted 1 ∷ Posted 1 ∷ Posted 0 ∷ Delivered (Straggler 3) ∷ Delivered Placed ∷ Posted 0 ∷ Posted 1 ∷ Posted 0 ∷ Delivered (Annihilated 0)
-    ∷ Raised (stamp 2 0 1) ∷ Harvested 1 ∷ Harvested 0 ∷ Harvested 0 ∷ []
+    ≡ Ok (Posted 1) ∷ Ok (Posted 1) ∷ Ok (Posted 0) ∷ Ok (Received (Straggler 3)) ∷ Ok (Received Placed) ∷ Ok (Posted 0) ∷ Ok (Posted 1) ∷ Ok (Posted 0) ∷ Ok (Received (Annihilated 0))
+    ∷ Ok (Raised (stamp 2 0 1)) ∷ Ok (Harvested 1) ∷ Ok (Harvested 0) ∷ Ok (Harvested 0) ∷ []
 unfolding act local_step step_at output moved transition back_to_first
 aggressive_answers = refl
 

@@ -1,13 +1,13 @@
 -- What is committed stays, and a refused action changes nothing.
 use Rattle.std.proofs.Common.{◌≡◌, ℕ, zero, suc, ◌≤◌, List, [], ◌∷◌, ◌++◌, length, not, Option, Some, None, Result, Ok, Err, refl, sym, ap, ◌∙◌, arith, append_assoc, append-nil, length-append}
-use Rattle.std.specs.Prelude.{slice_get, slice_set, nat_lt, ◌==◌}
+use Rattle.std.specs.Prelude.{slice_get, slice_set, nat_lt, ◌==◌, Ok, Err}
 use Rattle.std.proofs.lemmas.Bool.{cond_both}
 use Rattle.tw_msgs.specs.Counting.{total}
 use Rattle.tw_msgs.specs.declared.message.Item.{Item}
 use Rattle.tw_msgs.specs.declared.record.Record.{Record}
 use Rattle.tw_vtime.specs.Stamps.{stamp}
 use Rattle.tw_theory.specs.Contents.{Process, next, steps_from, receive, settle}
-use Rattle.tw_theory.specs.Executive.{World, Action, Post, Deliver, Back, Raise, Harvest, Answer, Stepped, Posted, Delivered, Undone, Raised, Harvested, Refusal, Refused, act, replay, act_step, act_post, act_deliver, act_back, act_harvest, if_made, mail_of, column_of}
+use Rattle.tw_theory.specs.Executive.{World, Action, Post, Deliver, Back, Raise, Harvest, Answer, Stepped, Posted, Received, Undone, Raised, Harvested, Refusal, act, replay, act_step, act_post, act_deliver, act_back, act_harvest, if_made, mail_of, column_of}
 use Rattle.tw_theory.specs.LocalRun.{Made, NoStep, local_step}
 use Rattle.tw_theory.specs.Marks.{rewind, any_committed}
 use Rattle.tw_theory.specs.Network.{Network}
@@ -96,10 +96,10 @@ rewind_leaves {S} w ss =
 
 module _ {S : Type 0} (net : Network S) (until : ℕ) (w : World S) (why : Refusal) where
   abbrev Left : Answer × World S → Type 0
-  Left r = r.0 ≡ Refused why → r.1 ≡ w
+  Left r = r.0 ≡ Err why → r.1 ≡ w
 
   made_left : (c : ℕ) (p : Process S) (r : Result (Made S) NoStep) → Left (if_made w c p r)
-  made_left c p (Ok made) e = absurd (let bad : Stepped made.step.entry.stamp made.step.entry.kind ≡ Refused why = e in cc)
+  made_left c p (Ok made) e = absurd (let bad : Ok (Stepped made.step.entry.stamp made.step.entry.kind) ≡ Err why = e in cc)
   made_left c p (Err reason) e = refl
 
   step_left : (c : ℕ) (o : Option (Process S)) → Left (act_step net until w c o)
@@ -108,22 +108,22 @@ module _ {S : Type 0} (net : Network S) (until : ℕ) (w : World S) (why : Refus
 
   post_left : (c : ℕ) (o : Option (Process S)) → Left (act_post w c o)
   post_left c None e = refl
-  post_left c (Some p) e = absurd (let bad : Posted (length (settle p).outgoing) ≡ Refused why = e in cc)
+  post_left c (Some p) e = absurd (let bad : Ok (Posted (length (settle p).outgoing)) ≡ Err why = e in cc)
 
   deliver_left : (c i : ℕ) (o : Option (Process S)) (x : Option Item) → Left (act_deliver w c i o x)
   deliver_left c i None x e = refl
   deliver_left c i (Some p) None e = refl
-  deliver_left c i (Some p) (Some x) e = absurd (let bad : Delivered (receive p x).0 ≡ Refused why = e in cc)
+  deliver_left c i (Some p) (Some x) e = absurd (let bad : Ok (Received (receive p x).0) ≡ Err why = e in cc)
 
   back_left : (c s : ℕ) (o : Option (Process S)) → Left (act_back w c s o)
   back_left c s None e = refl
-  back_left c s (Some p) e = cond_both (nat_lt s w.gvt) _ _ Left (λ t k. refl) (λ t k. absurd (let bad : Undone (steps_from s p) ≡ Refused why = k in cc)) e
+  back_left c s (Some p) e = cond_both (nat_lt s w.gvt) _ _ Left (λ t k. refl) (λ t k. absurd (let bad : Ok (Undone (steps_from s p)) ≡ Err why = k in cc)) e
 
   harvest_left : (c : ℕ) (o : Option (Process S)) → Left (act_harvest w c o)
   harvest_left c None e = refl
   harvest_left c (Some p) e = absurd (never_refused _ e)
     where
-      never_refused : (n : ℕ) → Harvested n ≡ Refused why → ⊥
+      never_refused : (n : ℕ) → Ok (Harvested n) ≡ Err why → ⊥
       never_refused n bad = cc
 
   act_left : (action : Action) → Left (act net until w action)
@@ -134,17 +134,17 @@ module _ {S : Type 0} (net : Network S) (until : ℕ) (w : World S) (why : Refus
   act_left (Back c s) e = back_left c s (slice_get w.processes c) e
   act_left Raise e = absurd (never_refused _ e)
     where
-      never_refused : (n : ℕ) → Raised n ≡ Refused why → ⊥
+      never_refused : (n : ℕ) → Ok (Raised n) ≡ Err why → ⊥
       never_refused n bad = cc
   act_left (Harvest c) e = harvest_left c (slice_get w.processes c) e
 
-rewind_left : {S : Type 0} (w : World S) (ss : List ℕ) (why : Refusal) → (rewind w ss).0 ≡ Refused why → (rewind w ss).1 ≡ w
+rewind_left : {S : Type 0} (w : World S) (ss : List ℕ) (why : Refusal) → (rewind w ss).0 ≡ Err why → (rewind w ss).1 ≡ w
 unfolding rewind
 rewind_left {S} w ss why =
-    cond_both (not (length ss == length w.processes)) _ _ (λ (r : Answer × World S). r.0 ≡ Refused why → r.1 ≡ w) (λ t e. refl)
-    (λ t. cond_both (any_committed w.gvt ss w.processes w.columns) _ _ (λ (r : Answer × World S). r.0 ≡ Refused why → r.1 ≡ w) (λ d e. refl) (λ d e. absurd (never_refused _ e)))
+    cond_both (not (length ss == length w.processes)) _ _ (λ (r : Answer × World S). r.0 ≡ Err why → r.1 ≡ w) (λ t e. refl)
+    (λ t. cond_both (any_committed w.gvt ss w.processes w.columns) _ _ (λ (r : Answer × World S). r.0 ≡ Err why → r.1 ≡ w) (λ d e. refl) (λ d e. absurd (never_refused _ e)))
   where
-    never_refused : (n : ℕ) → Undone n ≡ Refused why → ⊥
+    never_refused : (n : ℕ) → Ok (Undone n) ≡ Err why → ⊥
     never_refused n bad = cc
 
 pub refused_law : {S : Type 0} → RefusedLaw S

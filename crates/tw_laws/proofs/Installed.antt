@@ -1,6 +1,6 @@
 -- Installing a chain is making so many steps of its component.
 use Rattle.std.proofs.Common.{◌≡◌, ℕ, zero, suc, ◌+◌, ◌<◌, ◌≤◌, List, [], ◌∷◌, ◌++◌, false, length, Ok, Some, refl, sym, ap, subst, ◌∙◌, arith, append_assoc}
-use Rattle.std.specs.Prelude.{◌==◌, take, drop, slice_get, slice_set}
+use Rattle.std.specs.Prelude.{◌==◌, take, drop, slice_get, slice_set, Ok, Err}
 use Rattle.std.specs.List.{AllByRecursion as Each}
 use Rattle.std.proofs.lemmas.Bool.{cond-true, cond-false, cond_both, eqb-true, eqb-false, lt-ltb}
 use Rattle.std.proofs.lemmas.List.{take-append-drop, set-set, append-nil}
@@ -10,7 +10,7 @@ use Rattle.tw_vtime.specs.Stamps.{stamp, phase_of}
 use Rattle.tw_theory.specs.Bundles.{first_stamp, front, behind, items_of, messages_for}
 use Rattle.tw_theory.specs.Chains.{Start, SoloRun, IsSoloRun, IsHome, Agrees, alone, own_step, own_steps, sent_at, made_anew, taken_at, left_at}
 use Rattle.tw_theory.specs.Contents.{Process, next, with_step, before_all, consumed_by}
-use Rattle.tw_theory.specs.Executive.{World, Action, Answer, Stepped, with_process, act, act_step, if_made, replay, answers, Refused, NothingDue}
+use Rattle.tw_theory.specs.Executive.{World, Action, Answer, Stepped, with_process, act, act_step, if_made, replay, answers, NothingDue}
 use Rattle.tw_theory.specs.Installing.{IsFresh, TakesFrom}
 use Rattle.tw_theory.specs.LocalRun.{Step, Made, Leads, local_step}
 use Rattle.tw_theory.specs.Network.{Network}
@@ -74,11 +74,11 @@ module _ {S : Type 0} (net : Network S) (until : ℕ) (model : Meaning S) (start
 
   -- one Step action
   step_is : (w : World S) (p : Process S) (made : Made S) → slice_get w.processes start.component ≡ Some p → next p < stamp until 0 0 → local_step net start.component p.now p.pending ≡ Ok made
-      → act net until w (Action.Step start.component) ≡ (Stepped made.step.entry.stamp made.step.entry.kind, with_process w start.component (with_step p made))
+      → act net until w (Action.Step start.component) ≡ (Ok (Stepped made.step.entry.stamp made.step.entry.kind), with_process w start.component (with_step p made))
   unfolding act
   step_is w p made at early e =
       ap (act_step net until w start.component) at
-      ∙ cond-true _ (if_made w start.component p (local_step net start.component p.now p.pending)) (Refused NothingDue, w) (lt-ltb (next p) (stamp until 0 0) early)
+      ∙ cond-true _ (if_made w start.component p (local_step net start.component p.now p.pending)) (Err NothingDue, w) (lt-ltb (next p) (stamp until 0 0) early)
       ∙ ap (if_made w start.component p) e
 
   -- what comes of steps that a process takes
@@ -110,7 +110,7 @@ module _ {S : Type 0} (net : Network S) (until : ℕ) (model : Meaning S) (start
       record {
         world = ap (λ (r : Answer × World S). replay net until r.1 (steps_of_one start.component (length steps))) one ∙ rest.world ∙ (λ i. record w { processes = set-set w.processes start.component (with_step p made) q i });
         answers = ap (λ (r : Answer × World S). r.0 ∷ Rattle.tw_theory.specs.Executive.answers net until r.1 (steps_of_one start.component (length steps))) one
-            ∙ (λ i. Stepped (entry i).stamp (entry i).kind ∷ rest.answers i);
+            ∙ (λ i. Ok (Stepped (entry i).stamp (entry i).kind) ∷ rest.answers i);
         now = rest.now;
         history = λ to own_to.
             rest.history (own.lone_left to) (own.left own_to)

@@ -1,6 +1,6 @@
 -- Steps on any components, and a rewind to the marks before them.
 use Rattle.std.proofs.Common.{◌≡◌, ℕ, zero, suc, ◌≤◌, List, [], ◌∷◌, ◌++◌, length, cond, Option, Some, None, Result, Ok, Err, refl, sym, ap, ◌∙◌, subst, arith, length-append}
-use Rattle.std.specs.Prelude.{nat_lt, slice_get, slice_set, ◌≢◌}
+use Rattle.std.specs.Prelude.{nat_lt, slice_get, slice_set, ◌≢◌, Ok, Err}
 use Rattle.std.proofs.lemmas.Bool.{cond_both, lt-ltb, le-ltb}
 use Rattle.std.proofs.lemmas.Option.{same_Some, none-some}
 use Rattle.tw_msgs.specs.Counting.{total}
@@ -8,7 +8,7 @@ use Rattle.tw_msgs.proofs.Totals.{total-append}
 use Rattle.tw_vtime.specs.Stamps.{stamp}
 use Rattle.tw_theory.specs.Bundles.{Ascending, first_stamp, positives, sent_anew, still_owed}
 use Rattle.tw_theory.specs.Contents.{Process, next, Lazy, with_step, with_lists, back_to_first, cut, steps_before, steps_from, sent_by, unsent_by}
-use Rattle.tw_theory.specs.Executive.{World, Action, Answer, Undone, Refused, BeforeGvt, act, act_step, act_back, if_made, replay, with_process}
+use Rattle.tw_theory.specs.Executive.{World, Action, Answer, Undone, BeforeGvt, act, act_step, act_back, if_made, replay, with_process}
 use Rattle.tw_theory.specs.LocalRun.{Step, Made, local_step, NoStep}
 use Rattle.tw_theory.specs.Marks.{marks, rewound, rewound_steps}
 use Rattle.tw_theory.specs.Network.{Network}
@@ -178,11 +178,11 @@ set_there (z ∷ xs) (suc c) zero y ne = refl
 set_there (z ∷ xs) (suc c) (suc d) y ne = set_there xs c d y (λ e. ne (ap suc e))
 
 pub back_is : {S : Type 0} (net : Network S) (until : ℕ) (w : World S) (c s : ℕ) (p : Process S) → slice_get w.processes c ≡ Some p → w.gvt ≤ s
-    → act net until w (Action.Back c s) ≡ (Undone (steps_from s p), with_process w c (cut s p))
+    → act net until w (Action.Back c s) ≡ (Ok (Undone (steps_from s p)), with_process w c (cut s p))
 unfolding act
 back_is {S} net until w c s p at l =
-    let refused : Answer × World S = (Refused BeforeGvt, w) in
-    ap (act_back w c s) at ∙ ap (λ b. cond b refused (Undone (steps_from s p), with_process w c (cut s p))) (le-ltb s w.gvt l)
+    let refused : Answer × World S = (Err BeforeGvt, w) in
+    ap (act_back w c s) at ∙ ap (λ b. cond b refused (Ok (Undone (steps_from s p)), with_process w c (cut s p))) (le-ltb s w.gvt l)
 
 pub ordered_back : {S : Type 0} (net : Network S) (until : ℕ) (w : World S) (cs : List ℕ) (c : ℕ) (p : Process S) → AllOrdered w.processes → IsOrdered p
     → slice_get w.processes c ≡ Some p → w.gvt ≤ next p
@@ -201,7 +201,7 @@ ordered_back {S} net until w cs c p o mine at l =
       middle_at = found.2;
       restored_at = set_here reached.processes c found.1 (cut (next p) found.1) found.2;
       process = cut_restores p found.1 found.0 mine found.3;
-      answer = ap Undone (cut_count p found.1 found.0 mine found.3);
+      answer = ap (λ n. Ok (Undone n)) (cut_count p found.1 found.0 mine found.3);
       others = λ d ne. set_there reached.processes c d (cut (next p) found.1) ne;
       mail = h.mail;
       columns = h.columns;

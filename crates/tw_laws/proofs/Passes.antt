@@ -1,6 +1,6 @@
 -- A pass: what posts and deliveries in order do, each of them, to the work, to the mail and to the answers.
 use Rattle.std.proofs.Common.{◌≡◌, ℕ, zero, suc, ◌+◌, ◌<◌, ◌≤◌, List, [], ◌∷◌, ◌++◌, length, length-set, drop, replicate, true, false, Option, Some, refl, sym, ap, ap₂, ◌∙◌, subst, arith, ⊎_elim, true≢false}
-use Rattle.std.specs.Prelude.{slice_get, slice_set, ◌&&◌, remove}
+use Rattle.std.specs.Prelude.{slice_get, slice_set, ◌&&◌, remove, Ok, Err}
 use Rattle.std.specs.List.{AllByRecursion as Each}
 use Rattle.std.proofs.lemmas.Bool.{cases_lt, cases_eq}
 use Rattle.std.proofs.lemmas.List.{length-map, length-append, drop_all, drop-set-lt, nil_from_length, get_or_past, get_or-set_same, get_or-set_other, set-set, set-get_or}
@@ -11,7 +11,7 @@ use Rattle.tw_vtime.specs.Stamps.{max_tick}
 use Rattle.tw_theory.specs.Bundles.{anti, antis, overdue}
 use Rattle.tw_theory.specs.Contents.{Process, Cancel, Aggressive, Lazy, next, settled_as, settle, with_outgoing, receive}
 use Rattle.tw_theory.specs.Exchange.{is_empty, all_empty, all_idle, is_swept, work, posts, deliveries, pass, IsTaken}
-use Rattle.tw_theory.specs.Executive.{World, Action, Post, Deliver, Answer, Refused, Posted, Delivered, act, act_post, act_deliver, mail_of, posted, replay, answers}
+use Rattle.tw_theory.specs.Executive.{World, Action, Post, Deliver, Answer, Posted, Received, act, act_post, act_deliver, mail_of, posted, replay, answers}
 use Rattle.tw_theory.specs.Network.{Network, IsNetwork, Fits}
 use Rattle.tw_theory.specs.Soundness.{Cancels, IsSound}
 use Rattle.tw_theory.proofs.Elements.{each_weaker}
@@ -79,7 +79,7 @@ module _ {S : Type 0} (net : Network S) (until : ℕ) where
         record {
           work_is = omega (arith, fewer, here, later, rest.work_is);
           mail_is = omega (arith, more, here, later, rest.mail_is);
-          taken = ((λ why bad. let k : Posted (length out) ≡ Refused why = sym (ap (λ (r : Answer × World S). r.0) is) ∙ bad in cc), rest.taken);
+          taken = ((λ why bad. let k : Ok (Posted (length out)) ≡ Err why = sym (ap (λ (r : Answer × World S). r.0) is) ∙ bad in cc), rest.taken);
         }
 
     -- ---- deliveries
@@ -111,7 +111,7 @@ module _ {S : Type 0} (net : Network S) (until : ℕ) where
         record {
           work_le = omega (arith, fewer, rest.work_le);
           mail = rest.mail ∙ ap (λ m. slice_set m q []) mail ∙ set-set w.mail q box [];
-          taken = ((λ why bad. let k : Delivered (receive p x).0 ≡ Refused why = sym (ap (λ (r : Answer × World S). r.0) is) ∙ bad in cc), rest.taken);
+          taken = ((λ why bad. let k : Ok (Received (receive p x).0) ≡ Err why = sym (ap (λ (r : Answer × World S). r.0) is) ∙ bad in cc), rest.taken);
         }
 
     -- w' is w after all these deliveries

@@ -1,6 +1,6 @@
 -- A rewind keeps an executive sound; and where only steps came since the marks, it restores what was.
 use Rattle.std.proofs.Common.{◌≡◌, ℕ, zero, suc, ◌+◌, ◌≤◌, max, List, [], ◌∷◌, length, Bool, true, false, cond, not, ◌&&◌, ◌||◌, Some, refl, sym, ap, ◌∙◌, subst, arith, ⊎_elim}
-use Rattle.std.specs.Prelude.{slice_get, slice_index_or, ◌==◌, nat_lt, nat_le}
+use Rattle.std.specs.Prelude.{slice_get, slice_index_or, ◌==◌, nat_lt, nat_le, Ok}
 use Rattle.std.proofs.lemmas.Bool.{cond_both, or_parts, and_cases, lt-ltb, le-ltb, ltb-true, ltb-false, leb-false, leb-true, eqb-true, eq-eqb, cases_lt, not-false}
 use Rattle.std.proofs.lemmas.Option.{same_Some, none-some}
 use Rattle.tw_msgs.specs.Counting.{total}
@@ -178,7 +178,7 @@ length-restored (x ∷ all) (p ∷ ps) (r ∷ rs) [] h = absurd h
 length-restored (x ∷ all) (p ∷ ps) (r ∷ rs) (q ∷ qs) h = ap suc (length-restored all ps rs qs h.1)
 
 rewind_is : {S : Type 0} (w : World S) (ss : List ℕ) → length ss ≡ length w.processes → any_committed w.gvt ss w.processes w.columns ≡ false
-    → rewind w ss ≡ (Undone (rewound_steps ss w.processes), record { processes = rewound ss w.processes; mail = w.mail; columns = w.columns; gvt = w.gvt })
+    → rewind w ss ≡ (Ok (Undone (rewound_steps ss w.processes)), record { processes = rewound ss w.processes; mail = w.mail; columns = w.columns; gvt = w.gvt })
 unfolding rewind
 rewind_is w ss n free = rw (eq-eqb (length ss) (length w.processes) n, free) refl
 
@@ -192,7 +192,7 @@ inverse_law {S} net until w cs ok bound h =
     ap (λ g. any_committed g ss after.processes after.columns) law.5 ∙ none_committed w.gvt w.processes after.processes after.columns (let g = h.gvt_le in omega arith) in
     let is = rewind_is after ss n free in
     subst (λ (r : Answer × World S). IsRestored w after r) (sym is)
-    (record { made = law.0; processes = law.1; answer = ap Undone law.2; mail = law.3; columns = law.4; gvt = law.5 })
+    (record { made = law.0; processes = law.1; answer = ap (λ n. Ok (Undone n)) law.2; mail = law.3; columns = law.4; gvt = law.5 })
 
 pub back_restores : {S : Type 0} → BackRestores S
 back_restores net until w cs c p ok bound h at =

@@ -1,6 +1,6 @@
 -- What a rewind, or Back, that is not refused leaves.
 use Rattle.std.proofs.Common.{◌≡◌, ℕ, zero, suc, ◌+◌, ◌≤◌, List, [], ◌∷◌, ◌++◌, length, Bool, true, false, cond, not, Option, Some, None, refl, sym, ap, ap₂, ◌∙◌, arith}
-use Rattle.std.specs.Prelude.{slice_get, slice_set, ◌==◌, nat_lt, pos, ◌-ℤ◌}
+use Rattle.std.specs.Prelude.{slice_get, slice_set, ◌==◌, nat_lt, pos, ◌-ℤ◌, Ok, Err}
 use Rattle.std.proofs.lemmas.Bool.{ltb-false}
 use Rattle.std.proofs.lemmas.Int.{ints}
 use Rattle.std.proofs.lemmas.Option.{same_Some, none-some}
@@ -9,7 +9,7 @@ use Rattle.tw_msgs.specs.declared.message.Message.{Message}
 use Rattle.tw_msgs.proofs.Totals.{total-append}
 use Rattle.tw_theory.specs.Balance.{all_outgoing, all_mail, in_transit}
 use Rattle.tw_theory.specs.Contents.{Process, Aggressive, sent_by, cut, back_to_first, steps_before, steps_from}
-use Rattle.tw_theory.specs.Executive.{World, Answer, Undone, Refused, NoSuch, Committed, BeforeGvt, act, act_back, with_process}
+use Rattle.tw_theory.specs.Executive.{World, Answer, Undone, NoSuch, Committed, BeforeGvt, act, act_back, with_process}
 use Rattle.tw_theory.specs.Marks.{any_committed, rewound, rewound_steps, rewind}
 use Rattle.tw_theory.proofs.Balancing.{transit}
 use Rattle.tw_theory.proofs.Cuts.{inputs_of_cut}
@@ -65,9 +65,9 @@ module _ {S : Type 0} where
 
   -- what a rewind gives, by its two tests
   abbrev outcome : World S → List ℕ → Bool → Bool → Answer × World S
-  outcome w ss wrong committed = cond wrong (Refused NoSuch, w) (cond committed (Refused Committed, w) (Undone (rewound_steps ss w.processes), after w ss))
+  outcome w ss wrong committed = cond wrong (Err NoSuch, w) (cond committed (Err Committed, w) (Ok (Undone (rewound_steps ss w.processes)), after w ss))
 
-  by_tests : (w : World S) (ss : List ℕ) (n : ℕ) (wrong committed : Bool) → (outcome w ss wrong committed).0 ≡ Undone n
+  by_tests : (w : World S) (ss : List ℕ) (n : ℕ) (wrong committed : Bool) → (outcome w ss wrong committed).0 ≡ Ok (Undone n)
       → (n ≡ rewound_steps ss w.processes) × IsRewound w ss (outcome w ss wrong committed).1
   by_tests w ss n true committed e = absurd (cc e)
   by_tests w ss n false true e = absurd (cc e)
@@ -129,16 +129,16 @@ module _ {S : Type 0} where
 
   -- what Back gives, by its test
   abbrev back_gives : World S → ℕ → ℕ → Process S → Bool → Answer × World S
-  back_gives w c s p early = cond early (Refused BeforeGvt, w) (Undone (steps_from s p), with_process w c (cut s p))
+  back_gives w c s p early = cond early (Err BeforeGvt, w) (Ok (Undone (steps_from s p)), with_process w c (cut s p))
 
-  backed : (w : World S) (c s n : ℕ) (o : Option (Process S)) → slice_get w.processes c ≡ o → (act_back w c s o).0 ≡ Undone n
+  backed : (w : World S) (c s n : ℕ) (o : Option (Process S)) → slice_get w.processes c ≡ o → (act_back w c s o).0 ≡ Ok (Undone n)
       → IsOneCut w c s n (act_back w c s o).1
-  backed w c s n None at e = absurd (let bad : Refused NoSuch ≡ Undone n = e in cc)
+  backed w c s n None at e = absurd (let bad : Err NoSuch ≡ Ok (Undone n) = e in cc)
   backed w c s n (Some p) at e = go (nat_lt s w.gvt) refl e
     where
-      go : (b : Bool) → nat_lt s w.gvt ≡ b → (back_gives w c s p b).0 ≡ Undone n → IsOneCut w c s n (back_gives w c s p b).1
-      go true t k = absurd (let bad : Refused BeforeGvt ≡ Undone n = k in cc)
-      go false t k = let same : Undone (steps_from s p) ≡ Undone n = k in backed_is w c s n p at (ltb-false s w.gvt t) (cc same)
+      go : (b : Bool) → nat_lt s w.gvt ≡ b → (back_gives w c s p b).0 ≡ Ok (Undone n) → IsOneCut w c s n (back_gives w c s p b).1
+      go true t k = absurd (let bad : Err BeforeGvt ≡ Ok (Undone n) = k in cc)
+      go false t k = let same : Ok (Undone (steps_from s p)) ≡ Ok (Undone n) = k in backed_is w c s n p at (ltb-false s w.gvt t) (cc same)
 
   pub back_cuts : BackCuts S
   unfolding act

@@ -1,10 +1,10 @@
 -- Posting and delivering ends.
 use Rattle.std.proofs.Common.{◌≡◌, ℕ, ◌<◌, [], ◌∷◌, length, Option, Some, None, refl, arith}
-use Rattle.std.specs.Prelude.{slice_get}
+use Rattle.std.specs.Prelude.{slice_get, Ok}
 use Rattle.tw_msgs.specs.declared.message.Item.{Item}
 use Rattle.tw_theory.specs.Contents.{Process, Received, settle}
 use Rattle.tw_theory.specs.Exchange.{work}
-use Rattle.tw_theory.specs.Executive.{World, Action, Step, Post, Deliver, Back, Raise, Harvest, Posted, Delivered, mail_of, act, act_post, act_deliver}
+use Rattle.tw_theory.specs.Executive.{World, Action, Step, Post, Deliver, Back, Raise, Harvest, Posted, Received as Came, mail_of, act, act_post, act_deliver}
 use Rattle.tw_theory.specs.Network.{Network}
 use Rattle.tw_theory.specs.Soundness.{IsSound}
 use Rattle.tw_laws.specs.Sweeping.{IsProgress, SweepEnds}
@@ -12,7 +12,7 @@ use Rattle.tw_laws.proofs.Harvesting.{acts_soundly}
 use Rattle.tw_laws.proofs.Sweeping.{work_falls}
 
 module _ {S : Type 0} (net : Network S) (until : ℕ) (w : World S) (h : IsSound net until w) where
-  post_falls : (c n : ℕ) (o : Option (Process S)) → slice_get w.processes c ≡ o → 0 < n → (act_post w c o).0 ≡ Posted n
+  post_falls : (c n : ℕ) (o : Option (Process S)) → slice_get w.processes c ≡ o → 0 < n → (act_post w c o).0 ≡ Ok (Posted n)
       → work (act net until w (Post c)).1 < work w
   post_falls c n None at some e = absurd (cc e)
   post_falls c n (Some p) at some e =
@@ -20,7 +20,7 @@ module _ {S : Type 0} (net : Network S) (until : ℕ) (w : World S) (h : IsSound
       omega (arith, work_falls.post net until w h c p at, same)
 
   deliver_falls : (q i : ℕ) (r : Received) (o : Option (Process S)) (x : Option Item) → slice_get w.processes q ≡ o
-      → slice_get (mail_of w.mail q) i ≡ x → (act_deliver w q i o x).0 ≡ Delivered r
+      → slice_get (mail_of w.mail q) i ≡ x → (act_deliver w q i o x).0 ≡ Ok (Came r)
       → work (act net until w (Deliver q i)).1 < work w
   deliver_falls q i r None x at is e = absurd (cc e)
   deliver_falls q i r (Some p) None at is e = absurd (cc e)

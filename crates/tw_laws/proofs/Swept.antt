@@ -1,6 +1,6 @@
 -- A sweep: passes until nothing is left to do, then Raise, then a Harvest of each component.
 use Rattle.std.proofs.Common.{◌≡◌, ℕ, zero, suc, ◌+◌, ◌-◌, ◌<◌, ◌≤◌, min, List, [], ◌∷◌, ◌++◌, length, length-set, drop, replicate, append-nil, Bool, true, false, true≢false, cond, Option, Some, None, refl, sym, ap, ap₂, ◌∙◌, subst, arith, ⊎_elim}
-use Rattle.std.specs.Prelude.{slice_get, slice_set, ◌&&◌, nat_lt, remove}
+use Rattle.std.specs.Prelude.{slice_get, slice_set, ◌&&◌, nat_lt, remove, Ok, Err}
 use Rattle.std.specs.List.{AllByRecursion as Each}
 use Rattle.std.proofs.lemmas.Bool.{and_parts, ltb-false, le-ltb, cond-true, cond-false}
 use Rattle.std.proofs.lemmas.Option.{same_Some, none-some, slice_get_within}
@@ -11,7 +11,7 @@ use Rattle.tw_vtime.specs.Stamps.{max_tick}
 use Rattle.tw_theory.specs.Bundles.{antis, overdue, not_overdue}
 use Rattle.tw_theory.specs.Contents.{Process, Cancel, Aggressive, Lazy, next, settled_as, settle, with_outgoing, with_lists, harvested, steps_before}
 use Rattle.tw_theory.specs.Exchange.{is_empty, all_empty, all_idle, is_swept, work, posts, deliveries, pass, passes, harvests, sweep, IsTaken}
-use Rattle.tw_theory.specs.Executive.{World, Action, Deliver, Raise, Raised, Harvest, Harvested, Answer, Refused, with_process, with_mail, posted, act, act_post, act_deliver, act_harvest, mail_of, least_of, replay, answers}
+use Rattle.tw_theory.specs.Executive.{World, Action, Deliver, Raise, Raised, Harvest, Harvested, Answer, with_process, with_mail, posted, act, act_post, act_deliver, act_harvest, mail_of, least_of, replay, answers}
 use Rattle.tw_theory.specs.Network.{Network, IsNetwork}
 use Rattle.tw_theory.specs.Soundness.{IsSound}
 use Rattle.tw_theory.proofs.Elements.{get_of_set, each-get}
@@ -168,7 +168,7 @@ module _ {S : Type 0} (net : Network S) (until : ℕ) where
         own = rest.own ∙ ap least_own processes ∙ least_own-set w.processes c p q there.1 refl;
         idle = rest.idle ∙ ap all_idle processes ∙ all_idle-set w.gvt w.processes c p there.1;
         mail = rest.mail ∙ mail;
-        taken = ((λ why bad. let k : Harvested (steps_before w.gvt p.history) ≡ Refused why = sym (ap (λ (r : Answer × World S). r.0) is) ∙ bad in cc), rest.taken);
+        taken = ((λ why bad. let k : Ok (Harvested (steps_before w.gvt p.history)) ≡ Err why = sym (ap (λ (r : Answer × World S). r.0) is) ∙ bad in cc), rest.taken);
       }
 
   -- what is taken of a list is taken of its beginning
@@ -254,7 +254,7 @@ module _ {S : Type 0} (net : Network S) (until : ℕ) where
         let size : n ≡ length w2.processes = h.processes ∙ sym h1.processes in
         let last = are_harvested n 0 w2 (omega (arith, size)) (λ d p at l. absurd (omega arith)) in
         let whole = replay-append net until w first (Raise ∷ harvests 0 n) in
-        let raised : IsTaken (act net until w1 Raise).0 = λ why bad. let b : Raised (least_of w1) ≡ Refused why = bad in cc in (
+        let raised : IsTaken (act net until w1 Raise).0 = λ why bad. let b : Ok (Raised (least_of w1)) ≡ Err why = bad in cc in (
           subst (λ (x : World S). IsAfterSweep w x) (sym whole) (record {
             swept = ap₂ (λ a m. a && all_empty m) last.idle last.mail ∙ done.swept;
             lines = last.lines;

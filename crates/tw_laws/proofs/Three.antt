@@ -1,6 +1,6 @@
 -- A generator, a relay and a tally in a row.
 use Rattle.std.proofs.Common.{◌<◌, ◌≡◌, ◌∙◌, refl, sym, ap, arith, inl, inr, ℕ, zero, suc, List, [], ◌∷◌, Some}
-use Rattle.std.specs.Prelude.{pos}
+use Rattle.std.specs.Prelude.{pos, Ok}
 use Rattle.tw_msgs.specs.declared.record.Record.{Record}
 use Rattle.tw_msgs.specs.declared.record_kind.RecordKind.TheVariants.{Out, Int, Ext}
 use Rattle.tw_vtime.specs.Stamps.{stamp}
@@ -10,7 +10,7 @@ use Rattle.tw_theory.specs.ExampleModels.{State}
 use Rattle.tw_theory.specs.ExampleNetworks.{three, lone, gen_tally}
 use Rattle.tw_theory.specs.ExampleTraces.{out, int, ext, item}
 use Rattle.tw_theory.specs.Exchange.{work}
-use Rattle.tw_theory.specs.Executive.{Action, Step, Deliver, Back, Raise, Answer, Stepped, Posted, Delivered, Raised, Harvested, column_of, act, answers}
+use Rattle.tw_theory.specs.Executive.{Action, Step, Deliver, Back, Raise, Answer, Stepped, Posted, Received, Raised, Harvested, column_of, act, answers}
 use Rattle.tw_theory.specs.LocalRun.{step_at, local_step}
 use Rattle.tw_theory.specs.Marks.{marks, rewind}
 use Rattle.tw_theory.specs.Network.{IsNetwork}
@@ -87,7 +87,7 @@ driven_sound : (cancel : Cancel) → IsSound gen_tally 3 (driven cancel)
 driven_sound cancel = replay_sound gen_tally 3 (new_world gen_tally cancel) drive gen_tally_fits (omega arith) (start_law gen_tally cancel 3 gen_tally_fits)
 
 abbrev DrivenAnswers : List Answer
-DrivenAnswers = Stepped (stamp 2 0 0) Out ∷ Posted 1 ∷ Delivered Placed ∷ Stepped (stamp 2 0 1) Int ∷ Stepped (stamp 2 0 1) Ext ∷ Raised (stamp 4 0 0) ∷ Harvested 2 ∷ Harvested 1 ∷ []
+DrivenAnswers = Ok (Stepped (stamp 2 0 0) Out) ∷ Ok (Posted 1) ∷ Ok (Received Placed) ∷ Ok (Stepped (stamp 2 0 1) Int) ∷ Ok (Stepped (stamp 2 0 1) Ext) ∷ Ok (Raised (stamp 4 0 0)) ∷ Ok (Harvested 2) ∷ Ok (Harvested 1) ∷ []
 
 driven_answers : (cancel : Cancel) → answers gen_tally 3 (new_world gen_tally cancel) drive ≡ DrivenAnswers
 unfolding act local_step step_at output moved transition

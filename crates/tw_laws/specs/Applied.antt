@@ -1,5 +1,5 @@
 -- The laws applied to concrete networks, so that none has a premise that nothing meets: generator, relay and tally in a row; a run that is driven to its end; one that a limit stops.
-use Rattle.std.specs.Prelude.{ℕ, ◌<◌, ◌≤◌, ◌≡◌, pos, length, List, [], ◌∷◌, None, Some, slice_get}
+use Rattle.std.specs.Prelude.{ℕ, ◌<◌, ◌≤◌, ◌≡◌, pos, length, List, [], ◌∷◌, None, Some, slice_get, Ok}
 use Rattle.tw_msgs.specs.declared.record.Record.{Record}
 use Rattle.tw_msgs.specs.declared.record_kind.RecordKind.TheVariants.{Out, Int, Ext}
 use Rattle.tw_vtime.specs.Stamps.{stamp}
@@ -9,7 +9,7 @@ use Rattle.tw_theory.specs.ExampleModels.{State}
 use Rattle.tw_theory.specs.ExampleNetworks.{three, lone, gen_tally}
 use Rattle.tw_theory.specs.ExampleTraces.{out, int, ext, item}
 use Rattle.tw_theory.specs.Exchange.{work}
-use Rattle.tw_theory.specs.Executive.{World, Action, Step, Post, Deliver, Back, Raise, Harvest, Stepped, Posted, Delivered, Raised, Harvested, act, replay, answers}
+use Rattle.tw_theory.specs.Executive.{World, Action, Step, Post, Deliver, Back, Raise, Harvest, Stepped, Posted, Received, Raised, Harvested, act, replay, answers}
 use Rattle.tw_theory.specs.Marks.{marks, rewind}
 use Rattle.tw_theory.specs.Network.{IsNetwork}
 use Rattle.tw_theory.specs.Outcomes.{state, Complete, Fault, Going}
@@ -46,7 +46,7 @@ driven_trace = out 2 0 0 (item 5) ∷ int 2 0 0 (pos 1 ∷ []) ∷ ext 2 0 1 (it
 
 pub record DrivenRun (cancel : Cancel) : Type 0 where
   pub answers_are : answers gen_tally 3 (new_world gen_tally cancel) drive
-      ≡ Stepped (stamp 2 0 0) Out ∷ Posted 1 ∷ Delivered Placed ∷ Stepped (stamp 2 0 1) Int ∷ Stepped (stamp 2 0 1) Ext ∷ Raised (stamp 4 0 0) ∷ Harvested 2 ∷ Harvested 1 ∷ []
+      ≡ Ok (Stepped (stamp 2 0 0) Out) ∷ Ok (Posted 1) ∷ Ok (Received Placed) ∷ Ok (Stepped (stamp 2 0 1) Int) ∷ Ok (Stepped (stamp 2 0 1) Ext) ∷ Ok (Raised (stamp 4 0 0)) ∷ Ok (Harvested 2) ∷ Ok (Harvested 1) ∷ []
   pub columns : (driven cancel).columns ≡ (out 2 0 0 (item 5) ∷ int 2 0 0 (pos 1 ∷ []) ∷ []) ∷ (ext 2 0 1 (item 5) (pos 1 ∷ pos 5 ∷ pos 5 ∷ []) ∷ []) ∷ []
   pub complete : state gen_tally 3 (driven cancel) ≡ Complete
   -- by the laws: the simulator has no fault, its records are the columns, and those merged are its trace

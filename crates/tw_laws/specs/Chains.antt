@@ -31,7 +31,7 @@ steps_of_one c n = replicate n (Action.Step c)
 
 -- each answered as the chain's step is
 abbrev pub answers_of : {S : Type 0} → List (Step S) → List Answer
-answers_of steps = map (λ step. Stepped step.entry.stamp step.entry.kind) steps
+answers_of steps = map (λ step. Ok (Stepped step.entry.stamp step.entry.kind)) steps
 
 -- Installing the first n steps of a chain is n Step actions of its component, p being its process before, and q after
 pub record IsStepped {S : Type 0} (net : Network S) (until : ℕ) (w : World S) (r : SoloRun S) (n : ℕ) (p q : Process S) : Type 0 where

@@ -1,5 +1,5 @@
 -- What is committed: whatever actions are taken, it is what the sequential simulator does.
-use Rattle.std.specs.Prelude.{ℕ, ◌≤◌, ◌<◌, ◌≡◌, List, [], ◌∷◌, ◌++◌, length, None, Some, slice_get}
+use Rattle.std.specs.Prelude.{ℕ, ◌≤◌, ◌<◌, ◌≡◌, List, [], ◌∷◌, ◌++◌, length, None, Some, slice_get, Ok}
 use Rattle.std.specs.List.{AllByRecursion as Each}
 use Rattle.tw_msgs.specs.Counting.{total}
 use Rattle.tw_msgs.specs.declared.record.Record.{Record}
@@ -61,7 +61,7 @@ pub record GvtLaw (S : Type 0) : Type 0 where
   -- so the number of committed records never falls either
   pub count : (old new : List (List Record)) → Grow old new → total length old ≤ total length new
   -- Raise sets it to the exact least, and changes nothing else
-  pub raise : (net : Network S) (until : ℕ) (w : World S) → act net until w Raise ≡ (Raised (least_of w), record w { gvt = least_of w })
+  pub raise : (net : Network S) (until : ℕ) (w : World S) → act net until w Raise ≡ (Ok (Raised (least_of w)), record w { gvt = least_of w })
   pub at_or_before : (w : World S) → IsAtOrBeforeAll w (least_of w)
   pub greatest : (w : World S) (g : ℕ) → g ≤ never → IsAtOrBeforeAll w g → g ≤ least_of w
 

@@ -1,5 +1,5 @@
 -- Sweeps and outcomes on concrete networks: what a sweep is as a list, and two runs driven to their end.
-use Rattle.std.specs.Prelude.{ℕ, ◌≡◌, List, [], ◌∷◌, ◌++◌, true, false}
+use Rattle.std.specs.Prelude.{ℕ, ◌≡◌, List, [], ◌∷◌, ◌++◌, true, false, Ok}
 use Rattle.tw_msgs.specs.declared.record.Record.{Record}
 use Rattle.tw_vtime.specs.Stamps.{stamp}
 use Rattle.tw_vtime.specs.declared.limits.Limit.TheVariants.{Tick}
@@ -8,7 +8,7 @@ use Rattle.tw_theory.specs.ExampleModels.{State}
 use Rattle.tw_theory.specs.ExampleNetworks.{three, gen_tally, lone}
 use Rattle.tw_theory.specs.ExampleTraces.{out, item}
 use Rattle.tw_theory.specs.Exchange.{sweep, IsDrawn}
-use Rattle.tw_theory.specs.Executive.{World, Action, Step, Post, Deliver, Raise, Harvest, Posted, Delivered, Raised, Harvested, replay, answers}
+use Rattle.tw_theory.specs.Executive.{World, Action, Step, Post, Deliver, Raise, Harvest, Posted, Received, Raised, Harvested, replay, answers}
 use Rattle.tw_theory.specs.Network.{Network}
 use Rattle.tw_theory.specs.Outcomes.{state, Complete, Fault, IsOutcome}
 use Rattle.tw_theory.specs.Soundness.{new_world}
@@ -47,8 +47,8 @@ pub record Driven : Type 0 where
   -- the generator's message takes back the relay's steps; their message is cancelled in a second pass
   pub aggressive : sweep three 10 (ahead Aggressive) ≡ posts_of_three ++ Deliver 1 0 ∷ Deliver 2 0 ∷ posts_of_three ++ Deliver 2 0 ∷ end_of_three
   pub aggressive_answers : answers three 10 (ahead Aggressive) (sweep three 10 (ahead Aggressive))
-      ≡ Posted 1 ∷ Posted 1 ∷ Posted 0 ∷ Delivered (Straggler 3) ∷ Delivered Placed ∷ Posted 0 ∷ Posted 1 ∷ Posted 0 ∷ Delivered (Annihilated 0)
-      ∷ Raised (stamp 2 0 1) ∷ Harvested 1 ∷ Harvested 0 ∷ Harvested 0 ∷ []
+      ≡ Ok (Posted 1) ∷ Ok (Posted 1) ∷ Ok (Posted 0) ∷ Ok (Received (Straggler 3)) ∷ Ok (Received Placed) ∷ Ok (Posted 0) ∷ Ok (Posted 1) ∷ Ok (Posted 0) ∷ Ok (Received (Annihilated 0))
+      ∷ Ok (Raised (stamp 2 0 1)) ∷ Ok (Harvested 1) ∷ Ok (Harvested 0) ∷ Ok (Harvested 0) ∷ []
   -- or stays owed, since it is not overdue
   pub lazy : sweep three 10 (ahead Lazy) ≡ posts_of_three ++ Deliver 1 0 ∷ Deliver 2 0 ∷ end_of_three
   pub after : (cancel : Cancel) → IsAfterSweep (ahead cancel) (swept three 10 (ahead cancel))

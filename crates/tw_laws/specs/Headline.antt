@@ -1,7 +1,7 @@
 -- The theorem of the whole, in one statement. Whatever was done to an executive from its start, refused or not:
 -- taking back any steps restores every component's state, pending events and lists, with one anti-message for each message sent;
 -- and what each component has committed is what the sequential abstract simulator does up to its commit line.
-use Rattle.std.specs.Prelude.{ℕ, ◌≤◌, ◌≡◌, List, [], ◌∷◌, Some, slice_get}
+use Rattle.std.specs.Prelude.{ℕ, ◌≤◌, ◌≡◌, List, [], ◌∷◌, Some, slice_get, Ok}
 use Rattle.std.specs.List.{AllByRecursion as Each}
 use Rattle.tw_vtime.specs.Stamps.{max_tick}
 use Rattle.tw_theory.specs.Contents.{Process, Cancel}
@@ -35,8 +35,8 @@ pub record TakesBack {S : Type 0} (net : Network S) (until : ℕ) (w : World S) 
   -- a rewind is refused exactly where a step since its mark is committed, or stands before gvt
   pub answers : (ss : List ℕ) → RewindAnswers w ss
   -- a rewind to any marks, and Back to any stamp, that is not refused, whatever came between
-  pub to_marks : (ss : List ℕ) (n : ℕ) → (rewind w ss).0 ≡ Undone n → (n ≡ rewound_steps ss w.processes) × IsRewound w ss (rewind w ss).1
-  pub to_stamp : (c s n : ℕ) → (act net until w (Back c s)).0 ≡ Undone n → IsOneCut w c s n (act net until w (Back c s)).1
+  pub to_marks : (ss : List ℕ) (n : ℕ) → (rewind w ss).0 ≡ Ok (Undone n) → (n ≡ rewound_steps ss w.processes) × IsRewound w ss (rewind w ss).1
+  pub to_stamp : (c s n : ℕ) → (act net until w (Back c s)).0 ≡ Ok (Undone n) → IsOneCut w c s n (act net until w (Back c s)).1
 
 -- ---- both
 

@@ -1,5 +1,5 @@
 -- The inverse of the whole: steps on any components, and a rewind to the marks taken before them.
-use Rattle.std.specs.Prelude.{ℕ, ◌+◌, ◌≤◌, ◌≡◌, ◌≢◌, List, [], ◌∷◌, ◌++◌, length, Some, slice_get}
+use Rattle.std.specs.Prelude.{ℕ, ◌+◌, ◌≤◌, ◌≡◌, ◌≢◌, List, [], ◌∷◌, ◌++◌, length, Some, slice_get, Ok}
 use Rattle.tw_msgs.specs.Counting.{total}
 use Rattle.tw_msgs.specs.declared.message.Message.{Message}
 use Rattle.tw_vtime.specs.Stamps.{max_tick}
@@ -42,7 +42,7 @@ steps_of (c ∷ cs) = Action.Step c ∷ steps_of cs
 pub record IsRestored {S : Type 0} (w reached : World S) (undone : Answer × World S) : Type 0 where
   pub made : List (List (Step S))
   pub processes : RestoredAll made w.processes reached.processes undone.1.processes
-  pub answer : undone.0 ≡ Undone (count_all made)
+  pub answer : undone.0 ≡ Ok (Undone (count_all made))
   pub mail : undone.1.mail ≡ w.mail
   pub columns : undone.1.columns ≡ w.columns
   pub gvt : undone.1.gvt ≡ w.gvt
@@ -70,7 +70,7 @@ pub record IsOneRestored {S : Type 0} (w reached : World S) (undone : Answer × 
   pub middle_at : slice_get reached.processes c ≡ Some middle
   pub restored_at : slice_get undone.1.processes c ≡ Some restored
   pub process : IsRestoredBy steps p middle restored
-  pub answer : undone.0 ≡ Undone (length steps)
+  pub answer : undone.0 ≡ Ok (Undone (length steps))
   pub others : (d : ℕ) → d ≢ c → slice_get undone.1.processes d ≡ slice_get reached.processes d
   pub mail : undone.1.mail ≡ w.mail
   pub columns : undone.1.columns ≡ w.columns

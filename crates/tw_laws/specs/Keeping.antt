@@ -1,8 +1,8 @@
 -- The start is sound, and every action keeps an executive sound.
-use Rattle.std.specs.Prelude.{ℕ, ◌≤◌, ◌≡◌, List}
+use Rattle.std.specs.Prelude.{ℕ, ◌≤◌, ◌≡◌, List, Err}
 use Rattle.tw_vtime.specs.Stamps.{max_tick}
 use Rattle.tw_theory.specs.Contents.{Cancel}
-use Rattle.tw_theory.specs.Executive.{World, Action, Step, Post, Deliver, Back, Raise, Harvest, Refusal, Refused, act, replay}
+use Rattle.tw_theory.specs.Executive.{World, Action, Step, Post, Deliver, Back, Raise, Harvest, Refusal, act, replay}
 use Rattle.tw_theory.specs.Marks.{rewind}
 use Rattle.tw_theory.specs.Network.{Network, IsNetwork}
 use Rattle.tw_theory.specs.Soundness.{IsSound, new_world}
@@ -26,5 +26,5 @@ pub record KeepingLaw (S : Type 0) : Type 0 where
 
 -- An action, or a rewind, that is refused changes nothing
 pub record RefusedLaw (S : Type 0) : Type 0 where
-  pub act : (net : Network S) (until : ℕ) (w : World S) (action : Action) (why : Refusal) → (act net until w action).0 ≡ Refused why → (act net until w action).1 ≡ w
-  pub rewind : (w : World S) (ss : List ℕ) (why : Refusal) → (rewind w ss).0 ≡ Refused why → (rewind w ss).1 ≡ w
+  pub act : (net : Network S) (until : ℕ) (w : World S) (action : Action) (why : Refusal) → (act net until w action).0 ≡ Err why → (act net until w action).1 ≡ w
+  pub rewind : (w : World S) (ss : List ℕ) (why : Refusal) → (rewind w ss).0 ≡ Err why → (rewind w ss).1 ≡ w

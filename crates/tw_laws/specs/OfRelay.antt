@@ -1,5 +1,5 @@
 -- The laws of steps, chains, memory and the board applied to a relay between a generator and a tally, and to a driven run.
-use Rattle.std.specs.Prelude.{pos, ◌+◌, ◌≡◌, List, [], ◌∷◌, ◌++◌, ⊤}
+use Rattle.std.specs.Prelude.{pos, ◌+◌, ◌≡◌, List, [], ◌∷◌, ◌++◌, ⊤, Ok}
 use Rattle.std.specs.List.{AllByRecursion as Each}
 use Rattle.tw_msgs.specs.declared.record_kind.RecordKind.TheVariants.{Out, Ext}
 use Rattle.tw_vtime.specs.Stamps.{stamp}
@@ -34,7 +34,7 @@ pub record LawsOfRelay : Type 0 where
   -- the chain's steps are the relay's own; installing it then makes two of them, by Step actions
   pub next_steps : Leads slow_three 1 (start_moment (relay 2)) (eight ∷ []) (own_steps slow_three 1 relayed.steps) emptied []
   pub stepped : IsStepped slow_three until (after slow_three Aggressive received) relayed 2 (relay_after received) (relay_after (received ++ Step 1 ∷ Step 1 ∷ []))
-  pub answered : answers slow_three until (after slow_three Aggressive received) (steps_of_one 1 2) ≡ Stepped (stamp 4 0 1) Ext ∷ Stepped (stamp 6 0 0) Out ∷ []
+  pub answered : answers slow_three until (after slow_three Aggressive received) (steps_of_one 1 2) ≡ Ok (Stepped (stamp 4 0 1) Ext) ∷ Ok (Stepped (stamp 6 0 0) Out) ∷ []
   -- it is ready at the start, and so after its chain
   pub standing : StandingLaw AnyState (relay 2)
   pub ready : IsReadyFrom AnyState (relay 2) 1 emptied [] (stamp 6 0 1 + 1)

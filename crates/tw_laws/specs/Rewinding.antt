@@ -1,12 +1,12 @@
 -- What a rewind, or Back, does where any actions came since the marks were taken.
-use Rattle.std.specs.Prelude.{ℕ, ◌+◌, ◌<◌, ◌≤◌, ◌≡◌, ◌≢◌, ◌↔◌, List, [], ◌∷◌, ◌++◌, length, drop, pos, ◌-ℤ◌, Some, slice_get}
+use Rattle.std.specs.Prelude.{ℕ, ◌+◌, ◌<◌, ◌≤◌, ◌≡◌, ◌≢◌, ◌↔◌, List, [], ◌∷◌, ◌++◌, length, drop, pos, ◌-ℤ◌, Some, slice_get, Ok, Err}
 use Rattle.std.specs.List.{AllByRecursion as Each}
 use Rattle.tw_msgs.specs.Counting.{total, one_at, signed_count}
 use Rattle.tw_msgs.specs.declared.message.Message.{Message}
 use Rattle.tw_msgs.specs.declared.record.Record.{Record}
 use Rattle.tw_theory.specs.Balance.{in_transit}
 use Rattle.tw_theory.specs.Contents.{Process, Cancel, Aggressive, Lazy, inputs, sent_by, steps_before, steps_from, cut, records_of}
-use Rattle.tw_theory.specs.Executive.{World, Back, Undone, Refused, NoSuch, Committed, act, column_of}
+use Rattle.tw_theory.specs.Executive.{World, Back, Undone, NoSuch, Committed, act, column_of}
 use Rattle.tw_theory.specs.Marks.{rewound_steps, rewind}
 use Rattle.tw_theory.specs.Network.{Network}
 use Rattle.tw_theory.specs.Soundness.{AllBefore}
@@ -48,7 +48,7 @@ pub record IsRewound {S : Type 0} (w : World S) (ss : List ℕ) (w' : World S) :
 -- the answer is the number of steps cut
 abbrev pub RewindingLaw : Type 0 → Type 0
 RewindingLaw S =
-    (w : World S) (ss : List ℕ) (n : ℕ) → (rewind w ss).0 ≡ Undone n → (n ≡ rewound_steps ss w.processes) × IsRewound w ss (rewind w ss).1
+    (w : World S) (ss : List ℕ) (n : ℕ) → (rewind w ss).0 ≡ Ok (Undone n) → (n ≡ rewound_steps ss w.processes) × IsRewound w ss (rewind w ss).1
 
 -- w' is w with process c cut at s, which was not refused; n steps were taken back
 pub record IsOneCut {S : Type 0} (w : World S) (c s n : ℕ) (w' : World S) : Type 0 where
@@ -71,7 +71,7 @@ pub record IsOneCut {S : Type 0} (w : World S) (c s n : ℕ) (w' : World S) : Ty
 
 abbrev pub BackCuts : Type 0 → Type 0
 BackCuts S =
-    (net : Network S) (until : ℕ) (w : World S) (c s n : ℕ) → (act net until w (Back c s)).0 ≡ Undone n → IsOneCut w c s n (act net until w (Back c s)).1
+    (net : Network S) (until : ℕ) (w : World S) (c s n : ℕ) → (act net until w (Back c s)).0 ≡ Ok (Undone n) → IsOneCut w c s n (act net until w (Back c s)).1
 
 -- ---- since a commitment
 
@@ -90,9 +90,9 @@ pub record IsCommittedSince {S : Type 0} (w : World S) (ss : List ℕ) : Type 0 
 
 -- A rewind is refused where its marks are not one for each component, or where such a step is there; nowhere else
 pub record RewindAnswers {S : Type 0} (w : World S) (ss : List ℕ) : Type 0 where
-  pub wrong : ((rewind w ss).0 ≡ Refused NoSuch) ↔ (length ss ≢ length w.processes)
-  pub committed : length ss ≡ length w.processes → ((rewind w ss).0 ≡ Refused Committed) ↔ IsCommittedSince w ss
-  pub taken : length ss ≡ length w.processes → (IsCommittedSince w ss → ⊥) → (rewind w ss).0 ≡ Undone (rewound_steps ss w.processes)
+  pub wrong : ((rewind w ss).0 ≡ Err NoSuch) ↔ (length ss ≢ length w.processes)
+  pub committed : length ss ≡ length w.processes → ((rewind w ss).0 ≡ Err Committed) ↔ IsCommittedSince w ss
+  pub taken : length ss ≡ length w.processes → (IsCommittedSince w ss → ⊥) → (rewind w ss).0 ≡ Ok (Undone (rewound_steps ss w.processes))
 
 abbrev pub RewindAnswersLaw : Type 0 → Type 0
 RewindAnswersLaw S = (w : World S) (ss : List ℕ) → length w.columns ≡ length w.processes → RewindAnswers w ss

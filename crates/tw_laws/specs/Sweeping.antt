@@ -1,10 +1,10 @@
 -- What is left to post and deliver.
-use Rattle.std.specs.Prelude.{ℕ, ◌+◌, ◌<◌, ◌≤◌, ◌≡◌, List, [], ◌∷◌, length, Some, slice_get}
+use Rattle.std.specs.Prelude.{ℕ, ◌+◌, ◌<◌, ◌≤◌, ◌≡◌, List, [], ◌∷◌, length, Some, slice_get, Ok}
 use Rattle.tw_msgs.specs.declared.message.Item.{Item}
 use Rattle.tw_vtime.specs.Stamps.{max_tick}
 use Rattle.tw_theory.specs.Contents.{Process, Received, settle}
 use Rattle.tw_theory.specs.Exchange.{work}
-use Rattle.tw_theory.specs.Executive.{World, Action, Step, Post, Deliver, Back, Raise, Harvest, Posted, Delivered, act, mail_of}
+use Rattle.tw_theory.specs.Executive.{World, Action, Step, Post, Deliver, Back, Raise, Harvest, Posted, Received as Came, act, mail_of}
 use Rattle.tw_theory.specs.Network.{Network, IsNetwork}
 use Rattle.tw_theory.specs.Soundness.{IsSound}
 
@@ -16,8 +16,8 @@ pub record WorkFalls (S : Type 0) : Type 0 where
 -- a post of something, or a delivery that is not refused
 abbrev pub IsProgress : {S : Type 0} → Network S → ℕ → World S → Action → Type 0
 IsProgress net until w (Step c) = ⊥
-IsProgress net until w (Post c) = (n : ℕ) × (0 < n) × ((act net until w (Post c)).0 ≡ Posted n)
-IsProgress net until w (Deliver q i) = (r : Received) × ((act net until w (Deliver q i)).0 ≡ Delivered r)
+IsProgress net until w (Post c) = (n : ℕ) × (0 < n) × ((act net until w (Post c)).0 ≡ Ok (Posted n))
+IsProgress net until w (Deliver q i) = (r : Received) × ((act net until w (Deliver q i)).0 ≡ Ok (Came r))
 IsProgress net until w (Back c s) = ⊥
 IsProgress net until w Raise = ⊥
 IsProgress net until w (Harvest c) = ⊥

@@ -2,7 +2,7 @@
 use Rattle.std.proofs.Common.{◌≡◌, ◌∙◌, ℕ, List, ap, arith, codes, slice_index, sym}
 use Rattle.std.specs.Prelude.{Some, None}
 use Rattle.clap.specs.Words.{Row, Text, first_of}
-use Rattle.tw_lists.specs.declared.cancel.Cancel.{Cancel}
+use Rattle.tw_actions.specs.declared.cancel.Cancel.{Cancel}
 use Rattle.tw_line.specs.Lines.{HasNumber, IsCancelIn, IsDriverIn, IsJobOf, IsSettingIn}
 use Rattle.tw_line.specs.declared.jobs.Driver.{Driver}
 use Rattle.tw_line.specs.declared.jobs.Driver.TheVariants.{Script, Seed}

@@ -11,8 +11,8 @@ use Rattle.clap.specs.declared.error.kind.ErrorKind.{ErrorKind}
 use Rattle.clap.specs.declared.error.kind.ErrorKind.TheVariants as kind
 use Rattle.tw_vtime.specs.declared.refusal.Refusal.{Refusal}
 use Rattle.tw_vtime.specs.declared.refusal.Refusal.TheVariants as refusal
-use Rattle.tw_lists.specs.declared.cancel.Cancel.{Cancel}
-use Rattle.tw_lists.specs.declared.cancel.Cancel.TheVariants.{Aggressive, Lazy}
+use Rattle.tw_actions.specs.declared.cancel.Cancel.{Cancel}
+use Rattle.tw_actions.specs.declared.cancel.Cancel.TheVariants.{Aggressive, Lazy}
 use Rattle.tw_line.specs.declared.jobs.Driver.{Driver}
 use Rattle.tw_line.specs.declared.jobs.Driver.TheVariants.{Script, Seed}
 use Rattle.tw_line.specs.declared.jobs.Job.{Job}

@@ -9,7 +9,7 @@ use crate::jobs::{Driver, Job, MAX_BURST, MAX_STEPS, MAX_WORKERS, NoJob, Setting
 use clap::error::ErrorKind;
 use clap::{ArgMatches, Error};
 use std::alloc::Global;
-use tw_process::Cancel;
+use tw_actions::Cancel;
 use tw_vtime::MAX_TICK;
 
 /// A number among the options, in a range.

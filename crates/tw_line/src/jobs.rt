@@ -5,7 +5,7 @@ ghost use Rattle.tw_line.specs.Lines.{refusal_of, refused_for_memory};
 
 use std::alloc::AllocError;
 use thiserror::Error;
-use tw_process::Cancel;
+use tw_actions::Cancel;
 use tw_vtime::Refusal;
 
 /// The most actions that a seed may be asked for.

@@ -1,3 +1,2 @@
-pub mod Ways
 pub mod Lists
 pub mod Nodes

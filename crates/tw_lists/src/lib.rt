@@ -21,7 +21,6 @@
 //! the nodes of all six lists would be more than [`LIVE_LIMIT`](tw_pool::LIVE_LIMIT).
 #![tactic(auto)]
 
-mod cancel;
 mod lists;
 mod moves;
 mod reading;
@@ -29,5 +28,4 @@ mod searching;
 mod sending;
 mod settling;
 
-pub use cancel::Cancel;
 pub use lists::EventLists;

@@ -27,6 +27,7 @@ pub(crate) const OWED: usize = 5;
 /// The six lists of a process: pending, consumed and sent messages, outgoing items, waiting and owed messages.
 #[derive(Drop)]
 pub struct EventLists {
+    pub(crate) alloc: Global,
     // The lists in this order. A sent, an owed and a waiting message is kept as its anti-message.
     pub(crate) pool: Pool<Item, 6>,
     // The pending nodes by their messages, with room for the consumed ones too.
@@ -58,6 +59,7 @@ impl EventLists {
         ensures owed { result.owed ≡ [] }
     {
         EventLists {
+            alloc,
             pool: Pool::new(alloc),
             heap: EventHeap::new(alloc),
         }

@@ -10,7 +10,7 @@ ghost use Rattle.tw_lists.specs.Nodes.{IsNext};
 
 use crate::lists::{CONSUMED, EventLists, OUTGOING, PENDING, SENT, WAITING, signed};
 use crate::searching::find;
-use std::alloc::{AllocError, Global};
+use std::alloc::AllocError;
 use tw_msgs::{Bag, Message, Sign};
 use tw_pool::{LIVE_LIMIT, PoolRefused};
 use tw_vtime::Stamp;
@@ -55,13 +55,13 @@ impl EventLists {
     }
 
     /// All pending messages of the first stamp become consumed, if it is this one. Answers their bag.
-    pub fn consume_bag(&mut self, alloc: Global, stamp: Stamp) -> Result<Bag, AllocError>
+    pub fn consume_bag(&mut self, stamp: Stamp) -> Result<Bag, AllocError>
         ensures bag { IfOk result (λ bag. bag ≡ items_of (front stamp self.old.pending)) }
         ensures ok { OnOk result (self.new ≡ front_consumed stamp self.old) }
         ensures err { OnErr result (self.new ≡ self.old) }
     {
         self.order_law();
-        let mut bag = Bag::new(alloc);
+        let mut bag = Bag::new(self.alloc);
         while let Some(message) = self.first() {
             if message.stamp != stamp {
                 break;
@@ -173,13 +173,13 @@ impl EventLists {
     }
 
     /// One more message waits.
-    pub fn note_orphan(&mut self, message: &Message) -> Result<(), PoolRefused>
-        ensures noted { OnOk result (self.new ≡ with_room self.new.room self.new.spare (with_orphan message.now self.old)) }
+    pub fn note_orphan(&mut self, message: Message) -> Result<(), PoolRefused>
+        ensures noted { OnOk result (self.new ≡ with_room self.new.room self.new.spare (with_orphan message self.old)) }
         ensures stays { OnErr result (self.new ≡ with_room self.new.room self.new.spare self.old) }
         ensures limit { LIVE_LIMIT < node_count self.old + 1 ↔ result ≡ Err Full }
     {
         self.pool.lists_law();
-        match self.pool.push_back(WAITING, signed(Sign::Anti, message)) {
+        match self.pool.push_back(WAITING, signed(Sign::Anti, &message)) {
             Ok(_index) => Ok(()),
             Err((_, refused)) => Err(refused),
         }

@@ -44,10 +44,10 @@ impl EventLists {
     }
 
     /// The pending messages in order. It is refused for want of memory alone (4), as the copies below.
-    pub fn pending(&self, alloc: Global) -> Result<Vec<Message>, AllocError>
+    pub fn pending(&self) -> Result<Vec<Message>, AllocError>
         ensures { IfOk result (λ messages. messages.items ≡ self.now.pending) }
     {
-        let mut messages = Vec::new(alloc);
+        let mut messages = Vec::new(self.alloc);
         let mut rest = self.heap.copy()?;
         while let Some(entry) = rest.first() {
             messages.push(entry.key)?;
@@ -57,10 +57,10 @@ impl EventLists {
     }
 
     /// The pending messages at the front that come before a stamp, in order.
-    pub fn pending_before(&self, alloc: Global, stamp: Stamp) -> Result<Vec<Message>, AllocError>
+    pub fn pending_before(&self, stamp: Stamp) -> Result<Vec<Message>, AllocError>
         ensures { IfOk result (λ messages. messages.items ≡ take_while (λ m. nat_lt m.stamp stamp) self.now.pending) }
     {
-        let mut messages = Vec::new(alloc);
+        let mut messages = Vec::new(self.alloc);
         let mut rest = self.heap.copy()?;
         while let Some(entry) = rest.first() {
             if stamp <= entry.key.stamp {
@@ -73,24 +73,24 @@ impl EventLists {
     }
 
     /// The outgoing items in order.
-    pub fn outgoing(&self, alloc: Global) -> Result<Vec<Item>, AllocError>
+    pub fn outgoing(&self) -> Result<Vec<Item>, AllocError>
         ensures { IfOk result (λ items. items.items ≡ self.now.outgoing) }
     {
-        items_in(alloc, &self.pool, OUTGOING)
+        items_in(self.alloc, &self.pool, OUTGOING)
     }
 
     /// The messages whose anti-messages wait, in order of arrival.
-    pub fn waiting(&self, alloc: Global) -> Result<Vec<Message>, AllocError>
+    pub fn waiting(&self) -> Result<Vec<Message>, AllocError>
         ensures { IfOk result (λ messages. messages.items ≡ self.now.waiting) }
     {
-        messages_in(alloc, &self.pool, WAITING)
+        messages_in(self.alloc, &self.pool, WAITING)
     }
 
     /// The owed messages in order.
-    pub fn owed(&self, alloc: Global) -> Result<Vec<Message>, AllocError>
+    pub fn owed(&self) -> Result<Vec<Message>, AllocError>
         ensures { IfOk result (λ messages. messages.items ≡ self.now.owed) }
     {
-        messages_in(alloc, &self.pool, OWED)
+        messages_in(self.alloc, &self.pool, OWED)
     }
 
     /// The least stamp of the outgoing items, or the end.

@@ -6,20 +6,19 @@ ghost use Rattle.tw_msgs.specs.Messages.{has};
 ghost use Rattle.tw_pool.specs.Lists.{list_at};
 ghost use Rattle.tw_theory.specs.Bundles.{sent_anew};
 ghost use Rattle.tw_theory.specs.Contents.{Aggressive, Lazy, sent_out};
-ghost use Rattle.tw_lists.specs.Ways.{way_of};
 ghost use Rattle.tw_lists.specs.Lists.{with_room, with_sent, with_all_sent, with_sent_again};
 ghost use Rattle.tw_lists.specs.Lists.{message_at};
 
-use crate::cancel::Cancel;
 use crate::lists::{EventLists, OUTGOING, OWED, SENT, signed};
 use crate::searching::find;
+use tw_actions::Cancel;
 use tw_msgs::{Item, Message, Sign};
 use tw_pool::Pool;
 
 impl EventLists {
     /// How many of these messages no owed one matches, each owed one being taken once.
     pub fn fresh_count(&self, messages: &[Message], way: Cancel) -> usize
-        ensures count { result ≡ length (sent_out (way_of way) self.now.owed messages.now) }
+        ensures count { result ≡ length (sent_out way self.now.owed messages.now) }
         ensures within { result ≤ length messages.now }
     {
         match way {
@@ -30,8 +29,8 @@ impl EventLists {
 
     /// All messages are sent, in order. One that an owed message matches does not go out: it is owed no more.
     pub fn send_all(&mut self, messages: &[Message], way: Cancel)
-        requires { 2 * length (sent_out (way_of way) self.old.owed messages.now) ≤ self.old.room }
-        ensures { self.new ≡ with_room self.new.room self.new.spare (with_all_sent (way_of way) messages.now self.old) }
+        requires { 2 * length (sent_out way self.old.owed messages.now) ≤ self.old.room }
+        ensures { self.new ≡ with_room self.new.room self.new.spare (with_all_sent way messages.now self.old) }
     {
         match way {
             Cancel::Aggressive => self.send_each(messages),

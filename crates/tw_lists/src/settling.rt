@@ -3,12 +3,11 @@
 ghost use Rattle.std.specs.Prelude.{Some, ◌≡◌, ℕ, ◌≤◌, length};
 ghost use Rattle.tw_pool.specs.Lists.{list_at, item_of, IsLive};
 ghost use Rattle.tw_theory.specs.Contents.{Aggressive, Lazy};
-ghost use Rattle.tw_lists.specs.Ways.{way_of};
 ghost use Rattle.tw_lists.specs.Lists.{cancelled, with_overdue_posted};
 ghost use Rattle.tw_lists.specs.Nodes.{IsSettled, IsPosted};
 
-use crate::cancel::Cancel;
 use crate::lists::{EventLists, OUTGOING, OWED, SENT};
+use tw_actions::Cancel;
 use tw_msgs::Item;
 use tw_pool::Pool;
 use tw_vtime::Stamp;
@@ -17,7 +16,7 @@ impl EventLists {
     /// The last `n` sent messages are taken back: they go to the outgoing list as anti-messages, or are owed. It takes no memory.
     pub fn cancel(&mut self, n: usize, way: Cancel)
         requires { n ≤ length self.old.sent }
-        ensures { self.new ≡ cancelled (way_of way) n self.old }
+        ensures { self.new ≡ cancelled way n self.old }
     {
         match way {
             Cancel::Aggressive => self.unsend(n),

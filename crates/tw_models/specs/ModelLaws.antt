@@ -1,7 +1,7 @@
 -- The laws of the models together: each model's own laws, at the states of its kind.
 use Rattle.std.specs.Prelude.{◌≡◌, ℕ, ◌≤◌, length, refl}
 use Rattle.std.proofs.Common.{ap, arith}
-use Rattle.tw_atomic.specs.Atomic.{Bag, Meaning, CanTurn, FitsOutput, turned}
+use Rattle.tw_atomic.specs.Atomic.{Bag, CanTurn, FitsOutput, turned}
 use Rattle.tw_atomic.specs.declared.Turn.{Turn}
 use Rattle.tw_atomic.specs.declared.Turn.TheVariants.{Int, Ext, Con}
 use Rattle.tw_models.specs.declared.generator.GenState.{GenState}
@@ -94,34 +94,3 @@ model_reverses (Hop h) Con (OfHop s) elapsed bag can = ap OfHop (hop_reverses h 
 model_reverses _ Int s elapsed bag can = refl
 model_reverses _ Ext s elapsed bag can = refl
 model_reverses _ Con s elapsed bag can = refl
-
--- the start states tell the kinds apart
-starts : (m n : Model) → model_meaning m ≡ model_meaning n → (model_meaning m).start ≡ (model_meaning n).start
-starts m n same = ap (λ (x : Meaning State). x.start) same
-
-pub model_alike : (m n : Model) → model_meaning m ≡ model_meaning n → model_undone m ≡ model_undone n
-model_alike (Gen g) (Gen h) same = refl
-model_alike (Gen g) Tally same = absurd (cc (starts (Gen g) Tally same))
-model_alike (Gen g) (Relay h) same = absurd (cc (starts (Gen g) (Relay h) same))
-model_alike (Gen g) (Queue h) same = absurd (cc (starts (Gen g) (Queue h) same))
-model_alike (Gen g) (Hop h) same = absurd (cc (starts (Gen g) (Hop h) same))
-model_alike Tally (Gen h) same = absurd (cc (starts Tally (Gen h) same))
-model_alike Tally Tally same = refl
-model_alike Tally (Relay h) same = absurd (cc (starts Tally (Relay h) same))
-model_alike Tally (Queue h) same = absurd (cc (starts Tally (Queue h) same))
-model_alike Tally (Hop h) same = absurd (cc (starts Tally (Hop h) same))
-model_alike (Relay g) (Gen h) same = absurd (cc (starts (Relay g) (Gen h) same))
-model_alike (Relay g) Tally same = absurd (cc (starts (Relay g) Tally same))
-model_alike (Relay g) (Relay h) same = refl
-model_alike (Relay g) (Queue h) same = absurd (cc (starts (Relay g) (Queue h) same))
-model_alike (Relay g) (Hop h) same = absurd (cc (starts (Relay g) (Hop h) same))
-model_alike (Queue g) (Gen h) same = absurd (cc (starts (Queue g) (Gen h) same))
-model_alike (Queue g) Tally same = absurd (cc (starts (Queue g) Tally same))
-model_alike (Queue g) (Relay h) same = absurd (cc (starts (Queue g) (Relay h) same))
-model_alike (Queue g) (Queue h) same = refl
-model_alike (Queue g) (Hop h) same = absurd (cc (starts (Queue g) (Hop h) same))
-model_alike (Hop g) (Gen h) same = absurd (cc (starts (Hop g) (Gen h) same))
-model_alike (Hop g) Tally same = absurd (cc (starts (Hop g) Tally same))
-model_alike (Hop g) (Relay h) same = absurd (cc (starts (Hop g) (Relay h) same))
-model_alike (Hop g) (Queue h) same = absurd (cc (starts (Hop g) (Queue h) same))
-model_alike (Hop g) (Hop h) same = refl

@@ -45,14 +45,14 @@ relay_meaning r =
 
 -- what a turn keeps: how many values found room, and what was held when it went
 abbrev pub relay_residue : Turn → RelayState → Bag → RelayResidue
-relay_residue Int s bag = record { accepted = 0; given = s.held }
-relay_residue Ext s bag = record { accepted = min (32 - length s.held.items) (length bag); given = record { items = [] } }
-relay_residue Con s bag = record { accepted = min 32 (length bag); given = s.held }
+relay_residue Int s bag = record { accepted = 0; given = s.held.items }
+relay_residue Ext s bag = record { accepted = min (32 - length s.held.items) (length bag); given = [] }
+relay_residue Con s bag = record { accepted = min 32 (length bag); given = s.held.items }
 
 -- the state before a turn: the values that found room are cut off
 abbrev pub relay_undone : Turn → RelayState → ℕ → Bag → RelayResidue → RelayState
-relay_undone Int s elapsed bag residue = record { held = residue.given; dropped = s.dropped; left = Some elapsed }
+relay_undone Int s elapsed bag residue = record { held = record { items = residue.given }; dropped = s.dropped; left = Some elapsed }
 relay_undone Ext s elapsed bag residue =
     let kept = take (length s.held.items - residue.accepted) s.held.items in
     record { held = record { items = kept }; dropped = dropped_before s.dropped (length bag) residue.accepted; left = left_before kept s.left elapsed }
-relay_undone Con s elapsed bag residue = record { held = residue.given; dropped = dropped_before s.dropped (length bag) residue.accepted; left = Some elapsed }
+relay_undone Con s elapsed bag residue = record { held = record { items = residue.given }; dropped = dropped_before s.dropped (length bag) residue.accepted; left = Some elapsed }

@@ -168,7 +168,5 @@ impl Atomic for Gen {
 
     ghost output_fits = { gen_output_fits };
 
-    ghost alike = { λ m n same. refl };
-
     ghost reverses = { λ m turn s elapsed bag can. gen_reverses m turn s elapsed bag can };
 }

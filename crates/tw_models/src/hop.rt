@@ -275,7 +275,5 @@ impl Atomic for Hop {
 
     ghost output_fits = { hop_output_fits };
 
-    ghost alike = { λ m n same. refl };
-
     ghost reverses = { λ m turn s elapsed bag can. hop_reverses m turn s elapsed bag can };
 }

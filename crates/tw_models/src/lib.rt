@@ -20,11 +20,13 @@ mod queue;
 mod relay;
 mod remaining;
 mod tally;
+mod values;
 
 pub use bad_model::BadModel;
 pub use generator::{Gen, GenState};
 pub use hop::{Hop, HopState};
-pub use model::{Model, Residue, State};
+pub use model::{Model, Residue, State, alike_law};
 pub use queue::{Jobs, Queue, QueueResidue, QueueState};
 pub use relay::{Held, Relay, RelayResidue, RelayState};
 pub use tally::{Tally, TallyState};
+pub use values::Values;

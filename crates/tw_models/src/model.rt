@@ -1,6 +1,7 @@
 //! The five models as one type.
 ghost use Rattle.std.specs.Prelude.{◌≡◌, ◌≤◌, ◌<◌, ◌↔◌, ◌⊎◌, Ok, IsOk, IfOk, IfErr, IsErrOf};
-ghost use Rattle.tw_atomic.specs.Atomic.{CanTurn, turned};
+ghost use Rattle.tw_atomic.specs.Atomic.{AreAlike, CanTurn, turned};
+ghost use Rattle.tw_models.specs.Model.{model_meaning, model_undone};
 ghost use Rattle.tw_models.specs.declared.bad_model.BadModel.TheVariants.{BadPort, BadTick};
 
 use crate::bad_model::BadModel;
@@ -103,7 +104,7 @@ pub enum Residue {
 
 impl Atomic for Model {
     ghost use Rattle.tw_models.specs.Model.{IsModel, model_meaning, model_residue, model_undone};
-    ghost use Rattle.tw_models.specs.ModelLaws.{model_alike, model_stays_valid, model_output_fits, model_reverses};
+    ghost use Rattle.tw_models.specs.ModelLaws.{model_stays_valid, model_output_fits, model_reverses};
 
     type State = State;
 
@@ -169,11 +170,7 @@ impl Atomic for Model {
         turn: Turn,
         elapsed: u64,
         bag: &[(u8, i64)],
-    ) -> Result<Residue, AllocError>
-        requires { CanTurn (IsModel self.now) (model_meaning self.now) turn state.old elapsed bag.now }
-        ensures state { state.new ≡ turned (model_meaning self.now) turn state.old elapsed bag.now }
-        ensures residue { result ≡ Ok (model_residue self.now turn state.old bag.now) }
-    {
+    ) -> Result<Residue, AllocError> {
         match (self, state) {
             (Model::Gen(model), State::OfGen(state)) => {
                 model.forward(alloc, state, turn, elapsed, bag)?;
@@ -298,7 +295,11 @@ impl Atomic for Model {
 
     ghost output_fits = { model_output_fits };
 
-    ghost alike = { λ m n same. model_alike m n same };
-
     ghost reverses = { λ m turn s elapsed bag can. model_reverses m turn s elapsed bag can };
 }
+
+/// Models of one meaning take back alike, so that each can take back what the other made: a chain of one is run back by the
+/// other. It does nothing.
+pub fn alike_law()
+    ensures { (m n : Model) → model_meaning m ≡ model_meaning n → AreAlike model_meaning model_undone m n }
+{}

@@ -305,7 +305,5 @@ impl Atomic for Queue {
 
     ghost output_fits = { queue_output_fits };
 
-    ghost alike = { λ m n same. refl };
-
     ghost reverses = { λ m turn s elapsed bag can. queue_reverses m turn s elapsed bag can };
 }

@@ -9,6 +9,7 @@ use crate::bad_model::BadModel;
 use crate::intake::{
     accept, copy_of, dropped_before, left_after, left_before, same_values, write_words,
 };
+use crate::values::Values;
 use arrayvec::ArrayVec;
 use std::alloc::{AllocError, Global};
 use std::marker::Model;
@@ -89,7 +90,7 @@ impl RelayState {
 #[derive(Drop)]
 pub struct RelayResidue {
     pub accepted: usize,
-    pub given: Held,
+    pub given: Values,
 }
 
 /// Lets all that is held go.
@@ -98,15 +99,6 @@ fn let_go(state: &mut RelayState)
 {
     state.left = None;
     state.held.clear();
-}
-
-/// Lets all that is held go, and answers it.
-fn send_all(state: &mut RelayState) -> Held
-    ensures state { state.new ≡ relay_int state.old }
-    ensures given { result ≡ state.old.held }
-{
-    state.left = None;
-    state.held.take()
 }
 
 /// Holds what finds room and counts the rest, and answers how many values found room.
@@ -174,25 +166,22 @@ impl Atomic for Relay {
         turn: Turn,
         elapsed: u64,
         bag: &[(u8, i64)],
-    ) -> Result<RelayResidue, AllocError>
-        requires { CanTurn (IsRelay self.now) (relay_meaning self.now) turn state.old elapsed bag.now }
-        ensures state { state.new ≡ turned (relay_meaning self.now) turn state.old elapsed bag.now }
-        ensures residue { result ≡ Ok (relay_residue turn state.old bag.now) }
-    {
-        let _ = alloc;
-        let mut residue = RelayResidue {
-            accepted: 0,
-            given: ArrayVec::new(),
-        };
+    ) -> Result<RelayResidue, AllocError> {
+        let mut accepted = 0;
+        let mut given = Values::none(alloc);
         match turn {
-            Turn::Int => residue.given = send_all(state),
-            Turn::Ext => residue.accepted = take_in(state, self.delay, elapsed, bag),
+            Turn::Int => {
+                given = Values::of(alloc, &state.held)?;
+                let_go(state);
+            }
+            Turn::Ext => accepted = take_in(state, self.delay, elapsed, bag),
             Turn::Con => {
-                residue.given = send_all(state);
-                residue.accepted = take_in(state, self.delay, 0, bag);
+                given = Values::of(alloc, &state.held)?;
+                let_go(state);
+                accepted = take_in(state, self.delay, 0, bag);
             }
         }
-        Ok(residue)
+        Ok(RelayResidue { accepted, given })
     }
 
     fn transition(
@@ -232,7 +221,7 @@ impl Atomic for Relay {
         let RelayResidue { accepted, given } = residue;
         match turn {
             Turn::Int => {
-                state.held = given;
+                state.held = given.held();
                 state.left = Some(elapsed);
             }
             Turn::Ext => {
@@ -242,7 +231,7 @@ impl Atomic for Relay {
                 state.left = left_before(state.held.as_slice(), state.left, elapsed);
             }
             Turn::Con => {
-                state.held = given;
+                state.held = given.held();
                 state.dropped = dropped_before(state.dropped, bag.len(), accepted);
                 state.left = Some(elapsed);
             }
@@ -273,8 +262,6 @@ impl Atomic for Relay {
     ghost stays_valid = { relay_stays_valid };
 
     ghost output_fits = { relay_output_fits };
-
-    ghost alike = { λ m n same. refl };
 
     ghost reverses = { λ m turn s elapsed bag can. relay_reverses m turn s elapsed bag can };
 }

@@ -178,7 +178,5 @@ impl Atomic for Tally {
 
     ghost output_fits = { λ m s valid. tally_output_fits s };
 
-    ghost alike = { λ m n same. refl };
-
     ghost reverses = { λ m turn s elapsed bag can. tally_reverses turn s elapsed bag can };
 }

@@ -32,10 +32,10 @@ use std::slice;
 
 /// The items of an input or of an output, each a port and a value; equal items are all kept.
 ///
-/// Contracts see a bag as the list of its items. Up to eight items take no memory.
+/// Contracts see a bag as the list of its items. Up to two items take no memory.
 #[derive(Debug, Drop)]
 pub struct Bag {
-    items: SmallVec<(u8, i64), 8>,
+    items: SmallVec<(u8, i64), 2>,
 }
 
 impl Model for Bag {
@@ -45,7 +45,7 @@ impl Model for Bag {
 
     ghost view = { λ b. b.items.items };
 
-    ghost invariant = { λ b. 8 ≤ b.items.capacity };
+    ghost invariant = { λ b. 2 ≤ b.items.capacity };
 }
 
 impl Bag {
@@ -91,12 +91,12 @@ impl Bag {
     /// Adds an item at the end.
     ///
     /// Where memory is wanting (refusal 4) the item is handed back, and the bag stays as it was. The
-    /// first eight items take no memory.
+    /// first two items take no memory.
     pub fn push(&mut self, item: (u8, i64)) -> Result<(), AllocFailed<(u8, i64)>>
         ensures ok { OnOk result (self.new ≡ self.old ++ item ∷ []) }
         ensures err { OnErr result (self.new ≡ self.old) }
         ensures handed_back { IfErr result (λ failed. failed.value ≡ item) }
-        ensures inline { length self.old < 8 → IsOk result }
+        ensures inline { length self.old < 2 → IsOk result }
     {
         self.items.push(item)
     }
@@ -122,16 +122,16 @@ impl Bag {
 
 /// A copy: the same items in the same order, with room of its own.
 ///
-/// Where memory is wanting (refusal 4) there is no copy, and nothing is left behind. A bag of up to eight
+/// Where memory is wanting (refusal 4) there is no copy, and nothing is left behind. A bag of up to two
 /// items is copied without memory.
 impl Clone for Bag {
     ghost is_clone = { λ bag copy. copy ≡ bag };
 
-    ghost is_infallible = { λ bag. length bag ≤ 8 };
+    ghost is_infallible = { λ bag. length bag ≤ 2 };
 
     fn clone(&self) -> Result<Bag, AllocError>
         ensures ok { IfOk result (λ copy. copy ≡ self.now) }
-        ensures inline { length self.now ≤ 8 → IsOk result }
+        ensures inline { length self.now ≤ 2 → IsOk result }
     {
         let mut items = SmallVec::new(*self.items.allocator());
         items.extend_from_slice(self.as_slice())?;

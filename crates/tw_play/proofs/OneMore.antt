@@ -5,7 +5,7 @@ use Rattle.std.specs.Io.KnownBytes.{Appends}
 use Rattle.std.proofs.lemmas.List.{take_more}
 use Rattle.rand_pcg.specs.Lcg.{Lcg}
 use Rattle.tw_atomic.specs.Atomic.{Meaning}
-use Rattle.tw_exec.specs.declared.action.Action.{Action}
+use Rattle.tw_actions.specs.declared.action.Action.{Action}
 use Rattle.tw_play.specs.Playing.{Played, IsObeyed, ArePlayed, AreDrawn, answer_text, wants_memory, nothing, obeyed, ended, idle, taken}
 use Rattle.tw_play.specs.Telling.{HasTold, refused_text, IsCutShort, IsDrawnShort, IsPlayed, IsWhollyDrawn}
 use Rattle.tw_play.specs.declared.answer.Answer.{Answer}

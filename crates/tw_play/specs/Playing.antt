@@ -7,12 +7,12 @@
 use Rattle.std.specs.Prelude.{ℕ, suc, ◌≡◌, ◌≢◌, ◌<◌, ◌≤◌, ◌⊎◌, ◌↔◌, ◌++◌, List, [], ◌∷◌, length, min, Option, Some, None, IfErr, IfSome, IsErrOf, Result, Ok, Err, string_bytes}
 use Rattle.rand_pcg.specs.Lcg.{Lcg}
 use Rattle.tw_atomic.specs.Atomic.{Meaning}
-use Rattle.tw_exec.specs.Actions.{answered, meant, reason}
+use Rattle.tw_exec.specs.Actions.{reason}
 use Rattle.tw_exec.specs.Rewinding.{greatest_count}
 use Rattle.tw_exec.specs.Running.{Running, answer, after, AreExact, IsDelivery, IsReason, IsWanting, WantsRoom}
-use Rattle.tw_exec.specs.declared.action.Action.{Action}
-use Rattle.tw_exec.specs.declared.action.Done as done
-use Rattle.tw_exec.specs.declared.action.Done.TheVariants.{Undone}
+use Rattle.tw_actions.specs.declared.action.Action.{Action}
+use Rattle.tw_actions.specs.declared.action.Done as done
+use Rattle.tw_actions.specs.declared.action.Done.TheVariants.{Undone}
 use Rattle.tw_exec.specs.declared.refused.Refused as refused
 use Rattle.tw_exec.specs.declared.refused.Refused.TheVariants.{OutOfMemory, Full, NoSuch}
 use Rattle.tw_inspect.specs.Replies.{reply_text, replied}
@@ -24,7 +24,6 @@ use Rattle.tw_play.specs.declared.answer.Answer.TheVariants.{Reply, Text}
 use Rattle.tw_script.specs.Schedules.{action_drawn, after as next_of, drawn}
 use Rattle.tw_script.specs.declared.command.Command.{Command}
 use Rattle.tw_script.specs.declared.command.Command.TheVariants.{Act, Mark, Rewind, Show, Describe}
-use Rattle.tw_theory.specs.Executive as theory
 use Rattle.tw_theory.specs.Marks.{marks, rewind, rewound_steps}
 use Rattle.tw_theory.specs.Memory.{TakesMemory}
 
@@ -41,26 +40,26 @@ begun e = record { executive = e; mark = None }
 
 -- which refusals come of an action, as the executive says it: 15, 14 and 16 exactly where the theory refuses it so; 12 only where there is no
 -- room, and of a delivery exactly there; and want of memory only of an action that takes any
-pub record AreRefusals {M S : Type 0} (meaning : M → Meaning S) (action : theory.Action) (e : Running M S) (result : Result done.Done refused.Refused) : Type 0 where
+pub record AreRefusals {M S : Type 0} (meaning : M → Meaning S) (action : Action) (e : Running M S) (result : Result done.Done refused.Refused) : Type 0 where
   pub exact : AreExact meaning action e result
   pub limit : IsDelivery action → (WantsRoom meaning action e ↔ IsErrOf result Full)
   pub memory : IfErr result (λ why. reason why ≡ None → TakesMemory action)
 
 -- what comes of it: what the theory's action answers and makes; refused, it changes nothing
-abbrev pub IsOutcome : {M S : Type 0} → (M → Meaning S) → theory.Action → Running M S → Result done.Done refused.Refused → Running M S → Type 0
-IsOutcome meaning action e (Ok done) e' = (answer meaning action e ≡ answered done) × (e' ≡ after meaning action e)
+abbrev pub IsOutcome : {M S : Type 0} → (M → Meaning S) → Action → Running M S → Result done.Done refused.Refused → Running M S → Type 0
+IsOutcome meaning action e (Ok done) e' = (answer meaning action e ≡ Ok done) × (e' ≡ after meaning action e)
 IsOutcome meaning action e (Err why) e' = IsReason meaning action e why × IsWanting meaning action e why × (e' ≡ e)
 
 abbrev pub IsActed : {M S : Type 0} → (M → Meaning S) → Action → Running M S → Result done.Done refused.Refused → Running M S → Type 0
-IsActed meaning action e result e' = IsOutcome meaning (meant action) e result e' × AreRefusals meaning (meant action) e result
+IsActed meaning action e result e' = IsOutcome meaning action e result e' × AreRefusals meaning action e result
 
 -- ---- a rewind
 
 -- taken back to these stamps, as the theory's rewind does; the count is at most the greatest that is counted
 abbrev pub IsRewound : {M S : Type 0} → Running M S → List ℕ → Result done.Done refused.Refused → Running M S → Type 0
 IsRewound e ss (Ok came) e' =
-    (rewind e.world ss ≡ (theory.Undone (rewound_steps ss e.world.processes), e'.world)) × (came ≡ Undone (min (rewound_steps ss e.world.processes) greatest_count)) × (e' ≡ record e { world = e'.world })
-IsRewound e ss (Err why) e' = IfSome (reason why) (λ r. (rewind e.world ss).0 ≡ theory.Refused r) × (reason why ≢ None) × (e' ≡ e)
+    (rewind e.world ss ≡ (Ok (Undone (rewound_steps ss e.world.processes)), e'.world)) × (came ≡ Undone (min (rewound_steps ss e.world.processes) greatest_count)) × (e' ≡ record e { world = e'.world })
+IsRewound e ss (Err why) e' = IfSome (reason why) (λ r. (rewind e.world ss).0 ≡ Err r) × (reason why ≢ None) × (e' ≡ e)
 
 -- without a mark there is nothing to go back to (15)
 abbrev pub IsRewoundTo : {M S : Type 0} → Option (List ℕ) → Running M S → Result done.Done refused.Refused → Running M S → Type 0

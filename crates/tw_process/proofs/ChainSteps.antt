@@ -2,8 +2,8 @@
 use Rattle.std.proofs.Common.{◌≡◌, ℕ, List, [], ◌∷◌, ◌++◌, length, refl, ap}
 use Rattle.tw_chain.specs.declared.step.ChainStep.{ChainStep}
 use Rattle.tw_lists.specs.Lists.{Lists, with_room}
-use Rattle.tw_process.specs.declared.finished.Stop.{Stop}
-use Rattle.tw_process.specs.declared.finished.Stop.TheVariants.{Ended, Stale, OutOfMemory, Full}
+use Rattle.tw_actions.specs.declared.chain.Stop.{Stop}
+use Rattle.tw_actions.specs.declared.chain.Stop.TheVariants.{Ended, Stale, OutOfMemory, Full}
 use Rattle.tw_theory.specs.Chains.{sent_at}
 use Rattle.tw_theory.specs.Contents.{Cancel}
 use Rattle.tw_theory.specs.Network.{Network}

@@ -11,8 +11,7 @@ use Rattle.tw_msgs.specs.declared.record.Record.{Record}
 use Rattle.tw_network.specs.Contents.{Contents as NetworkContents}
 use Rattle.tw_theory.specs.Chains.{SoloRun, IsSoloRun, Cause, IsHome, Agrees, alone, made_anew, sent_at}
 use Rattle.tw_theory.specs.Contents.{Process, Cancel, sent_out, before_all}
-use Rattle.tw_theory.specs.Installing.{IsFresh, IsFullFor, IsInstalled, StopsAt, TakesFrom}
-use Rattle.tw_theory.specs.Installing as theory
+use Rattle.tw_theory.specs.Installing.{IsInstalled, StopsAt, TakesFrom}
 use Rattle.tw_theory.specs.LocalRun.{Step, Leads}
 use Rattle.tw_theory.specs.Network.{Network}
 use Rattle.tw_theory.specs.Transitions.{Moment}
@@ -20,15 +19,13 @@ use Rattle.tw_theory.proofs.Agreeing.{step_taken, same_step}
 use Rattle.tw_vtime.specs.Stamps.{max_microstep}
 use Rattle.tw_chain.specs.Kept as chain
 use Rattle.tw_chain.specs.Kept.{shown_all}
-use Rattle.tw_chain.specs.Stops.{meant}
-use Rattle.tw_chain.specs.declared.cause.Cause.{Cause as ChainCause}
 use Rattle.tw_chain.specs.declared.step.ChainStep.{ChainStep}
 use Rattle.tw_lists.specs.Lists.{Lists, with_room}
 use Rattle.tw_process.specs.declared.entry.Entry.{Entry}
-use Rattle.tw_process.specs.declared.finished.Stop.{Stop}
-use Rattle.tw_process.specs.declared.finished.Stop.TheVariants.{Ended, Stale, OutOfMemory, Full}
+use Rattle.tw_actions.specs.declared.chain.Stop.{Stop}
+use Rattle.tw_actions.specs.declared.chain.Stop.TheVariants.{Ended, Stale, OutOfMemory, Full}
 use Rattle.tw_process.specs.History.{seen, IsKeptBy}
-use Rattle.tw_process.specs.Installing.{after_record, after_steps, AreNext, WhyNot, entries_of, entries_with, sent_counts, stop_of}
+use Rattle.tw_process.specs.Installing.{after_record, after_steps, AreNext, WhyNot, entries_of, entries_with, sent_counts}
 use Rattle.tw_process.proofs.Histories.{live_shown}
 use Rattle.tw_process.proofs.Installations.{AllMade, all_made, entries_counted}
 use Rattle.tw_process.proofs.Receipts.{others_kept}
@@ -119,7 +116,7 @@ module _ {M S R : Type 0} (net : Network S) (valid : S → Type 0) (m : Meaning 
   -- why the next one is not
   pub stops : (n : ℕ) (now' : Moment S) (hist : List (Entry S R)) (lists : Lists) (step : Step S) (e : ChainStep S R) (stop : Stop) → IsKeptBy valid m undone r.start.component now' floor hist lists
       → now' ≡ before_all (drop n r.steps) r.after → (n ≡ 0 → now' ≡ r.start.now) → slice_get r.steps n ≡ Some step → chain.shown e ≡ step → WhyNot net r.start.component way e lists stop
-      → StopsAt net r n (seen network r.start.component now' line way floor hist lists).process step (stop_of stop)
+      → StopsAt net r n (seen network r.start.component now' line way floor hist lists).process step stop
   stops n now' hist lists step e (Ended cause) kept now_is begins at is why = absurd why
   stops n now' hist lists step e Stale kept now_is begins at is why =
       let d = drop_at r.steps n step at in
@@ -147,14 +144,14 @@ module _ {M S R : Type 0} (net : Network S) (valid : S → Type 0) (m : Meaning 
 
   pub record Whole (cause : Cause) (now now' : Moment S) (hs hist : List (Entry S R)) (lists lists' : Lists) (n : ℕ) (stop : Stop) : Type 0 where
     pub kept : IsKeptBy valid m undone r.start.component now' floor hist lists'
-    pub is : IsInstalled net r cause (seen network r.start.component now line way floor hs lists).process (seen network r.start.component now' line way floor hist lists').process (record { installed = n; stop = stop_of stop })
+    pub is : IsInstalled net r cause (seen network r.start.component now line way floor hs lists).process (seen network r.start.component now' line way floor hist lists').process (record { installed = n; stop = stop })
 
-  pub whole : (cause : Cause) (now now' : Moment S) (hs hist : List (Entry S R)) (lists lists' : Lists) (n : ℕ) (stop : Stop) (es parts : List (ChainStep S R)) (counts : List ℕ) (o : Option Stop) (k : ChainCause)
+  pub whole : (cause : Cause) (now now' : Moment S) (hs hist : List (Entry S R)) (lists lists' : Lists) (n : ℕ) (stop : Stop) (es parts : List (ChainStep S R)) (counts : List ℕ) (o : Option Stop) (k : Cause)
       → now ≡ r.start.now → IsKeptBy valid m undone r.start.component now floor hs lists → shown_all es ≡ r.steps → n ≤ length es
       → AreNext net r.start.component way (take n es) lists → lists' ≡ with_room lists'.room lists'.spare (after_steps net r.start.component way (take n es) lists) → counts ≡ sent_counts net r.start.component (take n es)
       → shown_all parts ≡ take n r.steps → now' ≡ before_all (drop n r.steps) r.after → chain.Linked undone parts now'.state → hist ≡ hs ++ entries_with counts parts
       → IfNone o (n ≡ length es) → IfSome o (λ s. n < length es) → IfSome o (λ s. (e : ChainStep S R) → slice_get es n ≡ Some e → WhyNot net r.start.component way e lists' s)
-      → stop ≡ unwrap_or o (Ended k) → meant k ≡ cause
+      → stop ≡ unwrap_or o (Ended k) → k ≡ cause
       → Whole cause now now' hs hist lists lists' n stop
   whole cause now now' hs hist lists lists' n stop es parts counts o k stands kept es_is within next lists_is counts_is parts_is now_is linked hist_is all short why stop_is cause_is =
       let c = r.start.component in
@@ -182,24 +179,24 @@ module _ {M S R : Type 0} (net : Network S) (valid : S → Type 0) (m : Meaning 
         };
       }
     where
-      ends : (o : Option Stop) → IfSome o (λ s. n < length es) → stop ≡ unwrap_or o (Ended k) → length es ≡ length r.steps → n ≡ length r.steps → stop_of stop ≡ theory.Ended cause
-      ends None short is long at = ap stop_of is ∙ ap theory.Ended cause_is
+      ends : (o : Option Stop) → IfSome o (λ s. n < length es) → stop ≡ unwrap_or o (Ended k) → length es ≡ length r.steps → n ≡ length r.steps → stop ≡ Ended cause
+      ends None short is long at = is ∙ ap Ended cause_is
       ends (Some s) short is long at = absurd (omega (arith, short, long, at))
 
       no_more : IsKeptBy valid m undone r.start.component now' floor hist lists' → (n ≡ 0 → now' ≡ r.start.now) → length es ≡ length r.steps
           → (o : Option Stop) → IfNone o (n ≡ length es) → IfSome o (λ s. (e : ChainStep S R) → slice_get es n ≡ Some e → WhyNot net r.start.component way e lists' s) → stop ≡ unwrap_or o (Ended k)
-          → (step : Step S) → slice_get r.steps n ≡ Some step → StopsAt net r n (seen network r.start.component now' line way floor hist lists').process step (stop_of stop)
+          → (step : Step S) → slice_get r.steps n ≡ Some step → StopsAt net r n (seen network r.start.component now' line way floor hist lists').process step stop
       no_more kept' begins long None all why is step at = absurd (let w = slice_get_within r.steps n step at in omega (arith, w, all, long))
       no_more kept' begins long (Some s) all why is step at =
           let e = shown_at es n step (ap (λ l. slice_get l n) es_is ∙ at) in
-          subst (λ x. StopsAt net r n (seen network r.start.component now' line way floor hist lists').process step (stop_of x)) (sym is)
+          subst (λ x. StopsAt net r n (seen network r.start.component now' line way floor hist lists').process step x) (sym is)
           (stops n now' hist lists' step e.0 s kept' now_is begins at e.2 (why e.0 e.1))
 
 -- a chain that is not begun from here is stale, or has no steps
-pub not_begun : {S : Type 0} (net : Network S) (r : SoloRun S) (cause : Cause) (p : Process S) (stop : Stop) → (p.now ≡ r.start.now → ⊥) → (length r.steps ≡ 0 → stop_of stop ≡ theory.Ended cause) → (0 < length r.steps → stop ≡ Stale) → IsInstalled net r cause p p (record { installed = 0; stop = stop_of stop })
+pub not_begun : {S : Type 0} (net : Network S) (r : SoloRun S) (cause : Cause) (p : Process S) (stop : Stop) → (p.now ≡ r.start.now → ⊥) → (length r.steps ≡ 0 → stop ≡ Ended cause) → (0 < length r.steps → stop ≡ Stale) → IsInstalled net r cause p p (record { installed = 0; stop = stop })
 not_begun net r cause p stop away none some = record {
   within = omega arith;
   takes = refl;
   all = λ e. none (sym e);
-  stops = λ step at. subst (λ x. StopsAt net r 0 p step (stop_of x)) (sym (some (slice_get_within r.steps 0 step at))) (λ fresh. away (fresh.begins refl));
+  stops = λ step at. subst (λ x. StopsAt net r 0 p step x) (sym (some (slice_get_within r.steps 0 step at))) (λ fresh. away (fresh.begins refl));
 }

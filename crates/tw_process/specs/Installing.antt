@@ -1,35 +1,22 @@
--- What a chain's steps make of the lists of a process, and what is answered.
+-- What a chain's steps make of the lists of a process.
 --     after_step net c way e lists, after_steps      the lists after a step of a chain, after several
 --     AreNext net c way es lists      each agrees with what the component does next, where it stands as the chain does
 --     WhyNot net c way e lists stop      why this step was not made
 --     entry_of net c e      a step of a chain as a step of the history
---     stop_of, finished_of      the answers as the definitions have them
 use Rattle.std.specs.Prelude.{ℕ, ◌+◌, ◌*◌, ◌<◌, List, [], ◌∷◌, ◌++◌, length, drop, ⊤, ◌==◌, if◌then◌else◌}
 use Rattle.tw_msgs.specs.declared.record.Record.{Record}
 use Rattle.tw_theory.specs.Bundles.{positives}
 use Rattle.tw_theory.specs.Chains.{Agrees, sent_at, taken_at, left_at}
 use Rattle.tw_theory.specs.Contents.{Cancel, sent_out, owed_after}
-use Rattle.tw_theory.specs.Installing as theory
 use Rattle.tw_theory.specs.Memory.{max_nodes}
 use Rattle.tw_theory.specs.Network.{Network}
 use Rattle.tw_vtime.specs.Stamps.{phase_of}
 use Rattle.tw_chain.specs.Kept.{shown}
-use Rattle.tw_chain.specs.Stops.{meant}
 use Rattle.tw_chain.specs.declared.step.ChainStep.{ChainStep}
 use Rattle.tw_lists.specs.Lists.{Lists, node_count}
 use Rattle.tw_process.specs.declared.entry.Entry.{Entry}
-use Rattle.tw_process.specs.declared.finished.Finished.{Finished}
-use Rattle.tw_process.specs.declared.finished.Stop.{Stop}
-use Rattle.tw_process.specs.declared.finished.Stop.TheVariants.{Ended, Stale, OutOfMemory, Full}
-
-abbrev pub stop_of : Stop → theory.Stop
-stop_of (Ended cause) = theory.Ended (meant cause)
-stop_of Stale = theory.Stale
-stop_of OutOfMemory = theory.OutOfMemory
-stop_of Full = theory.Full
-
-abbrev pub finished_of : Finished → theory.Finished
-finished_of finished = record { installed = finished.installed; stop = stop_of finished.stop }
+use Rattle.tw_actions.specs.declared.chain.Stop.{Stop}
+use Rattle.tw_actions.specs.declared.chain.Stop.TheVariants.{Ended, Stale, OutOfMemory, Full}
 
 abbrev pub after_record : {S : Type 0} → Network S → ℕ → Cancel → Record → Lists → Lists
 after_record net c way r lists = record lists {

@@ -6,7 +6,7 @@ ghost use Rattle.tw_theory.specs.Standing.{IsReady};
 ghost use Rattle.tw_vtime.specs.Stamps.{max_microstep};
 
 use crate::process::Process;
-use std::alloc::{AllocError, Global};
+use std::alloc::AllocError;
 use tw_atomic::Atomic;
 use tw_chain::Start;
 use tw_vtime::Stamp;
@@ -14,12 +14,7 @@ use tw_vtime::Stamp;
 impl<M: Atomic> Process<M> {
     /// A start of a chain from here, of at most `burst` steps, all before a bound: state, last, due and the pending
     /// messages before the bound are copied. It is refused for want of memory alone (4).
-    pub fn start(
-        &self,
-        alloc: Global,
-        before: Stamp,
-        burst: usize,
-    ) -> Result<Start<M::State>, AllocError>
+    pub fn start(&self, before: Stamp, burst: usize) -> Result<Start<M::State>, AllocError>
         ensures start { IfOk result (λ start. start ≡ start_of before burst self.now) }
         ensures limit { IfOk result (λ start. start.micro_limit ≤ max_microstep) }
         ensures ready { IfOk result (λ start. (m : M) → slice_get self.now.network.models self.now.component ≡ Some m
@@ -27,16 +22,16 @@ impl<M: Atomic> Process<M> {
     {
         let network = &*self.network;
         network.facts();
-        let state = network.model(self.component).copy(alloc, &self.state)?;
-        let messages = self.lists.pending_before(alloc, before)?;
+        let state = network.model(self.component).copy(self.alloc, &self.state)?;
+        let messages = self.lists.pending_before(before)?;
         let limit = network.micro_limit();
         Ok(Start::new(
-            self.component,
             state,
             self.last,
             self.due,
             limit,
             messages,
+            self.component,
             before,
             burst,
         ))

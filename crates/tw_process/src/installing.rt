@@ -2,16 +2,16 @@
 
 ghost use Rattle.std.specs.Prelude.{◌≡◌, ◌↔◌, ◌+◌, ◌≤◌, ◌++◌, IsTrue, Some, length, slice_get, vec_len};
 ghost use Rattle.std.specs.VecDeque.{deque_capacity, deque_len};
+ghost use Rattle.tw_atomic.specs.Atomic.{AreAlike};
 ghost use Rattle.tw_network.specs.Contents.{network_of};
-ghost use Rattle.tw_process.specs.Installing.{entries_with, entry_with, finished_of};
+ghost use Rattle.tw_process.specs.Installing.{entries_with, entry_with};
 ghost use Rattle.tw_theory.specs.Installing.{IsInstalled};
 
 use crate::entry::Entry;
-use crate::finished::{Finished, Stop};
 use crate::process::Process;
 use crate::taking::{Taken, take_steps};
-use std::alloc::Global;
 use std::collections::VecDeque;
+use tw_actions::{Finished, Stop};
 use tw_atomic::Atomic;
 use tw_chain::{ChainStep, Parts, Prepared};
 use tw_vtime::Stamp;
@@ -22,11 +22,11 @@ impl<M: Atomic> Process<M> {
     ///
     /// The first step is stale where state, last, due, stamp or bag differ from the process's, a later one where stamp
     /// or bag differ.
-    pub fn install(&mut self, alloc: Global, chain: Prepared<M>) -> Finished
+    pub fn install(&mut self, chain: Prepared<M>) -> Finished
         requires component { chain.run.start.component ≡ self.old.component }
         requires limit { chain.run.start.micro_limit ≡ self.old.network.micro_limit }
-        requires meaning { (m : M) → slice_get self.old.network.models self.old.component ≡ Some m → M.meaning m ≡ M.meaning chain.model }
-        ensures installed { IsInstalled (network_of M.meaning self.old.network) chain.run chain.cause self.old.process self.new.process (finished_of result) }
+        requires alike { (m : M) → slice_get self.old.network.models self.old.component ≡ Some m → AreAlike M.meaning M.undone m chain.model }
+        ensures installed { IsInstalled (network_of M.meaning self.old.network) chain.run chain.cause self.old.process self.new.process result }
         ensures others { self.new ≡ record self.old { process = self.new.process; spare = self.new.spare } }
     {
         chain.facts();
@@ -42,7 +42,7 @@ impl<M: Atomic> Process<M> {
             return Finished { installed: 0, stop };
         }
         let Taken { counts, stop } = take_steps(
-            alloc,
+            self.alloc,
             network,
             self.component,
             self.cancel,

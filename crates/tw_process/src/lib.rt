@@ -23,7 +23,6 @@
 mod chains;
 mod committing;
 mod entry;
-mod finished;
 mod installing;
 mod marked;
 mod posting;
@@ -36,7 +35,6 @@ mod stepping;
 mod taking;
 mod undoing;
 
-pub use finished::{Finished, Stop};
 pub use process::Process;
 pub use refused::StepRefused;
-pub use tw_lists::Cancel;
+pub use tw_actions::{Cancel, Finished, Stop};

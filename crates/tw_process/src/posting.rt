@@ -4,8 +4,8 @@ ghost use Rattle.std.specs.Prelude.{◌≡◌, length};
 ghost use Rattle.tw_process.specs.Process.{with_posted, with_settled, with_spare};
 
 use crate::process::Process;
+use tw_actions::Cancel;
 use tw_atomic::Atomic;
-use tw_lists::Cancel;
 
 impl<M: Atomic> Process<M> {
     /// The owed messages that an output before the next step sent go to the outgoing list, as anti-messages: the

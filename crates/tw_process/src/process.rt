@@ -2,7 +2,6 @@
 
 ghost use Rattle.std.specs.Prelude.{◌≡◌, ◌+◌, ◌<◌, ◌≤◌, length, IfOk, IfSome};
 ghost use Rattle.std.specs.Arc.{arc_value};
-ghost use Rattle.tw_lists.specs.Ways.{way_of};
 ghost use Rattle.tw_process.specs.Process.{IsNew, last_stamp_of};
 ghost use Rattle.tw_theory.specs.Contents.{next, Aggressive};
 ghost use Rattle.tw_theory.specs.Memory.{live, max_nodes};
@@ -14,8 +13,9 @@ use std::alloc::{AllocError, Global};
 use std::collections::VecDeque;
 use std::marker::Model;
 use std::sync::Arc;
+use tw_actions::Cancel;
 use tw_atomic::Atomic;
-use tw_lists::{Cancel, EventLists};
+use tw_lists::EventLists;
 use tw_network::Network;
 use tw_step::Moment;
 use tw_step::moment::start_moment;
@@ -24,6 +24,7 @@ use tw_vtime::Stamp;
 /// A process of one component of a network.
 #[derive(Drop)]
 pub struct Process<M: Atomic> {
+    pub(crate) alloc: Global,
     pub(crate) network: Arc<Network<M>>,
     pub(crate) component: usize,
     pub(crate) state: M::State,
@@ -40,7 +41,6 @@ pub struct Process<M: Atomic> {
 
 impl<M: Atomic> Model for Process<M> {
     ghost use Rattle.std.specs.Arc.{arc_value};
-    ghost use Rattle.tw_lists.specs.Ways.{way_of};
     ghost use Rattle.tw_process.specs.Process.{Held};
     ghost use Rattle.tw_process.specs.History.{seen, IsKept};
 
@@ -48,7 +48,7 @@ impl<M: Atomic> Model for Process<M> {
 
     ghost view = { λ p. seen (arc_value p.network) p.component
         (record { state = p.state; last = p.last; due = p.due })
-        p.line (way_of p.cancel) p.floor p.history.items p.lists };
+        p.line p.cancel p.floor p.history.items p.lists };
 
     ghost invariant = { λ p. IsKept M.valid M.meaning M.undone (arc_value p.network) p.component
         (record { state = p.state; last = p.last; due = p.due })
@@ -77,13 +77,14 @@ impl<M: Atomic> Process<M> {
         cancel: Cancel,
     ) -> Result<Self, AllocError>
         requires { component < length (arc_value network).models }
-        ensures { IfOk result (IsNew M.meaning (arc_value network) (way_of cancel) component) }
+        ensures { IfOk result (IsNew M.meaning (arc_value network) cancel component) }
     {
         let shared = &*network;
         shared.facts();
         let Moment { state, last, due } = start_moment(alloc, shared.model(component))?;
         let lists = start_lists(alloc, shared, component)?;
         Ok(Process {
+            alloc,
             network,
             component,
             state,

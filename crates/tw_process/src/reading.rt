@@ -4,17 +4,16 @@ ghost use Rattle.std.specs.Prelude.{◌≡◌, ◌<◌, length, map, IfOk};
 ghost use Rattle.std.specs.Arc.{arc_value};
 ghost use Rattle.tw_heap.specs.Entries.{message_of};
 ghost use Rattle.tw_lists.specs.Lists.{item_at, message_at, AreSame};
-ghost use Rattle.tw_lists.specs.Ways.{way_of};
 ghost use Rattle.tw_pool.specs.Lists.{list_at};
 ghost use Rattle.tw_theory.specs.Bundles.{antis, least_owed, least_stamp};
 ghost use Rattle.tw_theory.specs.Contents.{consumed_by, sent_by};
 
 use crate::process::Process;
-use std::alloc::{AllocError, Global};
+use std::alloc::AllocError;
 use std::sync::Arc;
+use tw_actions::Cancel;
 use tw_atomic::Atomic;
 use tw_heap::EventHeap;
-use tw_lists::Cancel;
 use tw_msgs::{Item, Message};
 use tw_network::Network;
 use tw_pool::Pool;
@@ -65,7 +64,7 @@ impl<M: Atomic> Process<M> {
 
     /// How steps that are taken back are cancelled.
     pub fn cancel(&self) -> Cancel
-        ensures { way_of result ≡ self.now.process.cancel }
+        ensures { result ≡ self.now.process.cancel }
     {
         self.cancel
     }
@@ -99,31 +98,31 @@ impl<M: Atomic> Process<M> {
     }
 
     /// The pending messages in order. It is refused for want of memory alone (4), as the copies below.
-    pub fn pending(&self, alloc: Global) -> Result<Vec<Message>, AllocError>
+    pub fn pending(&self) -> Result<Vec<Message>, AllocError>
         ensures { IfOk result (λ messages. messages.items ≡ self.now.process.pending) }
     {
-        self.lists.pending(alloc)
+        self.lists.pending()
     }
 
     /// The messages whose anti-messages wait, in order of arrival.
-    pub fn waiting(&self, alloc: Global) -> Result<Vec<Message>, AllocError>
+    pub fn waiting(&self) -> Result<Vec<Message>, AllocError>
         ensures { IfOk result (λ messages. messages.items ≡ self.now.process.waiting) }
     {
-        self.lists.waiting(alloc)
+        self.lists.waiting()
     }
 
     /// The outgoing items in order.
-    pub fn outgoing(&self, alloc: Global) -> Result<Vec<Item>, AllocError>
+    pub fn outgoing(&self) -> Result<Vec<Item>, AllocError>
         ensures { IfOk result (λ items. items.items ≡ self.now.process.outgoing) }
     {
-        self.lists.outgoing(alloc)
+        self.lists.outgoing()
     }
 
     /// The owed messages in order.
-    pub fn owed(&self, alloc: Global) -> Result<Vec<Message>, AllocError>
+    pub fn owed(&self) -> Result<Vec<Message>, AllocError>
         ensures { IfOk result (λ messages. messages.items ≡ self.now.process.owed) }
     {
-        self.lists.owed(alloc)
+        self.lists.owed()
     }
 
     /// The least stamp of the outgoing items, or the end. It takes no memory.

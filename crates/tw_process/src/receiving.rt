@@ -73,8 +73,8 @@ impl<M: Atomic> Process<M> {
     }
 
     /// An anti-message waits for its message, the last of those that wait. It is refused as [`put`](Process::put) is.
-    pub fn note_orphan(&mut self, message: &Message) -> Result<(), PoolRefused>
-        ensures noted { OnOk result (self.new ≡ with_spare self.new.spare (with_noted message.now self.old)) }
+    pub fn note_orphan(&mut self, message: Message) -> Result<(), PoolRefused>
+        ensures noted { OnOk result (self.new ≡ with_spare self.new.spare (with_noted message self.old)) }
         ensures stays { OnErr result (self.new ≡ with_spare self.new.spare self.old) }
         ensures limit { IsFullBy 1 self.old.process ↔ result ≡ Err Full }
     {

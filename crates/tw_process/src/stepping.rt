@@ -9,7 +9,6 @@ ghost use Rattle.tw_vtime.specs.Stamps.{never, phase_of};
 use crate::entry::Entry;
 use crate::process::Process;
 use crate::refused::StepRefused;
-use std::alloc::Global;
 use std::snapshot::Snapshot;
 use tw_atomic::Atomic;
 use tw_msgs::{Record, RecordKind, Words};
@@ -22,7 +21,7 @@ impl<M: Atomic> Process<M> {
     /// Where it is refused, the process is as it was: no step is due (16), the next own step would pass a limit (2, 3),
     /// the lists would have too many nodes (12), or memory was refused (4). The last can come in place of 2, 3 and 12,
     /// never of 16.
-    pub fn step(&mut self, alloc: Global) -> Result<(Stamp, RecordKind), StepRefused>
+    pub fn step(&mut self) -> Result<(Stamp, RecordKind), StepRefused>
         ensures stepped { IfOk result (λ done. IsStepped M.meaning self.old self.new done.0 done.1) }
         ensures stays { OnErr result (self.new ≡ with_spare self.new.spare self.old) }
         ensures stop { IfErr result (IsStop M.meaning self.old) }
@@ -33,15 +32,15 @@ impl<M: Atomic> Process<M> {
             return Err(StepRefused::NothingDue);
         }
         if stamp.phase() == 0 {
-            self.make_output(alloc, stamp)?;
+            self.make_output(stamp)?;
             return Ok((stamp, RecordKind::Out));
         }
-        let kind = self.make_transition(alloc, stamp)?;
+        let kind = self.make_transition(stamp)?;
         Ok((stamp, kind))
     }
 
     /// Makes the output of this stamp.
-    fn make_output(&mut self, alloc: Global, stamp: Stamp) -> Result<(), StepRefused>
+    fn make_output(&mut self, stamp: Stamp) -> Result<(), StepRefused>
         requires is_next { stamp ≡ next self.old.process }
         requires is_due { stamp < never }
         requires is_output { phase_of stamp ≡ 0 }
@@ -51,8 +50,14 @@ impl<M: Atomic> Process<M> {
         ensures due { result ≢ Err NothingDue }
     {
         let network = &*self.network;
-        let bag = output_bag(alloc, network.model(self.component), &self.state)?;
-        let sent = routed(alloc, network, self.component, stamp.transition(), &bag)?;
+        let bag = output_bag(self.alloc, network.model(self.component), &self.state)?;
+        let sent = routed(
+            self.alloc,
+            network,
+            self.component,
+            stamp.transition(),
+            &bag,
+        )?;
         let fresh = self.lists.fresh_count(&sent, self.cancel);
         self.lists.reserve(2 * fresh)?;
         self.history.reserve(1)?;
@@ -63,7 +68,7 @@ impl<M: Atomic> Process<M> {
                 stamp,
                 kind: RecordKind::Out,
                 bag,
-                words: Words::from(Vec::new(alloc)),
+                words: Words::none(),
             },
             last: self.last,
             due: self.due,
@@ -77,7 +82,7 @@ impl<M: Atomic> Process<M> {
     }
 
     /// Makes the transition of this stamp.
-    fn make_transition(&mut self, alloc: Global, stamp: Stamp) -> Result<RecordKind, StepRefused>
+    fn make_transition(&mut self, stamp: Stamp) -> Result<RecordKind, StepRefused>
         requires is_next { stamp ≡ next self.old.process }
         requires is_due { stamp < never }
         requires is_transition { phase_of stamp ≡ 1 }
@@ -87,7 +92,7 @@ impl<M: Atomic> Process<M> {
         ensures due { result ≢ Err NothingDue }
     {
         self.history.reserve(1)?;
-        let bag = self.lists.consume_bag(alloc, stamp)?;
+        let bag = self.lists.consume_bag(stamp)?;
         let network = &*self.network;
         network.facts();
         let model = network.model(self.component);
@@ -96,7 +101,7 @@ impl<M: Atomic> Process<M> {
         let before = Snapshot::of(&self.state);
         let limit = network.micro_limit();
         let made = match make_turn(
-            alloc,
+            self.alloc,
             model,
             &mut self.state,
             turn,

@@ -3,7 +3,6 @@
 ghost use Rattle.std.specs.Prelude.{◌≡◌, ◌+◌, ◌<◌, ◌≤◌, ◌++◌, ◌∷◌, ◌⊎◌, [], Err, IfErr, IfNone, IfSome, IsTrue, OnErr, OnOk, Some, length, min, slice_get, take, vec_capacity, vec_len};
 ghost use Rattle.std.specs.VecDeque.{deque_capacity, deque_len};
 ghost use Rattle.tw_lists.specs.Lists.{front_consumed, with_room};
-ghost use Rattle.tw_lists.specs.Ways.{way_of};
 ghost use Rattle.tw_network.specs.Contents.{network_of};
 ghost use Rattle.tw_process.specs.Installing.{AreNext, IsNext, WhyNot, after_record, after_steps, sent_counts};
 ghost use Rattle.tw_theory.specs.Bundles.{first_stamp};
@@ -11,12 +10,12 @@ ghost use Rattle.tw_theory.specs.Chains.{sent_at};
 ghost use Rattle.tw_vtime.specs.Stamps.{phase_of};
 
 use crate::entry::Entry;
-use crate::finished::Stop;
 use std::alloc::Global;
 use std::collections::VecDeque;
+use tw_actions::{Cancel, Stop};
 use tw_atomic::Atomic;
 use tw_chain::ChainStep;
-use tw_lists::{Cancel, EventLists};
+use tw_lists::EventLists;
 use tw_network::Network;
 use tw_pool::PoolRefused;
 use tw_step::routed;
@@ -43,12 +42,12 @@ pub(crate) fn take_steps<M: Atomic>(
     requires known { component < length network.now.models }
     ensures within { length result.counts.items ≤ length steps.now }
     ensures counts { result.counts.items ≡ sent_counts (network_of M.meaning network.now) component (take (length result.counts.items) steps.now) }
-    ensures lists { lists.new ≡ with_room lists.new.room lists.new.spare (after_steps (network_of M.meaning network.now) component (way_of cancel) (take (length result.counts.items) steps.now) lists.old) }
-    ensures next { AreNext (network_of M.meaning network.now) component (way_of cancel) (take (length result.counts.items) steps.now) lists.old }
+    ensures lists { lists.new ≡ with_room lists.new.room lists.new.spare (after_steps (network_of M.meaning network.now) component cancel (take (length result.counts.items) steps.now) lists.old) }
+    ensures next { AreNext (network_of M.meaning network.now) component cancel (take (length result.counts.items) steps.now) lists.old }
     ensures history { history.new.items ≡ history.old.items }
     ensures room { deque_len history.new + length result.counts.items ≤ deque_capacity history.new }
     ensures all { IfNone result.stop (length result.counts.items ≡ length steps.now) }
-    ensures stop { IfSome result.stop (λ stop. (e : _) → slice_get steps.now (length result.counts.items) ≡ Some e → WhyNot (network_of M.meaning network.now) component (way_of cancel) e lists.new stop) }
+    ensures stop { IfSome result.stop (λ stop. (e : _) → slice_get steps.now (length result.counts.items) ≡ Some e → WhyNot (network_of M.meaning network.now) component cancel e lists.new stop) }
     ensures short { IfSome result.stop (λ stop. length result.counts.items < length steps.now) }
 {
     let mut taken = Taken {
@@ -85,12 +84,12 @@ fn take_step<M: Atomic>(
     counts: &mut Vec<usize>,
 ) -> Result<(), Stop>
     requires known { component < length network.now.models }
-    ensures taken { OnOk result (lists.new ≡ with_room lists.new.room lists.new.spare (after_record (network_of M.meaning network.now) component (way_of cancel) step.now.done lists.old)) }
+    ensures taken { OnOk result (lists.new ≡ with_room lists.new.room lists.new.spare (after_record (network_of M.meaning network.now) component cancel step.now.done lists.old)) }
     ensures next { OnOk result (IsNext step.now lists.old) }
     ensures counted { OnOk result (counts.new.items ≡ counts.old.items ++ length (sent_at (network_of M.meaning network.now) component step.now.done) ∷ []) }
     ensures stays { OnErr result (lists.new ≡ with_room lists.new.room lists.new.spare lists.old) }
     ensures none { OnErr result (counts.new.items ≡ counts.old.items) }
-    ensures stop { IfErr result (WhyNot (network_of M.meaning network.now) component (way_of cancel) step.now lists.old) }
+    ensures stop { IfErr result (WhyNot (network_of M.meaning network.now) component cancel step.now lists.old) }
     ensures history { history.new.items ≡ history.old.items }
     ensures room { OnOk result (deque_len history.new + (vec_len counts.old + 1) ≤ deque_capacity history.new) }
     ensures kept { deque_len history.old + vec_len counts.old ≤ deque_capacity history.old → deque_len history.new + vec_len counts.old ≤ deque_capacity history.new }
@@ -131,12 +130,12 @@ fn take_output<M: Atomic>(
     requires known { component < length network.now.models }
     requires comes { min step.now.due (first_stamp lists.old.pending) ≡ step.now.done.stamp }
     requires is_output { phase_of step.now.done.stamp ≡ 0 }
-    ensures taken { OnOk result (lists.new ≡ with_room lists.new.room lists.new.spare (after_record (network_of M.meaning network.now) component (way_of cancel) step.now.done lists.old)) }
+    ensures taken { OnOk result (lists.new ≡ with_room lists.new.room lists.new.spare (after_record (network_of M.meaning network.now) component cancel step.now.done lists.old)) }
     ensures next { OnOk result (IsNext step.now lists.old) }
     ensures counted { OnOk result (counts.new.items ≡ counts.old.items ++ length (sent_at (network_of M.meaning network.now) component step.now.done) ∷ []) }
     ensures stays { OnErr result (lists.new ≡ with_room lists.new.room lists.new.spare lists.old) }
     ensures none { OnErr result (counts.new.items ≡ counts.old.items) }
-    ensures stop { IfErr result (WhyNot (network_of M.meaning network.now) component (way_of cancel) step.now lists.old) }
+    ensures stop { IfErr result (WhyNot (network_of M.meaning network.now) component cancel step.now lists.old) }
     ensures history { history.new.items ≡ history.old.items }
     ensures room { OnOk result (deque_len history.new + (vec_len counts.old + 1) ≤ deque_capacity history.new) }
     ensures kept { deque_len history.old + vec_len counts.old ≤ deque_capacity history.old → deque_len history.new + vec_len counts.old ≤ deque_capacity history.new }

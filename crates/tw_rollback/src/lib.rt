@@ -7,8 +7,7 @@
 //! as it was; `back_to` takes no memory.
 #![tactic(auto)]
 
-pub mod received;
 pub mod rollback;
 
-pub use received::Received;
 pub use rollback::{back_to, receive};
+pub use tw_actions::Received;

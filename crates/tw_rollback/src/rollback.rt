@@ -8,7 +8,7 @@ ghost use Rattle.tw_theory.specs.Contents.{steps_from, receive, receive_message,
 ghost use Rattle.tw_theory.specs.Memory.{need_of_received};
 ghost use Rattle.tw_theory.specs.Standing.{CanTake};
 
-use crate::received::Received;
+use tw_actions::Received;
 use tw_atomic::Atomic;
 use tw_msgs::{Item, Message, Sign};
 use tw_pool::PoolRefused;
@@ -104,6 +104,6 @@ fn receive_anti<M: Atomic>(
         process.withdraw(message);
         return Ok(Received::Annihilated(undone));
     }
-    process.note_orphan(message)?;
+    process.note_orphan(*message)?;
     Ok(Received::Waiting)
 }

@@ -5,7 +5,7 @@ use Rattle.std.specs.List.{list_all, Contains}
 use Rattle.std.proofs.lemmas.Bool.{eq-eqb}
 use Rattle.std.proofs.lemmas.List.Sums.{AllPass-from_list_all}
 use Rattle.std.proofs.lemmas.Option.{get_or_from_slice_get, slice_get-get_or, slice_get_within}
-use Rattle.tw_exec.specs.declared.action.Action.TheVariants.{Step, Post, Deliver, Back, Raise, Harvest}
+use Rattle.tw_actions.specs.declared.action.Action.TheVariants.{Step, Post, Deliver, Back, Raise, Harvest}
 use Rattle.tw_script.proofs.Cuts.{cut_once, no_cut}
 use Rattle.tw_script.specs.Scripts.{Says, name_of}
 use Rattle.tw_script.specs.Words.{IsFree}

@@ -7,8 +7,8 @@ use Rattle.rand_core.specs.Pcg32Seed.{pcg32_seed}
 use Rattle.rand_pcg.specs.Lcg.{Lcg}
 use Rattle.rand_pcg.specs.Pcg.{pcg32, pcg32_of_seed}
 use Rattle.tw_exec.specs.Running.{Running}
-use Rattle.tw_exec.specs.declared.action.Action.{Action}
-use Rattle.tw_exec.specs.declared.action.Action.TheVariants.{Step, Post, Deliver, Back, Raise, Harvest}
+use Rattle.tw_actions.specs.declared.action.Action.{Action}
+use Rattle.tw_actions.specs.declared.action.Action.TheVariants.{Step, Post, Deliver, Back, Raise, Harvest}
 use Rattle.tw_theory.specs.Executive.{mail_of}
 use Rattle.tw_vtime.specs.Stamps.{max_tick, never, stamp, tick_of}
 

@@ -9,8 +9,8 @@ use Rattle.std.specs.Fmt.{decimal}
 use Rattle.std.specs.Option.{option_map_or}
 use Rattle.std.specs.List.{slice_split, AllByRecursion as Each}
 use Rattle.std.specs.Str.{IsUtf8}
-use Rattle.tw_exec.specs.declared.action.Action.{Action}
-use Rattle.tw_exec.specs.declared.action.Action.TheVariants.{Step, Post, Deliver, Back, Raise, Harvest}
+use Rattle.tw_actions.specs.declared.action.Action.{Action}
+use Rattle.tw_actions.specs.declared.action.Action.TheVariants.{Step, Post, Deliver, Back, Raise, Harvest}
 use Rattle.tw_script.specs.declared.command.Command.{Command}
 use Rattle.tw_script.specs.declared.command.Command.TheVariants.{Act, Mark, Rewind, Show, Describe}
 use Rattle.tw_script.specs.declared.refused.ScriptRefused.{ScriptRefused}

@@ -40,14 +40,13 @@ impl Receiver for Vec<Record> {
         bag: &Bag,
         words: &[i128],
     ) -> Result<(), AllocError> {
-        let mut numbers = Vec::new(*self.allocator());
-        numbers.extend_from_slice(words)?;
+        let words = Words::of(*self.allocator(), words)?;
         self.push(Record {
             component,
             stamp,
             kind,
             bag: bag.clone()?,
-            words: Words::from(numbers),
+            words,
         })?;
         Ok(())
     }

@@ -110,7 +110,9 @@ pub(crate) fn add_record(text: &mut String, name: &str, step: &Record) -> Result
     text.push_str(name)?;
     text.push_str(" ")?;
     let bag = step.bag.as_slice();
-    add_step(text, step.kind, bag, step.words.as_slice())?;
+    let mut words = Vec::new(*text.allocator());
+    step.words.append_to(&mut words)?;
+    add_step(text, step.kind, bag, words.as_slice())?;
     text.push_str("\n")
 }
 

@@ -93,11 +93,15 @@ pub fn write_trace<N: Names, W: Write>(
         → AppendsBeginning (W.contents out.old) (W.contents out.new) (trace_text (N.name_of names.now) records.now)) }
 {
     let mut lines = Lines::new(alloc);
+    let mut words = Vec::new(alloc);
     for record in records {
         let name = names.name(record.component);
         let bag = record.bag.as_slice();
-        let words = record.words.as_slice();
-        let Ok(()) = lines.add(name, record.stamp, record.kind, bag, words) else {
+        words.clear();
+        let Ok(()) = record.words.append_to(&mut words) else {
+            return Err(NotWritten::OutOfMemory);
+        };
+        let Ok(()) = lines.add(name, record.stamp, record.kind, bag, words.as_slice()) else {
             return Err(NotWritten::OutOfMemory);
         };
         lines.write_portion(out)?;

@@ -1,4 +1,4 @@
--- The contents of a process, and what steps, rollback and receipts do to them (Jefferson 1985).
+-- The contents of a process, and what steps, rollback and receipts do to them (Jefferson 1985). How steps taken back are cancelled (`Cancel`), and what comes of an item (`Received`), are the enums of tw_actions.
 --     inputs p      all messages that still count: those consumed since the commit line and those pending
 --     Stands net c from p      its history is the beginning of the run by itself on its inputs
 --     with_step p made      a step more
@@ -13,15 +13,14 @@ use Rattle.tw_msgs.specs.declared.message.Message.{Message}
 use Rattle.tw_msgs.specs.declared.message.Sign.{Sign}
 use Rattle.tw_msgs.specs.declared.message.Sign.TheVariants.{Positive, Anti}
 use Rattle.tw_msgs.specs.declared.record.Record.{Record}
+pub use Rattle.tw_actions.specs.declared.cancel.Cancel.{Cancel}
+pub use Rattle.tw_actions.specs.declared.cancel.Cancel.TheVariants.{Aggressive, Lazy}
+pub use Rattle.tw_actions.specs.declared.action.Received.{Received}
+pub use Rattle.tw_actions.specs.declared.action.Received.TheVariants.{Placed, Straggler, Annihilated, Waiting}
 use Rattle.tw_theory.specs.Bundles.{sent_anew, still_owed, overdue, not_overdue, positives, antis}
 use Rattle.tw_theory.specs.LocalRun.{Step, Made, Leads, next_of}
 use Rattle.tw_theory.specs.Network.{Network}
 use Rattle.tw_theory.specs.Transitions.{Moment}
-
--- How steps taken back are cancelled: the anti-messages of what they sent are made at once, or only where the messages are not sent again
-pub data Cancel : Type 0 where
-  Aggressive : Cancel
-  Lazy : Cancel
 
 pub record Process (S : Type 0) : Type 0 where
   -- state, last time, and due: the stamp of its own next step
@@ -139,13 +138,6 @@ with_outgoing p outgoing = record p { outgoing = outgoing }
 
 abbrev pub with_lists : {S : Type 0} → Process S → List Item → List Message → Process S
 with_lists p outgoing owed = record p { outgoing = outgoing; owed = owed }
-
--- what came of an item; the numbers are those of the steps taken back
-pub data Received : Type 0 where
-  Placed : Received
-  Straggler : (undone : ℕ) → Received
-  Annihilated : (undone : ℕ) → Received
-  Waiting : Received
 
 abbrev pub placed : {S : Type 0} → Process S → Message → Process S
 placed p m = with_pending p (place m p.pending)

@@ -1,5 +1,5 @@
 -- What the executive answers to lists of actions on the example networks, computed by hand, and what its processes hold then.
-use Rattle.std.specs.Prelude.{ℕ, pos, ◌≡◌, List, [], ◌∷◌, ◌++◌, Some, None, slice_get}
+use Rattle.std.specs.Prelude.{ℕ, pos, ◌≡◌, List, [], ◌∷◌, ◌++◌, Some, None, slice_get, Ok, Err}
 use Rattle.tw_msgs.specs.declared.message.Item.{Item}
 use Rattle.tw_msgs.specs.declared.message.Message.{Message}
 use Rattle.tw_msgs.specs.declared.record_kind.RecordKind.TheVariants.{Out, Int, Ext, Con}
@@ -10,7 +10,7 @@ use Rattle.tw_theory.specs.Contents.{Process, Cancel, Aggressive, Lazy, Placed, 
 use Rattle.tw_theory.specs.ExampleModels.{State}
 use Rattle.tw_theory.specs.ExampleNetworks.{no_components, three, slow_three, ring}
 use Rattle.tw_theory.specs.ExampleTraces.{out, int, ext, item}
-use Rattle.tw_theory.specs.Executive.{World, Action, Step, Post, Deliver, Back, Raise, Harvest, Answer, Stepped, Posted, Delivered, Undone, Raised, Harvested, Refused, NoSuch, BeforeGvt, Committed, OverLimit, answers, replay}
+use Rattle.tw_theory.specs.Executive.{World, Action, Step, Post, Deliver, Back, Raise, Harvest, Answer, Stepped, Posted, Received, Undone, Raised, Harvested, NoSuch, BeforeGvt, Committed, OverLimit, answers, replay}
 use Rattle.tw_theory.specs.Marks.{marks, rewind}
 use Rattle.tw_theory.specs.Network.{Network, input}
 use Rattle.tw_theory.specs.Outcomes.{Going, Fault, state}
@@ -44,7 +44,7 @@ overtaken = Step 1 ∷ Step 1 ∷ Step 1 ∷ Step 0 ∷ Post 0 ∷ Deliver 1 0 �
 
 abbrev pub overtaken_answers : List Answer
 overtaken_answers =
-    Stepped (stamp 3 0 1) Ext ∷ Stepped (stamp 4 0 0) Out ∷ Stepped (stamp 4 0 1) Int ∷ Stepped (stamp 2 0 0) Out ∷ Posted 1 ∷ Delivered (Straggler 3) ∷ []
+    Ok (Stepped (stamp 3 0 1) Ext) ∷ Ok (Stepped (stamp 4 0 0) Out) ∷ Ok (Stepped (stamp 4 0 1) Int) ∷ Ok (Stepped (stamp 2 0 0) Out) ∷ Ok (Posted 1) ∷ Ok (Received (Straggler 3)) ∷ []
 
 -- the relay is back at its start, both messages are pending, and what it sent is cancelled
 abbrev pub rolled_back : List Item → List Message → Cancel → Process State
@@ -60,7 +60,7 @@ rolled_back outgoing owed cancel = record {
 }
 
 pub record StragglerOfThree : Type 0 where
-  pub answered : Answers three Aggressive (overtaken ++ Raise ∷ []) (overtaken_answers ++ Raised (stamp 2 0 1) ∷ [])
+  pub answered : Answers three Aggressive (overtaken ++ Raise ∷ []) (overtaken_answers ++ Ok (Raised (stamp 2 0 1)) ∷ [])
   pub held : Holds three Aggressive overtaken 1 (rolled_back (positive eight ∷ anti eight ∷ []) [] Aggressive)
 
 -- ---- an anti-message before its message
@@ -82,7 +82,7 @@ abbrev pub anti_first : List Action
 anti_first = overtaken ++ Post 1 ∷ Deliver 2 1 ∷ Deliver 2 0 ∷ []
 
 pub record AntiFirst : Type 0 where
-  pub answered : Answers three Aggressive anti_first (overtaken_answers ++ Posted 2 ∷ Delivered Waiting ∷ Delivered (Annihilated 0) ∷ [])
+  pub answered : Answers three Aggressive anti_first (overtaken_answers ++ Ok (Posted 2) ∷ Ok (Received Waiting) ∷ Ok (Received (Annihilated 0)) ∷ [])
   pub held : Holds three Aggressive anti_first 2 fresh_tally
 
 -- ---- three orders of delivery: message, anti-message and the new messages in any order leave the same
@@ -91,7 +91,7 @@ abbrev pub resent : List Action
 resent = overtaken ++ Step 1 ∷ Step 1 ∷ Step 1 ∷ Step 1 ∷ Post 1 ∷ []
 
 abbrev pub resent_answers : List Answer
-resent_answers = overtaken_answers ++ Stepped (stamp 2 0 1) Ext ∷ Stepped (stamp 3 0 0) Out ∷ Stepped (stamp 3 0 1) Con ∷ Stepped (stamp 4 0 0) Out ∷ Posted 4 ∷ []
+resent_answers = overtaken_answers ++ Ok (Stepped (stamp 2 0 1) Ext) ∷ Ok (Stepped (stamp 3 0 0) Out) ∷ Ok (Stepped (stamp 3 0 1) Con) ∷ Ok (Stepped (stamp 4 0 0) Out) ∷ Ok (Posted 4) ∷ []
 
 -- the tally with the relay's new message of tick 4 pending, and that of tick 3 in its mailbox
 abbrev pub tally_after : Process State
@@ -103,14 +103,14 @@ DeliveryOrder deliveries given =
     × (slice_get (after three Aggressive (resent ++ deliveries)).mail 2 ≡ Some (positive (input 3 2 0 (pos 5)) ∷ []))
 
 pub record ThreeDeliveryOrders : Type 0 where
-  pub one : DeliveryOrder (Deliver 2 0 ∷ Deliver 2 0 ∷ Deliver 2 1 ∷ []) (Delivered Placed ∷ Delivered (Annihilated 0) ∷ Delivered Placed ∷ [])
-  pub two : DeliveryOrder (Deliver 2 0 ∷ Deliver 2 2 ∷ Deliver 2 0 ∷ []) (Delivered Placed ∷ Delivered Placed ∷ Delivered (Annihilated 0) ∷ [])
-  pub three_of_three : DeliveryOrder (Deliver 2 1 ∷ Deliver 2 0 ∷ Deliver 2 1 ∷ []) (Delivered Waiting ∷ Delivered (Annihilated 0) ∷ Delivered Placed ∷ [])
+  pub one : DeliveryOrder (Deliver 2 0 ∷ Deliver 2 0 ∷ Deliver 2 1 ∷ []) (Ok (Received Placed) ∷ Ok (Received (Annihilated 0)) ∷ Ok (Received Placed) ∷ [])
+  pub two : DeliveryOrder (Deliver 2 0 ∷ Deliver 2 2 ∷ Deliver 2 0 ∷ []) (Ok (Received Placed) ∷ Ok (Received Placed) ∷ Ok (Received (Annihilated 0)) ∷ [])
+  pub three_of_three : DeliveryOrder (Deliver 2 1 ∷ Deliver 2 0 ∷ Deliver 2 1 ∷ []) (Ok (Received Waiting) ∷ Ok (Received (Annihilated 0)) ∷ Ok (Received Placed) ∷ [])
 
 -- ---- with nothing there, the least stamp is the end
 
 abbrev pub NothingThere : Type 0
-NothingThere = Answers no_components Aggressive (Raise ∷ Deliver 0 0 ∷ []) (Raised never ∷ Refused NoSuch ∷ [])
+NothingThere = Answers no_components Aggressive (Raise ∷ Deliver 0 0 ∷ []) (Ok (Raised never) ∷ Err NoSuch ∷ [])
 
 -- ---- gvt sees what is outgoing
 
@@ -119,7 +119,7 @@ raises = Step 0 ∷ Step 0 ∷ Raise ∷ Post 0 ∷ Deliver 1 0 ∷ Raise ∷ St
 
 abbrev pub raises_answers : List Answer
 raises_answers =
-    Stepped (stamp 2 0 0) Out ∷ Stepped (stamp 2 0 1) Int ∷ Raised (stamp 2 0 1) ∷ Posted 1 ∷ Delivered Placed ∷ Raised (stamp 2 0 1) ∷ Stepped (stamp 2 0 1) Ext ∷ Raised (stamp 3 0 0) ∷ []
+    Ok (Stepped (stamp 2 0 0) Out) ∷ Ok (Stepped (stamp 2 0 1) Int) ∷ Ok (Raised (stamp 2 0 1)) ∷ Ok (Posted 1) ∷ Ok (Received Placed) ∷ Ok (Raised (stamp 2 0 1)) ∷ Ok (Stepped (stamp 2 0 1) Ext) ∷ Ok (Raised (stamp 3 0 0)) ∷ []
 
 abbrev pub GvtSeesOutgoing : Type 0
 GvtSeesOutgoing = Answers three Aggressive raises raises_answers
@@ -133,7 +133,7 @@ abbrev pub five : Message
 five = input 3 2 0 (pos 5)
 
 pub record CommitAndCut : Type 0 where
-  pub answered : Answers three Aggressive commits (raises_answers ++ Stepped (stamp 3 0 0) Out ∷ Refused BeforeGvt ∷ Undone 1 ∷ Harvested 2 ∷ Harvested 1 ∷ Harvested 0 ∷ [])
+  pub answered : Answers three Aggressive commits (raises_answers ++ Ok (Stepped (stamp 3 0 0) Out) ∷ Err BeforeGvt ∷ Ok (Undone 1) ∷ Ok (Harvested 2) ∷ Ok (Harvested 1) ∷ Ok (Harvested 0) ∷ [])
   pub columns : (after three Aggressive commits).columns ≡ (out 2 0 0 (item 5) ∷ int 2 0 0 (pos 1 ∷ []) ∷ []) ∷ (ext 2 0 1 (item 5) (pos 0 ∷ pos 5 ∷ []) ∷ []) ∷ [] ∷ []
   pub held :
       Holds three Aggressive commits 1
@@ -155,10 +155,10 @@ abbrev pub rewound_three : Answer × World State
 rewound_three = rewind (after three Aggressive (Step 1 ∷ Step 1 ∷ Step 1 ∷ [])) (marks (start Aggressive).processes)
 
 pub record MarkAndRewind : Type 0 where
-  pub undone : rewound_three.0 ≡ Undone 3
+  pub undone : rewound_three.0 ≡ Ok (Undone 3)
   pub held : slice_get rewound_three.1.processes 1 ≡ Some (record (rolled_back (positive eight ∷ anti eight ∷ []) [] Aggressive) { pending = input 3 1 0 (pos 8) ∷ [] })
   -- gvt has passed a step made since the mark
-  pub refused : (rewind (after three Aggressive (Step 0 ∷ Raise ∷ [])) (marks (start Aggressive).processes)).0 ≡ Refused Committed
+  pub refused : (rewind (after three Aggressive (Step 0 ∷ Raise ∷ [])) (marks (start Aggressive).processes)).0 ≡ Err Committed
 
 -- ---- lazy cancellation: what is sent again is neither cancelled nor sent twice
 
@@ -166,7 +166,7 @@ pub record LazyMatch : Type 0 where
   pub held : Holds three Lazy overtaken 1 (rolled_back (positive eight ∷ []) (eight ∷ []) Lazy)
   pub answered :
       Answers three Lazy (resent ++ Deliver 2 0 ∷ Deliver 2 0 ∷ [])
-      (overtaken_answers ++ Stepped (stamp 2 0 1) Ext ∷ Stepped (stamp 3 0 0) Out ∷ Stepped (stamp 3 0 1) Con ∷ Stepped (stamp 4 0 0) Out ∷ Posted 2 ∷ Delivered Placed ∷ Delivered Placed ∷ [])
+      (overtaken_answers ++ Ok (Stepped (stamp 2 0 1) Ext) ∷ Ok (Stepped (stamp 3 0 0) Out) ∷ Ok (Stepped (stamp 3 0 1) Con) ∷ Ok (Stepped (stamp 4 0 0) Out) ∷ Ok (Posted 2) ∷ Ok (Received Placed) ∷ Ok (Received Placed) ∷ [])
 
 -- what is not sent again is cancelled at the next post
 abbrev pub LazyAnti : Type 0
@@ -174,8 +174,8 @@ LazyAnti =
     Answers slow_three Lazy
     (Step 1 ∷ Step 1 ∷ Step 0 ∷ Post 0 ∷ Deliver 1 0 ∷ Step 1 ∷ Step 1 ∷ Step 1 ∷ Step 1 ∷ Raise ∷ Post 1 ∷ Deliver 2 0 ∷ Deliver 2 2 ∷ [])
     (
-    Stepped (stamp 4 0 1) Ext ∷ Stepped (stamp 6 0 0) Out ∷ Stepped (stamp 3 0 0) Out ∷ Posted 1 ∷ Delivered (Straggler 2)
-    ∷ Stepped (stamp 3 0 1) Ext ∷ Stepped (stamp 4 0 1) Ext ∷ Stepped (stamp 5 0 0) Out ∷ Stepped (stamp 5 0 1) Int ∷ Raised (stamp 3 0 1) ∷ Posted 4 ∷ Delivered Placed ∷ Delivered (Annihilated 0) ∷ []
+    Ok (Stepped (stamp 4 0 1) Ext) ∷ Ok (Stepped (stamp 6 0 0) Out) ∷ Ok (Stepped (stamp 3 0 0) Out) ∷ Ok (Posted 1) ∷ Ok (Received (Straggler 2))
+    ∷ Ok (Stepped (stamp 3 0 1) Ext) ∷ Ok (Stepped (stamp 4 0 1) Ext) ∷ Ok (Stepped (stamp 5 0 0) Out) ∷ Ok (Stepped (stamp 5 0 1) Int) ∷ Ok (Raised (stamp 3 0 1)) ∷ Ok (Posted 4) ∷ Ok (Received Placed) ∷ Ok (Received (Annihilated 0)) ∷ []
     )
 
 -- ---- a limit met at gvt: two relays without delay, whose greatest microstep is 3
@@ -187,12 +187,12 @@ to_the_limit =
 
 abbrev pub to_the_limit_answers : List Answer
 to_the_limit_answers =
-    Stepped (stamp 3 0 1) Ext ∷ Stepped (stamp 3 1 0) Out ∷ Stepped (stamp 3 1 1) Int ∷ Posted 1 ∷ Delivered Placed
-    ∷ Stepped (stamp 3 1 1) Ext ∷ Stepped (stamp 3 2 0) Out ∷ Stepped (stamp 3 2 1) Int ∷ Posted 1 ∷ Delivered Placed
-    ∷ Stepped (stamp 3 2 1) Ext ∷ Stepped (stamp 3 3 0) Out ∷ Stepped (stamp 3 3 1) Int ∷ Posted 1 ∷ Delivered Placed ∷ []
+    Ok (Stepped (stamp 3 0 1) Ext) ∷ Ok (Stepped (stamp 3 1 0) Out) ∷ Ok (Stepped (stamp 3 1 1) Int) ∷ Ok (Posted 1) ∷ Ok (Received Placed)
+    ∷ Ok (Stepped (stamp 3 1 1) Ext) ∷ Ok (Stepped (stamp 3 2 0) Out) ∷ Ok (Stepped (stamp 3 2 1) Int) ∷ Ok (Posted 1) ∷ Ok (Received Placed)
+    ∷ Ok (Stepped (stamp 3 2 1) Ext) ∷ Ok (Stepped (stamp 3 3 0) Out) ∷ Ok (Stepped (stamp 3 3 1) Int) ∷ Ok (Posted 1) ∷ Ok (Received Placed) ∷ []
 
 pub record FaultAtGvt : Type 0 where
   -- the step that meets it is refused, again and again, and is the run's fault once gvt has come to it
-  pub answered : Answers ring Aggressive (to_the_limit ++ Step 1 ∷ Raise ∷ Step 1 ∷ []) (to_the_limit_answers ++ Refused (OverLimit Microstep) ∷ Raised (stamp 3 3 1) ∷ Refused (OverLimit Microstep) ∷ [])
+  pub answered : Answers ring Aggressive (to_the_limit ++ Step 1 ∷ Raise ∷ Step 1 ∷ []) (to_the_limit_answers ++ Err (OverLimit Microstep) ∷ Ok (Raised (stamp 3 3 1)) ∷ Err (OverLimit Microstep) ∷ [])
   pub going : state ring until (after ring Aggressive to_the_limit) ≡ Going
   pub shown : state ring until (after ring Aggressive (to_the_limit ++ Raise ∷ [])) ≡ Fault 1 (stamp 3 3 1) Microstep

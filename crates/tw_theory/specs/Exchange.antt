@@ -5,13 +5,13 @@
 --     passes net until n w      passes until the executive is swept, at most n of them
 --     sweep net until w      passes until it is swept, then Raise, then a Harvest of each component
 --     work w      what is left to post and deliver
-use Rattle.std.specs.Prelude.{ℕ, zero, suc, ◌+◌, ◌*◌, ◌<◌, ◌≤◌, ◌≡◌, ◌≢◌, ◌⊎◌, min, List, [], ◌∷◌, ◌++◌, length, replicate, Bool, true, false, ◌&&◌, nat_le, if◌then◌else◌, Some, slice_get}
+use Rattle.std.specs.Prelude.{ℕ, zero, suc, ◌+◌, ◌*◌, ◌<◌, ◌≤◌, ◌≡◌, ◌≢◌, ◌⊎◌, min, List, [], ◌∷◌, ◌++◌, length, replicate, Bool, true, false, ◌&&◌, nat_le, if◌then◌else◌, Some, slice_get, Err}
 use Rattle.tw_msgs.specs.Counting.{total}
 use Rattle.tw_msgs.specs.declared.message.Item.{Item}
 use Rattle.tw_vtime.specs.Stamps.{stamp, never, max_tick, tick_of}
 use Rattle.tw_theory.specs.Bundles.{overdue}
 use Rattle.tw_theory.specs.Contents.{Process, next, sent_by}
-use Rattle.tw_theory.specs.Executive.{World, Action, Post, Deliver, Raise, Harvest, Refusal, Answer, Refused, replay}
+use Rattle.tw_theory.specs.Executive.{World, Action, Post, Deliver, Raise, Harvest, Refusal, Answer, replay}
 use Rattle.tw_theory.specs.Network.{Network}
 
 -- ---- the component to be given out
@@ -88,4 +88,4 @@ sweep net until w = passes net until (work w) w ++ Raise ∷ harvests 0 (length 
 
 -- an answer that is no refusal
 abbrev pub IsTaken : Answer → Type 0
-IsTaken answer = (why : Refusal) → answer ≢ Refused why
+IsTaken answer = (why : Refusal) → answer ≢ Err why

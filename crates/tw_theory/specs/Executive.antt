@@ -1,15 +1,18 @@
--- The executive: all processes, their mailboxes and columns, and global virtual time. What each action does.
+-- The executive: all processes, their mailboxes and columns, and global virtual time. What each action does. What is asked (`Action`) and what is answered where it is not refused (`Done`) are the enums of tw_actions.
 --     act net until w action      the answer, and the world after it; a refused action changes nothing
 --     replay net until w actions      the world after a list of actions, refused ones included
 --     least_of w      the least of all next stamps and of all that is in transit or owed
 use Rattle.std.specs.Prelude.{ℕ, min, List, [], ◌∷◌, ◌++◌, length, take, nat_lt, if◌then◌else◌, Option, Some, None, Result, Ok, Err, slice_get, slice_set, slice_index_or, remove}
 use Rattle.tw_msgs.specs.declared.message.Item.{Item}
 use Rattle.tw_msgs.specs.declared.record.Record.{Record}
-use Rattle.tw_msgs.specs.declared.record_kind.RecordKind.{RecordKind}
 use Rattle.tw_vtime.specs.Stamps.{stamp, never}
 use Rattle.tw_vtime.specs.declared.limits.Limit.{Limit}
+pub use Rattle.tw_actions.specs.declared.action.Action.{Action}
+pub use Rattle.tw_actions.specs.declared.action.Action.TheVariants.{Step, Post, Deliver, Back, Raise, Harvest}
+pub use Rattle.tw_actions.specs.declared.action.Done.{Done}
+pub use Rattle.tw_actions.specs.declared.action.Done.TheVariants.{Stepped, Posted, Received, Undone, Raised, Harvested}
 use Rattle.tw_theory.specs.Bundles.{least_stamp, least_owed}
-use Rattle.tw_theory.specs.Contents.{Process, next, with_step, with_outgoing, settle, steps_from, steps_before, cut, receive, Received, harvested, records_of}
+use Rattle.tw_theory.specs.Contents.{Process, next, with_step, with_outgoing, settle, steps_from, steps_before, cut, receive, harvested, records_of}
 use Rattle.tw_theory.specs.LocalRun as local
 use Rattle.tw_theory.specs.LocalRun.{Made, NoStep, local_step}
 use Rattle.tw_theory.specs.Network.{Network}
@@ -21,14 +24,6 @@ pub record World (S : Type 0) : Type 0 where
   pub columns : List (List Record)
   pub gvt : ℕ
 
-pub data Action : Type 0 where
-  Step : (p : ℕ) → Action
-  Post : (p : ℕ) → Action
-  Deliver : (q i : ℕ) → Action
-  Back : (p s : ℕ) → Action
-  Raise : Action
-  Harvest : (p : ℕ) → Action
-
 -- Nothing is due before the end of the run; the step meets a limit; no such component or place in a mailbox; a stamp before gvt; a step that is committed or may be
 pub data Refusal : Type 0 where
   NothingDue : Refusal
@@ -37,14 +32,8 @@ pub data Refusal : Type 0 where
   BeforeGvt : Refusal
   Committed : Refusal
 
-pub data Answer : Type 0 where
-  Stepped : (s : ℕ) (kind : RecordKind) → Answer
-  Posted : (n : ℕ) → Answer
-  Delivered : (received : Received) → Answer
-  Undone : (n : ℕ) → Answer
-  Raised : (gvt : ℕ) → Answer
-  Harvested : (n : ℕ) → Answer
-  Refused : (why : Refusal) → Answer
+abbrev pub Answer : Type 0
+Answer = Result Done Refusal
 
 abbrev pub with_process : {S : Type 0} → World S → ℕ → Process S → World S
 with_process w p process = record w { processes = slice_set w.processes p process }
@@ -84,33 +73,33 @@ refusal_of local.NothingDue = NothingDue
 refusal_of (local.OverLimit limit) = OverLimit limit
 
 abbrev pub if_made : {S : Type 0} → World S → ℕ → Process S → Result (Made S) NoStep → Answer × World S
-if_made w c p (Ok made) = (Stepped made.step.entry.stamp made.step.entry.kind, with_process w c (with_step p made))
-if_made w c p (Err why) = (Refused (refusal_of why), w)
+if_made w c p (Ok made) = (Ok (Stepped made.step.entry.stamp made.step.entry.kind), with_process w c (with_step p made))
+if_made w c p (Err why) = (Err (refusal_of why), w)
 
 abbrev pub act_step : {S : Type 0} → Network S → ℕ → World S → ℕ → Option (Process S) → Answer × World S
-act_step net until w c None = (Refused NoSuch, w)
-act_step net until w c (Some p) = if nat_lt (next p) (stamp until 0 0) then if_made w c p (local_step net c p.now p.pending) else (Refused NothingDue, w)
+act_step net until w c None = (Err NoSuch, w)
+act_step net until w c (Some p) = if nat_lt (next p) (stamp until 0 0) then if_made w c p (local_step net c p.now p.pending) else (Err NothingDue, w)
 
 abbrev pub act_post : {S : Type 0} → World S → ℕ → Option (Process S) → Answer × World S
-act_post w c None = (Refused NoSuch, w)
-act_post w c (Some p) = (Posted (length (settle p).outgoing), with_mail (with_process w c (with_outgoing (settle p) [])) (posted w.mail (settle p).outgoing))
+act_post w c None = (Err NoSuch, w)
+act_post w c (Some p) = (Ok (Posted (length (settle p).outgoing)), with_mail (with_process w c (with_outgoing (settle p) [])) (posted w.mail (settle p).outgoing))
 
 abbrev pub act_deliver : {S : Type 0} → World S → ℕ → ℕ → Option (Process S) → Option Item → Answer × World S
-act_deliver w q i None item = (Refused NoSuch, w)
-act_deliver w q i (Some p) None = (Refused NoSuch, w)
+act_deliver w q i None item = (Err NoSuch, w)
+act_deliver w q i (Some p) None = (Err NoSuch, w)
 act_deliver w q i (Some p) (Some item) =
-    (Delivered (receive p item).0, with_mail (with_process w q (receive p item).1) (slice_set w.mail q (remove (mail_of w.mail q) i)))
+    (Ok (Received (receive p item).0), with_mail (with_process w q (receive p item).1) (slice_set w.mail q (remove (mail_of w.mail q) i)))
 
 abbrev pub act_back : {S : Type 0} → World S → ℕ → ℕ → Option (Process S) → Answer × World S
-act_back w c s None = (Refused NoSuch, w)
-act_back w c s (Some p) = if nat_lt s w.gvt then (Refused BeforeGvt, w) else (Undone (steps_from s p), with_process w c (cut s p))
+act_back w c s None = (Err NoSuch, w)
+act_back w c s (Some p) = if nat_lt s w.gvt then (Err BeforeGvt, w) else (Ok (Undone (steps_from s p)), with_process w c (cut s p))
 
 -- the records strictly before gvt move from the history to the column; the line is gvt
 abbrev pub act_harvest : {S : Type 0} → World S → ℕ → Option (Process S) → Answer × World S
-act_harvest w c None = (Refused NoSuch, w)
+act_harvest w c None = (Err NoSuch, w)
 act_harvest w c (Some p) =
     let n = steps_before w.gvt p.history in (
-      Harvested n,
+      Ok (Harvested n),
       record w { processes = slice_set w.processes c (harvested w.gvt p); columns = slice_set w.columns c (column_of w.columns c ++ records_of (take n p.history)) },
     )
 
@@ -119,7 +108,7 @@ act net until w (Step c) = act_step net until w c (slice_get w.processes c)
 act net until w (Post c) = act_post w c (slice_get w.processes c)
 act net until w (Deliver q i) = act_deliver w q i (slice_get w.processes q) (slice_get (mail_of w.mail q) i)
 act net until w (Back c s) = act_back w c s (slice_get w.processes c)
-act net until w Raise = (Raised (least_of w), record w { gvt = least_of w })
+act net until w Raise = (Ok (Raised (least_of w)), record w { gvt = least_of w })
 act net until w (Harvest c) = act_harvest w c (slice_get w.processes c)
 
 -- an action that is refused for want of memory or of nodes is not taken, and so not in the list

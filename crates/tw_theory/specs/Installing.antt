@@ -3,22 +3,14 @@
 --     TakesFrom net start n steps p q      p, which has made n steps of a chain from this start, makes these, each of them fresh, and is q then
 --     IsInstalled net r cause p q finished      what is made of a chain, and why no more
 use Rattle.std.specs.Prelude.{ℕ, ◌+◌, ◌<◌, ◌≤◌, ◌≡◌, List, [], ◌∷◌, length, take, Some, Ok, slice_get}
+pub use Rattle.tw_actions.specs.declared.chain.Stop.{Stop}
+pub use Rattle.tw_actions.specs.declared.chain.Stop.TheVariants.{Ended, Stale, OutOfMemory, Full}
+pub use Rattle.tw_actions.specs.declared.chain.Finished.{Finished}
 use Rattle.tw_theory.specs.Chains.{Start, SoloRun, Cause, Agrees}
 use Rattle.tw_theory.specs.Contents.{Process, with_step}
 use Rattle.tw_theory.specs.LocalRun.{Step, Made, local_step}
 use Rattle.tw_theory.specs.Memory.{max_nodes, live, need_of_step}
 use Rattle.tw_theory.specs.Network.{Network}
-
--- Why no more steps of a chain were made: all were, and it has this cause; the next one is not the process's; a growth of memory was refused; the process would hold too many nodes
-pub data Stop : Type 0 where
-  Ended : Cause → Stop
-  Stale : Stop
-  OutOfMemory : Stop
-  Full : Stop
-
-pub record Finished : Type 0 where
-  pub installed : ℕ
-  pub stop : Stop
 
 -- the first step of a chain is fresh where the process stands just where the chain began, and would make a step of its stamp and bag; a later one where it would make a step of its stamp and bag.
 -- A step that is not fresh is stale

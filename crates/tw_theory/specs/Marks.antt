@@ -1,10 +1,10 @@
 -- Marks, and rewinding to them.
 --     marks ps      the next stamp of each process
 --     rewind w ss      every process is cut at its mark, unless a step since then is committed or may be
-use Rattle.std.specs.Prelude.{ℕ, ◌+◌, List, [], ◌∷◌, length, Bool, false, not, ◌&&◌, ◌||◌, ◌==◌, nat_lt, nat_le, if◌then◌else◌}
+use Rattle.std.specs.Prelude.{ℕ, ◌+◌, List, [], ◌∷◌, length, Bool, false, not, ◌&&◌, ◌||◌, ◌==◌, nat_lt, nat_le, if◌then◌else◌, Ok, Err}
 use Rattle.tw_msgs.specs.declared.record.Record.{Record}
 use Rattle.tw_theory.specs.Contents.{Process, next, steps_from, cut, records_of}
-use Rattle.tw_theory.specs.Executive.{World, Answer, Undone, Refused, NoSuch, Committed}
+use Rattle.tw_theory.specs.Executive.{World, Answer, Undone, NoSuch, Committed}
 
 abbrev pub marks : {S : Type 0} → List (Process S) → List ℕ
 marks [] = []
@@ -35,6 +35,6 @@ any_committed g ss ps columns = false
 -- marks of another number of components are refused first
 unfoldable pub rewind : {S : Type 0} → World S → List ℕ → Answer × World S
 rewind w ss =
-    if not (length ss == length w.processes) then (Refused NoSuch, w)
-    else if any_committed w.gvt ss w.processes w.columns then (Refused Committed, w)
-    else (Undone (rewound_steps ss w.processes), record w { processes = rewound ss w.processes })
+    if not (length ss == length w.processes) then (Err NoSuch, w)
+    else if any_committed w.gvt ss w.processes w.columns then (Err Committed, w)
+    else (Ok (Undone (rewound_steps ss w.processes)), record w { processes = rewound ss w.processes })

@@ -7,7 +7,7 @@ use Rattle.std.specs.Prelude.{ℕ, ◌+◌, ◌*◌, ◌<◌, ◌≡◌, ◌⊎�
 use Rattle.tw_msgs.specs.Counting.{total}
 use Rattle.tw_msgs.specs.declared.message.Item.{Item}
 use Rattle.tw_theory.specs.Contents.{Process, Received, Placed, Straggler, Annihilated, Waiting, inputs, sent_by, sent_out, receive}
-use Rattle.tw_theory.specs.Executive.{World, Action, Step, Post, Deliver, Back, Raise, Harvest, Answer, Stepped, Posted, Delivered, Undone, Raised, Harvested, Refused, mail_of, replay, answers}
+use Rattle.tw_theory.specs.Executive.{World, Action, Step, Post, Deliver, Back, Raise, Harvest, Answer, mail_of, replay, answers}
 use Rattle.tw_theory.specs.LocalRun.{Made, NoStep, local_step}
 use Rattle.tw_theory.specs.Network.{Network}
 
@@ -83,13 +83,8 @@ TakenOf (first ∷ taken) (action ∷ actions) = ((first ≡ action) × TakenOf 
 
 -- how many answers are no refusals
 abbrev pub one_if_taken : Answer → ℕ
-one_if_taken (Stepped s kind) = 1
-one_if_taken (Posted n) = 1
-one_if_taken (Delivered received) = 1
-one_if_taken (Undone n) = 1
-one_if_taken (Raised gvt) = 1
-one_if_taken (Harvested n) = 1
-one_if_taken (Refused why) = 0
+one_if_taken (Ok done) = 1
+one_if_taken (Err why) = 0
 
 -- w' is what comes of these actions where some may be left undone for want of memory or of nodes, and n counts those that were not refused
 pub record IsReplayed {S : Type 0} (net : Network S) (until : ℕ) (w : World S) (actions : List Action) (n : ℕ) (w' : World S) : Type 0 where

@@ -6,6 +6,8 @@ use Rattle.tw_msgs.specs.declared.message.Message.{Message}
 use Rattle.tw_msgs.specs.declared.record.Record.{Record}
 use Rattle.tw_vtime.specs.Stamps.{stamp, phase_of}
 use Rattle.tw_vtime.specs.declared.limits.Limit.{Limit}
+pub use Rattle.tw_actions.specs.declared.run_state.RunState.{RunState}
+pub use Rattle.tw_actions.specs.declared.run_state.RunState.TheVariants.{Complete, Fault, Going}
 use Rattle.tw_theory.specs.Contents.{Process, next}
 use Rattle.tw_theory.specs.Exchange.{is_empty, all_empty}
 use Rattle.tw_theory.specs.Executive.{World}
@@ -13,12 +15,6 @@ use Rattle.tw_theory.specs.LocalRun.{Made, NoStep, NothingDue, OverLimit, local_
 use Rattle.tw_theory.specs.Network.{Network}
 use Rattle.tw_theory.specs.Simulator.{sequential}
 use Rattle.tw_theory.specs.Traces.{before}
-
--- every line is at the end of the run; a component meets a limit at gvt, with nothing in transit; or neither
-pub data RunState : Type 0 where
-  Complete : RunState
-  Fault : (component stamp : ℕ) (limit : Limit) → RunState
-  Going : RunState
 
 -- whether no message of this stamp is in the list
 abbrev pub none_at : ℕ → List Message → Bool

@@ -8,7 +8,7 @@ use Rattle.tw_laws.proofs.Inverse.{set_there}
 use Rattle.tw_laws.specs.Chains.{steps_of_one}
 use Rattle.tw_msgs.specs.declared.message.Item.{Item}
 use Rattle.tw_theory.specs.Contents.{Process, next, settle, with_outgoing, with_step, cut, receive, harvested}
-use Rattle.tw_theory.specs.Executive.{World, Action, Step, Post, Deliver, Back, Raise, Harvest, Answer, Refused, NothingDue, BeforeGvt, act, act_step, act_post, act_deliver, act_back, act_harvest, if_made, replay, mail_of}
+use Rattle.tw_theory.specs.Executive.{World, Action, Step, Post, Deliver, Back, Raise, Harvest, Answer, NothingDue, BeforeGvt, act, act_step, act_post, act_deliver, act_back, act_harvest, if_made, replay, mail_of}
 use Rattle.tw_theory.specs.LocalRun.{Made, NoStep, local_step}
 use Rattle.tw_theory.specs.Memory.{component_of}
 use Rattle.tw_theory.specs.Network.{Network}
@@ -42,7 +42,7 @@ module _ {S : Type 0} (net : Network S) (until : ℕ) (w : World S) where
   step_same : (c : ℕ) (p : Option (Process S)) → IsSameBut c w.processes (act_step net until w c p).1.processes
   step_same c None = same_but c w.processes
   step_same c (Some p) =
-      let late : Answer × World S = (Refused NothingDue, w) in
+      let late : Answer × World S = (Err NothingDue, w) in
       cond_both (nat_lt (next p) (stamp until 0 0)) (if_made w c p (local_step net c p.now p.pending)) late (λ x. IsSameBut c w.processes x.1.processes)
       (λ e. if_made_same c p (local_step net c p.now p.pending)) (λ e. same_but c w.processes)
 
@@ -58,7 +58,7 @@ module _ {S : Type 0} (net : Network S) (until : ℕ) (w : World S) where
   back_same : (c s : ℕ) (p : Option (Process S)) → IsSameBut c w.processes (act_back w c s p).1.processes
   back_same c s None = same_but c w.processes
   back_same c s (Some p) =
-      let early : Answer × World S = (Refused BeforeGvt, w) in
+      let early : Answer × World S = (Err BeforeGvt, w) in
       let done : Answer × World S = act_back w c s (Some p) in
       cond_both (nat_lt s w.gvt) early _ (λ x. IsSameBut c w.processes x.1.processes) (λ e. same_but c w.processes) (λ e. one_set c w.processes (cut s p))
 

@@ -1,6 +1,6 @@
 -- Steps commit nothing: so a chain that is handed in leaves the columns as they are, and a run that has ended stays so.
 use Rattle.std.proofs.Common.{◌≡◌, ℕ, zero, suc, None, Some, Ok, Err, refl, sym, ap, subst, ◌∙◌}
-use Rattle.std.specs.Prelude.{IfOk, IfSome, Option, Result, length, nat_lt, slice_get}
+use Rattle.std.specs.Prelude.{IfOk, IfSome, Option, Result, length, nat_lt, slice_get, Ok, Err}
 use Rattle.std.proofs.lemmas.Bool.{cond_both}
 use Rattle.atomic_table.specs.Seated.{TableId}
 use Rattle.tw_atomic.specs.Atomic.{Meaning}
@@ -9,10 +9,10 @@ use Rattle.tw_exec.specs.Running.{Running}
 use Rattle.tw_laws.specs.Chains.{steps_of_one}
 use Rattle.tw_msgs.specs.Counting.{total}
 use Rattle.tw_network.specs.Contents.{Contents, network_of}
-use Rattle.tw_process.specs.declared.finished.Finished.{Finished}
+use Rattle.tw_actions.specs.declared.chain.Finished.{Finished}
 use Rattle.tw_theory.specs.Chains.{Chain}
 use Rattle.tw_theory.specs.Contents.{Process, next}
-use Rattle.tw_theory.specs.Executive.{World, Step, Answer, Refused, NothingDue, act, act_step, if_made, replay}
+use Rattle.tw_theory.specs.Executive.{World, Step, Answer, NothingDue, act, act_step, if_made, replay}
 use Rattle.tw_theory.specs.LocalRun.{Made, NoStep, local_step}
 use Rattle.tw_theory.specs.Network.{Network}
 use Rattle.tw_vtime.specs.Stamps.{stamp}
@@ -28,7 +28,7 @@ module _ {S : Type 0} (net : Network S) (until : ℕ) where
   step_columns : (w : World S) (c : ℕ) (p : Option (Process S)) → (act_step net until w c p).1.columns ≡ w.columns
   step_columns w c None = refl
   step_columns w c (Some p) =
-      let late : Answer × World S = (Refused NothingDue, w) in
+      let late : Answer × World S = (Err NothingDue, w) in
       cond_both (nat_lt (next p) (stamp until 0 0)) (if_made w c p (local_step net c p.now p.pending)) late (λ x. x.1.columns ≡ w.columns)
       (λ e. made_columns w c p (local_step net c p.now p.pending)) (λ e. refl)
 

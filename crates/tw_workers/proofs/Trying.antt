@@ -5,10 +5,9 @@ use Rattle.std.proofs.lemmas.Bool.{eqb-true, le-ltb, lt-ltb}
 use Rattle.std.proofs.lemmas.List.{append-nil}
 use Rattle.std.proofs.lemmas.Option.{none-some, same_Some}
 use Rattle.tw_atomic.specs.Atomic.{Meaning}
-use Rattle.tw_exec.specs.Actions.{answered, reason}
+use Rattle.tw_exec.specs.Actions.{reason}
 use Rattle.tw_exec.specs.Running.{IsReason, IsSoundly, Running, after, answer}
-use Rattle.tw_exec.specs.declared.action.Done.{Done}
-use Rattle.tw_exec.specs.declared.action.Done.TheVariants as done
+use Rattle.tw_actions.specs.declared.action.Done.{Done}
 use Rattle.tw_exec.specs.declared.refused.Refused.{Refused as Why}
 use Rattle.tw_laws.proofs.Inverse.{back_is, set_here}
 use Rattle.tw_laws.proofs.Ordered.{AllOrdered, IsOrdered}
@@ -17,7 +16,7 @@ use Rattle.tw_network.specs.Contents.{network_of}
 use Rattle.tw_theory.proofs.Steps.{IfOk-cond, local_step_follows}
 use Rattle.tw_theory.proofs.TakingBack.{undo_law}
 use Rattle.tw_theory.specs.Contents.{Aggressive, Cancel, Lazy, Process, back_to_first, cut, next, steps_before, undo_last, with_step}
-use Rattle.tw_theory.specs.Executive.{Answer, Back, Refused, Step, Undone, World, act, act_step, if_made, refusal_of, with_process, NothingDue}
+use Rattle.tw_theory.specs.Executive.{Answer, Back, Step, Undone, World, act, act_step, if_made, refusal_of, with_process, NothingDue}
 use Rattle.tw_theory.specs.Executive as theory
 use Rattle.tw_theory.specs.LocalRun.{Made, NoStep, local_step, if_moved, step_at, transition_made}
 use Rattle.tw_theory.specs.LocalRun as local
@@ -97,49 +96,44 @@ set_back [] c x at = absurd (none-some x at)
 set_back (y ∷ xs) zero x at = ap (λ z. z ∷ xs) (sym (same_Some y x at))
 set_back (y ∷ xs) (suc c) x at = ap (λ l. y ∷ l) (set_back xs c x at)
 
-no_refusal : (d : Done) (why : theory.Refusal) → answered d ≡ Refused why → ⊥
-no_refusal (done.Stepped s kind) why is = absurd (cc)
-no_refusal (done.Posted n) why is = absurd (cc)
-no_refusal (done.Delivered came) why is = absurd (cc)
-no_refusal (done.Undone n) why is = absurd (cc)
-no_refusal (done.Raised gvt) why is = absurd (cc)
-no_refusal (done.Harvested n) why is = absurd (cc)
+no_refusal : (d : Done) (why : theory.Refusal) → ◌≡◌ {A = Answer} (Ok d) (Err why) → ⊥
+no_refusal d why is = cc
 
 module _ {M S : Type 0} (meaning : M → Meaning S) (e : Running M S) (s : IsSoundly meaning e) (c : ℕ) (p : Process S) (at : slice_get e.world.processes c ≡ Some p)
     (here : next p ≡ e.world.gvt) (before : e.world.gvt < stamp e.until 0 0) (odd : phase_of e.world.gvt ≡ 1) where
   tries : act (network_of meaning e.network) e.until e.world (Step c) ≡ if_made e.world c p (local_step (network_of meaning e.network) c p.now p.pending)
   unfolding act
   tries =
-      let late : Answer × World S = (Refused NothingDue, e.world) in
+      let late : Answer × World S = (Err NothingDue, e.world) in
       ap (act_step (network_of meaning e.network) e.until e.world c) at
       ∙ ap (λ b. cond b (if_made e.world c p (local_step (network_of meaning e.network) c p.now p.pending)) late) (lt-ltb (next p) (stamp e.until 0 0) (omega (arith, here, before)))
 
   -- the step is not refused: it meets no limit
-  pub no_limit : (d : Done) → answer meaning (Step c) e ≡ answered d → limit_of (local_step (network_of meaning e.network) c p.now p.pending) ≡ None
+  pub no_limit : (d : Done) → answer meaning (Step c) e ≡ Ok d → limit_of (local_step (network_of meaning e.network) c p.now p.pending) ≡ None
   no_limit d is = go (local_step (network_of meaning e.network) c p.now p.pending) (ap (λ x. x.0) (sym tries) ∙ is)
     where
-      go : (r : Result (Made S) NoStep) → (if_made e.world c p r).0 ≡ answered d → limit_of r ≡ None
+      go : (r : Result (Made S) NoStep) → (if_made e.world c p r).0 ≡ Ok d → limit_of r ≡ None
       go (Ok made) is = refl
       go (Err local.NothingDue) is = refl
       go (Err (local.OverLimit limit)) is = absurd (no_refusal d (theory.OverLimit limit) (sym is))
 
   -- it is refused for a limit: it meets it
-  pub its_limit : (limit : Limit) → answer meaning (Step c) e ≡ Refused (theory.OverLimit limit) → limit_of (local_step (network_of meaning e.network) c p.now p.pending) ≡ Some limit
+  pub its_limit : (limit : Limit) → answer meaning (Step c) e ≡ Err (theory.OverLimit limit) → limit_of (local_step (network_of meaning e.network) c p.now p.pending) ≡ Some limit
   its_limit limit is = go (local_step (network_of meaning e.network) c p.now p.pending) (ap (λ x. x.0) (sym tries) ∙ is)
     where
-      go : (r : Result (Made S) NoStep) → (if_made e.world c p r).0 ≡ Refused (theory.OverLimit limit) → limit_of r ≡ Some limit
+      go : (r : Result (Made S) NoStep) → (if_made e.world c p r).0 ≡ Err (theory.OverLimit limit) → limit_of r ≡ Some limit
       go (Ok made) is = absurd (cc)
       go (Err local.NothingDue) is = absurd (cc)
       go (Err (local.OverLimit other)) is = ap Some (cc)
 
   -- it is taken back
-  taken_back : (d : Done) → answer meaning (Step c) e ≡ answered d → (n : ℕ) × (act (network_of meaning e.network) e.until (after meaning (Step c) e).world (Back c e.world.gvt) ≡ (Undone n, e.world))
+  taken_back : (d : Done) → answer meaning (Step c) e ≡ Ok d → (n : ℕ) × (act (network_of meaning e.network) e.until (after meaning (Step c) e).world (Back c e.world.gvt) ≡ (Ok (Undone n), e.world))
   taken_back d is =
       let back = go (local_step (network_of meaning e.network) c p.now p.pending) refl (ap (λ x. x.0) (sym tries) ∙ is) in
       (back.0, ap (λ x. act (network_of meaning e.network) e.until x.1 (Back c e.world.gvt)) tries ∙ back.1)
     where
-      go : (r : Result (Made S) NoStep) → local_step (network_of meaning e.network) c p.now p.pending ≡ r → (if_made e.world c p r).0 ≡ answered d
-          → (n : ℕ) × (act (network_of meaning e.network) e.until (if_made e.world c p r).1 (Back c e.world.gvt) ≡ (Undone n, e.world))
+      go : (r : Result (Made S) NoStep) → local_step (network_of meaning e.network) c p.now p.pending ≡ r → (if_made e.world c p r).0 ≡ Ok d
+          → (n : ℕ) × (act (network_of meaning e.network) e.until (if_made e.world c p r).1 (Back c e.world.gvt) ≡ (Ok (Undone n), e.world))
       go (Err why) made is = absurd (no_refusal d (refusal_of why) (sym is))
       go (Ok made) is _ =
           let q = with_step p made in
@@ -148,23 +142,23 @@ module _ {M S : Type 0} (meaning : M → Meaning S) (e : Running M S) (s : IsSou
           let past = (ordered_at e.world.processes c p (world_ordered (network_of meaning e.network) e.until e.world s.sound) at).past in
           let cut_is : cut e.world.gvt q ≡ p = ap (λ k. cut k q) (sym here) ∙ cut_again (network_of meaning e.network) c p made past (omega (arith, odd, here)) is in
           let processes = set_twice e.world.processes c q (cut e.world.gvt q) ∙ ap (slice_set e.world.processes c) cut_is ∙ set_back e.world.processes c p at in
-          (n, back_is (network_of meaning e.network) e.until w c e.world.gvt q (set_here e.world.processes c p q at) (omega arith) ∙ ap (λ ps. (Undone n, record e.world { processes = ps })) processes)
+          (n, back_is (network_of meaning e.network) e.until w c e.world.gvt q (set_here e.world.processes c p q at) (omega arith) ∙ ap (λ ps. (Ok (Undone n), record e.world { processes = ps })) processes)
 
-  restored_at : (d : Done) → answer meaning (Step c) e ≡ answered d → (tried new : Running M S) (result : Result Done Why) → tried ≡ after meaning (Step c) e
+  restored_at : (d : Done) → answer meaning (Step c) e ≡ Ok d → (tried new : Running M S) (result : Result Done Why) → tried ≡ after meaning (Step c) e
       → OnOk result (new ≡ after meaning (Back c e.world.gvt) tried) → IfErr result (IsReason meaning (Back c e.world.gvt) tried) → IfErr result (λ why. reason why ≡ None → TakesMemory (Back c e.world.gvt)) → new ≡ e
   restored_at d is tried new (Ok x) stepped done refused memory =
       let back = taken_back d is in
       done ∙ ap (after meaning (Back c e.world.gvt)) stepped ∙ ap (λ x. record e { world = x.1 }) back.1
   restored_at d is tried new (Err why) stepped done refused memory =
       let back = taken_back d is in
-      let undone : answer meaning (Back c e.world.gvt) tried ≡ Undone back.0 = ap (answer meaning (Back c e.world.gvt)) stepped ∙ ap (λ x. x.0) back.1 in
+      let undone : answer meaning (Back c e.world.gvt) tried ≡ Ok (Undone back.0) = ap (answer meaning (Back c e.world.gvt)) stepped ∙ ap (λ x. x.0) back.1 in
       absurd (go (reason why) refl refused undone)
     where
-      go : (r : Option theory.Refusal) → reason why ≡ r → IfSome r (λ x. answer meaning (Back c e.world.gvt) tried ≡ Refused x) → {n : ℕ} → answer meaning (Back c e.world.gvt) tried ≡ Undone n → ⊥
+      go : (r : Option theory.Refusal) → reason why ≡ r → IfSome r (λ x. answer meaning (Back c e.world.gvt) tried ≡ Err x) → {n : ℕ} → answer meaning (Back c e.world.gvt) tried ≡ Ok (Undone n) → ⊥
       go None none refused undone = memory none
       go (Some x) some refused undone = let both = sym undone ∙ refused in absurd (cc)
 
-  pub restored : (d : Done) → answer meaning (Step c) e ≡ answered d → (tried new : Running M S) (result : Result Done Why) → tried ≡ after meaning (Step c) e → (g : ℕ) → g ≡ e.world.gvt
+  pub restored : (d : Done) → answer meaning (Step c) e ≡ Ok d → (tried new : Running M S) (result : Result Done Why) → tried ≡ after meaning (Step c) e → (g : ℕ) → g ≡ e.world.gvt
       → OnOk result (new ≡ after meaning (Back c g) tried) → IfErr result (IsReason meaning (Back c g) tried) → IfErr result (λ why. reason why ≡ None → TakesMemory (Back c g)) → new ≡ e
   restored d is tried new result stepped g same done refused memory =
       restored_at d is tried new result stepped (subst (λ k. OnOk result (new ≡ after meaning (Back c k) tried)) same done) (subst (λ k. IfErr result (IsReason meaning (Back c k) tried)) same refused)

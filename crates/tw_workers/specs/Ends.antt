@@ -4,10 +4,11 @@
 --     IsEndOf meaning e outcome      so ends the run of an executive that has committed just these
 --     IsOnly given n until      what is given is of this network and this end tick
 --     IsDue valid meaning n until order      an order of a component of this network, of steps before this end tick
---     IsMadeFor meaning n until prepareds      what was worked out from such an order
+--     IsMadeFor meaning undone n until prepareds      what was worked out from such an order
 use Rattle.std.specs.Prelude.{◌≡◌, ◌<◌, ◌≤◌, ℕ, List, length, Some, slice_get}
 use Rattle.atomic_table.specs.Seated.{TableId}
-use Rattle.tw_atomic.specs.Atomic.{Meaning}
+use Rattle.tw_atomic.specs.Atomic.{AreAlike, Bag, Meaning}
+use Rattle.tw_atomic.specs.declared.Turn.{Turn}
 use Rattle.tw_exec.specs.Running.{Running}
 use Rattle.tw_msgs.specs.Counting.{total}
 use Rattle.tw_msgs.specs.declared.record.Record.{Record}
@@ -46,7 +47,7 @@ pub record IsDue {M S : Type 0} (valid : M → S → Type 0) (meaning : M → Me
   pub low : order.micro_limit ≤ max_microstep
   pub before : order.before ≤ stamp until 0 0
 
-pub record IsMadeFor {M S : Type 0} (meaning : M → Meaning S) (n : Contents M) (until : ℕ) (prepareds : Chain M S) : Type 0 where
+pub record IsMadeFor {M S R : Type 0} (meaning : M → Meaning S) (undone : M → Turn → S → ℕ → Bag → R → S) (n : Contents M) (until : ℕ) (prepareds : Chain M S) : Type 0 where
   pub limit : prepareds.run.start.micro_limit ≡ n.micro_limit
   pub before : prepareds.run.start.before ≤ stamp until 0 0
-  pub alike : (m : M) → slice_get n.models prepareds.run.start.component ≡ Some m → meaning m ≡ meaning prepareds.model
+  pub alike : (m : M) → slice_get n.models prepareds.run.start.component ≡ Some m → AreAlike meaning undone m prepareds.model

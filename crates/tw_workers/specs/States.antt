@@ -1,5 +1,4 @@
--- The state of a run as the code answers it, and how it is found.
---     meant state      the state of the definitions
+-- How the state of a run is found.
 --     state_of meaning e      the state of the run of an executive
 --     limit_at meaning e c p      the limit that component c meets at gvt
 use Rattle.std.specs.Prelude.{ℕ, Bool, ◌==◌, ◌&&◌, drop, if◌then◌else◌, Option, None}
@@ -11,13 +10,6 @@ use Rattle.tw_theory.specs.Exchange.{is_empty}
 use Rattle.tw_theory.specs.LocalRun.{local_step}
 use Rattle.tw_theory.specs.Outcomes as theory
 use Rattle.tw_vtime.specs.declared.limits.Limit.{Limit}
-use Rattle.tw_workers.specs.declared.states.State.{State}
-use Rattle.tw_workers.specs.declared.states.State.TheVariants.{Complete, Fault, Going}
-
-abbrev pub meant : State → theory.RunState
-meant Complete = theory.Complete
-meant (Fault component stamp limit) = theory.Fault component stamp limit
-meant Going = theory.Going
 
 -- the state of the run of an executive
 abbrev pub state_of : {M S : Type 0} → (M → Meaning S) → Running M S → theory.RunState

@@ -124,7 +124,7 @@ impl<M: Atomic, H: Given<M>> Desk<M, H> {
     /// Hands in what was worked out from an order, and sweeps where that is due: after every chain of which not all was made, and
     /// after so many chains. Once the run has ended nothing is swept any more.
     pub(crate) fn hand_in(&mut self, prepareds: Prepareds<M>)
-        requires { (n : Contents M) (until : ℕ) (board : TableId) → H.is_given n until board → IsMadeFor M.meaning n until prepareds }
+        requires { (n : Contents M) (until : ℕ) (board : TableId) → H.is_given n until board → IsMadeFor M.meaning M.undone n until prepareds }
     {
         let Some(stop) = self.take_in(prepareds) else {
             return;
@@ -145,7 +145,7 @@ impl<M: Atomic, H: Given<M>> Desk<M, H> {
 
     // Hands in what was worked out from an order. Answers why it went no further, while the run goes on.
     fn take_in(&mut self, prepareds: Prepareds<M>) -> Option<Stop>
-        requires { (n : Contents M) (until : ℕ) (board : TableId) → H.is_given n until board → IsMadeFor M.meaning n until prepareds }
+        requires { (n : Contents M) (until : ℕ) (board : TableId) → H.is_given n until board → IsMadeFor M.meaning M.undone n until prepareds }
     {
         self.out = self.out.saturating_sub(1);
         self.handed_in = self.handed_in.saturating_add(1);

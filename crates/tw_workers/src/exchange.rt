@@ -1,7 +1,7 @@
 //! An exchange, how it begins and ends, and the executive's own actions.
 
 ghost use Rattle.std.specs.Prelude.{◌≡◌, ◌≢◌, ◌↔◌, None, IfOk, IfErr, IsErrOf, OnOk, OnErr, false, length, replicate};
-ghost use Rattle.tw_exec.specs.Actions.{answered, meant, reason};
+ghost use Rattle.tw_exec.specs.Actions.{reason};
 ghost use Rattle.tw_exec.specs.Running.{answer, after, AreExact, IsDelivery, IsReason, IsSoundly, IsWanting, WantsRoom};
 ghost use Rattle.tw_exec.specs.declared.refused.Refused.TheVariants as refusals;
 ghost use Rattle.tw_theory.specs.Memory.{TakesMemory};
@@ -96,13 +96,13 @@ impl<M: Atomic> Exchange<M> {
     ///
     /// Refused as there; then nothing changes.
     pub fn act(&mut self, action: Action) -> Result<Done, Refused>
-        ensures done { OnOk result (self.new ≡ with_executive (after M.meaning (meant action) self.old.executive) self.old) }
-        ensures answer { IfOk result (λ done. answer M.meaning (meant action) self.old.executive ≡ answered done) }
-        ensures refused { IfErr result (IsReason M.meaning (meant action) self.old.executive) }
-        ensures exact { AreExact M.meaning (meant action) self.old.executive result }
-        ensures full { IfErr result (IsWanting M.meaning (meant action) self.old.executive) }
-        ensures limit { IsDelivery (meant action) → (WantsRoom M.meaning (meant action) self.old.executive ↔ IsErrOf result refusals.Full) }
-        ensures memory { IfErr result (λ why. reason why ≡ None → TakesMemory (meant action)) }
+        ensures done { OnOk result (self.new ≡ with_executive (after M.meaning action self.old.executive) self.old) }
+        ensures answer { IfOk result (λ done. answer M.meaning action self.old.executive ≡ Ok done) }
+        ensures refused { IfErr result (IsReason M.meaning action self.old.executive) }
+        ensures exact { AreExact M.meaning action self.old.executive result }
+        ensures full { IfErr result (IsWanting M.meaning action self.old.executive) }
+        ensures limit { IsDelivery action → (WantsRoom M.meaning action self.old.executive ↔ IsErrOf result refusals.Full) }
+        ensures memory { IfErr result (λ why. reason why ≡ None → TakesMemory action) }
         ensures stays { OnErr result (self.new ≡ self.old) }
     {
         self.executive.facts();

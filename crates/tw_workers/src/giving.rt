@@ -1,6 +1,7 @@
 //! Components given out, and handed in.
 
 ghost use Rattle.std.specs.Prelude.{◌≡◌, ◌↔◌, ◌<◌, ◌≤◌, true, false, IfOk, IfSome, IsErr, None, OnErr, OnOk, Some, length, slice_get, slice_set};
+ghost use Rattle.tw_atomic.specs.Atomic.{AreAlike};
 ghost use Rattle.tw_exec.specs.Chains.{IsInstalledOn};
 ghost use Rattle.tw_theory.specs.Exchange.{bound_of};
 ghost use Rattle.tw_theory.specs.Standing.{IsReady};
@@ -68,7 +69,7 @@ impl<M: Atomic> Exchange<M> {
     pub fn finish(&mut self, prepareds: Prepareds<M>) -> Result<Finished, NoSuch>
         requires limit { prepareds.run.start.micro_limit ≡ self.old.executive.network.micro_limit }
         requires bound { prepareds.run.start.before ≤ stamp self.old.executive.until 0 0 }
-        requires meaning { (m : M) → slice_get self.old.executive.network.models prepareds.run.start.component ≡ Some m → M.meaning m ≡ M.meaning prepareds.model }
+        requires alike { (m : M) → slice_get self.old.executive.network.models prepareds.run.start.component ≡ Some m → AreAlike M.meaning M.undone m prepareds.model }
         ensures installed { IfOk result (IsInstalledOn M.meaning prepareds self.old.executive self.new.executive) }
         ensures free { OnOk result (self.new.busy ≡ slice_set self.old.busy prepareds.run.start.component false) }
         ensures publisher { self.new.publisher ≡ self.old.publisher }

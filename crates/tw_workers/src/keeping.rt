@@ -1,7 +1,6 @@
 //! How the agenda keeps up with the executive.
 
 ghost use Rattle.std.specs.Prelude.{◌≡◌, false, length, replicate, slice_set};
-ghost use Rattle.tw_exec.specs.Actions.{meant};
 ghost use Rattle.tw_theory.specs.Memory.{component_of as component_meant};
 ghost use Rattle.tw_workers.specs.Exchanged.{IsExact, IsExactBut, busy_in};
 
@@ -11,7 +10,7 @@ use tw_exec::{Action, Executive};
 
 /// The component that an action is of.
 pub(crate) fn component_of(action: &Action) -> Option<usize>
-    ensures { result ≡ component_meant (meant action.now) }
+    ensures { result ≡ component_meant action.now }
 {
     match *action {
         Action::Step(component)

@@ -38,4 +38,4 @@ pub use orders::{Order, Prepareds, compute};
 pub use outcome::{Outcome, RunFault, Setting};
 pub use refused::{NoSuch, SweepRefused};
 pub use running::run;
-pub use states::State;
+pub use tw_actions::RunState as State;

@@ -6,7 +6,6 @@ ghost use Rattle.tw_theory.specs.Standing.{IsReady};
 ghost use Rattle.tw_vtime.specs.Stamps.{max_microstep};
 
 use crate::gate::Gate;
-use std::alloc::Global;
 use std::marker::Model;
 use tw_atomic::Atomic;
 use tw_chain::{Prepared, Start};
@@ -68,12 +67,7 @@ impl<M: Atomic> Prepareds<M> {
 /// once. It takes no part of the exchange, and waits for nobody, the gate's own body aside.
 ///
 /// Where memory is refused in the middle, the chain keeps the steps made before.
-pub fn compute<M: Atomic, G: Gate>(
-    alloc: Global,
-    order: Order<M>,
-    model: &M,
-    gate: &G,
-) -> Prepareds<M>
+pub fn compute<M: Atomic, G: Gate>(order: Order<M>, model: &M, gate: &G) -> Prepareds<M>
     requires ready { IsReady (M.valid model.now) (M.meaning model.now) order.component order.now order.messages }
     requires limit { order.micro_limit ≤ max_microstep }
     ensures model { result.model ≡ model.now }
@@ -83,6 +77,6 @@ pub fn compute<M: Atomic, G: Gate>(
     gate.enter(order.component());
     let Order { start } = order;
     Prepareds {
-        chain: start.prepare(alloc, model),
+        chain: start.prepare(model),
     }
 }

@@ -3,12 +3,13 @@
 ghost use Rattle.std.specs.Prelude.{◌≡◌, IfOk, IfSome};
 ghost use Rattle.tw_vtime.specs.Stamps.{never};
 ghost use Rattle.tw_workers.specs.Ends.{IsEndOf};
-ghost use Rattle.tw_workers.specs.States.{meant, state_of};
+ghost use Rattle.tw_workers.specs.States.{state_of};
 
 use crate::exchange::Exchange;
 use crate::refused::SweepRefused;
-use crate::states::{State, all_past};
+use crate::states::all_past;
 use std::alloc::{AllocError, Global};
+use tw_actions::RunState;
 use tw_atomic::Atomic;
 use tw_exec::Executive;
 use tw_msgs::Record;
@@ -59,24 +60,24 @@ pub(crate) fn find_outcome<M: Atomic>(
 fn outcome_at<M: Atomic>(
     alloc: Global,
     executive: &Executive<M>,
-    state: State,
+    state: RunState,
 ) -> Result<Option<Outcome>, AllocError>
-    requires { meant state ≡ state_of M.meaning executive.now }
+    requires { state ≡ state_of M.meaning executive.now }
     ensures { IfOk result (λ outcome. IfSome outcome (IsEndOf M.meaning executive.now)) }
 {
     executive.facts();
     match state {
-        State::Complete => {
+        RunState::Complete => {
             let trace = executive.trace(alloc)?;
             Ok(Some(Outcome::Complete(trace)))
         }
-        State::Fault(component, stamp, limit) => {
+        RunState::Fault(component, stamp, limit) => {
             if !all_past(executive, stamp) {
                 return Ok(None);
             }
             let trace = executive.trace(alloc)?;
             Ok(Some(Outcome::Fault(trace, component, stamp, limit)))
         }
-        State::Going => Ok(None),
+        RunState::Going => Ok(None),
     }
 }

@@ -146,7 +146,7 @@ where
         until,
         setting,
     };
-    work_all(rt, alloc, &shared, gate);
+    work_all(rt, &shared, gate);
     let Shared {
         desk,
         changed: _,
@@ -164,7 +164,7 @@ fn work_all<
     H: Given<M> + Send + Sync,
     G: Gate + Sync,
     R: Threads + Wait + Sync,
->(rt: &'a R, alloc: Global, shared: &'a Shared<M, H>, gate: &'a G)
+>(rt: &'a R, shared: &'a Shared<M, H>, gate: &'a G)
 where
     M::State: Send,
     M::Residue: Send,
@@ -180,24 +180,19 @@ where
                 let started = scope.spawn(
                     move ||
                         requires { IsOnly H.is_given (arc_value shared.now.network) shared.now.until }
-                    { work(rt, alloc, shared, gate) },
+                    { work(rt, shared, gate) },
                 );
                 if started.is_err() {
                     break;
                 }
             }
-            work(rt, alloc, shared, gate)
+            work(rt, shared, gate)
         },
     );
 }
 
 // One worker: takes an order under the lock, works it out apart from it, and hands it in under the lock, until the run has ended.
-fn work<M: Atomic, H: Given<M>, G: Gate, R: Wait>(
-    rt: &R,
-    alloc: Global,
-    shared: &Shared<M, H>,
-    gate: &G,
-)
+fn work<M: Atomic, H: Given<M>, G: Gate, R: Wait>(rt: &R, shared: &Shared<M, H>, gate: &G)
     requires { IsOnly H.is_given (arc_value shared.now.network) shared.now.until }
 {
     let Some(mut order) = next_order(rt, shared, None) else {
@@ -205,7 +200,7 @@ fn work<M: Atomic, H: Given<M>, G: Gate, R: Wait>(
     };
     for _ in rt.forever() {
         let model = shared.network.model(order.component());
-        let prepareds = compute(alloc, order, model, gate);
+        let prepareds = compute(order, model, gate);
         let Some(next) = next_order(rt, shared, Some(prepareds)) else {
             return;
         };
@@ -221,7 +216,7 @@ fn next_order<M: Atomic, H: Given<M>, R: Wait>(
     done: Option<Prepareds<M>>,
 ) -> Option<Order<M>>
     requires only { IsOnly H.is_given (arc_value shared.now.network) shared.now.until }
-    requires made { IfSome done (IsMadeFor M.meaning (arc_value shared.now.network) shared.now.until) }
+    requires made { IfSome done (IsMadeFor M.meaning M.undone (arc_value shared.now.network) shared.now.until) }
     ensures { IfSome result (IsDue M.valid M.meaning (arc_value shared.now.network) shared.now.until) }
 {
     let mut desk = shared.desk.lock(rt);

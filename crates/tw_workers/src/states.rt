@@ -6,34 +6,24 @@ ghost use Rattle.tw_theory.specs.Bundles.{least_owed};
 ghost use Rattle.tw_theory.specs.Executive.{OverLimit};
 ghost use Rattle.tw_theory.specs.Outcomes.{all_past, all_quiet};
 ghost use Rattle.tw_vtime.specs.Stamps.{never, phase_of, stamp};
-ghost use Rattle.tw_workers.specs.States.{fault_from, is_quiet, limit_at, meant, state_of};
+ghost use Rattle.tw_workers.specs.States.{fault_from, is_quiet, limit_at, state_of};
 
 use crate::exchange::Exchange;
 use crate::sweeping::all_empty;
 use std::alloc::AllocError;
+use tw_actions::RunState;
 use tw_atomic::Atomic;
 use tw_exec::{Action, Executive, Refused};
 use tw_process::Process;
 use tw_vtime::{Limit, Stamp};
-
-/// How a run stands.
-#[derive(Clone, Copy, Debug, PartialEq, Eq)]
-pub enum State {
-    /// Every commit line is at the end tick or after it: all is committed.
-    Complete,
-    /// Nothing is in transit, and at this stamp, global virtual time, this component, the least such, meets this limit.
-    Fault(usize, Stamp, Limit),
-    /// Neither.
-    Going,
-}
 
 impl<M: Atomic> Exchange<M> {
     /// How the run stands. It changes nothing: where a component's next step is at global virtual time and nothing is in transit,
     /// that step is made, to see whether it meets a limit, and taken back.
     ///
     /// Refused for want of memory (4).
-    pub fn state(&mut self) -> Result<State, AllocError>
-        ensures state { IfOk result (λ state. meant state ≡ state_of M.meaning self.old.executive) }
+    pub fn state(&mut self) -> Result<RunState, AllocError>
+        ensures state { IfOk result (λ state. state ≡ state_of M.meaning self.old.executive) }
         ensures stays { self.new ≡ self.old }
     {
         find_state(&mut self.executive)
@@ -41,27 +31,27 @@ impl<M: Atomic> Exchange<M> {
 }
 
 // How the run of an executive stands.
-fn find_state<M: Atomic>(executive: &mut Executive<M>) -> Result<State, AllocError>
-    ensures state { IfOk result (λ state. meant state ≡ state_of M.meaning executive.old) }
+fn find_state<M: Atomic>(executive: &mut Executive<M>) -> Result<RunState, AllocError>
+    ensures state { IfOk result (λ state. state ≡ state_of M.meaning executive.old) }
     ensures stays { executive.new ≡ executive.old }
 {
     executive.facts();
     let end = Stamp::new(executive.until(), 0, 0).unwrap();
     if all_past(executive, end) {
-        return Ok(State::Complete);
+        return Ok(RunState::Complete);
     }
     let gvt = executive.gvt();
     if gvt >= end {
-        return Ok(State::Going);
+        return Ok(RunState::Going);
     }
     if gvt.phase() == 0 {
-        return Ok(State::Going);
+        return Ok(RunState::Going);
     }
     if !all_quiet(executive) {
-        return Ok(State::Going);
+        return Ok(RunState::Going);
     }
     if !all_empty(executive) {
-        return Ok(State::Going);
+        return Ok(RunState::Going);
     }
     first_fault(executive)
 }
@@ -107,19 +97,19 @@ fn is_quiet<M: Atomic>(process: &Process<M>, gvt: Stamp) -> bool
 }
 
 // The least component that meets a limit at global virtual time.
-fn first_fault<M: Atomic>(executive: &mut Executive<M>) -> Result<State, AllocError>
+fn first_fault<M: Atomic>(executive: &mut Executive<M>) -> Result<RunState, AllocError>
     requires before { executive.old.world.gvt < stamp executive.old.until 0 0 }
     requires odd { phase_of executive.old.world.gvt ≡ 1 }
-    ensures state { IfOk result (λ state. meant state ≡ fault_from M.meaning 0 executive.old) }
+    ensures state { IfOk result (λ state. state ≡ fault_from M.meaning 0 executive.old) }
     ensures stays { executive.new ≡ executive.old }
 {
     executive.facts();
     for component in 0..executive.network().len() {
         if let Some(limit) = find_limit(executive, component)? {
-            return Ok(State::Fault(component, executive.gvt(), limit));
+            return Ok(RunState::Fault(component, executive.gvt(), limit));
         }
     }
-    Ok(State::Going)
+    Ok(RunState::Going)
 }
 
 // The limit that a component meets at global virtual time. Its step there is a transition, which sends nothing: made and taken back,

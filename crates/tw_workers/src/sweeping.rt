@@ -2,7 +2,6 @@
 
 ghost use Rattle.std.specs.List.{AllByRecursion as Each};
 ghost use Rattle.std.specs.Prelude.{◌≡◌, ◌<◌, IfErr, IfOk, OnErr, OnOk, length, suc};
-ghost use Rattle.tw_exec.specs.Actions.{meant};
 ghost use Rattle.tw_exec.specs.Running.{after};
 ghost use Rattle.tw_theory.specs.Board.{numbers_of};
 ghost use Rattle.tw_theory.specs.Exchange.{all_empty, all_idle, deliveries, harvests, is_swept, posts};
@@ -168,8 +167,8 @@ fn harvest_all<M: Atomic>(executive: &mut Executive<M>) -> Result<(), SweepRefus
 
 // Takes an action of a sweep. None of these is refused but for want of memory or of nodes.
 fn take<M: Atomic>(executive: &mut Executive<M>, action: Action) -> Result<(), SweepRefused>
-    ensures done { OnOk result (executive.new ≡ after M.meaning (meant action) executive.old) }
-    ensures wanting { IfErr result (IsWanting M.meaning executive.old (meant action)) }
+    ensures done { OnOk result (executive.new ≡ after M.meaning action executive.old) }
+    ensures wanting { IfErr result (IsWanting M.meaning executive.old action) }
     ensures stays { OnErr result (executive.new ≡ executive.old) }
 {
     match executive.act(action) {

@@ -98,8 +98,6 @@ impl Atomic for Counter {
 
     ghost output_fits = { λ m s valid. (Prim.omega arith, ((Prim.omega arith, Prim.omega arith), tt)) };
 
-    ghost alike = { λ m n same. refl };
-
     ghost reverses = { λ m turn s elapsed bag can. counter_reverses turn s elapsed bag can };
 }
 

@@ -6,7 +6,7 @@ ghost use Rattle.std.specs.Prelude.{◌≡◌};
 use std::alloc::Global;
 use std::process::Abort;
 use tw_models::{BadModel, Model};
-use tw_msgs::{Item, Message, Record, RecordKind, Sign};
+use tw_msgs::{Item, Message, Record, RecordKind, Sign, Words};
 use tw_network::{Coupling, Input, Network};
 use tw_vtime::{Refusal, Stamp};
 
@@ -47,6 +47,19 @@ pub(crate) struct Line(
     pub(crate) &'static [i128],
 );
 
+/// Whether words are these numbers.
+fn are_words(words: &Words, numbers: &[i128]) -> bool {
+    if words.len() != numbers.len() {
+        return false;
+    }
+    for index in 0..numbers.len() {
+        if words.get(index) != Some(numbers[index]) {
+            return false;
+        }
+    }
+    true
+}
+
 /// Whether a record is what a line says.
 fn shows(record: &Record, line: &Line) -> bool {
     let phase = if line.3 == RecordKind::Out { 0 } else { 1 };
@@ -54,7 +67,7 @@ fn shows(record: &Record, line: &Line) -> bool {
         && record.component == line.2
         && record.kind == line.3
         && record.bag.as_slice() == line.4
-        && record.words.as_slice() == line.5
+        && are_words(&record.words, line.5)
 }
 
 /// Asserts that the records are what the lines say.

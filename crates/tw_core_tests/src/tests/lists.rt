@@ -5,7 +5,8 @@ ghost use Rattle.std.specs.Prelude.{◌≡◌, ◌≤◌, OnOk};
 use super::helpers::{Said, assert_items, assert_messages, said, stamp};
 use std::alloc::{AllocError, Global};
 use std::process::Abort;
-use tw_lists::{Cancel, EventLists};
+use tw_actions::Cancel;
+use tw_lists::EventLists;
 use tw_msgs::{Message, Sign};
 use tw_pool::PoolRefused;
 use tw_vtime::Stamp;
@@ -41,13 +42,9 @@ enum Act {
 }
 
 /// The bag of a stamp is consumed, and pending again; answers how many messages it has.
-fn there_and_back(
-    alloc: Global,
-    lists: &mut EventLists,
-    stamp: Stamp,
-) -> Result<usize, AllocError> {
+fn there_and_back(lists: &mut EventLists, stamp: Stamp) -> Result<usize, AllocError> {
     lists.order_law();
-    let bag = lists.consume_bag(alloc, stamp)?;
+    let bag = lists.consume_bag(stamp)?;
     let count = bag.len();
     lists.restore(count);
     Ok(count)
@@ -73,22 +70,22 @@ fn act_on_message(rt: &impl Abort, lists: &mut EventLists, act: &Act) {
     match act {
         Act::Put(it) => put(lists, &said(rt, 0, it)).expect(rt, "room"),
         Act::Withdraw(it, was) => assert!(rt; lists.withdraw(&said(rt, 0, it)) == *was),
-        Act::Wait(it) => lists.note_orphan(&said(rt, 0, it)).expect(rt, "room"),
+        Act::Wait(it) => lists.note_orphan(said(rt, 0, it)).expect(rt, "room"),
         Act::Clear(it, was) => assert!(rt; lists.clear_orphan(&said(rt, 0, it)) == *was),
         _ => {}
     }
 }
 
 /// Does what concerns the bag of a tick.
-fn act_on_bag(rt: &impl Abort, alloc: Global, lists: &mut EventLists, act: &Act) {
+fn act_on_bag(rt: &impl Abort, lists: &mut EventLists, act: &Act) {
     match act {
         Act::ThereAndBack(tick, count) => {
             let stamp = stamp(rt, *tick, 0, 1);
-            assert!(rt; there_and_back(alloc, lists, stamp) == Ok(*count));
+            assert!(rt; there_and_back(lists, stamp) == Ok(*count));
         }
         Act::Consume(tick, items) => {
             let bag = lists
-                .consume_bag(alloc, stamp(rt, *tick, 0, 1))
+                .consume_bag(stamp(rt, *tick, 0, 1))
                 .expect(rt, "memory");
             assert!(rt; bag.as_slice() == *items);
         }
@@ -150,23 +147,18 @@ struct Scene {
 }
 
 /// Asserts what is pending, outgoing, waiting and owed.
-fn assert_contents(
-    rt: &impl Abort,
-    alloc: Global,
-    lists: &EventLists,
-    scene: &Scene,
-) -> Result<(), AllocError> {
-    assert_messages(rt, lists.pending(alloc)?.as_slice(), 0, scene.pending);
-    assert_items(rt, lists.outgoing(alloc)?.as_slice(), 0, scene.outgoing);
-    assert_messages(rt, lists.waiting(alloc)?.as_slice(), 0, scene.waiting);
-    assert_messages(rt, lists.owed(alloc)?.as_slice(), 0, scene.owed);
+fn assert_contents(rt: &impl Abort, lists: &EventLists, scene: &Scene) -> Result<(), AllocError> {
+    assert_messages(rt, lists.pending()?.as_slice(), 0, scene.pending);
+    assert_items(rt, lists.outgoing()?.as_slice(), 0, scene.outgoing);
+    assert_messages(rt, lists.waiting()?.as_slice(), 0, scene.waiting);
+    assert_messages(rt, lists.owed()?.as_slice(), 0, scene.owed);
     Ok(())
 }
 
 /// Does something with the lists, and asserts their lengths afterwards.
 fn make(rt: &impl Abort, alloc: Global, lists: &mut EventLists, act: &Act, expected: [usize; 6]) {
     act_on_message(rt, lists, act);
-    act_on_bag(rt, alloc, lists, act);
+    act_on_bag(rt, lists, act);
     act_on_sent(rt, alloc, lists, act);
     assert!(rt; lengths(lists) == expected);
 }
@@ -177,7 +169,7 @@ fn play(rt: &impl Abort, alloc: Global, scene: &Scene) -> EventLists {
     for (act, expected) in scene.acts {
         make(rt, alloc, &mut lists, act, *expected);
     }
-    assert_contents(rt, alloc, &lists, scene).expect(rt, "memory");
+    assert_contents(rt, &lists, scene).expect(rt, "memory");
     lists
 }
 
@@ -215,11 +207,11 @@ static PENDING: Scene = Scene {
 };
 
 /// Asserts what is told of the pending and the consumed messages of that scene.
-fn assert_told(rt: &impl Abort, alloc: Global, lists: &EventLists) -> Result<(), AllocError> {
+fn assert_told(rt: &impl Abort, lists: &EventLists) -> Result<(), AllocError> {
     let first = said(rt, 0, &(3, 0, 8));
     assert!(rt; lists.first() == Some(first) && !lists.has_consumed(&first));
     assert!(rt; lists.has_consumed(&said(rt, 0, &(2, 1, 4))));
-    let early = lists.pending_before(alloc, stamp(rt, 4, 0, 1))?;
+    let early = lists.pending_before(stamp(rt, 4, 0, 1))?;
     assert_messages(rt, early.as_slice(), 0, &[(3, 0, 8)]);
     Ok(())
 }
@@ -228,7 +220,7 @@ fn assert_told(rt: &impl Abort, alloc: Global, lists: &EventLists) -> Result<(),
 fn messages_come_and_go_and_are_consumed(rt: HostRuntime) {
     let lists = play(&rt, rt.alloc(), &PENDING);
     lists.count_law();
-    assert_told(&rt, rt.alloc(), &lists).expect(&rt, "memory");
+    assert_told(&rt, &lists).expect(&rt, "memory");
     let (pool, heap) = lists.nodes();
     assert!(rt; pool.len(0) == 3 && heap.first() == lists.heap().first());
 }

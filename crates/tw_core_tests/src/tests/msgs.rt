@@ -48,7 +48,7 @@ fn record_of(alloc: Global, kind: RecordKind, words: &[i128]) -> Result<Record, 
         stamp: Stamp::START,
         kind,
         bag,
-        words: Words::from(Vec::from_slice(alloc, words)?),
+        words: Words::of(alloc, words)?,
     })
 }
 
@@ -72,6 +72,7 @@ fn records(rt: &impl Abort, alloc: Global) -> Result<(), AllocError> {
     let record = record_of(alloc, RecordKind::Con, &[0, -1, i128::MAX])?;
     assert!(rt; record != record_of(alloc, RecordKind::Ext, &[0, -1, i128::MAX])?);
     assert!(rt; record != record_of(alloc, RecordKind::Con, &[0, -1])?);
+    assert!(rt; record != record_of(alloc, RecordKind::Con, &[0, -1, 2])?);
     let mut copy = record.clone()?;
     assert!(rt; copy == record);
     copy.bag.sort();
@@ -80,7 +81,10 @@ fn records(rt: &impl Abort, alloc: Global) -> Result<(), AllocError> {
     );
     assert_sorted(rt, &mut copy.bag);
     assert!(rt; copy.words.len() == 3 && !copy.words.is_empty());
-    assert!(rt; copy.words.into_vec().as_slice() == [0, -1, i128::MAX].as_slice());
+    assert!(rt; copy.words.get(2) == Some(i128::MAX) && copy.words.get(3).is_none());
+    let mut numbers = Vec::from_slice(alloc, &[7])?;
+    copy.words.append_to(&mut numbers)?;
+    assert!(rt; numbers.as_slice() == [7, 0, -1, i128::MAX].as_slice());
     Ok(())
 }
 

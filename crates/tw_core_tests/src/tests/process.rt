@@ -275,36 +275,38 @@ fn assert_lists(rt: &impl Abort, process: &Process<Model>) {
 #[test]
 fn messages_are_put_and_lie_in_the_lists(rt: HostRuntime) {
     let mut process = with_two_put(&rt, rt.alloc()).expect(&rt, "memory");
-    let pending = process.pending(rt.alloc()).expect(&rt, "memory");
+    let pending = process.pending().expect(&rt, "memory");
     assert_messages(
         &rt,
         pending.as_slice(),
         1,
         &[(2, 0, 4), (2, 0, 5), (3, 0, 8)],
     );
-    assert!(rt; process.step(rt.alloc()) == Ok((stamp_at(&rt, Some((2, 1))), RecordKind::Ext)));
+    assert!(rt; process.step() == Ok((stamp_at(&rt, Some((2, 1))), RecordKind::Ext)));
     assert_lists(&rt, &process);
 }
 
 /// A chain of one step, before tick 10, worked out from where a process stands.
-fn prepared(rt: &impl Abort, alloc: Global, process: &Process<Model>) -> Prepared<Model>
+fn prepared(rt: &impl Abort, process: &Process<Model>) -> Prepared<Model>
     ensures component { result.run.start.component ≡ process.now.component }
     ensures limit { result.run.start.micro_limit ≡ process.now.network.micro_limit }
     ensures model { slice_get process.now.network.models process.now.component ≡ Some result.model }
 {
     let start = process
-        .start(alloc, stamp_at(rt, Some((10, 0))), 1)
+        .start(stamp_at(rt, Some((10, 0))), 1)
         .expect(rt, "memory");
     let network = &**process.network();
     let component = process.component();
     assert!(rt; component < network.len() && start.component() == component);
-    start.prepare(alloc, network.model(component))
+    start.prepare(network.model(component))
 }
 
 /// Asserts what a chain of one step is.
 fn assert_chain(rt: &impl Abort, chain: &Prepared<Model>) {
     assert!(rt; chain.len() == 1 && chain.cause() == Cause::All && chain.component() == 1);
     assert!(rt; chain.start_times() == (Stamp::START, Stamp::END));
+    assert!(rt; chain.micro_limit() == 100 && chain.burst() == 1 && chain.messages().len() == 1);
+    assert!(rt; chain.before() == stamp_at(rt, Some((10, 0))));
     let step = chain.steps().first().expect(rt, "a step");
     assert!(rt; step.done.stamp == stamp_at(rt, Some((3, 1))));
 }
@@ -312,17 +314,17 @@ fn assert_chain(rt: &impl Abort, chain: &Prepared<Model>) {
 #[test]
 fn the_second_of_two_chains_is_stale(rt: HostRuntime) {
     let mut process = play(&rt, rt.alloc(), &AT_REST);
-    let first = prepared(&rt, rt.alloc(), &process);
-    let second = prepared(&rt, rt.alloc(), &process);
+    let first = prepared(&rt, &process);
+    let second = prepared(&rt, &process);
     assert_chain(&rt, &first);
-    let made = process.install(rt.alloc(), first);
+    let made = process.install(first);
     assert!(rt;
         made == Finished {
             installed: 1,
             stop: Stop::Ended(Cause::All)
         }
     );
-    let made = process.install(rt.alloc(), second);
+    let made = process.install(second);
     assert!(rt;
         made == Finished {
             installed: 0,

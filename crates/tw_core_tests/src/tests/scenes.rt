@@ -68,17 +68,12 @@ pub(crate) enum Act {
 }
 
 /// Makes a step, takes steps back, or posts.
-fn act_on_steps(
-    rt: &impl Abort,
-    alloc: Global,
-    process: &mut Process<Model>,
-    act: &Act,
-) -> Result<(), Refusal>
+fn act_on_steps(rt: &impl Abort, process: &mut Process<Model>, act: &Act) -> Result<(), Refusal>
     requires { process.old.floor ≡ 0 }
     ensures { process.new.floor ≡ 0 }
 {
     match *act {
-        Act::Step(tick, phase, kind) => match process.step(alloc) {
+        Act::Step(tick, phase, kind) => match process.step() {
             Err(StepRefused::OutOfMemory) => Err(Refusal::OutOfMemory),
             answer => {
                 assert!(rt; answer == Ok((stamp(rt, tick, 0, phase), kind)));
@@ -86,7 +81,7 @@ fn act_on_steps(
             }
         },
         Act::Nothing => {
-            assert!(rt; process.step(alloc) == Err(StepRefused::NothingDue));
+            assert!(rt; process.step() == Err(StepRefused::NothingDue));
             Ok(())
         }
         Act::Undo(was) => {
@@ -132,12 +127,7 @@ fn come(
 }
 
 /// Does something with a process.
-fn act_on(
-    rt: &impl Abort,
-    alloc: Global,
-    process: &mut Process<Model>,
-    act: &Act,
-) -> Result<(), Refusal>
+fn act_on(rt: &impl Abort, process: &mut Process<Model>, act: &Act) -> Result<(), Refusal>
     requires { process.old.floor ≡ 0 }
     ensures { process.new.floor ≡ 0 }
 {
@@ -147,7 +137,7 @@ fn act_on(
         ),
         Act::Wait(it) => {
             let message = said(rt, process.component(), it);
-            Ok(process.note_orphan(&message)?)
+            Ok(process.note_orphan(message)?)
         }
         Act::Clear(it, was) => {
             let message = said(rt, process.component(), it);
@@ -159,7 +149,7 @@ fn act_on(
             assert!(rt; process.withdraw(&message) == *was);
             Ok(())
         }
-        _ => act_on_steps(rt, alloc, process, act),
+        _ => act_on_steps(rt, process, act),
     }
 }
 
@@ -217,28 +207,21 @@ fn assert_times(rt: &impl Abort, process: &Process<Model>, times: (At, At, At)) 
 /// Asserts what is pending, outgoing and owed.
 fn assert_contents(
     rt: &impl Abort,
-    alloc: Global,
     process: &Process<Model>,
     scene: &Scene,
 ) -> Result<(), AllocError> {
     let here = process.component();
     assert!(rt; here < 3);
-    assert_messages(rt, process.pending(alloc)?.as_slice(), here, scene.pending);
-    assert_messages(rt, process.waiting(alloc)?.as_slice(), here, scene.waiting);
-    assert_items(
-        rt,
-        process.outgoing(alloc)?.as_slice(),
-        here + 1,
-        scene.outgoing,
-    );
-    assert_messages(rt, process.owed(alloc)?.as_slice(), here + 1, scene.owed);
+    assert_messages(rt, process.pending()?.as_slice(), here, scene.pending);
+    assert_messages(rt, process.waiting()?.as_slice(), here, scene.waiting);
+    assert_items(rt, process.outgoing()?.as_slice(), here + 1, scene.outgoing);
+    assert_messages(rt, process.owed()?.as_slice(), here + 1, scene.owed);
     Ok(())
 }
 
 /// Does something with a process, and asserts its lengths afterwards.
 fn make(
     rt: &impl Abort,
-    alloc: Global,
     process: &mut Process<Model>,
     act: &Act,
     expected: [usize; 5],
@@ -246,7 +229,7 @@ fn make(
     requires { process.old.floor ≡ 0 }
     ensures { process.new.floor ≡ 0 }
 {
-    act_on(rt, alloc, process, act)?;
+    act_on(rt, process, act)?;
     assert!(rt; lengths(process) == expected);
     Ok(())
 }
@@ -255,10 +238,10 @@ fn make(
 fn play_once(rt: &impl Abort, alloc: Global, scene: &Scene) -> Result<Process<Model>, Refusal> {
     let mut process = process_of(rt, alloc, scene)?;
     for (act, expected) in scene.acts {
-        make(rt, alloc, &mut process, act, *expected)?;
+        make(rt, &mut process, act, *expected)?;
     }
     assert_times(rt, &process, scene.times);
-    assert_contents(rt, alloc, &process, scene)?;
+    assert_contents(rt, &process, scene)?;
     Ok(process)
 }
 

@@ -73,7 +73,7 @@ fn assert_made(rt: &impl Abort, alloc: Global, before: &[Action], made: Finished
     exchange.give_back(generator);
     let network = exchange.executive().network();
     assert!(rt; R < network.len());
-    let prepareds = compute(alloc, relay, network.model(R), &Open);
+    let prepareds = compute(relay, network.model(R), &Open);
     act_all(rt, &mut exchange, before);
     assert!(rt; exchange.finish(prepareds) == Ok(made));
     assert_relay(rt, alloc, exchange.executive(), seen);

@@ -234,8 +234,6 @@ impl Atomic for Watched {
 
     ghost output_fits = { λ m. gen_output_fits m.model };
 
-    ghost alike = { λ m n same. refl };
-
     ghost reverses = { λ m turn s elapsed bag can. gen_reverses m.model turn s elapsed bag can };
 }
 

@@ -4,7 +4,6 @@ use Rattle.std.specs.Arc.{arc_value}
 use Rattle.tw_atomic.specs.Atomic.{Meaning}
 use Rattle.tw_exec.specs.Running.{AreNew}
 use Rattle.tw_exec.proofs.Starts.{get_of_push}
-use Rattle.tw_lists.specs.Ways.{way_of}
 use Rattle.tw_network.specs.Contents.{Contents}
 use Rattle.tw_process.specs.Process.{Held, IsNew}
 use Rattle.tw_theory.specs.Contents.{Cancel}
@@ -19,6 +18,6 @@ more meaning n m way ps p c same count old new qs is = λ d q at. elim (get_of_p
 
 pub loop-component-preserved : goal.loop-component-preserved
 loop-component-preserved g c = record {
-  made = more g.M.Atomic.meaning (arc_value c.args.network.now) (arc_value c.in_ok-try_clone.field-0) (way_of c.args.cancel) c.loop-component.processes.items c.in_ok-process.process c.loop-component.component c.in_ok-try_clone.ensures c.loop-component.invariant.count c.loop-component.invariant.made c.in_ok-process.ensures _ c.in_ok-push.ensures.items;
+  made = more g.M.Atomic.meaning (arc_value c.args.network.now) (arc_value c.in_ok-try_clone.field-0) c.args.cancel c.loop-component.processes.items c.in_ok-process.process c.loop-component.component c.in_ok-try_clone.ensures c.loop-component.invariant.count c.loop-component.invariant.made c.in_ok-process.ensures _ c.in_ok-push.ensures.items;
   count = search rules;
 }

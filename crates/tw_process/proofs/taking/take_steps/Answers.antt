@@ -4,7 +4,6 @@ use Rattle.std.proofs.lemmas.List.{take_more}
 use Rattle.std.proofs.lemmas.Option.{get_or_from_slice_get}
 use Rattle.tw_chain.specs.declared.step.ChainStep.{ChainStep}
 use Rattle.tw_lists.specs.Lists.{with_room}
-use Rattle.tw_lists.specs.Ways.{way_of}
 use Rattle.tw_network.specs.Contents.{network_of}
 use Rattle.tw_theory.specs.Chains.{sent_at}
 use Rattle.tw_process.specs.Installing.{AreNext, WhyNot, after_record, after_steps, sent_counts, IsNext}
@@ -14,7 +13,7 @@ use Rattle.tw_process.proofs.taking.take_steps.Goals as goal
 pub returns-in-Err-clause-stop : goal.returns-in-Err-clause-stop
 returns-in-Err-clause-stop g c = λ e at.
     let net = network_of g.M.Atomic.meaning c.args.network.now in
-    let way = way_of c.args.cancel in
+    let way = c.args.cancel in
     let k = c.args.component in
     let i = c.loop-step.step-index in
     let count : length c.take_step.new.counts.items ≡ i = ap length c.in-Err.ensures.none ∙ c.loop-step.invariant.counted in
@@ -26,7 +25,7 @@ returns-in-Err-clause-stop g c = λ e at.
 pub loop-step-preserved : goal.loop-step-preserved
 loop-step-preserved g c =
     let net = network_of g.M.Atomic.meaning c.args.network.now in
-    let way = way_of c.args.cancel in
+    let way = c.args.cancel in
     let k = c.args.component in
     let i = c.loop-step.step-index in
     let steps = c.args.steps.now in

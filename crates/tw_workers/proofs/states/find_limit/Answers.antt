@@ -1,10 +1,10 @@
 use Rattle.std.proofs.Common.{◌≡◌, None, Some, sym, ◌∙◌}
-use Rattle.std.specs.Prelude.{slice_get}
+use Rattle.std.specs.Prelude.{slice_get, Err}
 use Rattle.std.proofs.lemmas.Bool.{eqb-true, not-false}
 use Rattle.tw_exec.specs.Actions.{reason}
 use Rattle.tw_exec.specs.Running.{answer}
 use Rattle.tw_theory.specs.Contents.{next}
-use Rattle.tw_theory.specs.Executive.{OverLimit, Refused, Step}
+use Rattle.tw_theory.specs.Executive.{OverLimit, Step}
 use Rattle.tw_workers.specs.States.{limit_at}
 use Rattle.tw_workers.proofs.Drawing.{for_there, if_there}
 use Rattle.tw_workers.proofs.Standing.{limit_here}
@@ -35,6 +35,6 @@ returns-in-Some-clause-limit g c =
     let e = c.args.executive.now in
     let p = c.contents.result.now.process in
     let here : next p ≡ e.world.gvt = sym c.next.ensures ∙ eqb-true _ _ (not-false _ (sym c.if-ne.ensures)) ∙ c.gvt-gvt.ensures in
-    let refused = if_there (λ r. answer m (Step c.args.component) e ≡ Refused r) (reason c.in-Err.refused) (OverLimit c.in-Some.limit) c.in-Some.ensures c.in-Err.ensures.refused in
+    let refused = if_there (λ r. answer m (Step c.args.component) e ≡ Err r) (reason c.in-Err.refused) (OverLimit c.in-Some.limit) c.in-Some.ensures c.in-Err.ensures.refused in
     for_there (λ p. Some c.in-Some.limit ≡ limit_at m e c.args.component p) (slice_get e.world.processes c.args.component) p c.contents.ensures.process
     (sym (limit_here m e c.args.component p here ∙ its_limit m e c.facts.ensures c.args.component p c.contents.ensures.process here c.requires.before c.requires.odd c.in-Some.limit refused))

@@ -4,7 +4,6 @@ use Rattle.tw_exec.proofs.Comparing.{ge, not_ge}
 use Rattle.tw_theory.specs.Outcomes.{all_past}
 use Rattle.tw_vtime.specs.Stamps.{phase_of, stamp}
 use Rattle.tw_workers.proofs.Standing.{complete, faulting, going, may, not_before, not_empty, not_odd, not_quiet}
-use Rattle.tw_workers.specs.States.{meant}
 use Rattle.tw_workers.proofs.states.find_state.Goals as goal
 
 pub returns-then-all_past-clause-state : goal.returns-then-all_past-clause-state
@@ -56,4 +55,4 @@ returns-clause-state g c =
     let odd : phase_of e.world.gvt ≡ 1 = omega (arith, c.if-phase-eq0.false, c.phase.ensures.phase, c.phase.ensures.in_range, c.gvt-gvt.ensures) in
     let quiet = sym c.all_quiet.ensures ∙ c.if-not-all_quiet.false in
     let empty = sym c.all_empty.ensures ∙ c.if-not-all_empty.false in
-    subst (λ s. IfOk c.first_fault.result (λ x. meant x ≡ s)) (sym (faulting m e past (may m e quiet empty before odd))) c.first_fault.ensures.state
+    subst (λ s. IfOk c.first_fault.result (λ x. x ≡ s)) (sym (faulting m e past (may m e quiet empty before odd))) c.first_fault.ensures.state

@@ -1,6 +1,6 @@
 use Rattle.std.proofs.Common.{◌≡◌, ◌<◌, Err, FitsSigned, w64, refl, ap, sym, subst, ◌∙◌, arith, rules}
 use Rattle.std.specs.Arc.{arc_value}
-use Rattle.std.specs.Prelude.{slice_set}
+use Rattle.std.specs.Prelude.{slice_set, Ok, Err}
 use Rattle.std.proofs.lemmas.Option.{slice_get_read}
 use Rattle.tw_exec.specs.Refusals.{of_pool}
 use Rattle.tw_exec.specs.Running.{AreExact, IsHeld, IsWanting, WantsRoom, answer, after, shown}
@@ -8,12 +8,11 @@ use Rattle.tw_exec.proofs.Acts.{deliver_empty, deliver_none}
 use Rattle.tw_exec.proofs.Deliveries.{arrives, deliver_acted, deliver_wants, restored, wanted}
 use Rattle.tw_exec.proofs.Kept.{IsActed, as_many_boxes, held_unchanged, same_world}
 use Rattle.tw_pool.specs.declared.refused.PoolRefused.TheVariants.{Full as full}
-use Rattle.tw_rollback.specs.Received.{meant}
-use Rattle.tw_theory.specs.Executive.{Deliver, Delivered}
+use Rattle.tw_theory.specs.Executive.{Deliver, Received}
 use Rattle.tw_exec.proofs.Exactly.{deliver_exact, exact_known, exact_taken, none_of_pool, ok_err, same_Err}
 use Rattle.tw_exec.specs.declared.refused.Refused.TheVariants as refused
 use Rattle.tw_theory.specs.Executive as theory
-use Rattle.tw_exec.specs.declared.action.Done.TheVariants as done
+use Rattle.tw_actions.specs.declared.action.Done.TheVariants as done
 use Rattle.tw_exec.proofs.executive.Executive.deliver.Given.{Over}
 use Rattle.tw_exec.proofs.executive.Executive.deliver.Goals as goal
 
@@ -45,13 +44,13 @@ receive-requires-clause-after g c =
     let value : FitsSigned w64 c.in-Some.item.message.value = search rules in
     (arrives c.self.invariant.0 c.args.receiver c.args.place old c.in-Some.item at (sym c.take.ensures.item ∙ c.in-Some.is) port value).1
 
-acted : (g : Over) (c : goal.In-Ok g) → IsActed g.M.Atomic.meaning (arc_value c.self.inside.network) c.self.inside.until c.self.inside.end c.self.inside.gvt c.self.inside.gvt c.self.inside.processes.items (slice_set c.self.inside.processes.items c.args.receiver c.receive.new.process) c.self.inside.mail.boxes c.take.new.self.boxes c.self.inside.columns.items c.self.inside.columns.items (Deliver c.args.receiver c.args.place) (Delivered (meant c.in-Ok.came))
+acted : (g : Over) (c : goal.In-Ok g) → IsActed g.M.Atomic.meaning (arc_value c.self.inside.network) c.self.inside.until c.self.inside.end c.self.inside.gvt c.self.inside.gvt c.self.inside.processes.items (slice_set c.self.inside.processes.items c.args.receiver c.receive.new.process) c.self.inside.mail.boxes c.take.new.self.boxes c.self.inside.columns.items c.self.inside.columns.items (Deliver c.args.receiver c.args.place) (Ok (Received c.in-Ok.came))
 acted g c =
     let ps = c.self.inside.processes in
     let old = c.index_mut.result.now in
     let at = slice_get_read ps.items _ c.args.receiver old ps.ok.0 (omega (arith, c.if-receiver-len.false, c.len.ensures, c.self.inside.processes.ok.0)) c.index_mut.ensures.value in
     let done = deliver_acted c.self.invariant.0 c.args.receiver c.args.place old c.receive.new.process c.in-Some.item c.in-Ok.came at (sym c.take.ensures.item ∙ c.in-Some.is) c.in-Ok.ensures.received in
-    subst (λ m. IsActed g.M.Atomic.meaning (arc_value c.self.inside.network) c.self.inside.until c.self.inside.end c.self.inside.gvt c.self.inside.gvt c.self.inside.processes.items (slice_set c.self.inside.processes.items c.args.receiver c.receive.new.process) c.self.inside.mail.boxes m c.self.inside.columns.items c.self.inside.columns.items (Deliver c.args.receiver c.args.place) (Delivered (meant c.in-Ok.came))) (sym (ap (λ m. m.boxes) c.in-Some.ensures.taken)) done
+    subst (λ m. IsActed g.M.Atomic.meaning (arc_value c.self.inside.network) c.self.inside.until c.self.inside.end c.self.inside.gvt c.self.inside.gvt c.self.inside.processes.items (slice_set c.self.inside.processes.items c.args.receiver c.receive.new.process) c.self.inside.mail.boxes m c.self.inside.columns.items c.self.inside.columns.items (Deliver c.args.receiver c.args.place) (Ok (Received c.in-Ok.came))) (sym (ap (λ m. m.boxes) c.in-Some.ensures.taken)) done
 
 pub invariant_of-self-in-Ok : goal.invariant_of-self-in-Ok
 invariant_of-self-in-Ok g c = ((acted g c).held, c.self.invariant.1)
@@ -101,7 +100,7 @@ pub returns-in_default-clause-exact : goal.returns-in_default-clause-exact
 returns-in_default-clause-exact g c = exact_known g.M.Atomic.meaning (Deliver c.args.receiver c.args.place) c.args.self.now refused.NoSuch theory.NoSuch refl (returns-in_default-clause-refused g c)
 
 pub returns-in-Ok-clause-exact : goal.returns-in-Ok-clause-exact
-returns-in-Ok-clause-exact g c = exact_taken g.M.Atomic.meaning (Deliver c.args.receiver c.args.place) c.args.self.now (done.Delivered c.in-Ok.came) (returns-in-Ok-clause-answer g c)
+returns-in-Ok-clause-exact g c = exact_taken g.M.Atomic.meaning (Deliver c.args.receiver c.args.place) c.args.self.now (done.Received c.in-Ok.came) (returns-in-Ok-clause-answer g c)
 
 pub returns-in-Err-clause-exact : goal.returns-in-Err-clause-exact
 returns-in-Err-clause-exact g c =

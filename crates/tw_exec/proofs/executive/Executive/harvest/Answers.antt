@@ -1,6 +1,6 @@
 use Rattle.std.proofs.Common.{◌≡◌, ◌<◌, ◌≤◌, ◌+◌, ◌++◌, [], Some, Err, length, take, refl, ap, sym, subst, ◌∙◌, arith, rules}
 use Rattle.std.specs.Arc.{arc_value}
-use Rattle.std.specs.Prelude.{slice_get, slice_set}
+use Rattle.std.specs.Prelude.{slice_get, slice_set, Ok, Err}
 use Rattle.std.proofs.lemmas.Option.{get_or_from_slice_get, same_Some, slice_get_read}
 use Rattle.std.proofs.lemmas.Result.{err_from_is_err_and}
 use Rattle.tw_exec.specs.Running.{AreExact, answer, after, shown}
@@ -13,7 +13,7 @@ use Rattle.tw_theory.specs.Executive.{Harvest, Harvested}
 use Rattle.tw_exec.proofs.Exactly.{exact_known, exact_taken, harvest_exact}
 use Rattle.tw_exec.specs.declared.refused.Refused.TheVariants as refused
 use Rattle.tw_theory.specs.Executive as theory
-use Rattle.tw_exec.specs.declared.action.Done.TheVariants as done
+use Rattle.tw_actions.specs.declared.action.Done.TheVariants as done
 use Rattle.tw_exec.proofs.executive.Executive.harvest.Given.{Over}
 use Rattle.tw_exec.proofs.executive.Executive.harvest.Goals as goal
 
@@ -35,14 +35,14 @@ column_at g c =
     let columns = c.self.inside.columns in
     slice_get_read columns.items _ c.args.component c.index_mut-column.result.now columns.ok.0 (omega (arith, c.if-component-len.false, c.len.ensures, c.self.inside.processes.ok.0, columns.ok.0, as_many_columns c.self.invariant.0)) c.index_mut-column.ensures.value
 
-acted : (g : Over) (c : goal.After-self-3-1 g) → IsActed g.M.Atomic.meaning (arc_value c.self.inside.network) c.self.inside.until c.self.inside.end c.self.inside.gvt c.self.inside.gvt c.self.inside.processes.items (slice_set c.self.inside.processes.items c.args.component c.harvest.new.process) c.self.inside.mail.boxes c.self.inside.mail.boxes c.self.inside.columns.items (slice_set c.self.inside.columns.items c.args.component c.harvest.new.column) (Harvest c.args.component) (Harvested c.in_ok-committed.committed)
+acted : (g : Over) (c : goal.After-self-3-1 g) → IsActed g.M.Atomic.meaning (arc_value c.self.inside.network) c.self.inside.until c.self.inside.end c.self.inside.gvt c.self.inside.gvt c.self.inside.processes.items (slice_set c.self.inside.processes.items c.args.component c.harvest.new.process) c.self.inside.mail.boxes c.self.inside.mail.boxes c.self.inside.columns.items (slice_set c.self.inside.columns.items c.args.component c.harvest.new.column) (Harvest c.args.component) (Ok (Harvested c.in_ok-committed.committed))
 acted g c =
     let ps = c.self.inside.processes in
     let old = c.index_mut.result.now in
     let at = slice_get_read ps.items _ c.args.component old ps.ok.0 (omega (arith, c.if-component-len.false, c.len.ensures, c.self.inside.processes.ok.0)) c.index_mut.ensures.value in
     let column = c.in_ok-committed.ensures.column ∙ ap (λ l. l ++ records_of (take (steps_before c.self.inside.gvt old.process.history) old.process.history)) (sym (get_or_from_slice_get c.self.inside.columns.items c.args.component c.index_mut-column.result.now [] (column_at g c))) in
     let done = harvest_acted c.self.invariant.0 c.args.component old c.harvest.new.process c.harvest.new.column at c.in_ok-committed.ensures.harvested column in
-    subst (λ k. IsActed g.M.Atomic.meaning (arc_value c.self.inside.network) c.self.inside.until c.self.inside.end c.self.inside.gvt c.self.inside.gvt c.self.inside.processes.items (slice_set c.self.inside.processes.items c.args.component c.harvest.new.process) c.self.inside.mail.boxes c.self.inside.mail.boxes c.self.inside.columns.items (slice_set c.self.inside.columns.items c.args.component c.harvest.new.column) (Harvest c.args.component) (Harvested k)) (sym c.in_ok-committed.ensures.count) done
+    subst (λ k. IsActed g.M.Atomic.meaning (arc_value c.self.inside.network) c.self.inside.until c.self.inside.end c.self.inside.gvt c.self.inside.gvt c.self.inside.processes.items (slice_set c.self.inside.processes.items c.args.component c.harvest.new.process) c.self.inside.mail.boxes c.self.inside.mail.boxes c.self.inside.columns.items (slice_set c.self.inside.columns.items c.args.component c.harvest.new.column) (Harvest c.args.component) (Ok (Harvested k))) (sym c.in_ok-committed.ensures.count) done
 
 pub invariant_of-self-2 : goal.invariant_of-self-2
 invariant_of-self-2 g c =

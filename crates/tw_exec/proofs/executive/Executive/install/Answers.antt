@@ -8,7 +8,6 @@ use Rattle.tw_exec.proofs.Kept.{as_many_columns, columns_of_models}
 use Rattle.tw_exec.proofs.Worlds.{process_at, there}
 use Rattle.tw_laws.specs.Chains.{steps_of_one}
 use Rattle.tw_network.specs.Contents.{network_of}
-use Rattle.tw_process.specs.Installing.{finished_of}
 use Rattle.tw_theory.specs.Chains.{IsHome}
 use Rattle.tw_theory.specs.Executive.{replay}
 use Rattle.tw_theory.specs.Installing.{IsInstalled}
@@ -34,8 +33,8 @@ install-requires-clause-component g c = c.requires.component ∙ same_component 
 pub install-requires-clause-limit : goal.install-requires-clause-limit
 install-requires-clause-limit g c = c.requires.limit ∙ ap (λ n. n.micro_limit) (same_network g (goal.at.install-requires-clause-limit g c).After-index_mut-process)
 
-pub install-requires-clause-meaning : goal.install-requires-clause-meaning
-install-requires-clause-meaning g c = λ m at. c.requires.meaning m ((λ i. slice_get (same_network g (goal.at.install-requires-clause-meaning g c).After-index_mut-process i).models (same_component g (goal.at.install-requires-clause-meaning g c).After-index_mut-process i)) ∙ at)
+pub install-requires-clause-alike : goal.install-requires-clause-alike
+install-requires-clause-alike g c = λ m at. c.requires.alike m ((λ i. slice_get (same_network g (goal.at.install-requires-clause-alike g c).After-index_mut-process i).models (same_component g (goal.at.install-requires-clause-alike g c).After-index_mut-process i)) ∙ at)
 
 -- the chain is at home
 home : (g : Over) (c : After-index_mut-process g) → IsHome (network_of g.M.Atomic.meaning (arc_value c.self.inside.network)) (g.M.Atomic.meaning c.args.chain.model) c.args.chain.run.start
@@ -45,7 +44,7 @@ home g c =
     let view = ap (λ e. e.network) c.self.view_is in
     let m = there n.models c.args.component (omega (arith, c.if-component-len.false, c.len.ensures, c.self.inside.processes.ok.0, as_many_columns h, columns_of_models h)) in
     is_home g.M.Atomic.meaning n m.0 (g.M.Atomic.meaning c.args.chain.model) c.args.chain.run.start (ap (slice_get n.models) c.requires.component ∙ m.1)
-    (c.requires.meaning m.0 (ap (λ x. slice_get x.models c.args.component) (sym view) ∙ m.1))
+    (c.requires.alike m.0 (ap (λ x. slice_get x.models c.args.component) (sym view) ∙ m.1)).means
     (c.requires.limit ∙ ap (λ x. x.micro_limit) (sym view))
 
 pub invariant_of-self : goal.invariant_of-self
@@ -56,9 +55,9 @@ invariant_of-self g c =
     let old = c.index_mut-process.result.now in
     let o = c.self.invariant.0.own c.args.component old (there_is g (goal.at.invariant_of-self g c).After-index_mut-process) in
     let here = ap (slice_get c.self.inside.processes.items) c.requires.component ∙ there_is g (goal.at.invariant_of-self g c).After-index_mut-process in
-    let made = subst (λ x. IsInstalled (network_of m x) run c.args.chain.cause old.process c.install.new.self.process (finished_of c.install.result)) o.network_is c.install.ensures.installed in
+    let made = subst (λ x. IsInstalled (network_of m x) run c.args.chain.cause old.process c.install.new.self.process c.install.result) o.network_is c.install.ensures.installed in
     let bound = subst (λ u. run.start.before ≤ stamp u 0 0) (ap (λ e. e.until) (sym c.self.view_is)) c.requires.bound in
-    let held = installed_held c.self.invariant.0 (m c.args.chain.model) run c.args.chain.cause old c.install.new.self (finished_of c.install.result) (home g (goal.at.invariant_of-self g c).After-index_mut-process) c.facts.ensures.run bound here made c.install.ensures.others in
+    let held = installed_held c.self.invariant.0 (m c.args.chain.model) run c.args.chain.cause old c.install.new.self c.install.result (home g (goal.at.invariant_of-self g c).After-index_mut-process) c.facts.ensures.run bound here made c.install.ensures.others in
     (subst (λ k. IsHeld m n c.self.inside.until c.self.inside.end c.self.inside.gvt (slice_set c.self.inside.processes.items k c.install.new.self) c.self.inside.mail.boxes c.self.inside.columns.items) c.requires.component held, c.self.invariant.1)
 
 pub returns-clause-installed : goal.returns-clause-installed
@@ -69,15 +68,15 @@ returns-clause-installed g c =
     let old = c.index_mut-process.result.now in
     let o = c.self.invariant.0.own c.args.component old (there_is g (goal.at.returns-clause-installed g c).After-index_mut-process) in
     let here = ap (slice_get c.self.inside.processes.items) c.requires.component ∙ there_is g (goal.at.returns-clause-installed g c).After-index_mut-process in
-    let made = subst (λ x. IsInstalled (network_of m x) run c.args.chain.cause old.process c.install.new.self.process (finished_of c.install.result)) o.network_is c.install.ensures.installed in
+    let made = subst (λ x. IsInstalled (network_of m x) run c.args.chain.cause old.process c.install.new.self.process c.install.result) o.network_is c.install.ensures.installed in
     let bound = subst (λ u. run.start.before ≤ stamp u 0 0) (ap (λ e. e.until) (sym c.self.view_is)) c.requires.bound in
-    let steps = steps_made c.self.invariant.0 (m c.args.chain.model) run c.args.chain.cause old c.install.new.self (finished_of c.install.result) (home g (goal.at.returns-clause-installed g c).After-index_mut-process) c.facts.ensures.run bound here made c.install.ensures.others in
+    let steps = steps_made c.self.invariant.0 (m c.args.chain.model) run c.args.chain.cause old c.install.new.self c.install.result (home g (goal.at.returns-clause-installed g c).After-index_mut-process) c.facts.ensures.run bound here made c.install.ensures.others in
     let view = c.self.view_is in
     record {
       before = old.process;
       after = c.install.new.self.process;
       at = ap (λ e. slice_get e.world.processes run.start.component) (sym view) ∙ process_at c.self.inside.processes.items c.self.inside.mail.boxes c.self.inside.columns.items c.self.inside.gvt run.start.component old here;
-      made = subst (λ x. IsInstalled (network_of m x) run c.args.chain.cause old.process c.install.new.self.process (finished_of c.install.result)) (ap (λ e. e.network) view) made;
+      made = subst (λ x. IsInstalled (network_of m x) run c.args.chain.cause old.process c.install.new.self.process c.install.result) (ap (λ e. e.network) view) made;
       steps =
           ap (λ k. record { network = n; until = c.self.inside.until; world = shown (slice_set c.self.inside.processes.items k c.install.new.self) c.self.inside.mail.boxes c.self.inside.columns.items c.self.inside.gvt }) (sym c.requires.component)
           ∙ ap (λ w. record { network = n; until = c.self.inside.until; world = w }) steps

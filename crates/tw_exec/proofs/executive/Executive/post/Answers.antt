@@ -1,7 +1,7 @@
 use Rattle.std.proofs.Common.{◌<◌, Err, refl, ap, sym, subst, ◌∙◌, arith, length}
 use Rattle.std.specs.Arc.{arc_value}
 use Rattle.std.specs.List.{AllByRecursion as Each}
-use Rattle.std.specs.Prelude.{slice_set}
+use Rattle.std.specs.Prelude.{slice_set, Ok, Err}
 use Rattle.std.proofs.lemmas.Option.{slice_get_read}
 use Rattle.std.proofs.lemmas.Result.{err_from_is_err_and}
 use Rattle.tw_exec.specs.Running.{AreExact, answer, after}
@@ -11,7 +11,7 @@ use Rattle.tw_theory.specs.Executive.{Post, Posted, posted}
 use Rattle.tw_exec.proofs.Exactly.{exact_known, exact_taken, post_exact}
 use Rattle.tw_exec.specs.declared.refused.Refused.TheVariants as refused
 use Rattle.tw_theory.specs.Executive as theory
-use Rattle.tw_exec.specs.declared.action.Done.TheVariants as done
+use Rattle.tw_actions.specs.declared.action.Done.TheVariants as done
 use Rattle.tw_exec.proofs.executive.Executive.post.Given.{Over}
 use Rattle.tw_exec.proofs.executive.Executive.post.Goals as goal
 
@@ -27,14 +27,14 @@ post-requires g c =
     let at = slice_get_read ps.items _ c.args.component old ps.ok.0 (omega (arith, c.if-component-len.false, c.len.ensures, c.self.inside.processes.ok.0)) c.index_mut-process.ensures.value in
     subst (λ l. Each (λ i. i.message.to < length c.self.inside.mail.boxes) l) (sym (c.as_slice.ensures.value ∙ c.in_ok-items.ensures)) (all_near c.self.invariant.0 c.args.component old at)
 
-acted : (g : Over) (c : goal.After-drop-items-2 g) → IsActed g.M.Atomic.meaning (arc_value c.self.inside.network) c.self.inside.until c.self.inside.end c.self.inside.gvt c.self.inside.gvt c.self.inside.processes.items (slice_set c.self.inside.processes.items c.args.component c.clear_outgoing.new.self) c.self.inside.mail.boxes c.post.new.self.boxes c.self.inside.columns.items c.self.inside.columns.items (Post c.args.component) (Posted (length c.in_ok-items.items.items))
+acted : (g : Over) (c : goal.After-drop-items-2 g) → IsActed g.M.Atomic.meaning (arc_value c.self.inside.network) c.self.inside.until c.self.inside.end c.self.inside.gvt c.self.inside.gvt c.self.inside.processes.items (slice_set c.self.inside.processes.items c.args.component c.clear_outgoing.new.self) c.self.inside.mail.boxes c.post.new.self.boxes c.self.inside.columns.items c.self.inside.columns.items (Post c.args.component) (Ok (Posted (length c.in_ok-items.items.items)))
 acted g c =
     let ps = c.self.inside.processes in
     let old = c.index_mut-process.result.now in
     let at = slice_get_read ps.items _ c.args.component old ps.ok.0 (omega (arith, c.if-component-len.false, c.len.ensures, c.self.inside.processes.ok.0)) c.index_mut-process.ensures.value in
     let mail_is = ap (λ m. m.boxes) c.in_ok-post.ensures.ok ∙ ap (posted c.self.inside.mail.boxes) (c.as_slice.ensures.value ∙ c.in_ok-items.ensures) in
     let done = post_acted c.self.invariant.0 c.args.component old c.settle.new.self c.clear_outgoing.new.self c.post.new.self.boxes at c.settle.ensures c.clear_outgoing.ensures mail_is in
-    subst (λ l. IsActed g.M.Atomic.meaning (arc_value c.self.inside.network) c.self.inside.until c.self.inside.end c.self.inside.gvt c.self.inside.gvt c.self.inside.processes.items (slice_set c.self.inside.processes.items c.args.component c.clear_outgoing.new.self) c.self.inside.mail.boxes c.post.new.self.boxes c.self.inside.columns.items c.self.inside.columns.items (Post c.args.component) (Posted (length l))) (sym c.in_ok-items.ensures) done
+    subst (λ l. IsActed g.M.Atomic.meaning (arc_value c.self.inside.network) c.self.inside.until c.self.inside.end c.self.inside.gvt c.self.inside.gvt c.self.inside.processes.items (slice_set c.self.inside.processes.items c.args.component c.clear_outgoing.new.self) c.self.inside.mail.boxes c.post.new.self.boxes c.self.inside.columns.items c.self.inside.columns.items (Post c.args.component) (Ok (Posted (length l)))) (sym c.in_ok-items.ensures) done
 
 pub invariant_of-self-2 : goal.invariant_of-self-2
 invariant_of-self-2 g c = ((acted g c).held, c.self.invariant.1)
@@ -44,7 +44,7 @@ returns-clause-done g c = ap (λ x. record { network = arc_value c.self.inside.n
 
 pub returns-clause-answer : goal.returns-clause-answer
 returns-clause-answer g c =
-    ap (λ e. answer g.M.Atomic.meaning (Post c.args.component) e) (sym c.self.view_is) ∙ ap (λ x. x.0) (acted g c).acts ∙ ap Posted (sym c.in_ok-items.items.ok.0 ∙ sym c.len-2.ensures)
+    ap (λ e. answer g.M.Atomic.meaning (Post c.args.component) e) (sym c.self.view_is) ∙ ap (λ x. x.0) (acted g c).acts ∙ ap (λ n. Ok (Posted n)) ((sym c.in_ok-items.items.ok.0 ∙ sym c.len-2.ensures))
 
 pub returns-then-component-len-clause-exact : goal.returns-then-component-len-clause-exact
 returns-then-component-len-clause-exact g c = exact_known g.M.Atomic.meaning (Post c.args.component) c.args.self.now refused.NoSuch theory.NoSuch refl (returns-then-component-len-clause-refused g c)

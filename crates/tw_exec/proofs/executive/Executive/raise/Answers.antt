@@ -1,4 +1,4 @@
-use Rattle.std.proofs.Common.{ap, map, min, sym, ◌∙◌}
+use Rattle.std.proofs.Common.{ap, map, min, sym, ◌∙◌, Ok}
 use Rattle.std.specs.Arc.{arc_value}
 use Rattle.tw_exec.specs.Running.{answer, after}
 use Rattle.tw_exec.proofs.Kept.{IsActed, raise_acted}
@@ -7,7 +7,7 @@ use Rattle.tw_exec.proofs.executive.Executive.raise.Given.{Over}
 use Rattle.tw_exec.proofs.executive.Executive.raise.Goals.{After-least_of-gvt}
 use Rattle.tw_exec.proofs.executive.Executive.raise.Goals as goal
 
-acted : (g : Over) (c : After-least_of-gvt g) → IsActed g.M.Atomic.meaning (arc_value c.self.inside.network) c.self.inside.until c.self.inside.end c.self.inside.gvt c.least_of-gvt.result c.self.inside.processes.items c.self.inside.processes.items c.self.inside.mail.boxes c.self.inside.mail.boxes c.self.inside.columns.items c.self.inside.columns.items (Raise) (Raised c.least_of-gvt.result)
+acted : (g : Over) (c : After-least_of-gvt g) → IsActed g.M.Atomic.meaning (arc_value c.self.inside.network) c.self.inside.until c.self.inside.end c.self.inside.gvt c.least_of-gvt.result c.self.inside.processes.items c.self.inside.processes.items c.self.inside.mail.boxes c.self.inside.mail.boxes c.self.inside.columns.items c.self.inside.columns.items (Raise) (Ok (Raised c.least_of-gvt.result))
 acted g c = raise_acted c.self.invariant.0 c.least_of-gvt.result (c.least_of-gvt.ensures ∙ ap (λ l. min (least_next (map (λ p. p.process) l)) (least_mail c.self.inside.mail.boxes)) c.as_slice.ensures.value)
 
 pub invariant_of-self : goal.invariant_of-self

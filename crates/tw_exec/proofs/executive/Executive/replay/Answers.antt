@@ -1,6 +1,5 @@
-use Rattle.std.proofs.Common.{◌≡◌, ◌+◌, ◌++◌, ◌∷◌, [], map, take, ap, sym, subst₂, ◌∙◌, arith}
-use Rattle.std.proofs.lemmas.List.{map_push, take_more}
-use Rattle.tw_exec.specs.Actions.{meant}
+use Rattle.std.proofs.Common.{◌≡◌, ◌+◌, ◌++◌, ◌∷◌, [], take, ap, sym, subst₂, ◌∙◌, arith}
+use Rattle.std.proofs.lemmas.List.{take_more}
 use Rattle.tw_exec.proofs.Replays.{counted, counted_err, counted_le, counted_ok, replayed, same_but_world, still_but_world}
 use Rattle.tw_network.specs.Contents.{network_of}
 use Rattle.tw_theory.specs.Memory.{IsReplayed}
@@ -19,10 +18,10 @@ loop-action-preserved g c =
     let action = c.action-item.result in
     let others = c.loop-action.invariant.others in
     let done = c.act.ensures in
-    let so_far = subst₂ (λ n u. IsReplayed (network_of m n) u w (map meant (take i all)) k now.world) (sym (ap (λ e. e.network) others)) (sym (ap (λ e. e.until) others)) c.loop-action.invariant.replayed in
-    let more = replayed m w (map meant (take i all)) k now new action so_far c.act.result done.done done.answer done.refused done.memory done.stays in
-    let back = subst₂ (λ n u. IsReplayed (network_of m n) u w (map meant (take i all) ++ meant action ∷ []) (k + counted c.act.result) new.world) (ap (λ e. e.network) others) (ap (λ e. e.until) others) more in
-    let listed = sym (ap (map meant) (take_more all i action c.loop-action-test.true ∙ ap (λ a. take i all ++ a ∷ []) (sym c.action-item.is)) ∙ map_push meant (take i all) action) in
+    let so_far = subst₂ (λ n u. IsReplayed (network_of m n) u w (take i all) k now.world) (sym (ap (λ e. e.network) others)) (sym (ap (λ e. e.until) others)) c.loop-action.invariant.replayed in
+    let more = replayed m w (take i all) k now new action so_far c.act.result done.done done.answer done.refused done.memory done.stays in
+    let back = subst₂ (λ n u. IsReplayed (network_of m n) u w (take i all ++ action ∷ []) (k + counted c.act.result) new.world) (ap (λ e. e.network) others) (ap (λ e. e.until) others) more in
+    let listed = sym (take_more all i action c.loop-action-test.true ∙ ap (λ a. take i all ++ a ∷ []) (sym c.action-item.is)) in
     let count : k + counted c.act.result ≡ c.if-is_ok.taken = elim c.if-is_ok.branch [
       | then-is_ok b ↦ let is = counted_ok c.act.result (sym c.is_ok.ensures.value ∙ b.if-is_ok.true) in omega (arith, is, b.taken-is)
       | else-is_ok b ↦ let is = counted_err c.act.result (sym c.is_ok.ensures.value ∙ b.if-is_ok.false) in omega (arith, is, b.taken-is)

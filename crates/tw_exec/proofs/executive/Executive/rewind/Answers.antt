@@ -1,4 +1,4 @@
-use Rattle.std.proofs.Common.{◌≡◌, ◌<◌, length, map, ap, sym, subst, ◌∙◌, arith}
+use Rattle.std.proofs.Common.{◌≡◌, ◌<◌, length, map, ap, sym, subst, ◌∙◌, arith, Ok}
 use Rattle.std.specs.List.{AllByRecursion as Each}
 use Rattle.std.proofs.lemmas.List.{length-map}
 use Rattle.tw_exec.specs.Running.{shown}
@@ -44,4 +44,4 @@ returns-clause-done g c =
     ap (λ e. rewind e.world c.args.mark.now) (sym c.self.view_is)
     ∙ ap (rewind (shown c.self.inside.processes.items c.self.inside.mail.boxes c.self.inside.columns.items c.self.inside.gvt)) (sym mark_is)
     ∙ rewound_world c.self.invariant.0 c.as_slice-stamps.result.now c.back_to_marks.new.processes.items same none c.back_to_marks.ensures.cut
-    ∙ (λ i. (Undone (rewound_steps (mark_is i) (c.self.view_is i).world.processes), new))
+    ∙ (λ i. (Ok (Undone (rewound_steps (mark_is i) (c.self.view_is i).world.processes)), new))

@@ -1,6 +1,6 @@
 use Rattle.std.proofs.Common.{◌≡◌, ◌<◌, ◌≤◌, Err, refl, ap, sym, subst, ◌∙◌, arith}
 use Rattle.std.specs.Arc.{arc_value}
-use Rattle.std.specs.Prelude.{IfSome, slice_set}
+use Rattle.std.specs.Prelude.{IfSome, slice_set, Ok, Err}
 use Rattle.std.proofs.lemmas.Option.{slice_get_read}
 use Rattle.std.proofs.lemmas.Result.{err_from_is_err_and}
 use Rattle.tw_exec.specs.Actions.{reason}
@@ -10,11 +10,11 @@ use Rattle.tw_exec.proofs.Acts.{step_none}
 use Rattle.tw_exec.proofs.Comparing.{ge, not_ge}
 use Rattle.tw_exec.proofs.Kept.{IsActed, held_unchanged, late_step, same_world, step_acted, step_refused, step_wants}
 use Rattle.tw_theory.specs.Contents.{next}
-use Rattle.tw_theory.specs.Executive.{Refused, Step, Stepped}
+use Rattle.tw_theory.specs.Executive.{Step, Stepped}
 use Rattle.tw_exec.proofs.Exactly.{exact_known, exact_taken, step_exact}
 use Rattle.tw_exec.specs.declared.refused.Refused.TheVariants as refused
 use Rattle.tw_theory.specs.Executive as theory
-use Rattle.tw_exec.specs.declared.action.Done.TheVariants as done
+use Rattle.tw_actions.specs.declared.action.Done.TheVariants as done
 use Rattle.tw_exec.proofs.executive.Executive.step.Given.{Over}
 use Rattle.tw_exec.proofs.executive.Executive.step.Goals as goal
 
@@ -46,7 +46,7 @@ returns-in_err-stamp-clause-refused g c =
     let early : next old.process < c.self.inside.end = omega (arith, not_ge c.next.result c.self.inside.end c.if-ge.ensures, c.next.ensures) in
     let p = err_from_is_err_and c.from_residual.result c.from_residual.ensures.1 in
     rw (p.1, p.2)
-    (subst (λ e. IfSome (reason (of_step c.in_err-stamp.field-0.0)) (λ why. answer g.M.Atomic.meaning (Step c.args.component) e ≡ Refused why)) c.self.view_is
+    (subst (λ e. IfSome (reason (of_step c.in_err-stamp.field-0.0)) (λ why. answer g.M.Atomic.meaning (Step c.args.component) e ≡ Err why)) c.self.view_is
     (step_refused c.self.invariant.0 c.args.component old c.in_err-stamp.field-0.0 at early c.in_err-stamp.ensures.stop))
 
 pub returns-in_err-stamp-clause-stays : goal.returns-in_err-stamp-clause-stays
@@ -57,7 +57,7 @@ returns-in_err-stamp-clause-stays g c =
     let p = err_from_is_err_and c.from_residual.result c.from_residual.ensures.1 in
     rw (p.1) (ap (λ w. record { network = arc_value c.self.inside.network; until = c.self.inside.until; world = w }) (same_world c.self.invariant.0 c.args.component old c.step.new.self at c.in_err-stamp.ensures.stays) ∙ c.self.view_is)
 
-acted : (g : Over) (c : goal.In_ok-stamp g) → IsActed g.M.Atomic.meaning (arc_value c.self.inside.network) c.self.inside.until c.self.inside.end c.self.inside.gvt c.self.inside.gvt c.self.inside.processes.items (slice_set c.self.inside.processes.items c.args.component c.step.new.self) c.self.inside.mail.boxes c.self.inside.mail.boxes c.self.inside.columns.items c.self.inside.columns.items (Step c.args.component) (Stepped c.in_ok-stamp.stamp c.in_ok-stamp.kind)
+acted : (g : Over) (c : goal.In_ok-stamp g) → IsActed g.M.Atomic.meaning (arc_value c.self.inside.network) c.self.inside.until c.self.inside.end c.self.inside.gvt c.self.inside.gvt c.self.inside.processes.items (slice_set c.self.inside.processes.items c.args.component c.step.new.self) c.self.inside.mail.boxes c.self.inside.mail.boxes c.self.inside.columns.items c.self.inside.columns.items (Step c.args.component) (Ok (Stepped c.in_ok-stamp.stamp c.in_ok-stamp.kind))
 acted g c =
     let ps = c.self.inside.processes in
     let old = c.index_mut-process.result.now in

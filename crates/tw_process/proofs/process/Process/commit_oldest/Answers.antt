@@ -1,7 +1,6 @@
 use Rattle.std.proofs.Common.{◌≡◌, ◌+◌, ◌∷◌, ap, sym, subst, ◌∙◌, arith, min}
 use Rattle.std.specs.Arc.{arc_value}
 use Rattle.tw_theory.specs.Transitions.{Moment}
-use Rattle.tw_lists.specs.Ways.{way_of}
 use Rattle.tw_process.specs.History.{seen, shown, IsKeptBy}
 use Rattle.tw_lists.specs.Lists.{with_room, forgotten}
 use Rattle.tw_process.specs.Process.{oldest_of, with_spare, without_oldest}
@@ -69,6 +68,6 @@ returns-clause-contents g c =
     let inside = c.self.inside in
     let now : Moment g.row.M-State.Denot = record { state = inside.state; last = inside.last; due = inside.due } in
     let n = c.forget.new.self in
-    (λ i. seen (arc_value inside.network) inside.component now inside.line (way_of inside.cancel) (c.pack.ensures.number i + 1) c.pop_front.new.self.items (c.forget.ensures i))
-    ∙ ap (λ h. with_spare (min n.room n.spare) (without_oldest (seen (arc_value inside.network) inside.component now inside.line (way_of inside.cancel) inside.floor h inside.lists))) (sym (split g at))
+    (λ i. seen (arc_value inside.network) inside.component now inside.line inside.cancel (c.pack.ensures.number i + 1) c.pop_front.new.self.items (c.forget.ensures i))
+    ∙ ap (λ h. with_spare (min n.room n.spare) (without_oldest (seen (arc_value inside.network) inside.component now inside.line inside.cancel inside.floor h inside.lists))) (sym (split g at))
     ∙ ap (λ p. with_spare (min n.room n.spare) (without_oldest p)) c.self.view_is

@@ -3,19 +3,19 @@ use Rattle.std.specs.Arc.{arc_value}
 use Rattle.std.specs.Prelude.{slice_get, IfNone, IfSome}
 use Rattle.std.proofs.lemmas.List.{length-map}
 use Rattle.std.proofs.lemmas.Option.{slice_get_within}
+use Rattle.tw_atomic.specs.Atomic.{AreAlike}
 use Rattle.tw_chain.specs.Kept as chain
 use Rattle.tw_chain.specs.declared.step.ChainStep.{ChainStep}
 use Rattle.tw_lists.specs.Lists.{with_room}
-use Rattle.tw_lists.specs.Ways.{way_of}
 use Rattle.tw_network.specs.Contents.{network_of}
 use Rattle.tw_theory.specs.Chains.{IsHome, IsSoloRun}
 use Rattle.tw_theory.specs.Installing.{IsInstalled}
-use Rattle.tw_theory.specs.Installing as theory
+use Rattle.tw_actions.specs.declared.chain.Stop.TheVariants.{Ended}
 use Rattle.tw_theory.specs.Network.{model_of}
 use Rattle.tw_theory.specs.Transitions.{Moment}
 use Rattle.tw_vtime.specs.Stamps.{max_microstep}
 use Rattle.tw_process.specs.History.{seen, IsKeptBy}
-use Rattle.tw_process.specs.Installing.{AreNext, WhyNot, after_steps, entries_with, sent_counts, stop_of}
+use Rattle.tw_process.specs.Installing.{AreNext, WhyNot, after_steps, entries_with, sent_counts}
 use Rattle.tw_process.specs.Process.{Held}
 use Rattle.tw_process.proofs.Finishing.{Whole, whole, not_begun}
 use Rattle.tw_process.proofs.Histories.{kept_at}
@@ -32,10 +32,10 @@ take_steps-counts-requires g c = record {
   known = subst (λ n. c.self.inside.component < length n.models) (sym c.deref-network.ensures) (slice_get_within (arc_value c.self.inside.network).models c.self.inside.component c.self.invariant.model c.self.invariant.there);
 }
 
-pub cut_back-steps-requires-clause-same : goal.cut_back-steps-requires-clause-same
-cut_back-steps-requires-clause-same g c =
-    c.requires.meaning c.model-model.result.now
-    ((λ i. let x = sym c.self.view_is i in slice_get x.network.models x.component) ∙ ap (λ n. slice_get n.models c.self.inside.component) (sym c.deref-network.ensures) ∙ c.model-model.ensures)
+pub cut_back-steps-requires-clause-alike : goal.cut_back-steps-requires-clause-alike
+cut_back-steps-requires-clause-alike g c =
+    (c.requires.alike c.model-model.result.now
+    ((λ i. let x = sym c.self.view_is i in slice_get x.network.models x.component) ∙ ap (λ n. slice_get n.models c.self.inside.component) (sym c.deref-network.ensures) ∙ c.model-model.ensures)).takes_back
 
 pub push_entries-requires : goal.push_entries-requires
 push_entries-requires g c =
@@ -49,8 +49,8 @@ now_of g c = record { state = c.self.inside.state; last = c.self.inside.last; du
 model_there : (g : Over) (c : After-push_entries g) → slice_get (arc_value c.self.inside.network).models c.self.inside.component ≡ Some c.model-model.result.now
 model_there g c = ap (λ n. slice_get n.models c.self.inside.component) (sym c.deref-network.ensures) ∙ c.model-model.ensures
 
-meaning_is : (g : Over) (c : After-push_entries g) → g.M.Atomic.meaning c.model-model.result.now ≡ g.M.Atomic.meaning c.args.chain.model
-meaning_is g c = c.requires.meaning c.model-model.result.now ((λ i. let x = sym c.self.view_is i in slice_get x.network.models x.component) ∙ model_there g c)
+alike_are : (g : Over) (c : After-push_entries g) → AreAlike g.M.Atomic.meaning g.M.Atomic.undone c.model-model.result.now c.args.chain.model
+alike_are g c = c.requires.alike c.model-model.result.now ((λ i. let x = sym c.self.view_is i in slice_get x.network.models x.component) ∙ model_there g c)
 
 component_is : (g : Over) (c : After-push_entries g) → c.args.chain.run.start.component ≡ c.self.inside.component
 component_is g c = c.requires.component ∙ sym (ap (λ x. x.component) c.self.view_is)
@@ -65,10 +65,10 @@ small : (g : Over) (c : After-push_entries g) → (network_of g.M.Atomic.meaning
 small g c = subst (λ n. n.micro_limit ≤ max_microstep) c.deref-network.ensures c.facts-2.ensures.microsteps
 
 run : (g : Over) (c : After-push_entries g) → IsSoloRun (g.M.Atomic.meaning c.model-model.result.now) c.args.chain.run
-run g c = subst (λ m. IsSoloRun m c.args.chain.run) (sym (meaning_is g c)) c.facts.ensures.run
+run g c = subst (λ m. IsSoloRun m c.args.chain.run) (sym (alike_are g c).means) c.facts.ensures.run
 
 all : (g : Over) (c : After-push_entries g) → Whole (network_of g.M.Atomic.meaning (arc_value c.self.inside.network)) (g.M.Atomic.valid c.model-model.result.now) (g.M.Atomic.meaning c.model-model.result.now) (g.M.Atomic.undone c.model-model.result.now) c.args.chain.run (home g c) (small g c)
-    (λ tk s el bag can. g.met.M.Atomic.stays_valid c.model-model.result.now tk s el bag can) (arc_value c.self.inside.network) c.self.inside.line (way_of c.self.inside.cancel) c.self.inside.floor (run g c) c.args.chain.cause
+    (λ tk s el bag can. g.met.M.Atomic.stays_valid c.model-model.result.now tk s el bag can) (arc_value c.self.inside.network) c.self.inside.line c.self.inside.cancel c.self.inside.floor (run g c) c.args.chain.cause
     (record { state = c.self.inside.state; last = c.self.inside.last; due = c.self.inside.due }) (record { state = c.cut_back-steps.result.state; last = c.cut_back-steps.result.last; due = c.cut_back-steps.result.due })
     c.self.inside.history.items c.push_entries.new.history.items c.self.inside.lists c.take_steps-counts.new.lists c.len-installed.result c.unwrap_or-stop.result
 all g c =
@@ -82,7 +82,7 @@ all g c =
     let es = c.steps.result.now in
     let parts = c.cut_back-steps.result in
     let n = c.len-installed.result in
-    let way = way_of f.cancel in
+    let way = f.cancel in
     let now : Moment g.row.M-State.Denot = record { state = f.state; last = f.last; due = f.due } in
     let k = sym (component_is g c) in
     let d = c.deref-network.ensures in
@@ -100,7 +100,7 @@ all g c =
     (taken.ensures.counts ∙ (λ i. sent_counts (network_of meaning (d i)) (k i) (take (n_is i) es)))
     c.cut_back-steps.ensures.steps
     c.cut_back-steps.ensures.now
-    (subst (λ u. chain.Linked u parts.steps.items parts.state) (sym (g.met.M.Atomic.alike model c.args.chain.model (meaning_is g c))) c.cut_back-steps.ensures.links)
+    (subst (λ u. chain.Linked u parts.steps.items parts.state) (sym (alike_are g c).takes_back) c.cut_back-steps.ensures.links)
     (c.push_entries.ensures ∙ ap (λ l. l ++ entries_with counts.items parts.steps.items) taken.ensures.history)
     (subst (λ (x : Type 0). x) (λ i. IfNone o (n_is i ≡ length es)) taken.ensures.all)
     (subst (λ (x : Type 0). x) (λ i. IfSome o (λ s. n_is i < length es)) taken.ensures.short)
@@ -126,7 +126,7 @@ returns-clause-installed g c =
     let f = c.self.inside in
     let now : Moment g.row.M-State.Denot = record { state = c.cut_back-steps.result.state; last = c.cut_back-steps.result.last; due = c.cut_back-steps.result.due } in
     subst (λ (x : Held _ _). IsInstalled (network_of g.M.Atomic.meaning x.network) c.args.chain.run c.args.chain.cause x.process
-    (seen (arc_value f.network) f.component now f.line (way_of f.cancel) f.floor c.push_entries.new.history.items c.take_steps-counts.new.lists).process (record { installed = c.len-installed.result; stop = stop_of c.unwrap_or-stop.result }))
+    (seen (arc_value f.network) f.component now f.line f.cancel f.floor c.push_entries.new.history.items c.take_steps-counts.new.lists).process (record { installed = c.len-installed.result; stop = c.unwrap_or-stop.result }))
     c.self.view_is (all g at).is
 
 pub returns-then-not-stands_at_start-clause-installed : goal.returns-then-not-stands_at_start-clause-installed
@@ -136,6 +136,6 @@ returns-then-not-stands_at_start-clause-installed g c =
     let r = c.args.chain.run in
     let away : c.args.self.now.process.now ≡ r.start.now → ⊥ = λ e. let both = sym c.if-not-stands_at_start.true ∙ c.stands_at_start.ensures.1 (ap (λ p. p.process.now) c.self.view_is ∙ e) in cc both in
     elim c.if-len-eq0.branch [
-      | then-len-eq0 w ↦ not_begun net r c.args.chain.cause c.args.self.now.process c.if-len-eq0.stop away (λ z. ap stop_of w.stop-is ∙ ap theory.Ended w.cause.ensures) (λ some. absurd (omega (arith, some, c.len.ensures, w.if-len-eq0.true)))
+      | then-len-eq0 w ↦ not_begun net r c.args.chain.cause c.args.self.now.process c.if-len-eq0.stop away (λ z. w.stop-is ∙ ap Ended w.cause.ensures) (λ some. absurd (omega (arith, some, c.len.ensures, w.if-len-eq0.true)))
       | else-len-eq0 w ↦ not_begun net r c.args.chain.cause c.args.self.now.process c.if-len-eq0.stop away (λ z. absurd (w.if-len-eq0.false (c.len.ensures ∙ z))) (λ some. w.stop-is)
     ]

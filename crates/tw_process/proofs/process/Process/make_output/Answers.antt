@@ -7,7 +7,6 @@ use Rattle.tw_theory.specs.Contents.{next, sent_out}
 use Rattle.tw_theory.specs.Installing.{IsFullFor}
 use Rattle.tw_theory.specs.Network.{routed}
 use Rattle.tw_theory.specs.Transitions.{Moment}
-use Rattle.tw_lists.specs.Ways.{way_of}
 use Rattle.tw_process.specs.History.{seen, IsKept}
 use Rattle.tw_lists.specs.Lists.{with_room, with_all_sent}
 use Rattle.tw_process.specs.Process.{IsStepped, with_spare}
@@ -24,7 +23,7 @@ there g c = ap (λ n. slice_get n.models c.self.inside.component) (sym c.deref-n
 
 all : (g : Over) (c : After-drop-sent-2 g) → Stepped g.M.Atomic.valid g.M.Atomic.meaning g.M.Atomic.undone (arc_value c.self.inside.network) c.self.inside.component c.model.result.now (there g c)
     (record { state = c.self.inside.state; last = c.self.inside.last; due = c.self.inside.due }) (record { state = c.self.inside.state; last = c.self.inside.last; due = c.transition-self-inside.result })
-    c.self.inside.line (way_of c.self.inside.cancel) c.self.inside.floor c.self.inside.history.items c.push_back_reserved.new.self.items c.self.inside.lists c.send_all.new.self c.args.stamp Out
+    c.self.inside.line c.self.inside.cancel c.self.inside.floor c.self.inside.history.items c.push_back_reserved.new.self.items c.self.inside.lists c.send_all.new.self c.args.stamp Out
 all g c =
     let inside = c.self.inside in
     let network = arc_value inside.network in
@@ -34,13 +33,13 @@ all g c =
     let at_self : c.transition-self-inside.result ≡ c.args.stamp + 1 = omega (arith, c.transition-self-inside.ensures, c.requires.is_output) in
     let ms = c.in_ok-sent.sent.items in
     output_stepped g.M.Atomic.valid g.M.Atomic.meaning g.M.Atomic.undone network inside.component c.model.result.now (there g c)
-    before inside.line (way_of inside.cancel) inside.floor c.send_all.new.self.room c.send_all.new.self.spare c.len.result inside.history.items c.push_back_reserved.new.self.items
-    c.in_ok-bag.bag c.from.result c.of.result ms inside.lists c.send_all.new.self c.args.stamp c.transition-self-inside.result
+    before inside.line inside.cancel inside.floor c.send_all.new.self.room c.send_all.new.self.spare c.len.result inside.history.items c.push_back_reserved.new.self.items
+    c.in_ok-bag.bag c.none.result c.of.result ms inside.lists c.send_all.new.self c.args.stamp c.transition-self-inside.result
     kept (c.requires.is_next ∙ ap (λ p. next p.process) (sym c.self.view_is)) c.requires.is_due c.requires.is_output
-    c.of.ensures c.in_ok-bag.ensures (c.from.ensures ∙ c.new.ensures.items)
+    c.of.ensures c.in_ok-bag.ensures (c.none.ensures)
     (c.in_ok-sent.ensures ∙ (λ i. routed (network_of g.M.Atomic.meaning (c.deref-network.ensures i)) inside.component (at i) c.in_ok-bag.bag))
     (omega (arith, c.len.ensures, c.in_ok-sent.sent.ok.0))
-    (c.send_all.ensures ∙ (λ i. with_room c.send_all.new.self.room c.send_all.new.self.spare (with_all_sent (way_of inside.cancel) (c.deref-2.ensures.value i) (c.reserve.ensures.contents i))))
+    (c.send_all.ensures ∙ (λ i. with_room c.send_all.new.self.room c.send_all.new.self.spare (with_all_sent inside.cancel (c.deref-2.ensures.value i) (c.reserve.ensures.contents i))))
     at_self
     (rw c.reserve-2.ensures.items at c.push_back_reserved.ensures.items)
 
@@ -50,7 +49,7 @@ invariant_of-self-2 g c = (all g c).kept
 pub returns-clause-stepped : goal.returns-clause-stepped
 returns-clause-stepped g c =
     let inside = c.self.inside in
-    subst (λ old. IsStepped g.M.Atomic.meaning old (seen (arc_value inside.network) inside.component (record { state = inside.state; last = inside.last; due = c.transition-self-inside.result }) inside.line (way_of inside.cancel) inside.floor c.push_back_reserved.new.self.items c.send_all.new.self) c.args.stamp Out) c.self.view_is (all g c).stepped
+    subst (λ old. IsStepped g.M.Atomic.meaning old (seen (arc_value inside.network) inside.component (record { state = inside.state; last = inside.last; due = c.transition-self-inside.result }) inside.line inside.cancel inside.floor c.push_back_reserved.new.self.items c.send_all.new.self) c.args.stamp Out) c.self.view_is (all g c).stepped
 
 pub invariant_of-self : goal.invariant_of-self
 invariant_of-self g c =
@@ -66,7 +65,7 @@ returns-in_err-reserve-clause-stays g c =
     let now : Moment g.row.M-State.Denot = record { state = inside.state; last = inside.last; due = inside.due } in
     let lists = c.reserve.new.self in
     on_err_always _ c.from_residual-in_err-reserve.result
-    ((λ i. seen (arc_value inside.network) inside.component now inside.line (way_of inside.cancel) inside.floor inside.history.items (c.reserve.ensures.contents i))
+    ((λ i. seen (arc_value inside.network) inside.component now inside.line inside.cancel inside.floor inside.history.items (c.reserve.ensures.contents i))
     ∙ ap (with_spare (min lists.room lists.spare)) c.self.view_is)
 
 pub returns-in_err-reserve-clause-stop : goal.returns-in_err-reserve-clause-stop
@@ -78,12 +77,12 @@ returns-in_err-reserve-clause-stop g c =
     let there = ap (λ n. slice_get n.models inside.component) (sym c.deref-network.ensures) ∙ c.model.ensures in
     let kept = kept_at g.M.Atomic.valid g.M.Atomic.meaning g.M.Atomic.undone network inside.component now inside.floor inside.history.items inside.lists c.self.invariant model there in
     let at : c.transition.result ≡ c.args.stamp + 1 = omega (arith, c.transition.ensures, c.requires.is_output) in
-    let fresh : c.fresh_count-fresh.result ≡ length (sent_out (way_of inside.cancel) inside.lists.owed c.in_ok-sent.sent.items) = c.fresh_count-fresh.ensures.count ∙ ap (λ l. length (sent_out (way_of inside.cancel) inside.lists.owed l)) c.deref.ensures.value in
+    let fresh : c.fresh_count-fresh.result ≡ length (sent_out inside.cancel inside.lists.owed c.in_ok-sent.sent.items) = c.fresh_count-fresh.ensures.count ∙ ap (λ l. length (sent_out inside.cancel inside.lists.owed l)) c.deref.ensures.value in
     stop_for_pool g.M.Atomic.meaning c.args.self.now c.from_residual-in_err-reserve.result c.in_err-reserve.field-0.0 c.from_residual-in_err-reserve.ensures.1
     (λ full.
     let limit = c.reserve.ensures.limit.1 (c.in_err-reserve.was ∙ ap Err full) in
     subst (λ old. IsFullFor (network_of g.M.Atomic.meaning old.network) old.component old.process) c.self.view_is
-    (too_large g.M.Atomic.valid g.M.Atomic.meaning g.M.Atomic.undone network inside.component model there now inside.line (way_of inside.cancel) inside.floor inside.history.items inside.lists c.args.stamp c.in_ok-bag.bag c.in_ok-sent.sent.items
+    (too_large g.M.Atomic.valid g.M.Atomic.meaning g.M.Atomic.undone network inside.component model there now inside.line inside.cancel inside.floor inside.history.items inside.lists c.args.stamp c.in_ok-bag.bag c.in_ok-sent.sent.items
     kept (c.requires.is_next ∙ ap (λ p. next p.process) (sym c.self.view_is)) c.requires.is_due c.requires.is_output c.in_ok-bag.ensures
     (c.in_ok-sent.ensures ∙ (λ i. routed (network_of g.M.Atomic.meaning (c.deref-network.ensures i)) inside.component (at i) c.in_ok-bag.bag))
     (omega (arith, limit, fresh))))
@@ -103,5 +102,5 @@ returns-in_err-reserve-2-clause-stays g c =
     let now : Moment g.row.M-State.Denot = record { state = inside.state; last = inside.last; due = inside.due } in
     let lists = c.reserve.new.self in
     on_err_always _ c.from_residual-in_err-reserve-2.result
-    ((λ i. seen (arc_value inside.network) inside.component now inside.line (way_of inside.cancel) inside.floor (c.reserve-2.ensures.items i) (c.reserve.ensures.contents i))
+    ((λ i. seen (arc_value inside.network) inside.component now inside.line inside.cancel inside.floor (c.reserve-2.ensures.items i) (c.reserve.ensures.contents i))
     ∙ ap (with_spare (min lists.room lists.spare)) c.self.view_is)

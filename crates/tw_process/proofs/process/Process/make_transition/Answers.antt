@@ -8,7 +8,6 @@ use Rattle.tw_theory.specs.Contents.{next}
 use Rattle.tw_theory.specs.Transitions.{Moment, turn}
 use Rattle.tw_vtime.specs.Advance.{advanced}
 use Rattle.tw_vtime.specs.Stamps.{tick_of, max_microstep}
-use Rattle.tw_lists.specs.Ways.{way_of}
 use Rattle.tw_process.specs.History.{seen, IsKeptBy}
 use Rattle.tw_lists.specs.Lists.{restored}
 use Rattle.tw_process.specs.Process.{Held, with_spare, IsStepped, IsStop}
@@ -33,7 +32,7 @@ now g c = record { state = c.self.inside.state; last = c.self.inside.last; due =
 kept : (g : Over) (c : After-as_slice g) → IsKeptBy (g.M.Atomic.valid c.model-model.result.now) (g.M.Atomic.meaning c.model-model.result.now) (g.M.Atomic.undone c.model-model.result.now) c.self.inside.component (record { state = c.self.inside.state; last = c.self.inside.last; due = c.self.inside.due }) c.self.inside.floor c.self.inside.history.items c.self.inside.lists
 kept g c = kept_at g.M.Atomic.valid g.M.Atomic.meaning g.M.Atomic.undone (arc_value c.self.inside.network) c.self.inside.component (record { state = c.self.inside.state; last = c.self.inside.last; due = c.self.inside.due }) c.self.inside.floor c.self.inside.history.items c.self.inside.lists c.self.invariant c.model-model.result.now (there g c)
 
-is_next : (g : Over) (c : After-as_slice g) → c.args.stamp ≡ next (seen (arc_value c.self.inside.network) c.self.inside.component (record { state = c.self.inside.state; last = c.self.inside.last; due = c.self.inside.due }) c.self.inside.line (way_of c.self.inside.cancel) c.self.inside.floor c.self.inside.history.items c.self.inside.lists).process
+is_next : (g : Over) (c : After-as_slice g) → c.args.stamp ≡ next (seen (arc_value c.self.inside.network) c.self.inside.component (record { state = c.self.inside.state; last = c.self.inside.last; due = c.self.inside.due }) c.self.inside.line c.self.inside.cancel c.self.inside.floor c.self.inside.history.items c.self.inside.lists).process
 is_next g c = c.requires.is_next ∙ ap (λ p. next p.process) (sym c.self.view_is)
 
 turn_is : (g : Over) (c : After-as_slice g) → c.turn_of-turn.result.0 ≡ turn (c.self.inside.due == c.args.stamp) c.in_ok-bag.bag
@@ -70,7 +69,7 @@ pub returns-in-Err-clause-stays : goal.returns-in-Err-clause-stays
 returns-in-Err-clause-stays g c =
     let inside = c.self.inside in
     let lists = c.restore.ensures ∙ ap (restored c.len.result) c.in_ok-bag.ensures.ok ∙ (back g (goal.at.returns-in-Err-clause-stays g c).After-len).same in
-    same_spare _ _ ((λ i. seen (arc_value inside.network) inside.component (record { state = c.in-Err.ensures.stays i; last = inside.last; due = inside.due }) inside.line (way_of inside.cancel) inside.floor (c.reserve.ensures.items i) (lists i)) ∙ c.self.view_is)
+    same_spare _ _ ((λ i. seen (arc_value inside.network) inside.component (record { state = c.in-Err.ensures.stays i; last = inside.last; due = inside.due }) inside.line inside.cancel inside.floor (c.reserve.ensures.items i) (lists i)) ∙ c.self.view_is)
 
 pub returns-in-Err-clause-stop : goal.returns-in-Err-clause-stop
 returns-in-Err-clause-stop g c =
@@ -82,7 +81,7 @@ returns-in-Err-clause-stop g c =
     subst (λ e. IsStop g.M.Atomic.meaning c.args.self.now e) (sym c.into.ensures)
     (subst (λ old. IsStop g.M.Atomic.meaning old (of_turn c.in-Err.refused)) c.self.view_is
     (stops g.M.Atomic.valid g.M.Atomic.meaning g.M.Atomic.undone (arc_value inside.network) inside.component model (there g at)
-    before inside.line (way_of inside.cancel) inside.floor inside.history.items inside.lists c.args.stamp c.saturating_sub-elapsed.result c.in_ok-bag.bag c.turn_of-turn.result.0 c.in-Err.refused
+    before inside.line inside.cancel inside.floor inside.history.items inside.lists c.args.stamp c.saturating_sub-elapsed.result c.in_ok-bag.bag c.turn_of-turn.result.0 c.in-Err.refused
     (is_next g at) c.requires.is_due c.requires.is_transition c.in_ok-bag.ensures.bag (turn_is g at) (elapsed_is g at)
     (subst (λ b. IsRefusedBy (advanced c.args.stamp ((g.M.Atomic.meaning model).ta (turned (g.M.Atomic.meaning model) c.turn_of-turn.result.0 inside.state c.saturating_sub-elapsed.result b)) (arc_value inside.network).micro_limit) c.in-Err.refused) c.as_slice.ensures
     (subst (λ l. IsRefusedBy (advanced c.args.stamp ((g.M.Atomic.meaning model).ta (turned (g.M.Atomic.meaning model) c.turn_of-turn.result.0 inside.state c.saturating_sub-elapsed.result c.as_slice.result.now)) l) c.in-Err.refused) limit c.in-Err.ensures.refused))))
@@ -92,7 +91,7 @@ at_end g c = ap (λ n. slice_get n.models c.self.inside.component) (sym c.deref-
 
 all : (g : Over) (c : After-output-self-inside g) → Stepped g.M.Atomic.valid g.M.Atomic.meaning g.M.Atomic.undone (arc_value c.self.inside.network) c.self.inside.component c.model-model.result.now (at_end g c)
     (record { state = c.self.inside.state; last = c.self.inside.last; due = c.self.inside.due }) (record { state = c.make_turn.new.state; last = c.output-self-inside.result; due = c.in-Ok.made.due })
-    c.self.inside.line (way_of c.self.inside.cancel) c.self.inside.floor c.self.inside.history.items c.push_back_reserved.new.self.items c.self.inside.lists c.consume_bag.new.self c.args.stamp c.turn_of-turn.result.1
+    c.self.inside.line c.self.inside.cancel c.self.inside.floor c.self.inside.history.items c.push_back_reserved.new.self.items c.self.inside.lists c.consume_bag.new.self c.args.stamp c.turn_of-turn.result.1
 all g c =
     let inside = c.self.inside in
     let network = arc_value inside.network in
@@ -106,7 +105,7 @@ all g c =
     let small : network.micro_limit ≤ max_microstep = subst (λ n. n.micro_limit ≤ max_microstep) c.deref-network.ensures c.facts.ensures.microsteps in
     let e = c.in-Ok.ensures in
     transition_stepped g.M.Atomic.valid g.M.Atomic.meaning g.M.Atomic.undone network inside.component model (at_end g c)
-    before inside.line (way_of inside.cancel) inside.floor c.len-consumed.result inside.history.items c.push_back_reserved.new.self.items bag c.in-Ok.made.words c.of-before.result tk c.in-Ok.made.residue c.turn_of-turn.result.1 e.due.0
+    before inside.line inside.cancel inside.floor c.len-consumed.result inside.history.items c.push_back_reserved.new.self.items bag c.in-Ok.made.words c.of-before.result tk c.in-Ok.made.residue c.turn_of-turn.result.1 e.due.0
     inside.lists c.consume_bag.new.self c.args.stamp el c.make_turn.new.state c.output-self-inside.result c.in-Ok.made.due
     kept (c.requires.is_next ∙ ap (λ p. next p.process) (sym c.self.view_is)) c.requires.is_due c.requires.is_transition small
     c.of-before.ensures c.in_ok-bag.ensures.bag
@@ -128,4 +127,4 @@ invariant_of-self-2 g c = (all g (goal.at.invariant_of-self-2 g c).After-output-
 pub returns-clause-stepped : goal.returns-clause-stepped
 returns-clause-stepped g c =
     let inside = c.self.inside in
-    subst (λ old. IsStepped g.M.Atomic.meaning old (seen (arc_value inside.network) inside.component (record { state = c.make_turn.new.state; last = c.output-self-inside.result; due = c.in-Ok.made.due }) inside.line (way_of inside.cancel) inside.floor c.push_back_reserved.new.self.items c.consume_bag.new.self) c.args.stamp c.turn_of-turn.result.1) c.self.view_is (all g (goal.at.returns-clause-stepped g c).After-output-self-inside).stepped
+    subst (λ old. IsStepped g.M.Atomic.meaning old (seen (arc_value inside.network) inside.component (record { state = c.make_turn.new.state; last = c.output-self-inside.result; due = c.in-Ok.made.due }) inside.line inside.cancel inside.floor c.push_back_reserved.new.self.items c.consume_bag.new.self) c.args.stamp c.turn_of-turn.result.1) c.self.view_is (all g (goal.at.returns-clause-stepped g c).After-output-self-inside).stepped

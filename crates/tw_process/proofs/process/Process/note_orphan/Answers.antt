@@ -4,7 +4,6 @@ use Rattle.tw_theory.specs.Transitions.{Moment}
 use Rattle.tw_lists.specs.Lists.{node_count as lists_count, with_room, with_orphan}
 use Rattle.tw_process.proofs.Outcomes.{either_way}
 use Rattle.tw_process.proofs.Receipts.{kept_with, others_kept}
-use Rattle.tw_lists.specs.Ways.{way_of}
 use Rattle.tw_theory.specs.Memory.{live}
 use Rattle.tw_process.proofs.Histories.{live_shown}
 use Rattle.tw_process.proofs.process.Process.note_orphan.Given.{Over}
@@ -15,7 +14,7 @@ count : (g : Over) (c : After-note_orphan g) → lists_count c.self.inside.lists
 count g c =
     let inside = c.self.inside in
     let x = c.self.invariant.model in
-    sym (live_shown (g.M.Atomic.valid x) (g.M.Atomic.meaning x) (g.M.Atomic.undone x) (arc_value inside.network) inside.component (record { state = inside.state; last = inside.last; due = inside.due }) inside.line (way_of inside.cancel) inside.floor inside.history.items inside.lists c.self.invariant.by)
+    sym (live_shown (g.M.Atomic.valid x) (g.M.Atomic.meaning x) (g.M.Atomic.undone x) (arc_value inside.network) inside.component (record { state = inside.state; last = inside.last; due = inside.due }) inside.line inside.cancel inside.floor inside.history.items inside.lists c.self.invariant.by)
     ∙ ap (λ p. live p.process) c.self.view_is
 
 pub returns-clause-limit : goal.returns-clause-limit
@@ -26,7 +25,7 @@ invariant_of-self g c =
     let inside = c.self.inside in
     let now : Moment g.row.M-State.Denot = record { state = inside.state; last = inside.last; due = inside.due } in
     let new = c.note_orphan.new.self in
-    let m = c.args.message.now in
+    let m = c.args.message in
     either_way _ _ _ c.note_orphan.result c.note_orphan.ensures.noted c.note_orphan.ensures.stays
     (λ noted. kept_with g.M.Atomic.valid g.M.Atomic.meaning g.M.Atomic.undone (arc_value inside.network) inside.component now inside.floor inside.history.items inside.lists new (with_room new.room new.spare (with_orphan m inside.lists)) c.self.invariant noted
     (λ x kept. others_kept (g.M.Atomic.valid x) (g.M.Atomic.meaning x) (g.M.Atomic.undone x) inside.component now inside.floor inside.history.items inside.lists kept (inside.lists.waiting ++ m ∷ []) inside.lists.outgoing inside.lists.owed new.room new.spare))

@@ -4,7 +4,6 @@ use Rattle.tw_theory.specs.Transitions.{Moment}
 use Rattle.tw_lists.specs.Lists.{with_room}
 use Rattle.tw_process.proofs.Receipts.{kept_with, others_kept}
 use Rattle.tw_lists.specs.Lists.{node_count as lists_count}
-use Rattle.tw_lists.specs.Ways.{way_of}
 use Rattle.tw_theory.specs.Memory.{live}
 use Rattle.tw_process.proofs.Histories.{live_shown}
 use Rattle.tw_process.proofs.process.Process.reserve.Given.{Over}
@@ -22,7 +21,7 @@ count : (g : Over) (c : After-reserve_pending g) → lists_count c.self.inside.l
 count g c =
     let inside = c.self.inside in
     let x = c.self.invariant.model in
-    sym (live_shown (g.M.Atomic.valid x) (g.M.Atomic.meaning x) (g.M.Atomic.undone x) (arc_value inside.network) inside.component (record { state = inside.state; last = inside.last; due = inside.due }) inside.line (way_of inside.cancel) inside.floor inside.history.items inside.lists c.self.invariant.by)
+    sym (live_shown (g.M.Atomic.valid x) (g.M.Atomic.meaning x) (g.M.Atomic.undone x) (arc_value inside.network) inside.component (record { state = inside.state; last = inside.last; due = inside.due }) inside.line inside.cancel inside.floor inside.history.items inside.lists c.self.invariant.by)
     ∙ ap (λ p. live p.process) c.self.view_is
 
 pub returns-clause-limit : goal.returns-clause-limit

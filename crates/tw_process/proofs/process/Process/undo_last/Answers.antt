@@ -6,14 +6,13 @@ use Rattle.std.proofs.lemmas.Option.{slice_get_within}
 use Rattle.tw_theory.specs.Transitions.{Moment}
 use Rattle.tw_lists.specs.Lists.{restored, cancelled}
 use Rattle.tw_process.specs.Process.{with_last_undone}
-use Rattle.tw_lists.specs.Ways.{way_of}
 use Rattle.tw_process.specs.History.{IsKeptBy, seen, shown}
 use Rattle.tw_process.proofs.Histories.{TakenBack, taken_back, shown_some, kept_at, nothing_undone, nil_of_length}
 use Rattle.tw_process.proofs.process.Process.undo_last.Given.{Over}
 use Rattle.tw_process.proofs.process.Process.undo_last.Goals.{After-model-model}
 use Rattle.tw_process.proofs.process.Process.undo_last.Goals as goal
 
-back : (g : Over) (c : After-model-model g) → TakenBack (g.M.Atomic.valid c.model-model.result.now) (g.M.Atomic.meaning c.model-model.result.now) (g.M.Atomic.undone c.model-model.result.now) (arc_value c.self.inside.network) c.self.inside.component (record { state = c.self.inside.state; last = c.self.inside.last; due = c.self.inside.due }) c.self.inside.line (way_of c.self.inside.cancel) c.self.inside.floor c.pop_back.new.self.items c.in-Some.entry c.self.inside.lists
+back : (g : Over) (c : After-model-model g) → TakenBack (g.M.Atomic.valid c.model-model.result.now) (g.M.Atomic.meaning c.model-model.result.now) (g.M.Atomic.undone c.model-model.result.now) (arc_value c.self.inside.network) c.self.inside.component (record { state = c.self.inside.state; last = c.self.inside.last; due = c.self.inside.due }) c.self.inside.line c.self.inside.cancel c.self.inside.floor c.pop_back.new.self.items c.in-Some.entry c.self.inside.lists
 back g c =
     let inside = c.self.inside in
     let network = arc_value inside.network in
@@ -21,7 +20,7 @@ back g c =
     let model = c.model-model.result.now in
     let there = ap (λ n. slice_get n.models inside.component) (sym c.deref-network.ensures) ∙ c.model-model.ensures in
     let kept = kept_at g.M.Atomic.valid g.M.Atomic.meaning g.M.Atomic.undone network inside.component now inside.floor inside.history.items inside.lists c.self.invariant model there in
-    taken_back (g.M.Atomic.valid model) (g.M.Atomic.meaning model) (g.M.Atomic.undone model) network inside.component now inside.line (way_of inside.cancel) inside.floor c.pop_back.new.self.items c.in-Some.entry inside.lists
+    taken_back (g.M.Atomic.valid model) (g.M.Atomic.meaning model) (g.M.Atomic.undone model) network inside.component now inside.line inside.cancel inside.floor c.pop_back.new.self.items c.in-Some.entry inside.lists
     (subst (λ h. IsKeptBy (g.M.Atomic.valid model) (g.M.Atomic.meaning model) (g.M.Atomic.undone model) c.self.inside.component now inside.floor h inside.lists) c.in-Some.ensures.items kept)
 
 pub take_back-requires : goal.take_back-requires
@@ -45,13 +44,13 @@ invariant_of-self-2 g c =
     let inside = c.self.inside in
     let model = c.model-model.result.now in
     let there = ap (λ n. slice_get n.models inside.component) (sym c.deref-network.ensures) ∙ c.model-model.ensures in
-    let lists = c.cancel.ensures ∙ (λ i. cancelled (way_of inside.cancel) (c.take_back.ensures.entry i).sent (c.restore.ensures i)) ∙ ap (λ e. cancelled (way_of inside.cancel) c.in-Some.entry.sent (restored e.consumed inside.lists)) c.take_back.ensures.entry in
+    let lists = c.cancel.ensures ∙ (λ i. cancelled inside.cancel (c.take_back.ensures.entry i).sent (c.restore.ensures i)) ∙ ap (λ e. cancelled inside.cancel c.in-Some.entry.sent (restored e.consumed inside.lists)) c.take_back.ensures.entry in
     let kept = (back g at).kept in
     record {
       model = model;
       there = there;
       by = subst (λ l. IsKeptBy (g.M.Atomic.valid model) (g.M.Atomic.meaning model) (g.M.Atomic.undone model) c.self.inside.component (record { state = c.take_back.new.state; last = c.take_back.new.entry.last; due = c.take_back.new.entry.due }) inside.floor c.pop_back.new.self.items l) (sym lists)
-          (subst (λ (x : Moment g.row.M-State.Denot). IsKeptBy (g.M.Atomic.valid model) (g.M.Atomic.meaning model) (g.M.Atomic.undone model) c.self.inside.component x inside.floor c.pop_back.new.self.items (cancelled (way_of inside.cancel) c.in-Some.entry.sent (restored c.in-Some.entry.consumed inside.lists)))
+          (subst (λ (x : Moment g.row.M-State.Denot). IsKeptBy (g.M.Atomic.valid model) (g.M.Atomic.meaning model) (g.M.Atomic.undone model) c.self.inside.component x inside.floor c.pop_back.new.self.items (cancelled inside.cancel c.in-Some.entry.sent (restored c.in-Some.entry.consumed inside.lists)))
           (sym (λ i. record { state = c.take_back.ensures.state i; last = (c.take_back.ensures.entry i).last; due = (c.take_back.ensures.entry i).due })) kept);
     }
 
@@ -60,10 +59,10 @@ returns-clause-undone g c =
     let at = (goal.at.returns-clause-undone g c).After-model-model in
     let inside = c.self.inside in
     let network = arc_value inside.network in
-    let lists = c.cancel.ensures ∙ (λ i. cancelled (way_of inside.cancel) (c.take_back.ensures.entry i).sent (c.restore.ensures i)) ∙ ap (λ e. cancelled (way_of inside.cancel) c.in-Some.entry.sent (restored e.consumed inside.lists)) c.take_back.ensures.entry in
-    (λ i. seen network inside.component (record { state = c.take_back.ensures.state i; last = (c.take_back.ensures.entry i).last; due = (c.take_back.ensures.entry i).due }) inside.line (way_of inside.cancel) inside.floor c.pop_back.new.self.items (lists i))
+    let lists = c.cancel.ensures ∙ (λ i. cancelled inside.cancel (c.take_back.ensures.entry i).sent (c.restore.ensures i)) ∙ ap (λ e. cancelled inside.cancel c.in-Some.entry.sent (restored e.consumed inside.lists)) c.take_back.ensures.entry in
+    (λ i. seen network inside.component (record { state = c.take_back.ensures.state i; last = (c.take_back.ensures.entry i).last; due = (c.take_back.ensures.entry i).due }) inside.line inside.cancel inside.floor c.pop_back.new.self.items (lists i))
     ∙ (back g at).seen_is
-    ∙ ap (λ h. with_last_undone (seen network inside.component (record { state = inside.state; last = inside.last; due = inside.due }) inside.line (way_of inside.cancel) inside.floor h inside.lists)) (sym c.in-Some.ensures.items)
+    ∙ ap (λ h. with_last_undone (seen network inside.component (record { state = inside.state; last = inside.last; due = inside.due }) inside.line inside.cancel inside.floor h inside.lists)) (sym c.in-Some.ensures.items)
     ∙ ap with_last_undone c.self.view_is
 
 pub model-model-requires : goal.model-model-requires
@@ -77,7 +76,7 @@ returns-in_default-clause-undone g c =
     let none : c.pop_back.new.self.items ≡ [] = nil_of_length c.pop_back.new.self.items (omega (arith, c.in_default.ensures.cases.1, c.pop_back.new.self.ok.0)) in
     let same : c.pop_back.new.self.items ≡ inside.history.items = sym (c.in_default.ensures.items ∙ append-nil c.pop_back.new.self.items) in
     let history : now.process.history ≡ [] = sym (ap (λ p. p.process.history) c.self.view_is) ∙ ap (λ h. shown h inside.lists.consumed inside.lists.sent) (sym same ∙ none) in
-    (λ i. seen network inside.component (record { state = inside.state; last = inside.last; due = inside.due }) inside.line (way_of inside.cancel) inside.floor (same i) inside.lists)
+    (λ i. seen network inside.component (record { state = inside.state; last = inside.last; due = inside.due }) inside.line inside.cancel inside.floor (same i) inside.lists)
     ∙ c.self.view_is
     ∙ sym (ap (λ p. record now { process = p }) (nothing_undone now.process history))
 

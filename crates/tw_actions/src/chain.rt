@@ -1,8 +1,17 @@
-//! What installing a chain answers.
+//! Why a chain has no more steps, and what becomes of it.
 
-use tw_chain::Cause;
+/// Why a chain has no more steps.
+#[derive(Clone, Copy, Debug, PartialEq, Eq)]
+pub enum Cause {
+    /// The burst is reached, or the next step is not before the bound.
+    All,
+    /// The next step would pass the network's greatest microstep, or the greatest tick.
+    Limit,
+    /// A growth of memory was refused.
+    OutOfMemory,
+}
 
-/// Why no more steps of a chain were made.
+/// Why no more steps of a chain were made by its process.
 #[derive(Clone, Copy, Debug, PartialEq, Eq)]
 pub enum Stop {
     /// All were made, and this is the chain's own cause.
@@ -15,7 +24,7 @@ pub enum Stop {
     Full,
 }
 
-/// How many steps of a chain were made, and why no more.
+/// How many steps of a chain its process made, and why no more.
 #[derive(Clone, Copy, Debug, PartialEq, Eq)]
 pub struct Finished {
     /// How many steps were made.

@@ -1,7 +1,6 @@
 //! What an executive is asked to do, and what it answers.
 
 use tw_msgs::RecordKind;
-use tw_rollback::Received;
 use tw_vtime::Stamp;
 
 /// What an executive is asked to do. Components are known by their numbers.
@@ -29,11 +28,24 @@ pub enum Done {
     /// So many items were posted.
     Posted(u64),
     /// This came of the item.
-    Delivered(Received),
+    Received(Received),
     /// So many steps were taken back.
     Undone(u64),
     /// Global virtual time is now this.
     Raised(Stamp),
     /// So many records were committed.
     Harvested(u64),
+}
+
+/// What came of an item; the numbers are those of the steps taken back (Jefferson 1985).
+#[derive(Clone, Copy, Debug, PartialEq, Eq)]
+pub enum Received {
+    /// The message is pending.
+    Placed,
+    /// Steps at or after its stamp were taken back, and the message is pending.
+    Straggler(u64),
+    /// The message and its anti-message are both gone.
+    Annihilated(u64),
+    /// The anti-message waits for its message.
+    Waiting,
 }

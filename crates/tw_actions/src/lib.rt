@@ -1,0 +1,18 @@
+//! What an executive is asked and what it answers: plain data, the same for the code and for the definitions.
+//!
+//! - [`Cancel`]: how the messages of undone steps are cancelled.
+//! - [`Action`], [`Done`], [`Received`]: what is asked, and what is answered where it is not refused.
+//! - [`Cause`]: why a chain, made apart from its process, has no more steps; [`Finished`], [`Stop`]: how many of them
+//!   its process made, and why no more.
+//! - [`RunState`]: how a run stands.
+#![tactic(auto)]
+
+mod action;
+mod cancel;
+mod chain;
+mod run_state;
+
+pub use action::{Action, Done, Received};
+pub use cancel::Cancel;
+pub use chain::{Cause, Finished, Stop};
+pub use run_state::RunState;

@@ -1,0 +1,2 @@
+pub mod AnyModel
+pub mod AnyModelLaws

@@ -1,0 +1,3 @@
+mod from_json;
+mod helpers;
+mod scenes;

@@ -3,27 +3,14 @@
 use serde_json::Value;
 use std::alloc::Global;
 use std::process::Abort;
-use std::sync::Wait;
-use std::thread::Threads;
 use tw_any_model::AnyModel;
-use tw_board::Board;
 use tw_declared::declared;
-use tw_exec::Executive;
 use tw_machine::machine::{Machine, Shared};
 use tw_machine_file::{FileMachine, given_of, machine_of};
 use tw_msgs::Record;
 use tw_network::{Coupling, Input, Network};
-use tw_process::Cancel;
 use tw_seq::simulate;
 use tw_texts::push_record;
-use tw_workers::{Open, Outcome, Setting, run};
-
-/// Two workers, who may run far ahead.
-const TWO: Setting = Setting {
-    workers: 2,
-    burst: 4,
-    window: 100,
-};
 
 /// A component: its name, the place of its machine among the machines, and the text of the component.
 pub(crate) struct Part(
@@ -90,23 +77,4 @@ pub(crate) fn assert_run(rt: &impl Abort, alloc: Global, scene: &Scene) {
     let ended = simulate(alloc, &network, scene.until).expect(rt, "memory");
     assert!(rt; ended.fault.is_none());
     assert_lines(rt, alloc, scene, ended.records.as_slice());
-}
-
-/// Asserts that the run by two workers has these lines.
-pub(crate) fn assert_worked<R: Abort + Threads + Wait + Sync>(
-    rt: &R,
-    alloc: Global,
-    scene: &Scene,
-    cancel: Cancel,
-) {
-    let network = network(rt, alloc, scene);
-    let (_, publisher) = Board::new(alloc).expect(rt, "memory");
-    let executive = Executive::with_cancel(alloc, network, scene.until, cancel)
-        .ok()
-        .expect(rt, "memory");
-    let (ended, _) = run(rt, alloc, executive, TWO, &Open, publisher);
-    let Ok(Outcome::Complete(trace)) = ended else {
-        panic!(rt; "no whole run");
-    };
-    assert_lines(rt, alloc, scene, trace.as_slice());
 }

@@ -2,46 +2,45 @@
 
 use super::helpers::{Part, Scene};
 
-/// The networks.
-pub(crate) static SCENES: [Scene; 8] = [
-    // A generator and a tally, written as machines: the records are those of the models that are built in.
-    Scene {
-        machines: &[
-            r#"{"name": "maker",
+/// A generator and a tally, written as machines: the records are those of the models that are built in.
+pub(crate) static TALLY: Scene = Scene {
+    machines: &[
+        r#"{"name": "maker",
                 "parameters": ["period", "amount"],
                 "registers": {"count": 0},
                 "first": "period",
                 "internal": ["count += 1", "wait period"],
                 "output": [{"port": 0, "value": "amount"}],
                 "words": ["count"]}"#,
-            r#"{"name": "adder",
+        r#"{"name": "adder",
                 "registers": {"count": 0, "sum": 0, "last": 0},
                 "external": ["count += 1", "sum += value", "last = value"],
                 "words": ["count", "sum", "last"]}"#,
-        ],
-        parts: &[
-            Part(
-                "g",
-                0,
-                r#"{"name": "g", "model": "maker", "period": 2, "amount": 5}"#,
-            ),
-            Part("t", 1, r#"{"name": "t", "model": "adder"}"#),
-        ],
-        couplings: &[(0, 0, 1, 0)],
-        inputs: &[],
-        until: 5,
-        lines: "\
+    ],
+    parts: &[
+        Part(
+            "g",
+            0,
+            r#"{"name": "g", "model": "maker", "period": 2, "amount": 5}"#,
+        ),
+        Part("t", 1, r#"{"name": "t", "model": "adder"}"#),
+    ],
+    couplings: &[(0, 0, 1, 0)],
+    inputs: &[],
+    until: 5,
+    lines: "\
              2.0 g out 0=5\n\
              2.0 g int | 1\n\
              2.0 t ext 0=5 | 1 5 5\n\
              4.0 g out 0=5\n\
              4.0 g int | 2\n\
              4.0 t ext 0=5 | 2 10 5\n",
-    },
-    // Three queues in a ring, written as machines.
-    Scene {
-        machines: &[
-            r#"{"name": "line",
+};
+
+/// Three queues in a ring, written as machines.
+pub(crate) static RING: Scene = Scene {
+    machines: &[
+        r#"{"name": "line",
                 "parameters": ["service"],
                 "registers": {"dropped": 0},
                 "queues": {"jobs": 64},
@@ -52,28 +51,28 @@ pub(crate) static SCENES: [Scene; 8] = [
                     "push jobs value"],
                 "output": [{"port": 0, "value": "front(jobs)"}],
                 "words": ["dropped", "jobs"]}"#,
-        ],
-        parts: &[
-            Part(
-                "cut",
-                0,
-                r#"{"name": "cut", "model": "line", "service": 2}"#,
-            ),
-            Part(
-                "weld",
-                0,
-                r#"{"name": "weld", "model": "line", "service": 3}"#,
-            ),
-            Part(
-                "paint",
-                0,
-                r#"{"name": "paint", "model": "line", "service": 4}"#,
-            ),
-        ],
-        couplings: &[(0, 0, 1, 0), (1, 0, 2, 0), (2, 0, 0, 0)],
-        inputs: &[(0, 0, 0, 1), (0, 0, 0, 2), (1, 1, 0, 3)],
-        until: 16,
-        lines: "\
+    ],
+    parts: &[
+        Part(
+            "cut",
+            0,
+            r#"{"name": "cut", "model": "line", "service": 2}"#,
+        ),
+        Part(
+            "weld",
+            0,
+            r#"{"name": "weld", "model": "line", "service": 3}"#,
+        ),
+        Part(
+            "paint",
+            0,
+            r#"{"name": "paint", "model": "line", "service": 4}"#,
+        ),
+    ],
+    couplings: &[(0, 0, 1, 0), (1, 0, 2, 0), (2, 0, 0, 0)],
+    inputs: &[(0, 0, 0, 1), (0, 0, 0, 2), (1, 1, 0, 3)],
+    until: 16,
+    lines: "\
              0.0 cut ext 0=1 0=2 | 0 1 2\n\
              1.0 weld ext 0=3 | 0 3\n\
              2.0 cut out 0=1\n\
@@ -104,11 +103,12 @@ pub(crate) static SCENES: [Scene; 8] = [
              14.0 cut out 0=1\n\
              14.0 cut int | 0\n\
              14.0 weld ext 0=1 | 0 1\n",
-    },
-    // Servers with a line before them, service times from a table, and losses.
-    Scene {
-        machines: &[
-            r#"{"name": "source",
+};
+
+/// Servers with a line before them, service times from a table, and losses.
+pub(crate) static POOL: Scene = Scene {
+    machines: &[
+        r#"{"name": "source",
                 "parameters": ["seed", "gaps"],
                 "registers": {"made": 0},
                 "random": "seed",
@@ -117,7 +117,7 @@ pub(crate) static SCENES: [Scene; 8] = [
                 "internal": ["made += 1", "wait gap[random(20)]; draw"],
                 "output": [{"port": 0, "value": "made + 1"}],
                 "words": ["made"]}"#,
-            r#"{"name": "pool",
+        r#"{"name": "pool",
                 "parameters": ["seed", "servers", "places", "times"],
                 "random": "seed",
                 "registers": {"served": 0, "lost": 0, "left_early": 0, "area": 0, "end": 0},
@@ -148,28 +148,28 @@ pub(crate) static SCENES: [Scene; 8] = [
                     "else { lost += 1 }"],
                 "output": [{"port": 0, "value": "front(who)"}],
                 "words": ["served", "lost", "left_early", "area", "busy", "who", "waiting"]}"#,
-            r#"{"name": "sink",
+        r#"{"name": "sink",
                 "registers": {"count": 0, "last": 0},
                 "external": ["count += 1", "last = value"],
                 "words": ["count", "last"]}"#,
-        ],
-        parts: &[
-            Part(
-                "arrivals",
-                0,
-                r#"{"name": "arrivals", "model": "source", "seed": 7, "gaps": [1, 1, 1, 1, 1, 1, 1, 1, 1, 1, 1, 1, 2, 2, 2, 2, 3, 3, 4, 5]}"#,
-            ),
-            Part(
-                "desk",
-                1,
-                r#"{"name": "desk", "model": "pool", "seed": 11, "servers": 3, "places": 3, "times": [1, 1, 2, 3, 4, 5, 5, 6, 7, 8, 9, 10, 11, 13, 14, 16, 19, 22, 28, 40]}"#,
-            ),
-            Part("out", 2, r#"{"name": "out", "model": "sink"}"#),
-        ],
-        couplings: &[(0, 0, 1, 0), (1, 0, 2, 0)],
-        inputs: &[(9, 1, 1, 6), (20, 1, 1, 1)],
-        until: 40,
-        lines: "\
+    ],
+    parts: &[
+        Part(
+            "arrivals",
+            0,
+            r#"{"name": "arrivals", "model": "source", "seed": 7, "gaps": [1, 1, 1, 1, 1, 1, 1, 1, 1, 1, 1, 1, 2, 2, 2, 2, 3, 3, 4, 5]}"#,
+        ),
+        Part(
+            "desk",
+            1,
+            r#"{"name": "desk", "model": "pool", "seed": 11, "servers": 3, "places": 3, "times": [1, 1, 2, 3, 4, 5, 5, 6, 7, 8, 9, 10, 11, 13, 14, 16, 19, 22, 28, 40]}"#,
+        ),
+        Part("out", 2, r#"{"name": "out", "model": "sink"}"#),
+    ],
+    couplings: &[(0, 0, 1, 0), (1, 0, 2, 0)],
+    inputs: &[(9, 1, 1, 6), (20, 1, 1, 1)],
+    until: 40,
+    lines: "\
              1.0 arrivals out 0=1\n\
              1.0 arrivals int | 1\n\
              1.0 desk ext 0=1 | 0 0 0 0 14 1\n\
@@ -261,11 +261,12 @@ pub(crate) static SCENES: [Scene; 8] = [
              39.0 arrivals out 0=20\n\
              39.0 arrivals int | 20\n\
              39.0 desk ext 0=20 | 12 1 1 168 40 52 66 13 14 16 17 19 20\n",
-    },
-    // Loss in thousandths, and four ports by shares.
-    Scene {
-        machines: &[
-            r#"{"name": "source",
+};
+
+/// Loss in thousandths, and four ports by shares.
+pub(crate) static ROUTER: Scene = Scene {
+    machines: &[
+        r#"{"name": "source",
                 "parameters": ["seed", "gaps"],
                 "registers": {"made": 0},
                 "random": "seed",
@@ -274,7 +275,7 @@ pub(crate) static SCENES: [Scene; 8] = [
                 "internal": ["made += 1", "wait gap[random(8)]; draw"],
                 "output": [{"port": 0, "value": "made + 1"}],
                 "words": ["made"]}"#,
-            r#"{"name": "router",
+        r#"{"name": "router",
                 "parameters": ["seed", "loss", "delay", "shares"],
                 "random": "seed",
                 "registers": {"lost": 0, "sent": [0, 0, 0, 0], "way": 0},
@@ -292,37 +293,37 @@ pub(crate) static SCENES: [Scene; 8] = [
                     "}"],
                 "output": [{"port": "way", "value": "front(line)"}],
                 "words": ["lost", "sent", "line"]}"#,
-            r#"{"name": "sink",
+        r#"{"name": "sink",
                 "registers": {"count": 0, "last": 0},
                 "external": ["count += 1", "last = value"],
                 "words": ["count", "last"]}"#,
-        ],
-        parts: &[
-            Part(
-                "s",
-                0,
-                r#"{"name": "s", "model": "source", "seed": 3, "gaps": [1, 1, 1, 2, 2, 3, 4, 6]}"#,
-            ),
-            Part(
-                "r",
-                1,
-                r#"{"name": "r", "model": "router", "seed": 5, "loss": 150, "delay": 2, "shares": [0, 0, 0, 0, 1, 1, 1, 2, 2, 3]}"#,
-            ),
-            Part("a", 2, r#"{"name": "a", "model": "sink"}"#),
-            Part("b", 2, r#"{"name": "b", "model": "sink"}"#),
-            Part("c", 2, r#"{"name": "c", "model": "sink"}"#),
-            Part("d", 2, r#"{"name": "d", "model": "sink"}"#),
-        ],
-        couplings: &[
-            (0, 0, 1, 0),
-            (1, 0, 2, 0),
-            (1, 1, 3, 0),
-            (1, 2, 4, 0),
-            (1, 3, 5, 0),
-        ],
-        inputs: &[],
-        until: 40,
-        lines: "\
+    ],
+    parts: &[
+        Part(
+            "s",
+            0,
+            r#"{"name": "s", "model": "source", "seed": 3, "gaps": [1, 1, 1, 2, 2, 3, 4, 6]}"#,
+        ),
+        Part(
+            "r",
+            1,
+            r#"{"name": "r", "model": "router", "seed": 5, "loss": 150, "delay": 2, "shares": [0, 0, 0, 0, 1, 1, 1, 2, 2, 3]}"#,
+        ),
+        Part("a", 2, r#"{"name": "a", "model": "sink"}"#),
+        Part("b", 2, r#"{"name": "b", "model": "sink"}"#),
+        Part("c", 2, r#"{"name": "c", "model": "sink"}"#),
+        Part("d", 2, r#"{"name": "d", "model": "sink"}"#),
+    ],
+    couplings: &[
+        (0, 0, 1, 0),
+        (1, 0, 2, 0),
+        (1, 1, 3, 0),
+        (1, 2, 4, 0),
+        (1, 3, 5, 0),
+    ],
+    inputs: &[],
+    until: 40,
+    lines: "\
              1.0 s out 0=1\n\
              1.0 s int | 1\n\
              1.0 r ext 0=1 | 0 0 0 0 0 1\n\
@@ -383,11 +384,12 @@ pub(crate) static SCENES: [Scene; 8] = [
              38.0 r out 2=11\n\
              38.0 r int | 1 3 1 5 1\n\
              38.0 c ext 0=11 | 5 11\n",
-    },
-    // A stock that is ordered anew below a level, with back orders and a lead time.
-    Scene {
-        machines: &[
-            r#"{"name": "customers",
+};
+
+/// A stock that is ordered anew below a level, with back orders and a lead time.
+pub(crate) static INVENTORY: Scene = Scene {
+    machines: &[
+        r#"{"name": "customers",
                 "parameters": ["seed", "gaps", "sizes"],
                 "random": "seed",
                 "first": 1,
@@ -395,7 +397,7 @@ pub(crate) static SCENES: [Scene; 8] = [
                 "internal": ["draw; wait gap[random(6)]; draw"],
                 "output": [{"port": 0, "value": "amount[random(6)]"}],
                 "words": ["amount[random(6)]"]}"#,
-            r#"{"name": "store",
+        r#"{"name": "store",
                 "parameters": ["low", "high"],
                 "registers": {"stock": "high", "owed": 0, "ordered": 0, "order": 0, "holding": 0, "short": 0},
                 "internal": ["holding += stock * elapsed", "order = 0"],
@@ -417,7 +419,7 @@ pub(crate) static SCENES: [Scene; 8] = [
                     "}"],
                 "output": [{"port": 0, "value": "order"}],
                 "words": ["stock", "owed", "ordered", "holding", "short"]}"#,
-            r#"{"name": "supplier",
+        r#"{"name": "supplier",
                 "parameters": ["lead"],
                 "queues": {"due": 64, "amounts": 64},
                 "internal": [
@@ -426,28 +428,28 @@ pub(crate) static SCENES: [Scene; 8] = [
                 "external": ["push due now + lead; push amounts value", "wait front(due) - now"],
                 "output": [{"port": 0, "value": "front(amounts)"}],
                 "words": ["length(due)", "due", "amounts"]}"#,
-        ],
-        parts: &[
-            Part(
-                "c",
-                0,
-                r#"{"name": "c", "model": "customers", "seed": 9, "gaps": [1, 1, 2, 2, 3, 5], "sizes": [1, 1, 2, 2, 3, 4]}"#,
-            ),
-            Part(
-                "store",
-                1,
-                r#"{"name": "store", "model": "store", "low": 5, "high": 9}"#,
-            ),
-            Part(
-                "supplier",
-                2,
-                r#"{"name": "supplier", "model": "supplier", "lead": 7}"#,
-            ),
-        ],
-        couplings: &[(0, 0, 1, 0), (1, 0, 2, 0), (2, 0, 1, 1)],
-        inputs: &[],
-        until: 40,
-        lines: "\
+    ],
+    parts: &[
+        Part(
+            "c",
+            0,
+            r#"{"name": "c", "model": "customers", "seed": 9, "gaps": [1, 1, 2, 2, 3, 5], "sizes": [1, 1, 2, 2, 3, 4]}"#,
+        ),
+        Part(
+            "store",
+            1,
+            r#"{"name": "store", "model": "store", "low": 5, "high": 9}"#,
+        ),
+        Part(
+            "supplier",
+            2,
+            r#"{"name": "supplier", "model": "supplier", "lead": 7}"#,
+        ),
+    ],
+    couplings: &[(0, 0, 1, 0), (1, 0, 2, 0), (2, 0, 1, 1)],
+    inputs: &[],
+    until: 40,
+    lines: "\
              1.0 c out 0=3\n\
              1.0 c int | 3\n\
              1.0 store ext 0=3 | 6 0 0 9 0\n\
@@ -524,11 +526,12 @@ pub(crate) static SCENES: [Scene; 8] = [
              39.0 c out 0=2\n\
              39.0 c int | 3\n\
              39.0 store ext 0=2 | 0 0 7 84 13\n",
-    },
-    // A lathe that breaks down and is repaired.
-    Scene {
-        machines: &[
-            r#"{"name": "source",
+};
+
+/// A lathe that breaks down and is repaired.
+pub(crate) static LATHE: Scene = Scene {
+    machines: &[
+        r#"{"name": "source",
                 "parameters": ["seed", "gaps"],
                 "registers": {"made": 0},
                 "random": "seed",
@@ -537,7 +540,7 @@ pub(crate) static SCENES: [Scene; 8] = [
                 "internal": ["made += 1", "wait gap[random(8)]; draw"],
                 "output": [{"port": 0, "value": "made + 1"}],
                 "words": ["made"]}"#,
-            r#"{"name": "lathe",
+        r#"{"name": "lathe",
                 "parameters": ["seed", "times", "lives", "repair"],
                 "random": "seed",
                 "registers": {"down": 0, "rest": 0, "life": 25, "done": 0, "breaks": 0},
@@ -566,28 +569,28 @@ pub(crate) static SCENES: [Scene; 8] = [
                 "output": [
                     {"when": "not down and rest == elapsed", "port": 0, "value": "front(jobs)"}],
                 "words": ["down", "rest", "life", "done", "breaks", "jobs"]}"#,
-            r#"{"name": "sink",
+        r#"{"name": "sink",
                 "registers": {"count": 0, "last": 0},
                 "external": ["count += 1", "last = value"],
                 "words": ["count", "last"]}"#,
-        ],
-        parts: &[
-            Part(
-                "s",
-                0,
-                r#"{"name": "s", "model": "source", "seed": 21, "gaps": [2, 3, 4, 5, 6, 8, 10, 14]}"#,
-            ),
-            Part(
-                "lathe",
-                1,
-                r#"{"name": "lathe", "model": "lathe", "seed": 22, "times": [2, 3, 4, 5, 6, 8], "lives": [10, 15, 20, 30, 40, 60], "repair": 12}"#,
-            ),
-            Part("out", 2, r#"{"name": "out", "model": "sink"}"#),
-        ],
-        couplings: &[(0, 0, 1, 0), (1, 0, 2, 0)],
-        inputs: &[],
-        until: 60,
-        lines: "\
+    ],
+    parts: &[
+        Part(
+            "s",
+            0,
+            r#"{"name": "s", "model": "source", "seed": 21, "gaps": [2, 3, 4, 5, 6, 8, 10, 14]}"#,
+        ),
+        Part(
+            "lathe",
+            1,
+            r#"{"name": "lathe", "model": "lathe", "seed": 22, "times": [2, 3, 4, 5, 6, 8], "lives": [10, 15, 20, 30, 40, 60], "repair": 12}"#,
+        ),
+        Part("out", 2, r#"{"name": "out", "model": "sink"}"#),
+    ],
+    couplings: &[(0, 0, 1, 0), (1, 0, 2, 0)],
+    inputs: &[],
+    until: 60,
+    lines: "\
              1.0 s out 0=1\n\
              1.0 s int | 1\n\
              1.0 lathe ext 0=1 | 0 3 25 0 0 1\n\
@@ -640,11 +643,12 @@ pub(crate) static SCENES: [Scene; 8] = [
              58.0 lathe out 0=7\n\
              58.0 lathe int | 0 5 21 7 1 8 9\n\
              58.0 out ext 0=7 | 7 7\n",
-    },
-    // Stations that send while they hold the token.
-    Scene {
-        machines: &[
-            r#"{"name": "source",
+};
+
+/// Stations that send while they hold the token.
+pub(crate) static TOKEN_RING: Scene = Scene {
+    machines: &[
+        r#"{"name": "source",
                 "parameters": ["seed", "gaps"],
                 "registers": {"made": 0},
                 "random": "seed",
@@ -653,7 +657,7 @@ pub(crate) static SCENES: [Scene; 8] = [
                 "internal": ["made += 1", "wait gap[random(8)]; draw"],
                 "output": [{"port": 0, "value": "made + 1"}],
                 "words": ["made"]}"#,
-            r#"{"name": "station",
+        r#"{"name": "station",
                 "parameters": ["limit", "frame", "hop", "start"],
                 "registers": {"may": 0, "sent": 0, "rounds": 0},
                 "queues": {"line": 30},
@@ -673,58 +677,58 @@ pub(crate) static SCENES: [Scene; 8] = [
                     {"when": "may > 0", "port": 0, "value": "front(line)"},
                     {"when": "may == 0", "port": 1, "value": 0}],
                 "words": ["may", "sent", "rounds", "line"]}"#,
-            r#"{"name": "sink",
+        r#"{"name": "sink",
                 "registers": {"count": 0, "last": 0},
                 "external": ["count += 1", "last = value"],
                 "words": ["count", "last"]}"#,
-        ],
-        parts: &[
-            Part(
-                "a",
-                1,
-                r#"{"name": "a", "model": "station", "limit": 2, "frame": 3, "hop": 1, "start": 1}"#,
-            ),
-            Part(
-                "b",
-                1,
-                r#"{"name": "b", "model": "station", "limit": 2, "frame": 3, "hop": 1, "start": -1}"#,
-            ),
-            Part(
-                "c",
-                1,
-                r#"{"name": "c", "model": "station", "limit": 2, "frame": 3, "hop": 1, "start": -1}"#,
-            ),
-            Part(
-                "sa",
-                0,
-                r#"{"name": "sa", "model": "source", "seed": 1, "gaps": [4, 6, 8, 10, 12, 15, 20, 30]}"#,
-            ),
-            Part(
-                "sb",
-                0,
-                r#"{"name": "sb", "model": "source", "seed": 2, "gaps": [4, 6, 8, 10, 12, 15, 20, 30]}"#,
-            ),
-            Part(
-                "sc",
-                0,
-                r#"{"name": "sc", "model": "source", "seed": 3, "gaps": [2, 3, 4, 5, 6, 8, 10, 15]}"#,
-            ),
-            Part("out", 2, r#"{"name": "out", "model": "sink"}"#),
-        ],
-        couplings: &[
-            (0, 1, 1, 1),
-            (1, 1, 2, 1),
-            (2, 1, 0, 1),
-            (3, 0, 0, 0),
-            (4, 0, 1, 0),
-            (5, 0, 2, 0),
-            (0, 0, 6, 0),
-            (1, 0, 6, 0),
-            (2, 0, 6, 0),
-        ],
-        inputs: &[],
-        until: 25,
-        lines: "\
+    ],
+    parts: &[
+        Part(
+            "a",
+            1,
+            r#"{"name": "a", "model": "station", "limit": 2, "frame": 3, "hop": 1, "start": 1}"#,
+        ),
+        Part(
+            "b",
+            1,
+            r#"{"name": "b", "model": "station", "limit": 2, "frame": 3, "hop": 1, "start": -1}"#,
+        ),
+        Part(
+            "c",
+            1,
+            r#"{"name": "c", "model": "station", "limit": 2, "frame": 3, "hop": 1, "start": -1}"#,
+        ),
+        Part(
+            "sa",
+            0,
+            r#"{"name": "sa", "model": "source", "seed": 1, "gaps": [4, 6, 8, 10, 12, 15, 20, 30]}"#,
+        ),
+        Part(
+            "sb",
+            0,
+            r#"{"name": "sb", "model": "source", "seed": 2, "gaps": [4, 6, 8, 10, 12, 15, 20, 30]}"#,
+        ),
+        Part(
+            "sc",
+            0,
+            r#"{"name": "sc", "model": "source", "seed": 3, "gaps": [2, 3, 4, 5, 6, 8, 10, 15]}"#,
+        ),
+        Part("out", 2, r#"{"name": "out", "model": "sink"}"#),
+    ],
+    couplings: &[
+        (0, 1, 1, 1),
+        (1, 1, 2, 1),
+        (2, 1, 0, 1),
+        (3, 0, 0, 0),
+        (4, 0, 1, 0),
+        (5, 0, 2, 0),
+        (0, 0, 6, 0),
+        (1, 0, 6, 0),
+        (2, 0, 6, 0),
+    ],
+    inputs: &[],
+    until: 25,
+    lines: "\
              1.0 a out 1=0\n\
              1.0 sa out 0=1\n\
              1.0 sb out 0=1\n\
@@ -782,11 +786,12 @@ pub(crate) static SCENES: [Scene; 8] = [
              24.0 a out 0=2\n\
              24.0 a int | 0 2 2 3\n\
              24.0 out ext 0=2 | 6 2\n",
-    },
-    // A server that goes round its lines.
-    Scene {
-        machines: &[
-            r#"{"name": "source",
+};
+
+/// A server that goes round its lines.
+pub(crate) static POLLING: Scene = Scene {
+    machines: &[
+        r#"{"name": "source",
                 "parameters": ["seed", "gaps"],
                 "registers": {"made": 0},
                 "random": "seed",
@@ -795,7 +800,7 @@ pub(crate) static SCENES: [Scene; 8] = [
                 "internal": ["made += 1", "wait gap[random(8)]; draw"],
                 "output": [{"port": 0, "value": "made + 1"}],
                 "words": ["made"]}"#,
-            r#"{"name": "server",
+        r#"{"name": "server",
                 "parameters": ["seed", "lines", "times", "switch"],
                 "random": "seed",
                 "registers": {"here": 0, "serving": 0, "served": [0, 0, 0, 0], "lost": 0, "waiting": 0},
@@ -820,52 +825,52 @@ pub(crate) static SCENES: [Scene; 8] = [
                     "line[1]",
                     "line[2]",
                     "line[3]"]}"#,
-            r#"{"name": "sink",
+        r#"{"name": "sink",
                 "registers": {"count": 0, "last": 0},
                 "external": ["count += 1", "last = value"],
                 "words": ["count", "last"]}"#,
-        ],
-        parts: &[
-            Part(
-                "s0",
-                0,
-                r#"{"name": "s0", "model": "source", "seed": 31, "gaps": [6, 8, 10, 12, 14, 16, 20, 40]}"#,
-            ),
-            Part(
-                "s1",
-                0,
-                r#"{"name": "s1", "model": "source", "seed": 32, "gaps": [6, 8, 10, 12, 14, 16, 20, 40]}"#,
-            ),
-            Part(
-                "s2",
-                0,
-                r#"{"name": "s2", "model": "source", "seed": 33, "gaps": [6, 8, 10, 12, 14, 16, 20, 40]}"#,
-            ),
-            Part(
-                "s3",
-                0,
-                r#"{"name": "s3", "model": "source", "seed": 34, "gaps": [3, 4, 5, 6, 7, 8, 10, 20]}"#,
-            ),
-            Part(
-                "server",
-                1,
-                r#"{"name": "server", "model": "server", "seed": 35, "lines": 4, "times": [1, 1, 2, 2, 3, 4], "switch": 1}"#,
-            ),
-            Part("out", 2, r#"{"name": "out", "model": "sink"}"#),
-        ],
-        couplings: &[
-            (0, 0, 4, 0),
-            (1, 0, 4, 1),
-            (2, 0, 4, 2),
-            (3, 0, 4, 3),
-            (4, 0, 5, 0),
-            (4, 1, 5, 1),
-            (4, 2, 5, 2),
-            (4, 3, 5, 3),
-        ],
-        inputs: &[],
-        until: 25,
-        lines: "\
+    ],
+    parts: &[
+        Part(
+            "s0",
+            0,
+            r#"{"name": "s0", "model": "source", "seed": 31, "gaps": [6, 8, 10, 12, 14, 16, 20, 40]}"#,
+        ),
+        Part(
+            "s1",
+            0,
+            r#"{"name": "s1", "model": "source", "seed": 32, "gaps": [6, 8, 10, 12, 14, 16, 20, 40]}"#,
+        ),
+        Part(
+            "s2",
+            0,
+            r#"{"name": "s2", "model": "source", "seed": 33, "gaps": [6, 8, 10, 12, 14, 16, 20, 40]}"#,
+        ),
+        Part(
+            "s3",
+            0,
+            r#"{"name": "s3", "model": "source", "seed": 34, "gaps": [3, 4, 5, 6, 7, 8, 10, 20]}"#,
+        ),
+        Part(
+            "server",
+            1,
+            r#"{"name": "server", "model": "server", "seed": 35, "lines": 4, "times": [1, 1, 2, 2, 3, 4], "switch": 1}"#,
+        ),
+        Part("out", 2, r#"{"name": "out", "model": "sink"}"#),
+    ],
+    couplings: &[
+        (0, 0, 4, 0),
+        (1, 0, 4, 1),
+        (2, 0, 4, 2),
+        (3, 0, 4, 3),
+        (4, 0, 5, 0),
+        (4, 1, 5, 1),
+        (4, 2, 5, 2),
+        (4, 3, 5, 3),
+    ],
+    inputs: &[],
+    until: 25,
+    lines: "\
              1.0 s0 out 0=1\n\
              1.0 s1 out 0=1\n\
              1.0 s2 out 0=1\n\
@@ -923,5 +928,4 @@ pub(crate) static SCENES: [Scene; 8] = [
              23.0 out ext 0=2 | 7 2\n\
              24.0 server out -\n\
              24.0 server int | 1 1 0 2 1 1 3 2 3 4 2\n",
-    },
-];
+};

@@ -1,5 +1,11 @@
 # Executives driven by seeds: whatever is drawn, what is committed is a beginning of the sequential simulator's trace, for both ways
-# of cancelling; and by one seed at least it is the whole trace.
+# of cancelling, and global virtual time never falls; and by one seed at least it is the whole trace.
+
+# Whether the stamps to which global virtual time was raised never fall; the end is after all others.
+never_falls() {
+    sed -n 's/^raised //p' "$1" | sed 's/^end$/2000000000000.0.0/' | tr . ' ' |
+        awk '{ if ($1 < a || $1 == a && ($2 < b || $2 == b && $3 < c)) exit 1; a = $1; b = $2; c = $3 }'
+}
 
 # The networks, each with its end tick and how many actions are drawn.
 while read -r network until steps; do
@@ -12,7 +18,7 @@ while read -r network until steps; do
             ended=$?
             tail -n "+$((steps + 1))" "$out" >"$room/trace"
             committed=$(wc -l <"$room/trace")
-            head -n "$committed" "$room/whole" | cmp --silent - "$room/trace" && [ "$(grep -c '^refused [^1]\|^refused 1[0-4]' "$out")" -eq 0 ]
+            head -n "$committed" "$room/whole" | cmp --silent - "$room/trace" && [ "$(grep -c '^refused [^1]\|^refused 1[0-4]' "$out")" -eq 0 ] && never_falls "$out"
             count "$network by the seed $seed, $cancel" 0 "$ended" $?
             [ "$committed" -gt "$most" ] && most=$committed
         done
@@ -26,4 +32,5 @@ tests/program/mutual-confluent/network.json 3 2000
 tests/program/nested/network.json 3 2000
 tests/program/nested-two-paths/network.json 3 2000
 examples/ring-of-queues.json 16 4000
+tests/three-hops.json 12 3000
 NETWORKS

@@ -64,9 +64,9 @@ module _ (s g : ℕ) where
       ap (λ b. b || any_between s g rs) (earlier x (omega (arith, early, low))) ∙ none_earlier (x.stamp + 1) i rs r h.1 at early rest
 
 -- the records of a history
-pub records_shown : {S R : Type 0} (es : List (Entry S R)) (a c : List Message) → records_of (shown es a c) ≡ map (λ (e : Entry S R). e.done) es
+pub records_shown : {S R : Type 0} (es : List (Entry S R)) (a c : List Message) → records_of (shown es a c) ≡ map (λ (e : Entry S R). e.step.done) es
 records_shown [] a c = refl
-records_shown (e ∷ es) a c = ap (λ l. e.done ∷ l) (records_shown es (drop e.consumed a) (drop e.sent c))
+records_shown (e ∷ es) a c = ap (λ l. e.step.done ∷ l) (records_shown es (drop e.consumed a) (drop e.sent c))
 
 pub stood_rises : {S : Type 0} (valid : S → Type 0) (m : Meaning S) (floor : ℕ) (steps : List (Step S)) → Stood valid m floor steps → Rises floor (records_of steps)
 stood_rises valid m floor [] h = tt

@@ -40,14 +40,14 @@ module _ {S R : Type 0} (valid : S → Type 0) (m : Meaning S) (undone : Turn �
   pub sent_in : e.sent ≤ length lists.sent
   sent_in = omega (arith, kept.sent_is)
 
-  pub stamp_small : e.done.stamp + 1 ≤ never
+  pub stamp_small : e.step.done.stamp + 1 ≤ never
   stamp_small =
       let rest = shown es (drop e.consumed lists.consumed) (drop e.sent lists.sent) in
-      let grows = floor_grows valid m (e.done.stamp + 1) rest kept.stood.3 in
+      let grows = floor_grows valid m (e.step.done.stamp + 1) rest kept.stood.3 in
       let top = first_at_most c lists.pending (each_parts (CanTake c) lists.consumed lists.pending kept.fit).1 in
       omega (arith, grows, kept.from, top)
 
-  pub committed : (room spare : ℕ) → IsKeptBy valid m undone c now (e.done.stamp + 1) es (with_room room spare (forgotten e.consumed e.sent lists))
+  pub committed : (room spare : ℕ) → IsKeptBy valid m undone c now (e.step.done.stamp + 1) es (with_room room spare (forgotten e.consumed e.sent lists))
   committed room spare = record {
     linked = kept.linked.1;
     consumed_is = omega (arith, kept.consumed_is, length-drop e.consumed lists.consumed);
@@ -61,13 +61,13 @@ module _ {S R : Type 0} (valid : S → Type 0) (m : Meaning S) (undone : Turn �
 
 -- ---- How many stand before a stamp
 
-counted : {S R : Type 0} (s : ℕ) (es : List (Entry S R)) (a c : List Message) → prefix_len (λ e. nat_lt e.done.stamp s) es ≡ steps_before s (shown es a c)
+counted : {S R : Type 0} (s : ℕ) (es : List (Entry S R)) (a c : List Message) → prefix_len (λ e. nat_lt e.step.done.stamp s) es ≡ steps_before s (shown es a c)
 counted s [] a c = refl
-counted s (e ∷ es) a c = ap (λ n. cond (nat_lt e.done.stamp s) n 0) (let ih = counted s es (drop e.consumed a) (drop e.sent c) in omega (arith, ih))
+counted s (e ∷ es) a c = ap (λ n. cond (nat_lt e.step.done.stamp s) n 0) (let ih = counted s es (drop e.consumed a) (drop e.sent c) in omega (arith, ih))
 
-pub before_shown : {S R : Type 0} (s n : ℕ) (es seen : List (Entry S R)) (a c : List Message) → seen ≡ es → n ≡ length (take_while (λ e. nat_lt e.done.stamp s) seen) → n ≡ steps_before s (shown es a c)
+pub before_shown : {S R : Type 0} (s n : ℕ) (es seen : List (Entry S R)) (a c : List Message) → seen ≡ es → n ≡ length (take_while (λ e. nat_lt e.step.done.stamp s) seen) → n ≡ steps_before s (shown es a c)
 before_shown {S} {R} s n es seen a c same is =
-    is ∙ length-prefix_len (λ (e : Entry S R). nat_lt e.done.stamp s) seen ∙ ap (prefix_len (λ (e : Entry S R). nat_lt e.done.stamp s)) same ∙ counted s es a c
+    is ∙ length-prefix_len (λ (e : Entry S R). nat_lt e.step.done.stamp s) seen ∙ ap (prefix_len (λ (e : Entry S R). nat_lt e.step.done.stamp s)) same ∙ counted s es a c
 
 pub before_within : {S : Type 0} (s : ℕ) (steps : List (Step S)) → steps_before s steps ≤ length steps
 before_within s [] = omega arith

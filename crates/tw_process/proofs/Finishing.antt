@@ -19,7 +19,8 @@ use Rattle.tw_theory.proofs.Agreeing.{step_taken, same_step}
 use Rattle.tw_vtime.specs.Stamps.{max_microstep}
 use Rattle.tw_chain.specs.Kept as chain
 use Rattle.tw_chain.specs.Kept.{shown_all}
-use Rattle.tw_chain.specs.declared.step.ChainStep.{ChainStep}
+use Rattle.tw_step.specs.Steps.{AllLinked}
+use Rattle.tw_step.specs.declared.step.Step.{Step as KeptStep}
 use Rattle.tw_lists.specs.Lists.{Lists, with_room}
 use Rattle.tw_process.specs.declared.entry.Entry.{Entry}
 use Rattle.tw_actions.specs.declared.chain.Stop.{Stop}
@@ -49,7 +50,7 @@ split net c (suc n) now ms (step ∷ steps) after left h =
 
 -- ---- steps that are shown alike
 
-pub record Alike {S R : Type 0} (net : Network S) (c : ℕ) (way : Cancel) (xs ys : List (ChainStep S R)) (lists : Lists) : Type 0 where
+pub record Alike {S R : Type 0} (net : Network S) (c : ℕ) (way : Cancel) (xs ys : List (KeptStep S R)) (lists : Lists) : Type 0 where
   pub next : AreNext net c way xs lists → AreNext net c way ys lists
   pub after : after_steps net c way xs lists ≡ after_steps net c way ys lists
   pub counts : sent_counts net c xs ≡ sent_counts net c ys
@@ -60,7 +61,7 @@ head_same e = cc
 tail_same : {A : Type 0} {p q : A} {ps qs : List A} → p ∷ ps ≡ q ∷ qs → ps ≡ qs
 tail_same e = cc
 
-pub alike : {S R : Type 0} (net : Network S) (c : ℕ) (way : Cancel) (xs ys : List (ChainStep S R)) (lists : Lists) → shown_all xs ≡ shown_all ys → Alike net c way xs ys lists
+pub alike : {S R : Type 0} (net : Network S) (c : ℕ) (way : Cancel) (xs ys : List (KeptStep S R)) (lists : Lists) → shown_all xs ≡ shown_all ys → Alike net c way xs ys lists
 alike net c way [] [] lists same = record { next = λ h. h; after = refl; counts = refl }
 alike net c way [] (y ∷ ys) lists same = absurd (let l = ap length same in omega (arith, l))
 alike net c way (x ∷ xs) [] lists same = absurd (let l = ap length same in omega (arith, l))
@@ -78,10 +79,10 @@ alike {S} {R} net c way (x ∷ xs) (y ∷ ys) lists same =
     }
 
 -- the step of a chain that is shown so
-pub shown_at : {S R : Type 0} (es : List (ChainStep S R)) (n : ℕ) (step : Step S) → slice_get (shown_all es) n ≡ Some step → (e : ChainStep S R) × (slice_get es n ≡ Some e) × (chain.shown e ≡ step)
+pub shown_at : {S R : Type 0} (es : List (KeptStep S R)) (n : ℕ) (step : Step S) → slice_get (shown_all es) n ≡ Some step → (e : KeptStep S R) × (slice_get es n ≡ Some e) × (chain.shown e ≡ step)
 shown_at {S} {R} es n step is = go (slice_get es n) refl (sym (slice_get-map chain.shown es n) ∙ is)
   where
-    go : (o : Option (ChainStep S R)) → slice_get es n ≡ o → option_map chain.shown o ≡ Some step → (e : ChainStep S R) × (slice_get es n ≡ Some e) × (chain.shown e ≡ step)
+    go : (o : Option (KeptStep S R)) → slice_get es n ≡ o → option_map chain.shown o ≡ Some step → (e : KeptStep S R) × (slice_get es n ≡ Some e) × (chain.shown e ≡ step)
     go None at f = absurd (cc f)
     go (Some e) at f = (e, at, cc f)
 
@@ -95,13 +96,13 @@ drop_at (y ∷ xs) (suc n) x is = drop_at xs n x is
 module _ {M S R : Type 0} (net : Network S) (valid : S → Type 0) (m : Meaning S) (undone : Turn → S → ℕ → Bag → R → S) (r : SoloRun S) (home : IsHome net m r.start) (small : net.micro_limit ≤ max_microstep)
     (stays : (tk : Turn) (state : S) (elapsed : ℕ) (bag : Bag) → CanTurn valid m tk state elapsed bag → valid (turned m tk state elapsed bag))
     (network : NetworkContents M) (line : ℕ) (way : Cancel) (floor : ℕ) (run : IsSoloRun m r) where
-  pub record MadeUpTo (n : ℕ) (now now' : Moment S) (hs : List (Entry S R)) (lists : Lists) (parts : List (ChainStep S R)) : Type 0 where
+  pub record MadeUpTo (n : ℕ) (now now' : Moment S) (hs : List (Entry S R)) (lists : Lists) (parts : List (KeptStep S R)) : Type 0 where
     pub all : AllMade net valid m undone r.start home small stays network line way floor 0 parts now now' hs lists
     pub begins : n ≡ 0 → now' ≡ r.start.now
 
   -- the first n steps, which are these parts, are made
-  pub made : (n : ℕ) (now now' : Moment S) (hs : List (Entry S R)) (lists : Lists) (parts : List (ChainStep S R)) → now ≡ r.start.now → IsKeptBy valid m undone r.start.component now floor hs lists
-      → shown_all parts ≡ take n r.steps → now' ≡ before_all (drop n r.steps) r.after → AreNext net r.start.component way parts lists → chain.Linked undone parts now'.state
+  pub made : (n : ℕ) (now now' : Moment S) (hs : List (Entry S R)) (lists : Lists) (parts : List (KeptStep S R)) → now ≡ r.start.now → IsKeptBy valid m undone r.start.component now floor hs lists
+      → shown_all parts ≡ take n r.steps → now' ≡ before_all (drop n r.steps) r.after → AreNext net r.start.component way parts lists → AllLinked undone parts now'.state
       → MadeUpTo n now now' hs lists parts
   made n now now' hs lists parts stands kept parts_is now_is next linked =
       let s = split (alone m r.start) r.start.component n r.start.now r.start.messages r.steps r.after r.left run.leads in
@@ -114,7 +115,7 @@ module _ {M S R : Type 0} (net : Network S) (valid : S → Type 0) (m : Meaning 
       }
 
   -- why the next one is not
-  pub stops : (n : ℕ) (now' : Moment S) (hist : List (Entry S R)) (lists : Lists) (step : Step S) (e : ChainStep S R) (stop : Stop) → IsKeptBy valid m undone r.start.component now' floor hist lists
+  pub stops : (n : ℕ) (now' : Moment S) (hist : List (Entry S R)) (lists : Lists) (step : Step S) (e : KeptStep S R) (stop : Stop) → IsKeptBy valid m undone r.start.component now' floor hist lists
       → now' ≡ before_all (drop n r.steps) r.after → (n ≡ 0 → now' ≡ r.start.now) → slice_get r.steps n ≡ Some step → chain.shown e ≡ step → WhyNot net r.start.component way e lists stop
       → StopsAt net r n (seen network r.start.component now' line way floor hist lists).process step stop
   stops n now' hist lists step e (Ended cause) kept now_is begins at is why = absurd why
@@ -146,11 +147,11 @@ module _ {M S R : Type 0} (net : Network S) (valid : S → Type 0) (m : Meaning 
     pub kept : IsKeptBy valid m undone r.start.component now' floor hist lists'
     pub is : IsInstalled net r cause (seen network r.start.component now line way floor hs lists).process (seen network r.start.component now' line way floor hist lists').process (record { installed = n; stop = stop })
 
-  pub whole : (cause : Cause) (now now' : Moment S) (hs hist : List (Entry S R)) (lists lists' : Lists) (n : ℕ) (stop : Stop) (es parts : List (ChainStep S R)) (counts : List ℕ) (o : Option Stop) (k : Cause)
+  pub whole : (cause : Cause) (now now' : Moment S) (hs hist : List (Entry S R)) (lists lists' : Lists) (n : ℕ) (stop : Stop) (es parts : List (KeptStep S R)) (counts : List ℕ) (o : Option Stop) (k : Cause)
       → now ≡ r.start.now → IsKeptBy valid m undone r.start.component now floor hs lists → shown_all es ≡ r.steps → n ≤ length es
       → AreNext net r.start.component way (take n es) lists → lists' ≡ with_room lists'.room lists'.spare (after_steps net r.start.component way (take n es) lists) → counts ≡ sent_counts net r.start.component (take n es)
-      → shown_all parts ≡ take n r.steps → now' ≡ before_all (drop n r.steps) r.after → chain.Linked undone parts now'.state → hist ≡ hs ++ entries_with counts parts
-      → IfNone o (n ≡ length es) → IfSome o (λ s. n < length es) → IfSome o (λ s. (e : ChainStep S R) → slice_get es n ≡ Some e → WhyNot net r.start.component way e lists' s)
+      → shown_all parts ≡ take n r.steps → now' ≡ before_all (drop n r.steps) r.after → AllLinked undone parts now'.state → hist ≡ hs ++ entries_with counts parts
+      → IfNone o (n ≡ length es) → IfSome o (λ s. n < length es) → IfSome o (λ s. (e : KeptStep S R) → slice_get es n ≡ Some e → WhyNot net r.start.component way e lists' s)
       → stop ≡ unwrap_or o (Ended k) → k ≡ cause
       → Whole cause now now' hs hist lists lists' n stop
   whole cause now now' hs hist lists lists' n stop es parts counts o k stands kept es_is within next lists_is counts_is parts_is now_is linked hist_is all short why stop_is cause_is =
@@ -184,7 +185,7 @@ module _ {M S R : Type 0} (net : Network S) (valid : S → Type 0) (m : Meaning 
       ends (Some s) short is long at = absurd (omega (arith, short, long, at))
 
       no_more : IsKeptBy valid m undone r.start.component now' floor hist lists' → (n ≡ 0 → now' ≡ r.start.now) → length es ≡ length r.steps
-          → (o : Option Stop) → IfNone o (n ≡ length es) → IfSome o (λ s. (e : ChainStep S R) → slice_get es n ≡ Some e → WhyNot net r.start.component way e lists' s) → stop ≡ unwrap_or o (Ended k)
+          → (o : Option Stop) → IfNone o (n ≡ length es) → IfSome o (λ s. (e : KeptStep S R) → slice_get es n ≡ Some e → WhyNot net r.start.component way e lists' s) → stop ≡ unwrap_or o (Ended k)
           → (step : Step S) → slice_get r.steps n ≡ Some step → StopsAt net r n (seen network r.start.component now' line way floor hist lists').process step stop
       no_more kept' begins long None all why is step at = absurd (let w = slice_get_within r.steps n step at in omega (arith, w, all, long))
       no_more kept' begins long (Some s) all why is step at =

@@ -1,6 +1,6 @@
 -- The last step of a history, made and floor back.
 use Rattle.std.proofs.Common.{◌≡◌, ◌≢◌, ℕ, suc, ◌+◌, ◌-◌, ◌<◌, ◌≤◌, List, [], ◌∷◌, ◌++◌, length, take, drop, Some, refl, sym, ap, subst, ◌∙◌, arith, length-append, append-nil, append_assoc, take-append-drop, length-take-le, length-drop, take_all}
-use Rattle.std.proofs.lemmas.List.{take-append-le, drop-append-le}
+use Rattle.std.proofs.lemmas.List.{map_push, take-append-le, drop-append-le}
 use Rattle.std.proofs.lemmas.Option.{same_Some}
 use Rattle.std.specs.Prelude.{slice_get, slice_index_or}
 use Rattle.tw_network.specs.Contents.{Contents as NetworkContents}
@@ -17,7 +17,9 @@ use Rattle.tw_theory.specs.Transitions.{Moment}
 use Rattle.tw_theory.specs.Soundness.{AllBefore}
 use Rattle.tw_process.specs.declared.entry.Entry.{Entry}
 use Rattle.tw_lists.specs.Lists.{Lists, node_count as lists_count, restored, cancelled}
-use Rattle.tw_process.specs.History.{before_of, step_of, shown, seen, total_consumed, total_sent, LinkBy, state_before, Linked, IsKeptBy, IsKept}
+use Rattle.tw_step.specs.Steps.{before_of, Linked, AllLinked}
+use Rattle.tw_step.proofs.Links.{linked_pop, linked_push}
+use Rattle.tw_process.specs.History.{kept_of, step_of, shown, seen, total_consumed, total_sent, IsKeptBy, IsKept}
 use Rattle.tw_theory.specs.Memory.{live}
 use Rattle.tw_process.specs.Process.{with_last_undone, last_stamp_of}
 use Rattle.tw_theory.specs.Standing.{IsStanding, floor_after, CanTake}
@@ -133,28 +135,25 @@ module _ {S R : Type 0} where
   shown_some [] e a c none = absurd (omega (arith, ap length none))
   shown_some (x ∷ es) e a c none = absurd (omega (arith, ap length none))
 
-  state_last : (es : List (Entry S R)) (e : Entry S R) (now : S) → state_before (es ++ e ∷ []) now ≡ state_before es e.before.value
-  state_last [] e now = refl
-  state_last (x ∷ es) e now = refl
-
   module _ (valid : S → Type 0) (m : Meaning S) (undone : Turn → S → ℕ → Bag → R → S) where
-    pub linked_last : (es : List (Entry S R)) (e : Entry S R) (now : S) → Linked undone (es ++ e ∷ []) now → LinkBy undone e.residue e now × Linked undone es e.before.value
-    linked_last [] e now linked = (linked.0, tt)
-    linked_last (x ∷ es) e now linked =
-        let rest = linked_last es e now linked.1 in
-        (rest.0, (subst (λ s. LinkBy undone x.residue x s) (state_last es e now) linked.0, rest.1))
+    -- the entries of one step more are linked so as their steps
+    links_last : (es : List (Entry S R)) (e : Entry S R) (now : S) → AllLinked undone (kept_of (es ++ e ∷ [])) now → Linked undone e.step now × AllLinked undone (kept_of es) e.step.before.value
+    links_last es e now links = linked_pop undone (kept_of es) e.step now (subst (λ l. AllLinked undone l now) (map_push (λ (x : Entry S R). x.step) es e) links)
+
+    links_more : (es : List (Entry S R)) (e : Entry S R) (now : S) → AllLinked undone (kept_of es) e.step.before.value → Linked undone e.step now → AllLinked undone (kept_of (es ++ e ∷ [])) now
+    links_more es e now links link = subst (λ l. AllLinked undone l now) (sym (map_push (λ (x : Entry S R). x.step) es e)) (linked_push undone (kept_of es) e.step now links link)
 
     pub record TakenBack {M : Type 0} (network : NetworkContents M) (c : ℕ) (now : Moment S) (line : ℕ) (way : Cancel) (floor : ℕ) (es : List (Entry S R)) (e : Entry S R) (lists : Lists) : Type 0 where
-      pub link : LinkBy undone e.residue e now.state
+      pub link : Linked undone e.step now.state
       pub consumed_in : e.consumed ≤ length lists.consumed
       pub sent_in : e.sent ≤ length lists.sent
       pub sorted : Sorted (drop (length lists.consumed - e.consumed) lists.consumed ++ lists.pending)
-      pub kept : IsKeptBy valid m undone c (before_of e) floor es (cancelled way e.sent (restored e.consumed lists))
-      pub seen_is : seen network c (before_of e) line way floor es (cancelled way e.sent (restored e.consumed lists)) ≡ with_last_undone (seen network c now line way floor (es ++ e ∷ []) lists)
+      pub kept : IsKeptBy valid m undone c (before_of e.step) floor es (cancelled way e.sent (restored e.consumed lists))
+      pub seen_is : seen network c (before_of e.step) line way floor es (cancelled way e.sent (restored e.consumed lists)) ≡ with_last_undone (seen network c now line way floor (es ++ e ∷ []) lists)
 
     pub taken_back : {M : Type 0} (network : NetworkContents M) (c : ℕ) (now : Moment S) (line : ℕ) (way : Cancel) (floor : ℕ) (es : List (Entry S R)) (e : Entry S R) (lists : Lists) → IsKeptBy valid m undone c now floor (es ++ e ∷ []) lists → TakenBack network c now line way floor es e lists
     taken_back {M} network c now line way floor es e lists kept =
-        let links = linked_last es e now.state kept.linked in
+        let links = links_last es e now.state kept.linked in
         let consumed : total_consumed es + e.consumed ≡ length lists.consumed = sym (consumed_last es e) ∙ kept.consumed_is in
         let sent : total_sent es + e.sent ≡ length lists.sent = sym (sent_last es e) ∙ kept.sent_is in
         let k = length lists.consumed - e.consumed in
@@ -170,7 +169,7 @@ module _ {S R : Type 0} where
         ∙ shown_last es e a b x d a_is (omega (arith, consumed, length-drop k lists.consumed)) x_is (omega (arith, sent, length-drop n lists.sent)) in
         let all : a ++ (b ++ lists.pending) ≡ lists.consumed ++ lists.pending = sym (append_assoc a b lists.pending) ∙ ap (λ l. l ++ lists.pending) (take-append-drop k lists.consumed) in
         let last = stood_last valid m floor (shown es a x) (step_of e b d) (subst (λ l. Stood valid m floor l) history kept.stood) in
-        let low : e.done.stamp + 1 ≤ first_stamp lists.pending = subst (λ f. f ≤ first_stamp lists.pending) (ap (floor_after floor) history ∙ floor_last floor (shown es a x) (step_of e b d)) kept.from in
+        let low : e.step.done.stamp + 1 ≤ first_stamp lists.pending = subst (λ f. f ≤ first_stamp lists.pending) (ap (floor_after floor) history ∙ floor_last floor (shown es a x) (step_of e b d)) kept.from in
         let from = last.from in
         record {
           link = links.0;
@@ -185,35 +184,30 @@ module _ {S R : Type 0} where
             fit = subst (λ l. Each (CanTake c) l) (sym all) kept.fit;
             stood = last.stood;
             standing = last.standing;
-            from = first_at (floor_after floor (shown es a x)) e.done.stamp b lists.pending from last.at (omega (arith, from, low));
+            from = first_at (floor_after floor (shown es a x)) e.step.done.stamp b lists.pending from last.at (omega (arith, from, low));
           };
           seen_is = sym (ap (λ p. record (seen network c now line way floor (es ++ e ∷ []) lists) { process = p })
               (undone_is (seen network c now line way floor (es ++ e ∷ []) lists).process (shown es a x) (step_of e b d) history));
         }
-
-    linked_more : (es : List (Entry S R)) (e : Entry S R) (now : S) → Linked undone es e.before.value → LinkBy undone e.residue e now → Linked undone (es ++ e ∷ []) now
-    linked_more [] e now linked link = (link, tt)
-    linked_more (x ∷ es) e now linked link =
-        (subst (λ s. LinkBy undone x.residue x s) (sym (state_last es e now)) linked.0, linked_more es e now linked.1 link)
 
     -- one more step stands in the history
     pub record Grown (c : ℕ) (now : Moment S) (floor : ℕ) (es : List (Entry S R)) (e : Entry S R) (old lists : Lists) (b d : List Message) : Type 0 where
       pub kept : IsKeptBy valid m undone c now floor (es ++ e ∷ []) lists
       pub history : shown (es ++ e ∷ []) lists.consumed lists.sent ≡ shown es old.consumed old.sent ++ step_of e b d ∷ []
 
-    pub grown : (c : ℕ) (before now : Moment S) (floor : ℕ) (es : List (Entry S R)) (e : Entry S R) (old lists : Lists) (b d : List Message) → IsKeptBy valid m undone c before floor es old → before_of e ≡ before → LinkBy undone e.residue e now.state
+    pub grown : (c : ℕ) (before now : Moment S) (floor : ℕ) (es : List (Entry S R)) (e : Entry S R) (old lists : Lists) (b d : List Message) → IsKeptBy valid m undone c before floor es old → before_of e.step ≡ before → Linked undone e.step now.state
         → lists.consumed ≡ old.consumed ++ b → lists.sent ≡ old.sent ++ d → length b ≡ e.consumed → length d ≡ e.sent → b ++ lists.pending ≡ old.pending
-        → floor_after floor (shown es old.consumed old.sent) ≤ e.done.stamp → Each (λ x. x.stamp ≡ e.done.stamp) b → IsStanding valid m now (e.done.stamp + 1) → e.done.stamp + 1 ≤ first_stamp lists.pending
+        → floor_after floor (shown es old.consumed old.sent) ≤ e.step.done.stamp → Each (λ x. x.stamp ≡ e.step.done.stamp) b → IsStanding valid m now (e.step.done.stamp + 1) → e.step.done.stamp + 1 ≤ first_stamp lists.pending
         → Grown c now floor es e old lists b d
     grown c before now floor es e old lists b d kept before_is link consumed sent b_is d_is pending le at standing from =
         let history : shown (es ++ e ∷ []) lists.consumed lists.sent ≡ shown es old.consumed old.sent ++ step_of e b d ∷ [] =
         (λ j. shown (es ++ e ∷ []) (consumed j) (sent j)) ∙ shown_last es e old.consumed b old.sent d kept.consumed_is b_is kept.sent_is d_is in
         let all : lists.consumed ++ lists.pending ≡ old.consumed ++ old.pending =
         ap (λ l. l ++ lists.pending) consumed ∙ append_assoc old.consumed b lists.pending ∙ ap (λ l. old.consumed ++ l) pending in
-        let later : floor_after floor (shown (es ++ e ∷ []) lists.consumed lists.sent) ≡ e.done.stamp + 1 = ap (floor_after floor) history ∙ floor_last floor (shown es old.consumed old.sent) (step_of e b d) in
+        let later : floor_after floor (shown (es ++ e ∷ []) lists.consumed lists.sent) ≡ e.step.done.stamp + 1 = ap (floor_after floor) history ∙ floor_last floor (shown es old.consumed old.sent) (step_of e b d) in
         record {
           kept = record {
-            linked = linked_more es e now.state (subst (λ s. Linked undone es s) (sym (ap (λ (x : Moment S). x.state) before_is)) kept.linked) link;
+            linked = links_more es e now.state (subst (AllLinked undone (kept_of es)) (sym (ap (λ (x : Moment S). x.state) before_is)) kept.linked) link;
             consumed_is = consumed_last es e ∙ (let n = length-append old.consumed b in let l = ap length consumed in omega (arith, n, l, b_is, kept.consumed_is));
             sent_is = sent_last es e ∙ (let n = length-append old.sent d in let l = ap length sent in omega (arith, n, l, d_is, kept.sent_is));
             sorted = subst (λ l. Sorted l) (sym all) kept.sorted;
@@ -259,9 +253,9 @@ pub length_shown : {S R : Type 0} (es : List (Entry S R)) (a b : List Message) �
 length_shown [] a b = refl
 length_shown (e ∷ es) a b = ap suc (length_shown es (drop e.consumed a) (drop e.sent b))
 
-pub last_shown : {S R : Type 0} (es : List (Entry S R)) (e : Entry S R) (a b : List Message) → 0 < length es → e ≡ slice_index_or es (length es - 1) e → last_stamp_of (shown es a b) ≡ Some e.done.stamp
+pub last_shown : {S R : Type 0} (es : List (Entry S R)) (e : Entry S R) (a b : List Message) → 0 < length es → e ≡ slice_index_or es (length es - 1) e → last_stamp_of (shown es a b) ≡ Some e.step.done.stamp
 last_shown [] e a b some is = absurd (omega (arith, some))
-last_shown (x ∷ []) e a b some is = ap (λ (y : Entry _ _). Some y.done.stamp) (sym is)
+last_shown (x ∷ []) e a b some is = ap (λ (y : Entry _ _). Some y.step.done.stamp) (sym is)
 last_shown (x ∷ y ∷ es) e a b some is =
     let one : length (x ∷ y ∷ es) - 1 ≡ suc (length (y ∷ es) - 1) = omega arith in
     last_shown (y ∷ es) e (drop x.consumed a) (drop x.sent b) (omega arith) (is ∙ ap (λ n. slice_index_or (x ∷ y ∷ es) n e) one)

@@ -1,5 +1,5 @@
 -- The steps of a chain that agree with a process, one after another, are its own next ones.
-use Rattle.std.proofs.Common.{◌≡◌, ℕ, ◌+◌, ◌≤◌, ◌==◌, List, [], ◌∷◌, ◌++◌, true, false, cond, Option, Some, None, refl, sym, ap, subst, ◌∙◌, arith, ⊎_elim, length, append-nil, append_assoc}
+use Rattle.std.proofs.Common.{◌≡◌, ℕ, ◌+◌, ◌≤◌, ◌==◌, List, [], ◌∷◌, ◌++◌, true, false, cond, refl, sym, ap, subst, ◌∙◌, arith, ⊎_elim, length, append-nil, append_assoc}
 use Rattle.std.proofs.lemmas.Bool.{cond-true, cond-false, eqb-false, cases_Bool}
 use Rattle.tw_atomic.specs.Atomic.{Bag, Meaning, turned, CanTurn}
 use Rattle.tw_atomic.specs.declared.Turn.{Turn}
@@ -16,23 +16,20 @@ use Rattle.tw_theory.specs.Transitions.{Moment}
 use Rattle.tw_theory.proofs.Agreeing.{step_taken, same_step}
 use Rattle.tw_vtime.specs.Stamps.{phase_of, max_microstep}
 use Rattle.tw_chain.specs.Kept as chain
-use Rattle.tw_chain.specs.Kept.{shown_all, IsTakenBack}
-use Rattle.tw_chain.specs.declared.step.ChainStep.{ChainStep}
+use Rattle.tw_chain.specs.Kept.{shown_all}
+use Rattle.tw_step.specs.Steps.{state_before, Linked, AllLinked}
+use Rattle.tw_step.specs.declared.step.Step.{Step as KeptStep}
 use Rattle.tw_lists.specs.Lists.{Lists}
 use Rattle.tw_process.specs.declared.entry.Entry.{Entry}
-use Rattle.tw_process.specs.History.{seen, LinkBy, IsKeptBy}
-use Rattle.tw_process.specs.Installing.{after_record, after_steps, AreNext, entry_with, entry_of, entries_of, entries_with, sent_counts}
+use Rattle.tw_process.specs.History.{seen, IsKeptBy}
+use Rattle.tw_process.specs.Installing.{after_record, after_steps, AreNext, entry_of, entries_of, entries_with, sent_counts}
 use Rattle.tw_process.proofs.Installs.{installed, installing, IsRow}
 use Rattle.tw_lists.proofs.Loops.{items_length}
 
 -- ---- one step of a chain in the history
 
-link_same : {S R : Type 0} (undone : Turn → S → ℕ → Bag → R → S) (n : ℕ) (e : ChainStep S R) (kept : Option (Turn × R)) (after : S) → IsTakenBack undone e kept after → LinkBy undone kept (entry_with n e) after
-link_same undone n e None after h = h
-link_same undone n e (Some made) after h = h
-
 -- the state after a step is the one before those behind it
-state_next : {S R : Type 0} (lone : Network S) (c : ℕ) (now : Moment S) (ms : List Message) (es : List (ChainStep S R)) (after : Moment S) (left : List Message) → Leads lone c now ms (shown_all es) after left → now.state ≡ chain.state_before es after.state
+state_next : {S R : Type 0} (lone : Network S) (c : ℕ) (now : Moment S) (ms : List Message) (es : List (KeptStep S R)) (after : Moment S) (left : List Message) → Leads lone c now ms (shown_all es) after left → now.state ≡ state_before es after.state
 state_next lone c now ms [] after left leads = ap (λ (x : Moment _). x.state) leads.0
 state_next lone c now ms (e ∷ es) after left leads =
     let t = step_taken lone c now ms leads.0 leads.1 in
@@ -52,13 +49,13 @@ counted s bag pending is =
 module _ {M S R : Type 0} (net : Network S) (valid : S → Type 0) (m : Meaning S) (undone : Turn → S → ℕ → Bag → R → S) (start : Start S) (home : IsHome net m start) (small : net.micro_limit ≤ max_microstep)
     (stays : (tk : Turn) (state : S) (elapsed : ℕ) (bag : Bag) → CanTurn valid m tk state elapsed bag → valid (turned m tk state elapsed bag))
     (network : NetworkContents M) (line : ℕ) (way : Cancel) (floor : ℕ) where
-  pub record AllMade (n : ℕ) (es : List (ChainStep S R)) (now after : Moment S) (hs : List (Entry S R)) (lists : Lists) : Type 0 where
+  pub record AllMade (n : ℕ) (es : List (KeptStep S R)) (now after : Moment S) (hs : List (Entry S R)) (lists : Lists) : Type 0 where
     pub kept : IsKeptBy valid m undone start.component after floor (hs ++ entries_of net start.component es) (after_steps net start.component way es lists)
     pub takes : TakesFrom net start n (shown_all es) (seen network start.component now line way floor hs lists).process (seen network start.component after line way floor (hs ++ entries_of net start.component es) (after_steps net start.component way es lists)).process
 
-  pub all_made : (n : ℕ) (es : List (ChainStep S R)) (now : Moment S) (ms : List Message) (after : Moment S) (left : List Message) (hs : List (Entry S R)) (lists : Lists)
+  pub all_made : (n : ℕ) (es : List (KeptStep S R)) (now : Moment S) (ms : List Message) (after : Moment S) (left : List Message) (hs : List (Entry S R)) (lists : Lists)
       → Leads (alone m start) start.component now ms (shown_all es) after left → (n ≡ 0 → now ≡ start.now)
-      → IsKeptBy valid m undone start.component now floor hs lists → AreNext net start.component way es lists → chain.Linked undone es after.state
+      → IsKeptBy valid m undone start.component now floor hs lists → AreNext net start.component way es lists → AllLinked undone es after.state
       → AllMade n es now after hs lists
   all_made n [] now ms after left hs lists leads begins kept next linked =
       record {
@@ -82,7 +79,7 @@ module _ {M S R : Type 0} (net : Network S) (valid : S → Type 0) (m : Meaning 
         before_is = before_is;
         consumed_is = ap (λ (r : Record). length (taken_at r.stamp lists.pending)) entry_is ∙ counted e.done.stamp e.done.bag lists.pending next.0.bag;
         sent_is = ap (λ (r : Record). length (sent_at net c r)) entry_is;
-        link = link_same undone (length (sent_at net c e.done)) e e.residue made.after.state (subst (λ x. IsTakenBack undone e e.residue x) (sym (state_next (alone m start) c made.after made.left es after left leads.3)) linked.0);
+        link = subst (Linked undone e) (sym (state_next (alone m start) c made.after made.left es after left leads.3)) linked.0;
       } in
       let one = installed net c valid m undone home.model_is small stays network now line way floor hs lists entry made' kept row in
       let lists_is : installing way made' lists ≡ after_record net c way e.done lists = ap (λ (r : Record). after_record net c way r lists) entry_is in
@@ -108,6 +105,6 @@ module _ {M S R : Type 0} (net : Network S) (valid : S → Type 0) (m : Meaning 
 
 -- ---- the counts of what they sent
 
-pub entries_counted : {S R : Type 0} (net : Network S) (c : ℕ) (es : List (ChainStep S R)) → entries_with (sent_counts net c es) es ≡ entries_of net c es
+pub entries_counted : {S R : Type 0} (net : Network S) (c : ℕ) (es : List (KeptStep S R)) → entries_with (sent_counts net c es) es ≡ entries_of net c es
 entries_counted net c [] = refl
 entries_counted net c (e ∷ es) = ap (λ l. entry_of net c e ∷ l) (entries_counted net c es)

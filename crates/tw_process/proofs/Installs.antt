@@ -1,4 +1,4 @@
--- A step that the definition makes keeps what a process keeps: for steps that were made elsewhere, as a chain's.
+-- A step that the definition makes keeps what a process keeps: its own, and one that was made elsewhere, as a chain's.
 use Rattle.std.proofs.Common.{◌≡◌, ℕ, ◌+◌, ◌-◌, ◌<◌, ◌≤◌, ◌==◌, List, [], ◌∷◌, ◌++◌, true, false, cond, Option, Result, Ok, Err, refl, sym, ap, subst, ◌∙◌, arith, ⊎_elim, length}
 use Rattle.std.specs.Prelude.{nat_le}
 use Rattle.std.specs.List.{AllByRecursion as Each}
@@ -25,7 +25,8 @@ use Rattle.tw_theory.proofs.MessageOrder.{ascending_of_sorted, sorted_right}
 use Rattle.tw_network.specs.Contents.{Contents as NetworkContents}
 use Rattle.tw_process.specs.declared.entry.Entry.{Entry}
 use Rattle.tw_lists.specs.Lists.{Lists}
-use Rattle.tw_process.specs.History.{before_of, step_of, shown, seen, LinkBy, IsKeptBy}
+use Rattle.tw_step.specs.Steps.{before_of, Linked}
+use Rattle.tw_process.specs.History.{step_of, shown, seen, IsKeptBy}
 use Rattle.tw_theory.specs.Standing.{floor_after}
 use Rattle.tw_process.proofs.Histories.{grown}
 
@@ -113,11 +114,11 @@ module _ {S R : Type 0} (net : Network S) (c : ℕ) (valid : S → Type 0) (m : 
   -- this entry stands for the next step
   pub record IsRow (now : Moment S) (old : Lists) (e : Entry S R) (made : Made S) : Type 0 where
     pub step : local_step net c now old.pending ≡ Ok made
-    pub done_is : e.done ≡ made.step.entry
-    pub before_is : before_of e ≡ now
+    pub done_is : e.step.done ≡ made.step.entry
+    pub before_is : before_of e.step ≡ now
     pub consumed_is : length made.step.consumed ≡ e.consumed
     pub sent_is : length made.step.sent ≡ e.sent
-    pub link : LinkBy undone e.residue e made.after.state
+    pub link : Linked undone e.step made.after.state
 
   pub record Installed {M : Type 0} (network : NetworkContents M) (now : Moment S) (line : ℕ) (way : Cancel) (floor : ℕ) (es : List (Entry S R)) (old : Lists) (e : Entry S R) (made : Made S) : Type 0 where
     pub kept : IsKeptBy valid m undone c made.after floor (es ++ e ∷ []) (installing way made old)
@@ -132,7 +133,7 @@ module _ {S R : Type 0} (net : Network S) (c : ℕ) (valid : S → Type 0) (m : 
       let fit = (each_parts (CanTake c) old.consumed old.pending kept.fit).1 in
       let sorted = sorted_right old.consumed old.pending kept.sorted in
       let standing = made_standing net c valid m is small stays now old.pending made (floor_after floor (shown es old.consumed old.sent)) kept.standing kept.from sorted fit row.step in
-      let stamp : e.done.stamp ≡ s = ap (λ x. x.stamp) row.done_is ∙ f.stamp_is in
+      let stamp : e.step.done.stamp ≡ s = ap (λ x. x.stamp) row.done_is ∙ f.stamp_is in
       let low = kept.standing.from in
       let first = kept.from in
       let odd = first_odd c old.pending fit in

@@ -8,6 +8,7 @@ pub mod Copies
 pub mod Between
 pub mod ChainSteps
 pub mod Installs
+pub mod Stepped
 pub mod Installations
 pub mod Finishing
 -- a process may go to another thread

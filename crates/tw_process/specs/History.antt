@@ -1,10 +1,10 @@
 -- How a process lies in its entries and its six lists, and what it keeps. No public clause cites this module.
 --     shown entries consumed sent      the steps of the entries: each has its part of what was consumed and sent
 --     seen network c now line way floor entries lists      what contracts see
---     LinkBy, Linked      what the residues say of the states between the steps
+--     kept_of entries      the steps of the entries, as they are kept
 --     Stood IsValid model floor steps      the component stood before each step, and the steps rise from floor on
 --     IsKeptBy, IsKept      what a process of a model keeps; that it keeps it for the model of its component
-use Rattle.std.specs.Prelude.{◌≡◌, ℕ, ◌+◌, ◌-◌, ◌<◌, ◌≤◌, min, List, [], ◌∷◌, ◌++◌, length, take, drop, Option, Some, None, slice_get}
+use Rattle.std.specs.Prelude.{◌≡◌, ℕ, ◌+◌, ◌≤◌, min, List, [], ◌∷◌, ◌++◌, length, map, take, drop, Some, slice_get}
 use Rattle.std.specs.List.{AllByRecursion as Each}
 use Rattle.tw_atomic.specs.Atomic.{Bag, Meaning}
 use Rattle.tw_atomic.specs.declared.Turn.{Turn}
@@ -13,9 +13,10 @@ use Rattle.tw_msgs.specs.declared.message.Message.{Message}
 use Rattle.tw_network.specs.Contents.{Contents}
 use Rattle.tw_theory.specs.Bundles.{first_stamp}
 use Rattle.tw_theory.specs.Contents.{Cancel}
+use Rattle.tw_step.specs.Steps.{before_of, AllLinked}
+use Rattle.tw_step.specs.declared.step.Step.{Step as KeptStep}
 use Rattle.tw_theory.specs.LocalRun.{Step}
 use Rattle.tw_theory.specs.Transitions.{Moment}
-use Rattle.tw_vtime.specs.Stamps.{tick_of, never}
 use Rattle.tw_process.specs.declared.entry.Entry.{Entry}
 use Rattle.tw_lists.specs.Lists.{Lists}
 use Rattle.tw_process.specs.Process.{Held}
@@ -31,12 +32,12 @@ Stood valid m floor (step ∷ steps) =
     × Stood valid m (step.entry.stamp + 1) steps
 
 module _ {S R : Type 0} where
-  abbrev pub before_of : Entry S R → Moment S
-  before_of e = record { state = e.before.value; last = e.last; due = e.due }
+  abbrev pub kept_of : List (Entry S R) → List (KeptStep S R)
+  kept_of es = map (λ e. e.step) es
 
   -- an entry, with what it consumed and sent
   abbrev pub step_of : Entry S R → List Message → List Message → Step S
-  step_of e consumed sent = record { entry = e.done; before = before_of e; consumed = consumed; sent = sent }
+  step_of e consumed sent = record { entry = e.step.done; before = before_of e.step; consumed = consumed; sent = sent }
 
   -- the entries in turn have their parts of what was consumed and sent
   abbrev pub shown : List (Entry S R) → List Message → List Message → List (Step S)
@@ -70,30 +71,9 @@ module _ {S R : Type 0} where
   total_sent [] = 0
   total_sent (e ∷ es) = e.sent + total_sent es
 
-  abbrev pub elapsed_of : Entry S R → ℕ
-  elapsed_of e = tick_of e.done.stamp - tick_of e.last
-
-  -- how a step is taken back on the state: an output left it, a transition is undone by its residue
-  abbrev pub LinkBy : (Turn → S → ℕ → Bag → R → S) → Option (Turn × R) → Entry S R → S → Type 0
-  LinkBy undone None e after = after ≡ e.before.value
-  LinkBy undone (Some made) e after =
-      (e.done.stamp < never)
-      × (e.last < never)
-      × (undone made.0 after (elapsed_of e) e.done.bag made.1 ≡ e.before.value)
-
-  -- the state before the first of these entries, if it is this one after them
-  abbrev pub state_before : List (Entry S R) → S → S
-  state_before [] now = now
-  state_before (e ∷ es) now = e.before.value
-
-  -- each entry leads to the next one
-  abbrev pub Linked : (Turn → S → ℕ → Bag → R → S) → List (Entry S R) → S → Type 0
-  Linked undone [] now = Unit {0}
-  Linked undone (e ∷ es) now = LinkBy undone e.residue e (state_before es now) × Linked undone es now
-
   -- what a process of this model keeps
   pub record IsKeptBy (valid : S → Type 0) (m : Meaning S) (undone : Turn → S → ℕ → Bag → R → S) (c : ℕ) (now : Moment S) (floor : ℕ) (history : List (Entry S R)) (lists : Lists) : Type 0 where
-    pub linked : Linked undone history now.state
+    pub linked : AllLinked undone (kept_of history) now.state
     pub consumed_is : total_consumed history ≡ length lists.consumed
     pub sent_is : total_sent history ≡ length lists.sent
     pub sorted : Sorted (lists.consumed ++ lists.pending)

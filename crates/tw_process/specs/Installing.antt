@@ -12,7 +12,7 @@ use Rattle.tw_theory.specs.Memory.{max_nodes}
 use Rattle.tw_theory.specs.Network.{Network}
 use Rattle.tw_vtime.specs.Stamps.{phase_of}
 use Rattle.tw_chain.specs.Kept.{shown}
-use Rattle.tw_chain.specs.declared.step.ChainStep.{ChainStep}
+use Rattle.tw_step.specs.declared.step.Step.{Step}
 use Rattle.tw_lists.specs.Lists.{Lists, node_count}
 use Rattle.tw_process.specs.declared.entry.Entry.{Entry}
 use Rattle.tw_actions.specs.declared.chain.Stop.{Stop}
@@ -36,46 +36,38 @@ first_count [] = 0
 first_count (n ∷ ns) = n
 
 module _ {S R : Type 0} where
-  abbrev pub after_steps : Network S → ℕ → Cancel → List (ChainStep S R) → Lists → Lists
+  abbrev pub after_steps : Network S → ℕ → Cancel → List (Step S R) → Lists → Lists
   after_steps net c way [] lists = lists
   after_steps net c way (e ∷ es) lists = after_steps net c way es (after_record net c way e.done lists)
 
-  abbrev pub IsNext : ChainStep S R → Lists → Type 0
+  abbrev pub IsNext : Step S R → Lists → Type 0
   IsNext e lists = Agrees (shown e).before lists.pending (shown e)
 
-  abbrev pub AreNext : Network S → ℕ → Cancel → List (ChainStep S R) → Lists → Type 0
+  abbrev pub AreNext : Network S → ℕ → Cancel → List (Step S R) → Lists → Type 0
   AreNext net c way [] lists = ⊤
   AreNext net c way (e ∷ es) lists = IsNext e lists × AreNext net c way es (after_record net c way e.done lists)
 
-  abbrev pub WhyNot : Network S → ℕ → Cancel → ChainStep S R → Lists → Stop → Type 0
+  abbrev pub WhyNot : Network S → ℕ → Cancel → Step S R → Lists → Stop → Type 0
   WhyNot net c way e lists (Ended cause) = ⊥
   WhyNot net c way e lists Stale = IsNext e lists → ⊥
   WhyNot net c way e lists OutOfMemory = IsNext e lists
   WhyNot net c way e lists Full = IsNext e lists × (max_nodes < node_count lists + 2 * length (sent_out way lists.owed (sent_at net c e.done)))
 
   -- a step of a chain as a step of the history that sent n messages
-  abbrev pub entry_with : ℕ → ChainStep S R → Entry S R
-  entry_with n e = record {
-    done = e.done;
-    last = e.last;
-    due = e.due;
-    consumed = consumed_count e.done;
-    sent = n;
-    residue = e.residue;
-    before = e.before;
-  }
+  abbrev pub entry_with : ℕ → Step S R → Entry S R
+  entry_with n e = record { step = e; consumed = consumed_count e.done; sent = n }
 
-  abbrev pub entries_with : List ℕ → List (ChainStep S R) → List (Entry S R)
+  abbrev pub entries_with : List ℕ → List (Step S R) → List (Entry S R)
   entries_with counts [] = []
   entries_with counts (e ∷ es) = entry_with (first_count counts) e ∷ entries_with (drop 1 counts) es
 
-  abbrev pub entry_of : Network S → ℕ → ChainStep S R → Entry S R
+  abbrev pub entry_of : Network S → ℕ → Step S R → Entry S R
   entry_of net c e = entry_with (length (sent_at net c e.done)) e
 
-  abbrev pub entries_of : Network S → ℕ → List (ChainStep S R) → List (Entry S R)
+  abbrev pub entries_of : Network S → ℕ → List (Step S R) → List (Entry S R)
   entries_of net c [] = []
   entries_of net c (e ∷ es) = entry_of net c e ∷ entries_of net c es
 
-  abbrev pub sent_counts : Network S → ℕ → List (ChainStep S R) → List ℕ
+  abbrev pub sent_counts : Network S → ℕ → List (Step S R) → List ℕ
   sent_counts net c [] = []
   sent_counts net c (e ∷ es) = length (sent_at net c e.done) ∷ sent_counts net c es

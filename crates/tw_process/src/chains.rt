@@ -9,6 +9,7 @@ use crate::process::Process;
 use std::alloc::AllocError;
 use tw_atomic::Atomic;
 use tw_chain::Start;
+use tw_step::{Moment, copy_moment};
 use tw_vtime::Stamp;
 
 impl<M: Atomic> Process<M> {
@@ -22,13 +23,14 @@ impl<M: Atomic> Process<M> {
     {
         let network = &*self.network;
         network.facts();
-        let state = network.model(self.component).copy(self.alloc, &self.state)?;
+        let model = network.model(self.component);
+        let Moment { state, last, due } = copy_moment(self.alloc, model, &self.moment)?;
         let messages = self.lists.pending_before(before)?;
         let limit = network.micro_limit();
         Ok(Start::new(
             state,
-            self.last,
-            self.due,
+            last,
+            due,
             limit,
             messages,
             self.component,

@@ -8,6 +8,7 @@ use crate::entry::{Entry, entries_before};
 use crate::process::Process;
 use tw_atomic::Atomic;
 use tw_msgs::Record;
+use tw_step::Step;
 use tw_vtime::Stamp;
 
 impl<M: Atomic> Process<M> {
@@ -28,14 +29,17 @@ impl<M: Atomic> Process<M> {
             return None;
         };
         let Entry {
+            step,
+            consumed,
+            sent,
+        } = entry;
+        let Step {
             done,
             last: _,
             due: _,
-            consumed,
-            sent,
             residue: _residue,
             before: _before,
-        } = entry;
+        } = step;
         self.lists.forget(consumed, sent);
         self.floor = done.stamp.pack() + 1;
         Some(done)

@@ -4,7 +4,7 @@ ghost use Rattle.std.specs.Prelude.{◌≡◌, ◌↔◌, ◌+◌, ◌≤◌, �
 ghost use Rattle.std.specs.VecDeque.{deque_capacity, deque_len};
 ghost use Rattle.tw_atomic.specs.Atomic.{AreAlike};
 ghost use Rattle.tw_network.specs.Contents.{network_of};
-ghost use Rattle.tw_process.specs.Installing.{entries_with, entry_with};
+ghost use Rattle.tw_process.specs.Installing.{consumed_count, entries_with, entry_with};
 ghost use Rattle.tw_theory.specs.Installing.{IsInstalled};
 
 use crate::entry::Entry;
@@ -13,8 +13,9 @@ use crate::taking::{Taken, take_steps};
 use std::collections::VecDeque;
 use tw_actions::{Finished, Stop};
 use tw_atomic::Atomic;
-use tw_chain::{ChainStep, Parts, Prepared};
-use tw_vtime::Stamp;
+use tw_chain::{Parts, Prepared};
+use tw_msgs::Record;
+use tw_step::{Moment, Step};
 
 impl<M: Atomic> Process<M> {
     /// Makes the steps of a chain that are this process's own next ones, up to the first that is stale or for which room
@@ -33,7 +34,7 @@ impl<M: Atomic> Process<M> {
         let network = &*self.network;
         network.facts();
         let model = network.model(self.component);
-        if !stands_at_start(model, &self.state, self.last, self.due, &chain) {
+        if !stands_at_start(model, &self.moment, &chain) {
             let stop = if chain.len() == 0 {
                 Stop::Ended(chain.cause())
             } else {
@@ -52,38 +53,25 @@ impl<M: Atomic> Process<M> {
         );
         let stop = stop.unwrap_or(Stop::Ended(chain.cause()));
         let installed = counts.len();
-        let Parts {
-            steps,
-            state,
-            last,
-            due,
-        } = chain.cut_back(model, installed);
+        let Parts { steps, moment } = chain.cut_back(model, installed);
         push_entries(&mut self.history, steps, counts);
-        self.state = state;
-        self.last = last;
-        self.due = due;
+        self.moment = moment;
         Finished { installed, stop }
     }
 }
 
 /// Whether a component stands where a chain begins.
-fn stands_at_start<M: Atomic>(
-    model: &M,
-    state: &M::State,
-    last: Stamp,
-    due: Stamp,
-    chain: &Prepared<M>,
-) -> bool
-    ensures { IsTrue result ↔ (record { state = state.now; last = last; due = due } ≡ chain.now.run.start.now) }
+fn stands_at_start<M: Atomic>(model: &M, now: &Moment<M::State>, chain: &Prepared<M>) -> bool
+    ensures { IsTrue result ↔ (now.now ≡ chain.now.run.start.now) }
 {
-    let (start_last, start_due) = chain.start_times();
-    model.same(state, chain.start_state()) && last == start_last && due == start_due
+    let (last, due) = chain.start_times();
+    model.same(&now.state, chain.start_state()) && now.last == last && now.due == due
 }
 
 /// Steps of a chain, which sent so many messages each, are the last of a history. There is room for them.
 fn push_entries<S: Drop, R: Drop>(
     history: &mut VecDeque<Entry<S, R>>,
-    steps: Vec<ChainStep<S, R>>,
+    steps: Vec<Step<S, R>>,
     counts: Vec<usize>,
 )
     requires { deque_len history.old + vec_len steps ≤ deque_capacity history.old }
@@ -98,28 +86,24 @@ fn push_entries<S: Drop, R: Drop>(
 }
 
 /// A step of a chain as a step of the history that sent so many messages.
-fn entry_of<S: Drop, R: Drop>(step: ChainStep<S, R>, sent: usize) -> Entry<S, R>
+fn entry_of<S: Drop, R: Drop>(step: Step<S, R>, sent: usize) -> Entry<S, R>
     ensures { result ≡ entry_with sent step }
 {
-    let ChainStep {
-        done,
-        last,
-        due,
-        residue,
-        before,
-    } = step;
-    let consumed = if done.stamp.pack() % 2 == 0 {
+    let consumed = consumed_in(&step.done);
+    Entry {
+        step,
+        consumed,
+        sent,
+    }
+}
+
+/// How many messages a step consumed: an output none, a transition its bag.
+fn consumed_in(done: &Record) -> usize
+    ensures { result ≡ consumed_count done.now }
+{
+    if done.stamp.pack() % 2 == 0 {
         0
     } else {
         done.bag.len()
-    };
-    Entry {
-        done,
-        last,
-        due,
-        consumed,
-        sent,
-        residue,
-        before,
     }
 }

@@ -16,7 +16,7 @@ impl<M: Atomic> Process<M> {
     {
         let mut left = self.history.len();
         while left > 0 {
-            let stamp = self.history[left - 1].done.stamp;
+            let stamp = self.history[left - 1].step.done.stamp;
             if stamp < from {
                 return false;
             }

@@ -17,8 +17,7 @@ use tw_actions::Cancel;
 use tw_atomic::Atomic;
 use tw_lists::EventLists;
 use tw_network::Network;
-use tw_step::Moment;
-use tw_step::moment::start_moment;
+use tw_step::{Moment, start_moment};
 use tw_vtime::Stamp;
 
 /// A process of one component of a network.
@@ -27,9 +26,7 @@ pub struct Process<M: Atomic> {
     pub(crate) alloc: Global,
     pub(crate) network: Arc<Network<M>>,
     pub(crate) component: usize,
-    pub(crate) state: M::State,
-    pub(crate) last: Stamp,
-    pub(crate) due: Stamp,
+    pub(crate) moment: Moment<M::State>,
     pub(crate) line: Stamp,
     pub(crate) cancel: Cancel,
     // One past the packed stamp of the last step that was committed.
@@ -46,12 +43,10 @@ impl<M: Atomic> Model for Process<M> {
 
     ghost Value = { Held M M.State };
 
-    ghost view = { λ p. seen (arc_value p.network) p.component
-        (record { state = p.state; last = p.last; due = p.due })
+    ghost view = { λ p. seen (arc_value p.network) p.component p.moment
         p.line p.cancel p.floor p.history.items p.lists };
 
-    ghost invariant = { λ p. IsKept M.valid M.meaning M.undone (arc_value p.network) p.component
-        (record { state = p.state; last = p.last; due = p.due })
+    ghost invariant = { λ p. IsKept M.valid M.meaning M.undone (arc_value p.network) p.component p.moment
         p.floor p.history.items p.lists };
 }
 
@@ -81,15 +76,13 @@ impl<M: Atomic> Process<M> {
     {
         let shared = &*network;
         shared.facts();
-        let Moment { state, last, due } = start_moment(alloc, shared.model(component))?;
+        let moment = start_moment(alloc, shared.model(component))?;
         let lists = start_lists(alloc, shared, component)?;
         Ok(Process {
             alloc,
             network,
             component,
-            state,
-            last,
-            due,
+            moment,
             line: Stamp::START,
             cancel,
             floor: 0,
@@ -113,7 +106,7 @@ impl<M: Atomic> Process<M> {
             Some(message) => message.stamp,
             None => Stamp::END,
         };
-        self.due.min(first)
+        self.moment.due.min(first)
     }
 
     /// How many steps are not committed.
@@ -129,7 +122,7 @@ impl<M: Atomic> Process<M> {
         ensures latest { IfSome result (λ last. AllBefore (last + 1) self.now.process.history) }
     {
         match self.history.back() {
-            Some(entry) => Some(entry.done.stamp),
+            Some(entry) => Some(entry.step.done.stamp),
             None => None,
         }
     }

@@ -38,21 +38,21 @@ impl<M: Atomic> Process<M> {
     pub fn state(&self) -> &M::State
         ensures { result.now ≡ self.now.process.now.state }
     {
-        &self.state
+        &self.moment.state
     }
 
     /// The time of the last transition, as the stamp of that time's output.
     pub fn last(&self) -> Stamp
         ensures { result ≡ self.now.process.now.last }
     {
-        self.last
+        self.moment.last
     }
 
     /// When the next own step is due, or the end.
     pub fn due(&self) -> Stamp
         ensures { result ≡ self.now.process.now.due }
     {
-        self.due
+        self.moment.due
     }
 
     /// The commit line.

@@ -9,10 +9,9 @@ ghost use Rattle.tw_vtime.specs.Stamps.{never, phase_of};
 use crate::entry::Entry;
 use crate::process::Process;
 use crate::refused::StepRefused;
-use std::snapshot::Snapshot;
 use tw_atomic::Atomic;
-use tw_msgs::{Record, RecordKind, Words};
-use tw_step::{Turned, make_turn, output_bag, routed, turn_of};
+use tw_msgs::RecordKind;
+use tw_step::{Home, output_step, routed, transition_step};
 use tw_vtime::Stamp;
 
 impl<M: Atomic> Process<M> {
@@ -50,34 +49,26 @@ impl<M: Atomic> Process<M> {
         ensures due { result ≢ Err NothingDue }
     {
         let network = &*self.network;
-        let bag = output_bag(self.alloc, network.model(self.component), &self.state)?;
+        network.facts();
+        let model = network.model(self.component);
+        let step = output_step(self.alloc, model, self.component, &self.moment, stamp)?;
         let sent = routed(
             self.alloc,
             network,
             self.component,
             stamp.transition(),
-            &bag,
+            &step.done.bag,
         )?;
         let fresh = self.lists.fresh_count(&sent, self.cancel);
         self.lists.reserve(2 * fresh)?;
         self.history.reserve(1)?;
         self.lists.send_all(&sent, self.cancel);
         self.history.push_back_reserved(Entry {
-            done: Record {
-                component: self.component,
-                stamp,
-                kind: RecordKind::Out,
-                bag,
-                words: Words::none(),
-            },
-            last: self.last,
-            due: self.due,
+            step,
             consumed: 0,
             sent: sent.len(),
-            residue: None,
-            before: Snapshot::of(&self.state),
         });
-        self.due = stamp.transition();
+        self.moment.after_output(stamp);
         Ok(())
     }
 
@@ -93,52 +84,27 @@ impl<M: Atomic> Process<M> {
     {
         self.history.reserve(1)?;
         let bag = self.lists.consume_bag(stamp)?;
+        let consumed = bag.len();
         let network = &*self.network;
         network.facts();
         let model = network.model(self.component);
-        let (turn, kind) = turn_of(self.due == stamp, bag.is_empty());
-        let elapsed = stamp.tick().saturating_sub(self.last.tick());
-        let before = Snapshot::of(&self.state);
-        let limit = network.micro_limit();
-        let made = match make_turn(
-            self.alloc,
-            model,
-            &mut self.state,
-            turn,
-            stamp,
-            elapsed,
-            bag.as_slice(),
-            limit,
-        ) {
-            Ok(made) => made,
+        let home = Home {
+            component: self.component,
+            micro_limit: network.micro_limit(),
+        };
+        let step = match transition_step(self.alloc, model, home, &mut self.moment, stamp, bag) {
+            Ok(step) => step,
             Err(refused) => {
-                self.lists.restore(bag.len());
+                self.lists.restore(consumed);
                 return Err(refused.into());
             }
         };
-        let Turned {
-            residue,
-            words,
-            due,
-        } = made;
-        let consumed = bag.len();
+        let kind = step.done.kind;
         self.history.push_back_reserved(Entry {
-            done: Record {
-                component: self.component,
-                stamp,
-                kind,
-                bag,
-                words,
-            },
-            last: self.last,
-            due: self.due,
+            step,
             consumed,
             sent: 0,
-            residue: Some((turn, residue)),
-            before,
         });
-        self.last = stamp.output();
-        self.due = due;
         Ok(kind)
     }
 }

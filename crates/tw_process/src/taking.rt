@@ -14,11 +14,10 @@ use std::alloc::Global;
 use std::collections::VecDeque;
 use tw_actions::{Cancel, Stop};
 use tw_atomic::Atomic;
-use tw_chain::ChainStep;
 use tw_lists::EventLists;
 use tw_network::Network;
 use tw_pool::PoolRefused;
-use tw_step::routed;
+use tw_step::{Step, routed};
 use tw_vtime::Stamp;
 
 /// What was made of a chain: how many messages each step sent, and why no more steps were made.
@@ -35,7 +34,7 @@ pub(crate) fn take_steps<M: Atomic>(
     network: &Network<M>,
     component: usize,
     cancel: Cancel,
-    steps: &[ChainStep<M::State, M::Residue>],
+    steps: &[Step<M::State, M::Residue>],
     lists: &mut EventLists,
     history: &mut VecDeque<Entry<M::State, M::Residue>>,
 ) -> Taken
@@ -78,7 +77,7 @@ fn take_step<M: Atomic>(
     network: &Network<M>,
     component: usize,
     cancel: Cancel,
-    step: &ChainStep<M::State, M::Residue>,
+    step: &Step<M::State, M::Residue>,
     lists: &mut EventLists,
     history: &mut VecDeque<Entry<M::State, M::Residue>>,
     counts: &mut Vec<usize>,
@@ -122,7 +121,7 @@ fn take_output<M: Atomic>(
     network: &Network<M>,
     component: usize,
     cancel: Cancel,
-    step: &ChainStep<M::State, M::Residue>,
+    step: &Step<M::State, M::Residue>,
     lists: &mut EventLists,
     history: &mut VecDeque<Entry<M::State, M::Residue>>,
     counts: &mut Vec<usize>,
@@ -165,7 +164,7 @@ fn take_output<M: Atomic>(
 
 /// A transition of a chain that comes next, if its bag is what is pending: its inputs are consumed.
 fn take_transition<S: Drop, R: Drop>(
-    step: &ChainStep<S, R>,
+    step: &Step<S, R>,
     lists: &mut EventLists,
     history: &mut VecDeque<Entry<S, R>>,
     counts: &mut Vec<usize>,

@@ -11,7 +11,7 @@ use Rattle.tw_network.specs.Contents.{Contents, network_of}
 use Rattle.tw_seq.specs.Invariant.{IsBetween, AllStand}
 use Rattle.tw_seq.specs.declared.turns.Taken.{Taken}
 use Rattle.tw_seq.specs.declared.turns.Taken.TheVariants as taken
-use Rattle.tw_seq.specs.Turning.{Part, Idle, Told, Limited, CanGoOn, part_of, seen, kind_and_turn, turns_with}
+use Rattle.tw_seq.specs.Turning.{Part, Idle, Told, Limited, CanGoOn, part_of, seen, turns_with}
 use Rattle.tw_seq.specs.Waking.{HasTurn, IsInTurn}
 use Rattle.tw_theory.specs.Transitions.{Moment}
 use Rattle.tw_theory.specs.Network.{Network}
@@ -191,7 +191,7 @@ module _ {M S : Type 0} (valid : M → S → Type 0) (meaning : M → Meaning S)
       let empty : slice_index_or bags i [] ≡ [] = same_here bags bags0 i [] swept.to_come m m0 ∙ get_or_from_slice_get bags0 i bag.0 [] bag.1 ∙ nothing in
       let waits : ((slice_index_or moments i now.0).due == t) ≡ false = ap (λ x. x.due == t) here ∙ ne_eqb now.0.due t idle in
       let turn : Stays ≡ take_turn net i (after_output net i (slice_index_or moments i now.0) t) (t + 1) ((slice_index_or moments i now.0).due == t) (sorted_bag (slice_index_or bags i [])) =
-      sym (stays_turn net i (t + 1) (after_output net i (slice_index_or moments i now.0) t) ((slice_index_or moments i now.0).due == t) (sorted_bag (slice_index_or bags i [])) (λ k. kind_and_turn (waits k) (sorted_bag (empty k)))) in
+      sym (stays_turn net i (t + 1) (after_output net i (slice_index_or moments i now.0) t) ((slice_index_or moments i now.0).due == t) (sorted_bag (slice_index_or bags i [])) waits (ap sorted_bag empty)) in
       let stands : (model : M) → slice_get contents.models i ≡ Some model → IsBetween (valid model) (meaning model) (t + 2) (slice_index_or moments i now.0) =
       λ model found. subst (IsBetween (valid model) (meaning model) (t + 2)) (sym here) (stays_between (valid model) (meaning model) t now.0 (stand.each i model now.0 found now.1) idle even small) in
       let after = swept_turn now.0 [] Idle (slice_index_or moments i now.0) turn tt (λ e. refl) stands in

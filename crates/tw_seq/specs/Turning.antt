@@ -1,17 +1,13 @@
 -- What a component did at the transition of a round, as the definition sees it.
---     kind_and_turn imminent bag      the turn, and its kind in records
+--     past_output t now      a component that stands so, after its output of time t if it makes one
 --     part_of c s bag words taken      what component c did at stamp s, with its record
 --     seen part after      what was done, by a component that stands here after it
 --     CanGoOn taken      without a limit
 --     turns_with net t c moments bags      all components from c on, each with its bag
 --     all_outputs net t run, all_turns net t run      all components in the round of time t
-use Rattle.std.specs.Prelude.{ℕ, ℤ, suc, ◌+◌, ◌==◌, List, [], ◌∷◌, ◌++◌, Bool, true, false, Option, Some, None}
-use Rattle.tw_atomic.specs.declared.Turn.{Turn}
-use Rattle.tw_atomic.specs.declared.Turn.TheVariants as kinds_of_turn
+use Rattle.std.specs.Prelude.{ℕ, ℤ, suc, ◌+◌, ◌==◌, List, [], ◌∷◌, ◌++◌, if◌then◌else◌}
 use Rattle.tw_msgs.specs.Bags.{Bag, sorted_bag}
 use Rattle.tw_msgs.specs.declared.record.Record.{Record}
-use Rattle.tw_msgs.specs.declared.record_kind.RecordKind.{RecordKind}
-use Rattle.tw_msgs.specs.declared.record_kind.RecordKind.TheVariants as kinds
 use Rattle.tw_seq.specs.declared.turns.Taken.{Taken}
 use Rattle.tw_seq.specs.declared.turns.Taken.TheVariants as taken
 use Rattle.tw_theory.specs.Transitions.{Moment}
@@ -40,11 +36,9 @@ CanGoOn taken.Stays = Unit {0}
 CanGoOn (taken.Moves kind) = Unit {0}
 CanGoOn (taken.Stops limit) = ⊥
 
-abbrev pub kind_and_turn : Bool → Bag → Option (Turn × RecordKind)
-kind_and_turn true [] = Some (kinds_of_turn.Int, kinds.Int)
-kind_and_turn true (x ∷ xs) = Some (kinds_of_turn.Con, kinds.Con)
-kind_and_turn false [] = None
-kind_and_turn false (x ∷ xs) = Some (kinds_of_turn.Ext, kinds.Ext)
+-- where a component stands once its output of time t is made, if it makes one then
+abbrev pub past_output : {S : Type 0} → ℕ → Moment S → Moment S
+past_output t now = if now.due == t then record now { due = t + 1 } else now
 
 -- what each component does at the transition of a round, from component c on, each with its bag
 abbrev pub turns_with : {S : Type 0} → Network S → ℕ → ℕ → List (Moment S) → List Bag → List (RoundTurn S)

@@ -8,7 +8,7 @@ ghost use Rattle.tw_network.specs.Contents.{network_of};
 ghost use Rattle.tw_seq.specs.Agenda.{dues};
 ghost use Rattle.tw_seq.specs.Invariant.{AllStand, IsBetween};
 ghost use Rattle.tw_seq.specs.Receiving.{Receives};
-ghost use Rattle.tw_seq.specs.Turning.{seen, part_of, CanGoOn, turns_with};
+ghost use Rattle.tw_seq.specs.Turning.{seen, part_of, past_output, CanGoOn, turns_with};
 ghost use Rattle.tw_seq.specs.Waking.{IsInTurn};
 ghost use Rattle.tw_theory.specs.Simulator.{take_turn, after_output, turn_records, turned_moments, first_stop};
 ghost use Rattle.tw_vtime.specs.Stamps.{max_tick, tick_of, phase_of};
@@ -19,9 +19,9 @@ use std::alloc::{AllocError, Global};
 use tw_atomic::Atomic;
 use tw_msgs::{Bag, RecordKind};
 use tw_network::Network;
-use tw_step::{Moment, turn_of};
+use tw_step::{Moment, pass_turn};
 use tw_tournament::Tournament;
-use tw_vtime::{Limit, Stamp, advance};
+use tw_vtime::{Limit, Stamp};
 
 /// What a component did at the transition of a round.
 #[derive(Clone, Copy, Debug)]
@@ -40,6 +40,19 @@ fn has_turn(imminent: bool, empty: bool) -> bool
     ensures none { result ≡ false → (imminent ≡ false) × (empty ≡ true) }
 {
     imminent || !empty
+}
+
+/// Whether a component is imminent at a time. If it is, its output of that time is made now.
+fn pass_output<S: Drop>(now: &mut Moment<S>, time: Stamp) -> bool
+    requires { phase_of time ≡ 0 }
+    ensures imminent { result ≡ (now.old.due == time) }
+    ensures now { now.new ≡ past_output time now.old }
+{
+    let imminent = now.due == time;
+    if imminent {
+        now.after_output(time);
+    }
+    imminent
 }
 
 /// Makes the transition of a component at a time, if it is imminent or receives something: its bag is sorted, and
@@ -66,23 +79,17 @@ fn take_turn<M: Atomic>(
         (model : M) → slice_get network.now.models component ≡ Some model → IsBetween (M.valid model) (M.meaning model) (time + 2) now.new) }
 {
     bag.sort();
-    let imminent = now.due == time;
-    let empty = bag.is_empty();
-    if !has_turn(imminent, empty) {
+    let imminent = pass_output(now, time);
+    if !has_turn(imminent, bag.is_empty()) {
         return Ok(Taken::Stays);
     }
     network.facts();
     let model = network.model(component);
-    let (turn, kind) = turn_of(imminent, empty);
     let at = time.transition();
-    let elapsed = at.tick().saturating_sub(now.last.tick());
-    model.transition(alloc, &mut now.state, turn, elapsed, bag.as_slice())?;
-    match advance(at, model.ta(&now.state), network.micro_limit()) {
-        Ok(due) => {
+    match pass_turn(alloc, model, now, at, bag.as_slice(), network.micro_limit())? {
+        Ok(kind) => {
             words.clear();
             model.words(alloc, &now.state, words)?;
-            now.last = time;
-            now.due = due.unwrap_or(Stamp::END);
             Ok(Taken::Moves(kind))
         }
         Err(limit) => Ok(Taken::Stops(limit)),

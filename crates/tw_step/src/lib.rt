@@ -1,21 +1,26 @@
 //! One step of one component: where it stands, what it outputs, and the transition that it makes.
 //!
 //! The sequential simulator, chains and processes all step a component by these calls, so each is proved once,
-//! against the definitions of one component by itself (`LocalRun` of tw_theory).
+//! against the definitions of one component by itself (`Transitions` of tw_theory). What an output sends is routed by
+//! one call for processes and chains; the simulator deals it into bags by a walk of its own.
 //!
-//! - [`Moment`]: where a component stands: its state, its last time, and its next own step; [`start_moment`]: at the start.
+//! - [`Moment`]: where a component stands: its state, its last time, and its next own step; [`start_moment`]: at the start;
+//!   [`copy_moment`]: a copy.
 //! - [`output_bag`]: what a model sends in a state, sorted, or [`fill_output`], into a bag that is there; [`routed`]: the
 //!   messages that this makes.
-//! - [`turn_of`]: which turn a component makes; [`make_turn`]: that turn, with the words of the new state and the
-//!   next own step. Where it is refused ([`TurnRefused`]), the state is as it was.
+//! - [`Step`]: one step with what takes it back. [`output_step`] and [`transition_step`] make the steps of a component,
+//!   and [`take_back`] takes them back, the last one first. Where a transition is refused ([`TurnRefused`]), the
+//!   component stands where it stood. [`pass_turn`] makes a transition that is never taken back.
 #![tactic(auto)]
 
 pub mod moment;
 mod outputs;
 pub mod refused;
+pub mod step;
 pub mod turns;
 
-pub use moment::{Moment, start_moment};
+pub use moment::{Moment, copy_moment, start_moment};
 pub use outputs::{fill_output, output_bag, routed};
 pub use refused::TurnRefused;
-pub use turns::{Turned, make_turn, turn_of};
+pub use step::{Home, Step, output_step, take_back, transition_step};
+pub use turns::{pass_turn, turn_of};

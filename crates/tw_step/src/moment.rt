@@ -1,9 +1,10 @@
 //! Where a component stands between its steps.
 
-ghost use Rattle.std.specs.Prelude.{◌≡◌, IfOk};
+ghost use Rattle.std.specs.Prelude.{◌≡◌, ◌+◌, IfOk};
 ghost use Rattle.tw_network.specs.Contents.{StartsInTime};
 ghost use Rattle.tw_theory.specs.Transitions.{start_moment};
 ghost use Rattle.tw_theory.specs.Standing.{IsStanding};
+ghost use Rattle.tw_vtime.specs.Stamps.{phase_of};
 
 use std::alloc::{AllocError, Global};
 use std::marker::Model;
@@ -47,4 +48,29 @@ pub fn start_moment<M: Atomic>(alloc: Global, model: &M) -> Result<Moment<M::Sta
         last: Stamp::START,
         due,
     })
+}
+
+/// A copy of where a component of this model stands. It is refused for want of memory alone (4).
+pub fn copy_moment<M: Atomic>(
+    alloc: Global,
+    model: &M,
+    moment: &Moment<M::State>,
+) -> Result<Moment<M::State>, AllocError>
+    ensures { IfOk result (λ copy. copy ≡ moment.now) }
+{
+    Ok(Moment {
+        state: model.copy(alloc, &moment.state)?,
+        last: moment.last,
+        due: moment.due,
+    })
+}
+
+impl<S: Drop> Moment<S> {
+    /// Its output of this stamp is made: its transition of the same time is due.
+    pub fn after_output(&mut self, stamp: Stamp)
+        requires { phase_of stamp ≡ 0 }
+        ensures { self.new ≡ record self.old { due = stamp + 1 } }
+    {
+        self.due = stamp.transition();
+    }
 }

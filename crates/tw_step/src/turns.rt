@@ -1,17 +1,18 @@
 //! The transitions of a component.
 
-ghost use Rattle.std.specs.Prelude.{◌≡◌, ◌↔◌, ◌<◌, ◌≤◌, [], true, OnOk, IfOk, IfErr, OnErr};
-ghost use Rattle.tw_atomic.specs.Atomic.{CanTurn, turned};
+ghost use Rattle.std.specs.Prelude.{◌≡◌, ◌↔◌, ◌-◌, ◌<◌, ◌≤◌, ◌==◌, [], true, Err, IfOk, IfErr, IsOk};
+ghost use Rattle.tw_step.specs.Steps.{CanMove, IsPassedAs};
 ghost use Rattle.tw_step.specs.Turns.{IsDueBy, IsRefusedBy};
 ghost use Rattle.tw_theory.specs.Transitions.{turn, kind_of};
 ghost use Rattle.tw_vtime.specs.Advance.{advanced};
-ghost use Rattle.tw_vtime.specs.Stamps.{max_microstep, never, phase_of};
+ghost use Rattle.tw_vtime.specs.Stamps.{max_microstep, never, phase_of, tick_of};
 
+use crate::moment::Moment;
 use crate::refused::TurnRefused;
-use std::alloc::Global;
+use std::alloc::{AllocError, Global};
 use tw_atomic::{Atomic, Turn};
 use tw_msgs::{RecordKind, Words};
-use tw_vtime::{Stamp, advance};
+use tw_vtime::{Limit, Stamp, advance};
 
 /// The turn of a component that is imminent or not, with an empty bag or not, and the kind of its record.
 pub fn turn_of(imminent: bool, empty: bool) -> (Turn, RecordKind)
@@ -25,60 +26,89 @@ pub fn turn_of(imminent: bool, empty: bool) -> (Turn, RecordKind)
     }
 }
 
-/// What a turn leaves besides the state.
-#[derive(Drop)]
-pub struct Turned<R: Drop> {
-    /// What takes the turn back.
-    pub residue: R,
-    /// The words of the new state.
-    pub words: Words,
-    /// When the next own step is due, or the end.
-    pub due: Stamp,
+/// A turn that is due.
+#[derive(Clone, Copy, Debug)]
+pub(crate) struct DueTurn {
+    /// Which turn it is.
+    pub(crate) turn: Turn,
+    /// The kind of its record.
+    pub(crate) kind: RecordKind,
+    /// How many ticks have elapsed since the last transition.
+    pub(crate) elapsed: u64,
 }
 
-/// Makes a turn of this stamp: the transition of the state, its words, and when the component is due next. `elapsed`
-/// is the ticks since its last transition.
-///
-/// Refused by [`TurnRefused::OverLimit`] (2 or 3) only where the next own step would pass a limit, and by
-/// [`TurnRefused::OutOfMemory`] (4) where a growth was refused; then the state is as it was, taken back by the model.
-pub fn make_turn<M: Atomic>(
-    alloc: Global,
-    model: &M,
-    state: &mut M::State,
-    turn: Turn,
-    stamp: Stamp,
-    elapsed: u64,
-    bag: &[(u8, i64)],
-    micro_limit: u32,
-) -> Result<Turned<M::Residue>, TurnRefused>
+/// The turn that a component makes at a stamp with this bag.
+pub(crate) fn due_turn<S: Drop>(now: &Moment<S>, stamp: Stamp, bag: &[(u8, i64)]) -> DueTurn
     requires is_due { stamp < never }
-    requires is_transition { phase_of stamp ≡ 1 }
-    requires limit { micro_limit ≤ max_microstep }
-    requires can_turn { CanTurn (M.valid model.now) (M.meaning model.now) turn state.old elapsed bag.now }
-    ensures state { OnOk result (state.new ≡ turned (M.meaning model.now) turn state.old elapsed bag.now) }
-    ensures residue { IfOk result (λ made. made.residue ≡ M.residue_of model.now turn state.old elapsed bag.now) }
-    ensures words { IfOk result (λ made. made.words ≡ (M.meaning model.now).words state.new) }
-    ensures due { IfOk result (λ made. IsDueBy (advanced stamp ((M.meaning model.now).ta state.new) micro_limit) made.due) }
-    ensures stays { OnErr result (state.new ≡ state.old) }
-    ensures refused { let next = turned (M.meaning model.now) turn state.old elapsed bag.now in
-        IfErr result (IsRefusedBy (advanced stamp ((M.meaning model.now).ta next) micro_limit)) }
+    requires last { now.now.last < never }
+    ensures turn { result.turn ≡ turn (now.now.due == stamp) bag.now }
+    ensures kind { result.kind ≡ kind_of (turn (now.now.due == stamp) bag.now) }
+    ensures elapsed { result.elapsed ≡ tick_of stamp - tick_of now.now.last }
 {
-    let residue = model.forward(alloc, state, turn, elapsed, bag)?;
-    match told(alloc, model, state, stamp, micro_limit) {
-        Ok((words, due)) => Ok(Turned {
-            residue,
-            words,
-            due,
-        }),
-        Err(refused) => {
-            model.back(state, turn, elapsed, bag, residue);
-            Err(refused)
-        }
+    let (turn, kind) = turn_of(now.due == stamp, bag.is_empty());
+    DueTurn {
+        turn,
+        kind,
+        elapsed: stamp.tick().saturating_sub(now.last.tick()),
     }
 }
 
+/// Makes the transition of this stamp with this bag, and keeps nothing that takes it back: for a component whose
+/// transitions stand. Answers the kind of its record.
+///
+/// Where its next own step would pass a limit (2 or 3) the limit is answered, and the state is of no more use; nor is it
+/// where memory was refused (4).
+pub fn pass_turn<M: Atomic>(
+    alloc: Global,
+    model: &M,
+    now: &mut Moment<M::State>,
+    stamp: Stamp,
+    bag: &[(u8, i64)],
+    micro_limit: u32,
+) -> Result<Result<RecordKind, Limit>, AllocError>
+    requires is_due { stamp < never }
+    requires is_transition { phase_of stamp ≡ 1 }
+    requires last { now.old.last < never }
+    requires limit { micro_limit ≤ max_microstep }
+    requires can_move { CanMove (M.valid model.now) (M.meaning model.now) now.old stamp bag.now }
+    ensures passed { IfOk result (IsPassedAs (M.meaning model.now) micro_limit now.old stamp bag.now now.new) }
+    ensures valid { IfOk result (λ passed. IsOk passed → M.valid model.now now.new.state) }
+{
+    let DueTurn {
+        turn,
+        kind,
+        elapsed,
+    } = due_turn(now, stamp, bag);
+    model.transition(alloc, &mut now.state, turn, elapsed, bag)?;
+    match next_due(model, &now.state, stamp, micro_limit) {
+        Ok(due) => {
+            now.last = stamp.output();
+            now.due = due;
+            Ok(Ok(kind))
+        }
+        Err(limit) => Ok(Err(limit)),
+    }
+}
+
+/// The next own step in a state after a transition of this stamp, or the end, or the limit that it would pass.
+fn next_due<M: Atomic>(
+    model: &M,
+    state: &M::State,
+    stamp: Stamp,
+    micro_limit: u32,
+) -> Result<Stamp, Limit>
+    requires is_due { stamp < never }
+    requires is_transition { phase_of stamp ≡ 1 }
+    requires limit { micro_limit ≤ max_microstep }
+    ensures due { IfOk result (IsDueBy (advanced stamp ((M.meaning model.now).ta state.now) micro_limit)) }
+    ensures met { IfErr result (λ limit. advanced stamp ((M.meaning model.now).ta state.now) micro_limit ≡ Err limit) }
+{
+    let due = advance(stamp, model.ta(state), micro_limit)?;
+    Ok(due.unwrap_or(Stamp::END))
+}
+
 /// The words of a state, and its next own step after a transition of this stamp. The limit is looked at first.
-fn told<M: Atomic>(
+pub(crate) fn told<M: Atomic>(
     alloc: Global,
     model: &M,
     state: &M::State,
@@ -92,8 +122,8 @@ fn told<M: Atomic>(
     ensures due { IfOk result (λ told. IsDueBy (advanced stamp ((M.meaning model.now).ta state.now) micro_limit) told.1) }
     ensures refused { IfErr result (IsRefusedBy (advanced stamp ((M.meaning model.now).ta state.now) micro_limit)) }
 {
-    let due = advance(stamp, model.ta(state), micro_limit)?;
+    let due = next_due(model, state, stamp, micro_limit)?;
     let mut words = Vec::new(alloc);
     model.words(alloc, state, &mut words)?;
-    Ok((Words::from(words), due.unwrap_or(Stamp::END)))
+    Ok((Words::from(words), due))
 }

@@ -2,7 +2,7 @@ use Rattle.std.proofs.Common.{◌≡◌, ◌++◌, ◌∷◌, [], length, take, 
 use Rattle.std.specs.Prelude.{slice_get}
 use Rattle.std.proofs.lemmas.List.{take_more}
 use Rattle.std.proofs.lemmas.Option.{get_or_from_slice_get}
-use Rattle.tw_chain.specs.declared.step.ChainStep.{ChainStep}
+use Rattle.tw_step.specs.declared.step.Step.{Step as KeptStep}
 use Rattle.tw_lists.specs.Lists.{with_room}
 use Rattle.tw_network.specs.Contents.{network_of}
 use Rattle.tw_theory.specs.Chains.{sent_at}
@@ -20,7 +20,7 @@ returns-in-Err-clause-stop g c = λ e at.
     let is : c.step-item.result ≡ e = c.step-item.is ∙ get_or_from_slice_get c.args.steps.now i e c.step-item.result (ap (slice_get c.args.steps.now) (sym count) ∙ at) in
     let new = c.take_step.new.lists in
     subst (λ l. WhyNot net k way e l c.in-Err.stop) (sym c.in-Err.ensures.stays)
-    (why-room net k way e c.loop-step.lists new.room new.spare c.in-Err.stop (subst (λ (x : ChainStep _ _). WhyNot net k way x c.loop-step.lists c.in-Err.stop) is c.in-Err.ensures.stop))
+    (why-room net k way e c.loop-step.lists new.room new.spare c.in-Err.stop (subst (λ (x : KeptStep _ _). WhyNot net k way x c.loop-step.lists c.in-Err.stop) is c.in-Err.ensures.stop))
 
 pub loop-step-preserved : goal.loop-step-preserved
 loop-step-preserved g c =
@@ -34,7 +34,7 @@ loop-step-preserved g c =
     let old = c.args.lists.now in
     let new = c.take_step.new.lists in
     let done = c.in_default.ensures in
-    let more = take_more steps i e c.loop-step-test.true ∙ ap (λ (x : ChainStep _ _). take i steps ++ x ∷ []) (sym c.step-item.is) in
+    let more = take_more steps i e c.loop-step-test.true ∙ ap (λ (x : KeptStep _ _). take i steps ++ x ∷ []) (sym c.step-item.is) in
     let before = after_steps net k way (take i steps) old in
     record {
       counted = omega (arith, ap length done.counted, length-append c.loop-step.taken.counts.items (length (sent_at net k e.done) ∷ []), inv.counted);

@@ -5,6 +5,9 @@ use Rattle.std.specs.Prelude.{slice_set, Ok, Err}
 use Rattle.std.proofs.lemmas.Option.{slice_get_read}
 use Rattle.std.proofs.lemmas.Result.{err_from_is_err_and}
 use Rattle.tw_exec.specs.Running.{AreExact, answer, after}
+use Rattle.tw_laws.proofs.Swept.{set_same}
+use Rattle.tw_exec.specs.Running.{shown}
+use Rattle.tw_process.proofs.Outcomes.{on_err_always}
 use Rattle.tw_exec.proofs.Acts.{post_none}
 use Rattle.tw_exec.proofs.Kept.{IsActed, all_near, post_acted}
 use Rattle.tw_theory.specs.Executive.{Post, Posted, posted}
@@ -65,3 +68,12 @@ returns-in_err-post-clause-exact g c =
     rw (p.1, p.2)
     (subst (λ e. AreExact g.M.Atomic.meaning (Post c.args.component) e (Err refused.OutOfMemory)) c.self.view_is
     (post_exact c.self.invariant.0 refused.OutOfMemory refl c.args.component (omega (arith, c.if-component-len.false, c.len.ensures, c.self.inside.processes.ok.0))))
+
+pub returns-in_err-post-clause-stays : goal.returns-in_err-post-clause-stays
+returns-in_err-post-clause-stays g c =
+    let f = c.self.inside in
+    let ps = f.processes in
+    let old = c.index_mut-process.result.now in
+    let at = slice_get_read ps.items _ c.args.component old ps.ok.0 (omega (arith, c.if-component-len.false, c.len.ensures, ps.ok.0)) c.index_mut-process.ensures.value in
+    on_err_always _ c.from_residual-in_err-post.result
+    ((λ i. record { network = arc_value f.network; until = f.until; world = shown (set_same ps.items c.args.component old at i) (c.in_err-post.ensures.err i).boxes f.columns.items f.gvt }) ∙ c.self.view_is)

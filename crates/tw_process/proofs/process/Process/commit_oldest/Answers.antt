@@ -12,10 +12,10 @@ use Rattle.tw_process.proofs.process.Process.commit_oldest.Goals as goal
 split : (g : Over) (c : In-Some g) → c.self.inside.history.items ≡ c.in-Some.entry ∷ c.pop_front.new.self.items
 split g c = c.in-Some.ensures.items
 
-kept : (g : Over) (c : In-Some g) → IsKeptBy (g.M.Atomic.valid c.self.invariant.model) (g.M.Atomic.meaning c.self.invariant.model) (g.M.Atomic.undone c.self.invariant.model) c.self.inside.component (record { state = c.self.inside.state; last = c.self.inside.last; due = c.self.inside.due }) c.self.inside.floor (c.in-Some.entry ∷ c.pop_front.new.self.items) c.self.inside.lists
+kept : (g : Over) (c : In-Some g) → IsKeptBy (g.M.Atomic.valid c.self.invariant.model) (g.M.Atomic.meaning c.self.invariant.model) (g.M.Atomic.undone c.self.invariant.model) c.self.inside.component c.self.inside.moment c.self.inside.floor (c.in-Some.entry ∷ c.pop_front.new.self.items) c.self.inside.lists
 kept g c =
     let inside = c.self.inside in
-    let now : Moment g.row.M-State.Denot = record { state = inside.state; last = inside.last; due = inside.due } in
+    let now : Moment g.row.M-State.Denot = inside.moment in
     let x = c.self.invariant.model in
     subst (λ h. IsKeptBy (g.M.Atomic.valid x) (g.M.Atomic.meaning x) (g.M.Atomic.undone x) c.self.inside.component now inside.floor h inside.lists) (split g c) c.self.invariant.by
 
@@ -24,28 +24,28 @@ forget-requires-clause-consumed g c =
     let at = (goal.at.forget-requires-clause-consumed g c).In-Some in
     let inside = c.self.inside in
     let x = c.self.invariant.model in
-    consumed_in (g.M.Atomic.valid x) (g.M.Atomic.meaning x) (g.M.Atomic.undone x) inside.component (record { state = inside.state; last = inside.last; due = inside.due }) inside.floor c.in-Some.entry c.pop_front.new.self.items inside.lists (kept g at)
+    consumed_in (g.M.Atomic.valid x) (g.M.Atomic.meaning x) (g.M.Atomic.undone x) inside.component inside.moment inside.floor c.in-Some.entry c.pop_front.new.self.items inside.lists (kept g at)
 
 pub forget-requires-clause-sent : goal.forget-requires-clause-sent
 forget-requires-clause-sent g c =
     let at = (goal.at.forget-requires-clause-sent g c).In-Some in
     let inside = c.self.inside in
     let x = c.self.invariant.model in
-    sent_in (g.M.Atomic.valid x) (g.M.Atomic.meaning x) (g.M.Atomic.undone x) inside.component (record { state = inside.state; last = inside.last; due = inside.due }) inside.floor c.in-Some.entry c.pop_front.new.self.items inside.lists (kept g at)
+    sent_in (g.M.Atomic.valid x) (g.M.Atomic.meaning x) (g.M.Atomic.undone x) inside.component inside.moment inside.floor c.in-Some.entry c.pop_front.new.self.items inside.lists (kept g at)
 
 pub overflow_add-self : goal.overflow_add-self
 overflow_add-self g c =
     let at = (goal.at.overflow_add-self g c).In-Some in
     let inside = c.self.inside in
     let x = c.self.invariant.model in
-    let small = stamp_small (g.M.Atomic.valid x) (g.M.Atomic.meaning x) (g.M.Atomic.undone x) inside.component (record { state = inside.state; last = inside.last; due = inside.due }) inside.floor c.in-Some.entry c.pop_front.new.self.items inside.lists (kept g at) in
+    let small = stamp_small (g.M.Atomic.valid x) (g.M.Atomic.meaning x) (g.M.Atomic.undone x) inside.component inside.moment inside.floor c.in-Some.entry c.pop_front.new.self.items inside.lists (kept g at) in
     omega (arith, small, c.pack.ensures.number)
 
 pub invariant_of-self-2 : goal.invariant_of-self-2
 invariant_of-self-2 g c =
     let at = (goal.at.invariant_of-self-2 g c).In-Some in
     let inside = c.self.inside in
-    let now : Moment g.row.M-State.Denot = record { state = inside.state; last = inside.last; due = inside.due } in
+    let now : Moment g.row.M-State.Denot = inside.moment in
     let x = c.self.invariant.model in
     let n = c.forget.new.self in
     record {
@@ -66,7 +66,7 @@ pub returns-clause-contents : goal.returns-clause-contents
 returns-clause-contents g c =
     let at = (goal.at.returns-clause-contents g c).In-Some in
     let inside = c.self.inside in
-    let now : Moment g.row.M-State.Denot = record { state = inside.state; last = inside.last; due = inside.due } in
+    let now : Moment g.row.M-State.Denot = inside.moment in
     let n = c.forget.new.self in
     (λ i. seen (arc_value inside.network) inside.component now inside.line inside.cancel (c.pack.ensures.number i + 1) c.pop_front.new.self.items (c.forget.ensures i))
     ∙ ap (λ h. with_spare (min n.room n.spare) (without_oldest (seen (arc_value inside.network) inside.component now inside.line inside.cancel inside.floor h inside.lists))) (sym (split g at))

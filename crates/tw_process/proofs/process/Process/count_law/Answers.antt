@@ -8,6 +8,6 @@ pub returns : goal.returns
 returns g c =
     let inside = c.self.inside in
     let x = c.self.invariant.model in
-    let count = sym (live_shown (g.M.Atomic.valid x) (g.M.Atomic.meaning x) (g.M.Atomic.undone x) (arc_value inside.network) inside.component (record { state = inside.state; last = inside.last; due = inside.due }) inside.line inside.cancel inside.floor inside.history.items inside.lists c.self.invariant.by)
+    let count = sym (live_shown (g.M.Atomic.valid x) (g.M.Atomic.meaning x) (g.M.Atomic.undone x) (arc_value inside.network) inside.component inside.moment inside.line inside.cancel inside.floor inside.history.items inside.lists c.self.invariant.by)
     ∙ ap (λ p. live p.process) c.self.view_is in
     omega (arith, count, c.count_law.ensures)

@@ -5,7 +5,8 @@ use Rattle.std.proofs.lemmas.List.{length-map}
 use Rattle.std.proofs.lemmas.Option.{slice_get_within}
 use Rattle.tw_atomic.specs.Atomic.{AreAlike}
 use Rattle.tw_chain.specs.Kept as chain
-use Rattle.tw_chain.specs.declared.step.ChainStep.{ChainStep}
+use Rattle.tw_step.specs.Steps.{AllLinked}
+use Rattle.tw_step.specs.declared.step.Step.{Step as KeptStep}
 use Rattle.tw_lists.specs.Lists.{with_room}
 use Rattle.tw_network.specs.Contents.{network_of}
 use Rattle.tw_theory.specs.Chains.{IsHome, IsSoloRun}
@@ -44,7 +45,7 @@ push_entries-requires g c =
     omega (arith, c.take_steps-counts.ensures.room, length-map parts.items (chain.shown {S = g.row.M-State.Denot} {R = g.row.M-Residue.Denot}), ap length c.cut_back-steps.ensures.steps, length-take c.len-installed.result c.args.chain.run.steps, c.len-installed.ensures, counts.ok.0, parts.ok.0)
 
 now_of : (g : Over) (c : After-push_entries g) → Moment g.row.M-State.Denot
-now_of g c = record { state = c.self.inside.state; last = c.self.inside.last; due = c.self.inside.due }
+now_of g c = c.self.inside.moment
 
 model_there : (g : Over) (c : After-push_entries g) → slice_get (arc_value c.self.inside.network).models c.self.inside.component ≡ Some c.model-model.result.now
 model_there g c = ap (λ n. slice_get n.models c.self.inside.component) (sym c.deref-network.ensures) ∙ c.model-model.ensures
@@ -69,7 +70,7 @@ run g c = subst (λ m. IsSoloRun m c.args.chain.run) (sym (alike_are g c).means)
 
 all : (g : Over) (c : After-push_entries g) → Whole (network_of g.M.Atomic.meaning (arc_value c.self.inside.network)) (g.M.Atomic.valid c.model-model.result.now) (g.M.Atomic.meaning c.model-model.result.now) (g.M.Atomic.undone c.model-model.result.now) c.args.chain.run (home g c) (small g c)
     (λ tk s el bag can. g.met.M.Atomic.stays_valid c.model-model.result.now tk s el bag can) (arc_value c.self.inside.network) c.self.inside.line c.self.inside.cancel c.self.inside.floor (run g c) c.args.chain.cause
-    (record { state = c.self.inside.state; last = c.self.inside.last; due = c.self.inside.due }) (record { state = c.cut_back-steps.result.state; last = c.cut_back-steps.result.last; due = c.cut_back-steps.result.due })
+    c.self.inside.moment c.cut_back-steps.result.moment
     c.self.inside.history.items c.push_entries.new.history.items c.self.inside.lists c.take_steps-counts.new.lists c.len-installed.result c.unwrap_or-stop.result
 all g c =
     let f = c.self.inside in
@@ -83,14 +84,14 @@ all g c =
     let parts = c.cut_back-steps.result in
     let n = c.len-installed.result in
     let way = f.cancel in
-    let now : Moment g.row.M-State.Denot = record { state = f.state; last = f.last; due = f.due } in
+    let now : Moment g.row.M-State.Denot = f.moment in
     let k = sym (component_is g c) in
     let d = c.deref-network.ensures in
     let n_is : length counts.items ≡ n = omega (arith, c.len-installed.ensures, counts.ok.0) in
     let o = taken.result.stop in
     let kept = kept_at g.M.Atomic.valid meaning g.M.Atomic.undone net f.component now f.floor f.history.items f.lists c.self.invariant model (model_there g c) in
     whole (network_of meaning net) (g.M.Atomic.valid model) (meaning model) (g.M.Atomic.undone model) r (home g c) (small g c) (λ tk s el bag can. g.met.M.Atomic.stays_valid model tk s el bag can) net f.line way f.floor (run g c)
-    c.args.chain.cause now (record { state = parts.state; last = parts.last; due = parts.due }) f.history.items c.push_entries.new.history.items f.lists taken.new.lists n c.unwrap_or-stop.result es parts.steps.items counts.items o c.cause-2.result
+    c.args.chain.cause now parts.moment f.history.items c.push_entries.new.history.items f.lists taken.new.lists n c.unwrap_or-stop.result es parts.steps.items counts.items o c.cause-2.result
     (c.stands_at_start.ensures.0 c.if-not-stands_at_start.false)
     (subst (λ x. IsKeptBy (g.M.Atomic.valid model) (meaning model) (g.M.Atomic.undone model) x now f.floor f.history.items f.lists) k kept)
     c.steps.ensures
@@ -100,11 +101,11 @@ all g c =
     (taken.ensures.counts ∙ (λ i. sent_counts (network_of meaning (d i)) (k i) (take (n_is i) es)))
     c.cut_back-steps.ensures.steps
     c.cut_back-steps.ensures.now
-    (subst (λ u. chain.Linked u parts.steps.items parts.state) (sym (alike_are g c).takes_back) c.cut_back-steps.ensures.links)
+    (subst (λ u. AllLinked u parts.steps.items parts.moment.state) (sym (alike_are g c).takes_back) c.cut_back-steps.ensures.links)
     (c.push_entries.ensures ∙ ap (λ l. l ++ entries_with counts.items parts.steps.items) taken.ensures.history)
     (subst (λ (x : Type 0). x) (λ i. IfNone o (n_is i ≡ length es)) taken.ensures.all)
     (subst (λ (x : Type 0). x) (λ i. IfSome o (λ s. n_is i < length es)) taken.ensures.short)
-    (subst (λ (x : Type 0). x) (λ i. IfSome o (λ s. (e : ChainStep _ _) → slice_get es (n_is i) ≡ Some e → WhyNot (network_of meaning (d i)) (k i) way e taken.new.lists s)) taken.ensures.stop)
+    (subst (λ (x : Type 0). x) (λ i. IfSome o (λ s. (e : KeptStep _ _) → slice_get es (n_is i) ≡ Some e → WhyNot (network_of meaning (d i)) (k i) way e taken.new.lists s)) taken.ensures.stop)
     c.unwrap_or-stop.ensures
     c.cause-2.ensures
 
@@ -113,7 +114,7 @@ invariant_of-self g c =
     let at = (goal.at.invariant_of-self g c).After-push_entries in
     let f = c.self.inside in
     let model = c.model-model.result.now in
-    let now : Moment g.row.M-State.Denot = record { state = c.cut_back-steps.result.state; last = c.cut_back-steps.result.last; due = c.cut_back-steps.result.due } in
+    let now : Moment g.row.M-State.Denot = c.cut_back-steps.result.moment in
     record {
       model = model;
       there = model_there g at;
@@ -124,7 +125,7 @@ pub returns-clause-installed : goal.returns-clause-installed
 returns-clause-installed g c =
     let at = (goal.at.returns-clause-installed g c).After-push_entries in
     let f = c.self.inside in
-    let now : Moment g.row.M-State.Denot = record { state = c.cut_back-steps.result.state; last = c.cut_back-steps.result.last; due = c.cut_back-steps.result.due } in
+    let now : Moment g.row.M-State.Denot = c.cut_back-steps.result.moment in
     subst (λ (x : Held _ _). IsInstalled (network_of g.M.Atomic.meaning x.network) c.args.chain.run c.args.chain.cause x.process
     (seen (arc_value f.network) f.component now f.line f.cancel f.floor c.push_entries.new.history.items c.take_steps-counts.new.lists).process (record { installed = c.len-installed.result; stop = c.unwrap_or-stop.result }))
     c.self.view_is (all g at).is

@@ -8,7 +8,7 @@ use Rattle.tw_process.proofs.process.Process.last_stamp.Given.{Over}
 use Rattle.tw_process.proofs.process.Process.last_stamp.Goals.{In-Some}
 use Rattle.tw_process.proofs.process.Process.last_stamp.Goals as goal
 
-is_last : (g : Over) (c : In-Some g) → last_stamp_of (shown c.self.inside.history.items c.self.inside.lists.consumed c.self.inside.lists.sent) ≡ Some c.in-Some.entry.now.done.stamp
+is_last : (g : Over) (c : In-Some g) → last_stamp_of (shown c.self.inside.history.items c.self.inside.lists.consumed c.self.inside.lists.sent) ≡ Some c.in-Some.entry.now.step.done.stamp
 is_last g c =
     let inside = c.self.inside in
     let len = inside.history.ok.0 in
@@ -22,5 +22,5 @@ pub returns-in-Some-clause-latest : goal.returns-in-Some-clause-latest
 returns-in-Some-clause-latest g c =
     let inside = c.self.inside in
     let kept = c.self.invariant.by in
-    subst (λ p. AllBefore (c.in-Some.entry.now.done.stamp + 1) p.process.history) c.self.view_is
-    (stood_before (g.M.Atomic.valid c.self.invariant.model) (g.M.Atomic.meaning c.self.invariant.model) inside.floor c.in-Some.entry.now.done.stamp (shown inside.history.items inside.lists.consumed inside.lists.sent) kept.stood (is_last g (goal.at.returns-in-Some-clause-latest g c).In-Some))
+    subst (λ p. AllBefore (c.in-Some.entry.now.step.done.stamp + 1) p.process.history) c.self.view_is
+    (stood_before (g.M.Atomic.valid c.self.invariant.model) (g.M.Atomic.meaning c.self.invariant.model) inside.floor c.in-Some.entry.now.step.done.stamp (shown inside.history.items inside.lists.consumed inside.lists.sent) kept.stood (is_last g (goal.at.returns-in-Some-clause-latest g c).In-Some))

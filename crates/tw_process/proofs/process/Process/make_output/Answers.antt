@@ -1,4 +1,4 @@
-use Rattle.std.proofs.Common.{◌≡◌, ◌+◌, length, Some, Err, ap, sym, subst, ◌∙◌, arith, min}
+use Rattle.std.proofs.Common.{◌≡◌, ◌+◌, ◌≤◌, length, Some, Err, ap, sym, subst, ◌∙◌, arith, min}
 use Rattle.std.specs.Arc.{arc_value}
 use Rattle.std.specs.Prelude.{slice_get}
 use Rattle.tw_msgs.specs.declared.record_kind.RecordKind.TheVariants.{Out}
@@ -6,41 +6,45 @@ use Rattle.tw_network.specs.Contents.{network_of}
 use Rattle.tw_theory.specs.Contents.{next, sent_out}
 use Rattle.tw_theory.specs.Installing.{IsFullFor}
 use Rattle.tw_theory.specs.Network.{routed}
-use Rattle.tw_theory.specs.Transitions.{Moment}
+use Rattle.tw_vtime.specs.Stamps.{max_microstep}
 use Rattle.tw_process.specs.History.{seen, IsKept}
 use Rattle.tw_lists.specs.Lists.{with_room, with_all_sent}
 use Rattle.tw_process.specs.Process.{IsStepped, with_spare}
 use Rattle.tw_process.proofs.Histories.{kept_at}
 use Rattle.tw_process.proofs.Receipts.{kept_with, others_kept}
 use Rattle.tw_process.proofs.Outcomes.{on_err_always}
-use Rattle.tw_process.proofs.Made.{Stepped, output_stepped, too_large, stop_for_pool}
+use Rattle.tw_process.proofs.Made.{too_large, stop_for_pool, due_for_pool}
+use Rattle.tw_process.proofs.Stepped.{Stepped, output_stepped}
 use Rattle.tw_process.proofs.process.Process.make_output.Given.{Over}
 use Rattle.tw_process.proofs.process.Process.make_output.Goals.{After-drop-sent-2}
 use Rattle.tw_process.proofs.process.Process.make_output.Goals as goal
 
-there : (g : Over) (c : After-drop-sent-2 g) → slice_get (arc_value c.self.inside.network).models c.self.inside.component ≡ Some c.model.result.now
-there g c = ap (λ n. slice_get n.models c.self.inside.component) (sym c.deref-network.ensures) ∙ c.model.ensures
+there : (g : Over) (c : After-drop-sent-2 g) → slice_get (arc_value c.self.inside.network).models c.self.inside.component ≡ Some c.model-model.result.now
+there g c = ap (λ n. slice_get n.models c.self.inside.component) (sym c.deref-network.ensures) ∙ c.model-model.ensures
 
-all : (g : Over) (c : After-drop-sent-2 g) → Stepped g.M.Atomic.valid g.M.Atomic.meaning g.M.Atomic.undone (arc_value c.self.inside.network) c.self.inside.component c.model.result.now (there g c)
-    (record { state = c.self.inside.state; last = c.self.inside.last; due = c.self.inside.due }) (record { state = c.self.inside.state; last = c.self.inside.last; due = c.transition-self-inside.result })
-    c.self.inside.line c.self.inside.cancel c.self.inside.floor c.self.inside.history.items c.push_back_reserved.new.self.items c.self.inside.lists c.send_all.new.self c.args.stamp Out
+small : (g : Over) (c : After-drop-sent-2 g) → (arc_value c.self.inside.network).micro_limit ≤ max_microstep
+small g c = subst (λ n. n.micro_limit ≤ max_microstep) c.deref-network.ensures c.facts.ensures.microsteps
+
+all : (g : Over) (c : After-drop-sent-2 g) → Stepped g.M.Atomic.valid g.M.Atomic.meaning g.M.Atomic.undone (arc_value c.self.inside.network) c.self.inside.component c.model-model.result.now (there g c) (small g c)
+    (λ tk s el bag can. g.met.M.Atomic.stays_valid c.model-model.result.now tk s el bag can)
+    c.self.inside.moment c.after_output.new.self c.self.inside.line c.self.inside.cancel c.self.inside.floor c.self.inside.history.items c.push_back_reserved.new.self.items c.self.inside.lists c.send_all.new.self c.args.stamp Out
 all g c =
     let inside = c.self.inside in
     let network = arc_value inside.network in
-    let before : Moment g.row.M-State.Denot = record { state = inside.state; last = inside.last; due = inside.due } in
-    let kept = kept_at g.M.Atomic.valid g.M.Atomic.meaning g.M.Atomic.undone network inside.component before inside.floor inside.history.items inside.lists c.self.invariant c.model.result.now (there g c) in
+    let model = c.model-model.result.now in
+    let before = inside.moment in
+    let kept = kept_at g.M.Atomic.valid g.M.Atomic.meaning g.M.Atomic.undone network inside.component before inside.floor inside.history.items inside.lists c.self.invariant model (there g c) in
     let at : c.transition.result ≡ c.args.stamp + 1 = omega (arith, c.transition.ensures, c.requires.is_output) in
-    let at_self : c.transition-self-inside.result ≡ c.args.stamp + 1 = omega (arith, c.transition-self-inside.ensures, c.requires.is_output) in
-    let ms = c.in_ok-sent.sent.items in
-    output_stepped g.M.Atomic.valid g.M.Atomic.meaning g.M.Atomic.undone network inside.component c.model.result.now (there g c)
-    before inside.line inside.cancel inside.floor c.send_all.new.self.room c.send_all.new.self.spare c.len.result inside.history.items c.push_back_reserved.new.self.items
-    c.in_ok-bag.bag c.none.result c.of.result ms inside.lists c.send_all.new.self c.args.stamp c.transition-self-inside.result
+    let step = c.in_ok-step.step in
+    output_stepped g.M.Atomic.valid g.M.Atomic.meaning g.M.Atomic.undone network inside.component model (there g c) (small g c) (λ tk s el bag can. g.met.M.Atomic.stays_valid model tk s el bag can)
+    before c.after_output.new.self inside.line inside.cancel inside.floor c.send_all.new.self.room c.send_all.new.self.spare c.len.result inside.history.items c.push_back_reserved.new.self.items
+    step c.in_ok-sent.sent.items inside.lists c.send_all.new.self c.args.stamp
     kept (c.requires.is_next ∙ ap (λ p. next p.process) (sym c.self.view_is)) c.requires.is_due c.requires.is_output
-    c.of.ensures c.in_ok-bag.ensures (c.none.ensures)
-    (c.in_ok-sent.ensures ∙ (λ i. routed (network_of g.M.Atomic.meaning (c.deref-network.ensures i)) inside.component (at i) c.in_ok-bag.bag))
+    c.in_ok-step.ensures.step c.in_ok-step.ensures.linked
+    (c.in_ok-sent.ensures ∙ (λ i. routed (network_of g.M.Atomic.meaning (c.deref-network.ensures i)) inside.component (at i) step.done.bag))
     (omega (arith, c.len.ensures, c.in_ok-sent.sent.ok.0))
     (c.send_all.ensures ∙ (λ i. with_room c.send_all.new.self.room c.send_all.new.self.spare (with_all_sent inside.cancel (c.deref-2.ensures.value i) (c.reserve.ensures.contents i))))
-    at_self
+    c.after_output.ensures
     (rw c.reserve-2.ensures.items at c.push_back_reserved.ensures.items)
 
 pub invariant_of-self-2 : goal.invariant_of-self-2
@@ -49,12 +53,12 @@ invariant_of-self-2 g c = (all g c).kept
 pub returns-clause-stepped : goal.returns-clause-stepped
 returns-clause-stepped g c =
     let inside = c.self.inside in
-    subst (λ old. IsStepped g.M.Atomic.meaning old (seen (arc_value inside.network) inside.component (record { state = inside.state; last = inside.last; due = c.transition-self-inside.result }) inside.line inside.cancel inside.floor c.push_back_reserved.new.self.items c.send_all.new.self) c.args.stamp Out) c.self.view_is (all g c).stepped
+    subst (λ old. IsStepped g.M.Atomic.meaning old (seen (arc_value inside.network) inside.component c.after_output.new.self inside.line inside.cancel inside.floor c.push_back_reserved.new.self.items c.send_all.new.self) c.args.stamp Out) c.self.view_is (all g c).stepped
 
 pub invariant_of-self : goal.invariant_of-self
 invariant_of-self g c =
     let inside = c.self.inside in
-    let now : Moment g.row.M-State.Denot = record { state = inside.state; last = inside.last; due = inside.due } in
+    let now = inside.moment in
     let new = c.reserve.new.self in
     kept_with g.M.Atomic.valid g.M.Atomic.meaning g.M.Atomic.undone (arc_value inside.network) inside.component now inside.floor inside.history.items inside.lists new (with_room new.room new.spare inside.lists) c.self.invariant c.reserve.ensures.contents
     (λ x kept. others_kept (g.M.Atomic.valid x) (g.M.Atomic.meaning x) (g.M.Atomic.undone x) inside.component now inside.floor inside.history.items inside.lists kept inside.lists.waiting inside.lists.outgoing inside.lists.owed new.room new.spare)
@@ -62,7 +66,7 @@ invariant_of-self g c =
 pub returns-in_err-reserve-clause-stays : goal.returns-in_err-reserve-clause-stays
 returns-in_err-reserve-clause-stays g c =
     let inside = c.self.inside in
-    let now : Moment g.row.M-State.Denot = record { state = inside.state; last = inside.last; due = inside.due } in
+    let now = inside.moment in
     let lists = c.reserve.new.self in
     on_err_always _ c.from_residual-in_err-reserve.result
     ((λ i. seen (arc_value inside.network) inside.component now inside.line inside.cancel inside.floor inside.history.items (c.reserve.ensures.contents i))
@@ -72,9 +76,9 @@ pub returns-in_err-reserve-clause-stop : goal.returns-in_err-reserve-clause-stop
 returns-in_err-reserve-clause-stop g c =
     let inside = c.self.inside in
     let network = arc_value inside.network in
-    let model = c.model.result.now in
-    let now : Moment g.row.M-State.Denot = record { state = inside.state; last = inside.last; due = inside.due } in
-    let there = ap (λ n. slice_get n.models inside.component) (sym c.deref-network.ensures) ∙ c.model.ensures in
+    let model = c.model-model.result.now in
+    let now = inside.moment in
+    let there = ap (λ n. slice_get n.models inside.component) (sym c.deref-network.ensures) ∙ c.model-model.ensures in
     let kept = kept_at g.M.Atomic.valid g.M.Atomic.meaning g.M.Atomic.undone network inside.component now inside.floor inside.history.items inside.lists c.self.invariant model there in
     let at : c.transition.result ≡ c.args.stamp + 1 = omega (arith, c.transition.ensures, c.requires.is_output) in
     let fresh : c.fresh_count-fresh.result ≡ length (sent_out inside.cancel inside.lists.owed c.in_ok-sent.sent.items) = c.fresh_count-fresh.ensures.count ∙ ap (λ l. length (sent_out inside.cancel inside.lists.owed l)) c.deref.ensures.value in
@@ -82,15 +86,15 @@ returns-in_err-reserve-clause-stop g c =
     (λ full.
     let limit = c.reserve.ensures.limit.1 (c.in_err-reserve.was ∙ ap Err full) in
     subst (λ old. IsFullFor (network_of g.M.Atomic.meaning old.network) old.component old.process) c.self.view_is
-    (too_large g.M.Atomic.valid g.M.Atomic.meaning g.M.Atomic.undone network inside.component model there now inside.line inside.cancel inside.floor inside.history.items inside.lists c.args.stamp c.in_ok-bag.bag c.in_ok-sent.sent.items
-    kept (c.requires.is_next ∙ ap (λ p. next p.process) (sym c.self.view_is)) c.requires.is_due c.requires.is_output c.in_ok-bag.ensures
-    (c.in_ok-sent.ensures ∙ (λ i. routed (network_of g.M.Atomic.meaning (c.deref-network.ensures i)) inside.component (at i) c.in_ok-bag.bag))
+    (too_large g.M.Atomic.valid g.M.Atomic.meaning g.M.Atomic.undone network inside.component model there now inside.line inside.cancel inside.floor inside.history.items inside.lists c.args.stamp c.in_ok-step.step c.in_ok-sent.sent.items
+    kept (c.requires.is_next ∙ ap (λ p. next p.process) (sym c.self.view_is)) c.requires.is_due c.requires.is_output c.in_ok-step.ensures.step
+    (c.in_ok-sent.ensures ∙ (λ i. routed (network_of g.M.Atomic.meaning (c.deref-network.ensures i)) inside.component (at i) c.in_ok-step.step.done.bag))
     (omega (arith, limit, fresh))))
 
 pub invariant_of-self-in_err-reserve-2 : goal.invariant_of-self-in_err-reserve-2
 invariant_of-self-in_err-reserve-2 g c =
     let inside = c.self.inside in
-    let now : Moment g.row.M-State.Denot = record { state = inside.state; last = inside.last; due = inside.due } in
+    let now = inside.moment in
     let new = c.reserve.new.self in
     subst (λ h. IsKept g.M.Atomic.valid g.M.Atomic.meaning g.M.Atomic.undone (arc_value inside.network) inside.component now inside.floor h new) (sym c.reserve-2.ensures.items)
     (kept_with g.M.Atomic.valid g.M.Atomic.meaning g.M.Atomic.undone (arc_value inside.network) inside.component now inside.floor inside.history.items inside.lists new (with_room new.room new.spare inside.lists) c.self.invariant c.reserve.ensures.contents
@@ -99,8 +103,11 @@ invariant_of-self-in_err-reserve-2 g c =
 pub returns-in_err-reserve-2-clause-stays : goal.returns-in_err-reserve-2-clause-stays
 returns-in_err-reserve-2-clause-stays g c =
     let inside = c.self.inside in
-    let now : Moment g.row.M-State.Denot = record { state = inside.state; last = inside.last; due = inside.due } in
+    let now = inside.moment in
     let lists = c.reserve.new.self in
     on_err_always _ c.from_residual-in_err-reserve-2.result
     ((λ i. seen (arc_value inside.network) inside.component now inside.line inside.cancel inside.floor (c.reserve-2.ensures.items i) (c.reserve.ensures.contents i))
     ∙ ap (with_spare (min lists.room lists.spare)) c.self.view_is)
+
+pub returns-in_err-reserve-clause-due : goal.returns-in_err-reserve-clause-due
+returns-in_err-reserve-clause-due g c = due_for_pool c.from_residual-in_err-reserve.result c.in_err-reserve.field-0.0 c.from_residual-in_err-reserve.ensures.1

@@ -14,7 +14,7 @@ count : (g : Over) (c : After-note_orphan g) → lists_count c.self.inside.lists
 count g c =
     let inside = c.self.inside in
     let x = c.self.invariant.model in
-    sym (live_shown (g.M.Atomic.valid x) (g.M.Atomic.meaning x) (g.M.Atomic.undone x) (arc_value inside.network) inside.component (record { state = inside.state; last = inside.last; due = inside.due }) inside.line inside.cancel inside.floor inside.history.items inside.lists c.self.invariant.by)
+    sym (live_shown (g.M.Atomic.valid x) (g.M.Atomic.meaning x) (g.M.Atomic.undone x) (arc_value inside.network) inside.component inside.moment inside.line inside.cancel inside.floor inside.history.items inside.lists c.self.invariant.by)
     ∙ ap (λ p. live p.process) c.self.view_is
 
 pub returns-clause-limit : goal.returns-clause-limit
@@ -23,7 +23,7 @@ returns-clause-limit g c = rw (count g (goal.at.returns-clause-limit g c).After-
 pub invariant_of-self : goal.invariant_of-self
 invariant_of-self g c =
     let inside = c.self.inside in
-    let now : Moment g.row.M-State.Denot = record { state = inside.state; last = inside.last; due = inside.due } in
+    let now : Moment g.row.M-State.Denot = inside.moment in
     let new = c.note_orphan.new.self in
     let m = c.args.message in
     either_way _ _ _ c.note_orphan.result c.note_orphan.ensures.noted c.note_orphan.ensures.stays

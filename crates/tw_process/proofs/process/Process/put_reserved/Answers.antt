@@ -9,6 +9,6 @@ use Rattle.tw_process.proofs.process.Process.put_reserved.Goals as goal
 pub invariant_of-self : goal.invariant_of-self
 invariant_of-self g c =
     let inside = c.self.inside in
-    let now : Moment g.row.M-State.Denot = record { state = inside.state; last = inside.last; due = inside.due } in
+    let now : Moment g.row.M-State.Denot = inside.moment in
     kept_with g.M.Atomic.valid g.M.Atomic.meaning g.M.Atomic.undone (arc_value inside.network) inside.component now inside.floor inside.history.items inside.lists c.put_reserved.new.self (with_room c.put_reserved.new.self.room c.put_reserved.new.self.spare (with_pending c.args.message.now inside.lists)) c.self.invariant c.put_reserved.ensures
     (λ x kept. put_kept (g.M.Atomic.valid x) (g.M.Atomic.meaning x) (g.M.Atomic.undone x) inside.component now inside.floor inside.history.items inside.lists kept c.args.message.now c.put_reserved.new.self.room c.put_reserved.new.self.spare (subst (λ p. CanTake p.component c.args.message.now) (sym c.self.view_is) c.requires.come.fits) (subst (λ p. floor_after p.floor p.process.history ≤ c.args.message.now.stamp) (sym c.self.view_is) c.requires.come.after))

@@ -13,7 +13,7 @@ use Rattle.tw_process.proofs.process.Process.reserve.Goals as goal
 pub invariant_of-self : goal.invariant_of-self
 invariant_of-self g c =
     let inside = c.self.inside in
-    let now : Moment g.row.M-State.Denot = record { state = inside.state; last = inside.last; due = inside.due } in
+    let now : Moment g.row.M-State.Denot = inside.moment in
     kept_with g.M.Atomic.valid g.M.Atomic.meaning g.M.Atomic.undone (arc_value inside.network) inside.component now inside.floor inside.history.items inside.lists c.reserve_pending.new.self (with_room c.reserve_pending.new.self.room c.reserve_pending.new.self.spare inside.lists) c.self.invariant c.reserve_pending.ensures.contents
     (λ x kept. others_kept (g.M.Atomic.valid x) (g.M.Atomic.meaning x) (g.M.Atomic.undone x) inside.component now inside.floor inside.history.items inside.lists kept inside.lists.waiting inside.lists.outgoing inside.lists.owed c.reserve_pending.new.self.room c.reserve_pending.new.self.spare)
 
@@ -21,7 +21,7 @@ count : (g : Over) (c : After-reserve_pending g) → lists_count c.self.inside.l
 count g c =
     let inside = c.self.inside in
     let x = c.self.invariant.model in
-    sym (live_shown (g.M.Atomic.valid x) (g.M.Atomic.meaning x) (g.M.Atomic.undone x) (arc_value inside.network) inside.component (record { state = inside.state; last = inside.last; due = inside.due }) inside.line inside.cancel inside.floor inside.history.items inside.lists c.self.invariant.by)
+    sym (live_shown (g.M.Atomic.valid x) (g.M.Atomic.meaning x) (g.M.Atomic.undone x) (arc_value inside.network) inside.component inside.moment inside.line inside.cancel inside.floor inside.history.items inside.lists c.self.invariant.by)
     ∙ ap (λ p. live p.process) c.self.view_is
 
 pub returns-clause-limit : goal.returns-clause-limit

@@ -1,10 +1,9 @@
-use Rattle.std.proofs.Common.{◌≡◌, ◌++◌, ◌-◌, ◌<◌, ◌≤◌, [], drop, length, ap, sym, subst, ◌∙◌, rules, arith, append-nil}
+use Rattle.std.proofs.Common.{◌≡◌, ◌<◌, ◌≤◌, [], length, ap, sym, subst, ◌∙◌, rules, arith, append-nil}
 use Rattle.std.specs.Arc.{arc_value}
 use Rattle.std.specs.Prelude.{slice_get}
-use Rattle.tw_msgs.specs.Messages.{Sorted}
 use Rattle.std.proofs.lemmas.Option.{slice_get_within}
 use Rattle.tw_theory.specs.Transitions.{Moment}
-use Rattle.tw_lists.specs.Lists.{restored, cancelled}
+use Rattle.tw_lists.specs.Lists.{cancelled}
 use Rattle.tw_process.specs.Process.{with_last_undone}
 use Rattle.tw_process.specs.History.{IsKeptBy, seen, shown}
 use Rattle.tw_process.proofs.Histories.{TakenBack, taken_back, shown_some, kept_at, nothing_undone, nil_of_length}
@@ -12,11 +11,11 @@ use Rattle.tw_process.proofs.process.Process.undo_last.Given.{Over}
 use Rattle.tw_process.proofs.process.Process.undo_last.Goals.{After-model-model}
 use Rattle.tw_process.proofs.process.Process.undo_last.Goals as goal
 
-back : (g : Over) (c : After-model-model g) → TakenBack (g.M.Atomic.valid c.model-model.result.now) (g.M.Atomic.meaning c.model-model.result.now) (g.M.Atomic.undone c.model-model.result.now) (arc_value c.self.inside.network) c.self.inside.component (record { state = c.self.inside.state; last = c.self.inside.last; due = c.self.inside.due }) c.self.inside.line c.self.inside.cancel c.self.inside.floor c.pop_back.new.self.items c.in-Some.entry c.self.inside.lists
+back : (g : Over) (c : After-model-model g) → TakenBack (g.M.Atomic.valid c.model-model.result.now) (g.M.Atomic.meaning c.model-model.result.now) (g.M.Atomic.undone c.model-model.result.now) (arc_value c.self.inside.network) c.self.inside.component c.self.inside.moment c.self.inside.line c.self.inside.cancel c.self.inside.floor c.pop_back.new.self.items c.in-Some.entry c.self.inside.lists
 back g c =
     let inside = c.self.inside in
     let network = arc_value inside.network in
-    let now : Moment g.row.M-State.Denot = record { state = inside.state; last = inside.last; due = inside.due } in
+    let now : Moment g.row.M-State.Denot = inside.moment in
     let model = c.model-model.result.now in
     let there = ap (λ n. slice_get n.models inside.component) (sym c.deref-network.ensures) ∙ c.model-model.ensures in
     let kept = kept_at g.M.Atomic.valid g.M.Atomic.meaning g.M.Atomic.undone network inside.component now inside.floor inside.history.items inside.lists c.self.invariant model there in
@@ -27,16 +26,13 @@ pub take_back-requires : goal.take_back-requires
 take_back-requires g c = (back g (goal.at.take_back-requires g c).After-model-model).link
 
 pub restore-requires-clause-n : goal.restore-requires-clause-n
-restore-requires-clause-n g c = subst (λ e. e.consumed ≤ length c.self.inside.lists.consumed) (sym c.take_back.ensures.entry) (back g (goal.at.restore-requires-clause-n g c).After-model-model).consumed_in
+restore-requires-clause-n g c = (back g (goal.at.restore-requires-clause-n g c).After-model-model).consumed_in
 
 pub restore-requires-clause-sorted : goal.restore-requires-clause-sorted
-restore-requires-clause-sorted g c =
-    subst (λ e. Sorted (drop (length c.self.inside.lists.consumed - e.consumed) c.self.inside.lists.consumed ++ c.self.inside.lists.pending)) (sym c.take_back.ensures.entry) (back g (goal.at.restore-requires-clause-sorted g c).After-model-model).sorted
+restore-requires-clause-sorted g c = (back g (goal.at.restore-requires-clause-sorted g c).After-model-model).sorted
 
 pub cancel-requires : goal.cancel-requires
-cancel-requires g c =
-    subst (λ l. c.take_back.new.entry.sent ≤ length l.sent) (sym c.restore.ensures)
-    (subst (λ e. e.sent ≤ length c.self.inside.lists.sent) (sym c.take_back.ensures.entry) (back g (goal.at.cancel-requires g c).After-model-model).sent_in)
+cancel-requires g c = subst (λ l. c.in-Some.entry.sent ≤ length l.sent) (sym c.restore.ensures) (back g (goal.at.cancel-requires g c).After-model-model).sent_in
 
 pub invariant_of-self-2 : goal.invariant_of-self-2
 invariant_of-self-2 g c =
@@ -44,14 +40,11 @@ invariant_of-self-2 g c =
     let inside = c.self.inside in
     let model = c.model-model.result.now in
     let there = ap (λ n. slice_get n.models inside.component) (sym c.deref-network.ensures) ∙ c.model-model.ensures in
-    let lists = c.cancel.ensures ∙ (λ i. cancelled inside.cancel (c.take_back.ensures.entry i).sent (c.restore.ensures i)) ∙ ap (λ e. cancelled inside.cancel c.in-Some.entry.sent (restored e.consumed inside.lists)) c.take_back.ensures.entry in
-    let kept = (back g at).kept in
+    let lists = c.cancel.ensures ∙ ap (cancelled inside.cancel c.in-Some.entry.sent) c.restore.ensures in
     record {
       model = model;
       there = there;
-      by = subst (λ l. IsKeptBy (g.M.Atomic.valid model) (g.M.Atomic.meaning model) (g.M.Atomic.undone model) c.self.inside.component (record { state = c.take_back.new.state; last = c.take_back.new.entry.last; due = c.take_back.new.entry.due }) inside.floor c.pop_back.new.self.items l) (sym lists)
-          (subst (λ (x : Moment g.row.M-State.Denot). IsKeptBy (g.M.Atomic.valid model) (g.M.Atomic.meaning model) (g.M.Atomic.undone model) c.self.inside.component x inside.floor c.pop_back.new.self.items (cancelled inside.cancel c.in-Some.entry.sent (restored c.in-Some.entry.consumed inside.lists)))
-          (sym (λ i. record { state = c.take_back.ensures.state i; last = (c.take_back.ensures.entry i).last; due = (c.take_back.ensures.entry i).due })) kept);
+      by = subst (λ (x : Type 0). x) (λ i. IsKeptBy (g.M.Atomic.valid model) (g.M.Atomic.meaning model) (g.M.Atomic.undone model) inside.component (sym c.take_back.ensures i) inside.floor c.pop_back.new.self.items (sym lists i)) (back g at).kept;
     }
 
 pub returns-clause-undone : goal.returns-clause-undone
@@ -59,10 +52,10 @@ returns-clause-undone g c =
     let at = (goal.at.returns-clause-undone g c).After-model-model in
     let inside = c.self.inside in
     let network = arc_value inside.network in
-    let lists = c.cancel.ensures ∙ (λ i. cancelled inside.cancel (c.take_back.ensures.entry i).sent (c.restore.ensures i)) ∙ ap (λ e. cancelled inside.cancel c.in-Some.entry.sent (restored e.consumed inside.lists)) c.take_back.ensures.entry in
-    (λ i. seen network inside.component (record { state = c.take_back.ensures.state i; last = (c.take_back.ensures.entry i).last; due = (c.take_back.ensures.entry i).due }) inside.line inside.cancel inside.floor c.pop_back.new.self.items (lists i))
+    let lists = c.cancel.ensures ∙ ap (cancelled inside.cancel c.in-Some.entry.sent) c.restore.ensures in
+    (λ i. seen network inside.component (c.take_back.ensures i) inside.line inside.cancel inside.floor c.pop_back.new.self.items (lists i))
     ∙ (back g at).seen_is
-    ∙ ap (λ h. with_last_undone (seen network inside.component (record { state = inside.state; last = inside.last; due = inside.due }) inside.line inside.cancel inside.floor h inside.lists)) (sym c.in-Some.ensures.items)
+    ∙ ap (λ h. with_last_undone (seen network inside.component inside.moment inside.line inside.cancel inside.floor h inside.lists)) (sym c.in-Some.ensures.items)
     ∙ ap with_last_undone c.self.view_is
 
 pub model-model-requires : goal.model-model-requires
@@ -76,7 +69,7 @@ returns-in_default-clause-undone g c =
     let none : c.pop_back.new.self.items ≡ [] = nil_of_length c.pop_back.new.self.items (omega (arith, c.in_default.ensures.cases.1, c.pop_back.new.self.ok.0)) in
     let same : c.pop_back.new.self.items ≡ inside.history.items = sym (c.in_default.ensures.items ∙ append-nil c.pop_back.new.self.items) in
     let history : now.process.history ≡ [] = sym (ap (λ p. p.process.history) c.self.view_is) ∙ ap (λ h. shown h inside.lists.consumed inside.lists.sent) (sym same ∙ none) in
-    (λ i. seen network inside.component (record { state = inside.state; last = inside.last; due = inside.due }) inside.line inside.cancel inside.floor (same i) inside.lists)
+    (λ i. seen network inside.component inside.moment inside.line inside.cancel inside.floor (same i) inside.lists)
     ∙ c.self.view_is
     ∙ sym (ap (λ p. record now { process = p }) (nothing_undone now.process history))
 

@@ -38,6 +38,11 @@ split p w n (suc k, wide, is) not =
       above = omega arith;
     }
 
+-- a place that a single one plays for is its own
+pub one_wide : (p w n : ℕ) → PlayFor p w n → w ≤ 1 → n ≡ p
+one_wide p w n (zero, wide, is) narrow = is
+one_wide p w n (suc k, wide, is) narrow = let some = power_some k in absurd (omega arith)
+
 module _ (ws : List ℕ) (row : ℕ) (won : IsWon ws row) (size : length ws ≡ row + row) where
   -- where the winner is another, so are all
   pub none_below : (t place first width : ℕ) → 1 ≤ place → PlayFor place width (row + first) → first + width ≤ row → t ≤ at ws place → at ws place ≢ t
@@ -53,6 +58,18 @@ module _ (ws : List ℕ) (row : ℕ) (won : IsWon ws row) (size : length ws ≡ 
   -- of two that met, one of which is at the time of the winner and the right one is not
   pub left_there : (place t : ℕ) → 1 ≤ place → place < row → at ws place ≡ t → at ws (place + place + 1) ≢ t → at ws (place + place) ≡ t
   left_there place t some below is other = let met = won place some below in omega (arith, met, is, other)
+
+  -- and where the left one is not, the right one is
+  pub right_there : (place t : ℕ) → 1 ≤ place → place < row → at ws place ≡ t → at ws (place + place) ≢ t → at ws (place + place + 1) ≡ t
+  right_there place t some below is other = let met = won place some below in omega (arith, met, is, other)
+
+  -- where the winner is later, so are all
+  pub later_below : (t place first width : ℕ) → 1 ≤ place → PlayFor place width (row + first) → first + width ≤ row → t < at ws place
+      → (i : ℕ) → i < width → t < at ws (row + (first + i))
+  later_below t place first width some (k, wide, is) within later i near =
+      let under = not_after ws row won k place some (omega arith) i (omega arith) in
+      let level : at ws (leftmost place k + i) ≡ at ws (row + (first + i)) = ap (at ws) (omega arith) in
+      omega arith
 
   -- a single one that is at the time
   pub one_there : (t place first width : ℕ) → PlayFor place width (row + first) → first + width ≤ row → width ≡ 1 → at ws place ≡ t

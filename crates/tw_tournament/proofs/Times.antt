@@ -2,7 +2,7 @@
 use Rattle.std.proofs.Common.{◌≡◌, ◌⊎◌, ◌≤◌, ◌<◌, ◌+◌, ◌-◌, ℕ, zero, suc, ◌∷◌, ◌++◌, [], append-nil, set, min, List, Some, slice_get, length, get_or, take, drop, refl, sym, ap, ◌∙◌, inl, inr, arith}
 use Rattle.std.proofs.lemmas.Bool.{cases_lt}
 use Rattle.std.proofs.lemmas.List.{places, drop-set-add, take_at, take-take, drop-take, take-append-drop}
-use Rattle.tw_tournament.specs.Times.{numbers_at}
+use Rattle.tw_tournament.specs.Times.{numbers_at, IsFirst}
 use Rattle.tw_tournament.proofs.Numbers.{numbers_append, numbers_none}
 use Rattle.std.proofs.lemmas.Option.{slice_get_within, slice_get-get_or, get_or_from_slice_get}
 use Rattle.tw_tournament.specs.Winners.{at, IsPlayed, IsWon}
@@ -97,6 +97,30 @@ module _ (ws : List ℕ) (row count : ℕ) (played : IsPlayed ws row count) wher
       ∙ numbers_append t 0 (take count xs) rest
       ∙ ap (λ l. numbers_at t 0 (take count xs) ++ l) none
       ∙ append-nil (numbers_at t 0 (take count xs))
+
+  by_order : (t n d s : ℕ) → t ≤ s → (d < n → t < s) → (d < n) ⊎ (n ≤ d) → (t < s) ⊎ ((t ≡ s) × (n ≤ d))
+  by_order t n d s from earlier (inl before) = inl (earlier before)
+  by_order t n d s from earlier (inr behind) = elim (cases_lt t s) [
+    | inl less ↦ inl less
+    | inr more ↦ inr (omega arith, behind)
+  ]
+
+  -- the least place of the row that is at the time of the winner of all is that of a time, where it is before the end
+  pub is_first : (t n : ℕ) → at ws 1 ≡ t → t < never → n < row → at ws (row + n) ≡ t → ((i : ℕ) → i < n → t < at ws (row + i)) → IsFirst (take count (drop row ws)) t n
+  is_first t n top before within there earlier =
+      let size = played.size in
+      let near : n < count = elim (cases_lt n count) [
+        | inl less ↦ less
+        | inr past ↦ let end = played.ends (row + n) (omega arith) (omega arith) in absurd (omega arith)
+      ] in
+      record {
+        at = at_time ws row count n near (omega arith) ∙ ap Some there;
+        before_end = before;
+        least = λ d s is.
+            let its = time_at ws row count d s is in
+            let same = its.2 in
+            by_order t n d s (let first = top_first d s is in omega arith) (λ less. let later = earlier d less in omega arith) (cases_lt d n);
+      }
 
 -- ## A time that has changed
 

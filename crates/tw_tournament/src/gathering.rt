@@ -1,8 +1,8 @@
-//! Which times are the first.
+//! Which times are the first, and the first of these.
 
 ghost use Rattle.std.specs.Prelude.{◌≡◌, ◌≤◌, ◌<◌, ◌+◌, ◌++◌, ℕ, OnOk, drop, length, take};
 ghost use Rattle.tw_tournament.specs.Times.{numbers_at};
-ghost use Rattle.tw_tournament.specs.Winners.{at, IsWon, PlayFor};
+ghost use Rattle.tw_tournament.specs.Winners.{at, IsPower, IsWon, PlayFor};
 
 use std::alloc::AllocError;
 use tw_vtime::Stamp;
@@ -41,4 +41,27 @@ pub(crate) fn gather(
     }
     numbers.push(first)?;
     Ok(())
+}
+
+// The least number of those at the time of the winner of all.
+pub(crate) fn first_at(winners: &[Stamp], row: usize, time: Stamp) -> usize
+    requires won { IsWon winners.now row }
+    requires size { length winners.now ≡ row + row }
+    requires bound { row ≤ 8589934592 }
+    requires power { IsPower row }
+    requires time { at winners.now 1 ≡ time }
+    ensures within { result < row }
+    ensures there { at winners.now (row + result) ≡ time }
+    ensures earlier { (i : ℕ) → i < result → time < at winners.now (row + i) }
+{
+    let (mut place, mut first, mut width) = (1, 0, row);
+    while width > 1 {
+        width /= 2;
+        place += place;
+        if winners[place] != time {
+            place += 1;
+            first += width;
+        }
+    }
+    first
 }

@@ -1,11 +1,11 @@
 //! The tournament of times.
 
-ghost use Rattle.std.specs.Prelude.{◌≡◌, ◌<◌, ◌≤◌, ◌⊎◌, ◌++◌, ℕ, Some, IfOk, OnOk, length, replicate, slice_get, slice_set};
-ghost use Rattle.tw_tournament.specs.Times.{numbers_at};
+ghost use Rattle.std.specs.Prelude.{◌≡◌, ◌<◌, ◌≤◌, ◌⊎◌, ◌++◌, ℕ, None, Some, IfOk, IfSome, OnOk, length, replicate, slice_get, slice_set};
+ghost use Rattle.tw_tournament.specs.Times.{numbers_at, IsFirst, NoneFirst};
 ghost use Rattle.tw_tournament.specs.Winners.{IsPower};
 ghost use Rattle.tw_vtime.specs.Stamps.{never};
 
-use crate::gathering::gather;
+use crate::gathering::{first_at, gather};
 use crate::playing::play;
 use std::alloc::{AllocError, Global};
 use std::marker::Model;
@@ -60,6 +60,20 @@ impl Tournament {
     {
         let winners = self.winners.as_slice();
         winners[1]
+    }
+
+    /// The first of all times and the least number that is at it, where that is before the end. In time logarithmic in how many
+    /// there are.
+    pub fn first(&self) -> Option<(Stamp, usize)>
+        ensures first { IfSome result (λ first. IsFirst self.now.times first.0 first.1) }
+        ensures none { result ≡ None → NoneFirst self.now.times }
+    {
+        let winners = self.winners.as_slice();
+        let time = winners[1];
+        if time >= Stamp::END {
+            return None;
+        }
+        Some((time, first_at(winners, self.row, time)))
     }
 
     /// Gives a number another time.

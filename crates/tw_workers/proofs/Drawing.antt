@@ -8,7 +8,7 @@ use Rattle.tw_laws.proofs.Drawn.{draw_law}
 use Rattle.tw_theory.specs.Contents.{Process, next}
 use Rattle.tw_theory.specs.Exchange.{IsDrawn, bound_of}
 use Rattle.tw_vtime.specs.Stamps.{max_tick}
-use Rattle.tw_workers.specs.Agenda.{AllOut, IsLeast}
+use Rattle.tw_workers.specs.Agenda.{AllLate, IsLeast}
 use Rattle.tw_workers.specs.Exchanged.{IsExact, busy_in, is_out}
 
 -- a component that is not given out has a stamp
@@ -24,8 +24,11 @@ pub free_of_stamp : (stamps : List (Option ℕ)) (c s : ℕ) → slice_get stamp
 free_of_stamp stamps c s at = slice_get-map is_out stamps c ∙ ap (option_map is_out) at
 
 module _ {S : Type 0} (until gvt window : ℕ) (within : until ≤ max_tick) (stamps : List (Option ℕ)) (ps : List (Process S)) (exact : IsExact stamps ps) where
-  pub none_free : AllOut stamps → (c : ℕ) → IsDrawn until gvt window (busy_in stamps) ps c → ⊥
-  none_free out c drawn = let s = stamp_of_free stamps c drawn.free in out c s.0 s.1
+  pub none_free : AllLate stamps → (c : ℕ) → IsDrawn until gvt window (busy_in stamps) ps c → ⊥
+  none_free late c drawn =
+      let s = stamp_of_free stamps c drawn.free in
+      let next_is : s.0 ≡ next drawn.process = exact.next_is c s.0 drawn.process s.1 drawn.at in
+      absurd (omega (arith, late c s.0 s.1, next_is, drawn.may.0, within))
 
   -- the least one stands too late
   pub none_early : (s c : ℕ) → IsLeast stamps s c → bound_of until gvt window ≤ s → (d : ℕ) → IsDrawn until gvt window (busy_in stamps) ps d → ⊥

@@ -14,56 +14,41 @@ use Rattle.tw_theory.specs.Memory.{component_of}
 use Rattle.tw_theory.specs.Network.{Network}
 use Rattle.tw_vtime.specs.Stamps.{stamp}
 use Rattle.tw_workers.specs.Exchanged.{IsExact, IsExactBut, IsExactUpTo, busy_in, is_out}
+use Rattle.tw_workers.proofs.SameBut.{nothing_else, one_set, then_same}
+use Rattle.tw_workers.specs.Queues.{IsSameBut}
 
 -- ## What an action changes
-
--- as many processes, and each but b's is as it was
-pub record IsSameBut {S : Type 0} (b : ℕ) (ps qs : List (Process S)) : Type 0 where
-  pub count : length qs ≡ length ps
-  pub others : (d : ℕ) → d ≢ b → slice_get qs d ≡ slice_get ps d
-
-same_but : {S : Type 0} (b : ℕ) (ps : List (Process S)) → IsSameBut b ps ps
-same_but b ps = record { count = refl; others = λ d apart. refl }
-
-one_set : {S : Type 0} (b : ℕ) (ps : List (Process S)) (p : Process S) → IsSameBut b ps (slice_set ps b p)
-one_set b ps p = record { count = length-set ps b p; others = λ d apart. set_there ps b d p apart }
-
-then_same : {S : Type 0} (b : ℕ) (ps qs rs : List (Process S)) → IsSameBut b ps qs → IsSameBut b qs rs → IsSameBut b ps rs
-then_same b ps qs rs first second = record {
-  count = second.count ∙ first.count;
-  others = λ d apart. second.others d apart ∙ first.others d apart;
-}
 
 module _ {S : Type 0} (net : Network S) (until : ℕ) (w : World S) where
   if_made_same : (c : ℕ) (p : Process S) (next : Result (Made S) NoStep) → IsSameBut c w.processes (if_made w c p next).1.processes
   if_made_same c p (Ok made) = one_set c w.processes (with_step p made)
-  if_made_same c p (Err why) = same_but c w.processes
+  if_made_same c p (Err why) = nothing_else c w.processes
 
   step_same : (c : ℕ) (p : Option (Process S)) → IsSameBut c w.processes (act_step net until w c p).1.processes
-  step_same c None = same_but c w.processes
+  step_same c None = nothing_else c w.processes
   step_same c (Some p) =
       let late : Answer × World S = (Err NothingDue, w) in
       cond_both (nat_lt (next p) (stamp until 0 0)) (if_made w c p (local_step net c p.now p.pending)) late (λ x. IsSameBut c w.processes x.1.processes)
-      (λ e. if_made_same c p (local_step net c p.now p.pending)) (λ e. same_but c w.processes)
+      (λ e. if_made_same c p (local_step net c p.now p.pending)) (λ e. nothing_else c w.processes)
 
   post_same : (c : ℕ) (p : Option (Process S)) → IsSameBut c w.processes (act_post w c p).1.processes
-  post_same c None = same_but c w.processes
+  post_same c None = nothing_else c w.processes
   post_same c (Some p) = one_set c w.processes (with_outgoing (settle p) [])
 
   deliver_same : (q i : ℕ) (p : Option (Process S)) (item : Option Item) → IsSameBut q w.processes (act_deliver w q i p item).1.processes
-  deliver_same q i None item = same_but q w.processes
-  deliver_same q i (Some p) None = same_but q w.processes
+  deliver_same q i None item = nothing_else q w.processes
+  deliver_same q i (Some p) None = nothing_else q w.processes
   deliver_same q i (Some p) (Some item) = one_set q w.processes (receive p item).1
 
   back_same : (c s : ℕ) (p : Option (Process S)) → IsSameBut c w.processes (act_back w c s p).1.processes
-  back_same c s None = same_but c w.processes
+  back_same c s None = nothing_else c w.processes
   back_same c s (Some p) =
       let early : Answer × World S = (Err BeforeGvt, w) in
       let done : Answer × World S = act_back w c s (Some p) in
-      cond_both (nat_lt s w.gvt) early _ (λ x. IsSameBut c w.processes x.1.processes) (λ e. same_but c w.processes) (λ e. one_set c w.processes (cut s p))
+      cond_both (nat_lt s w.gvt) early _ (λ x. IsSameBut c w.processes x.1.processes) (λ e. nothing_else c w.processes) (λ e. one_set c w.processes (cut s p))
 
   harvest_same : (c : ℕ) (p : Option (Process S)) → IsSameBut c w.processes (act_harvest w c p).1.processes
-  harvest_same c None = same_but c w.processes
+  harvest_same c None = nothing_else c w.processes
   harvest_same c (Some p) = one_set c w.processes (harvested w.gvt p)
 
   pub acts_on_one : (action : Action) (c : ℕ) → component_of action ≡ Some c → IsSameBut c w.processes (act net until w action).1.processes
@@ -85,7 +70,7 @@ module _ {S : Type 0} (net : Network S) (until : ℕ) (w : World S) where
   acts_on_none (Harvest b) is = absurd (none-some b (sym is))
 
 pub steps_on_one : {S : Type 0} (net : Network S) (until : ℕ) (w : World S) (c n : ℕ) → IsSameBut c w.processes (replay net until w (steps_of_one c n)).processes
-steps_on_one net until w c zero = same_but c w.processes
+steps_on_one net until w c zero = nothing_else c w.processes
 steps_on_one net until w c (suc n) =
     let w1 = (act net until w (Step c)).1 in
     then_same c w.processes w1.processes _ (acts_on_one net until w (Step c) c refl) (steps_on_one net until w1 c n)
@@ -99,7 +84,7 @@ exact_but stamps ps qs b h same = record {
 }
 
 pub exact_all_but : {S : Type 0} (stamps : List (Option ℕ)) (ps : List (Process S)) (b : ℕ) → IsExact stamps ps → IsExactBut b stamps ps
-exact_all_but stamps ps b h = exact_but stamps ps ps b h (same_but b ps)
+exact_all_but stamps ps b h = exact_but stamps ps ps b h (nothing_else b ps)
 
 -- one under its next stamp, or given out
 changed_at : (stamps : List (Option ℕ)) (b : ℕ) (here : Option ℕ) (c s : ℕ) → slice_get (slice_set stamps b here) c ≡ Some (Some s) → (c ≡ b) ⊎ ((c ≢ b) × (slice_get stamps c ≡ Some (Some s)))

@@ -1,5 +1,11 @@
--- the heap of the agenda follows its stamps
+-- the times of an agenda follow its stamps
 pub mod Indexing
+-- lists that agree but at one place
+pub mod SameBut
+-- what is marked follows the executive
+pub mod Marking
+-- posts that do nothing, and deliveries of nothing
+pub mod Skipping
 -- the agenda follows the executive
 pub mod Following
 -- the component that is given out

@@ -40,6 +40,26 @@ module _ {S : Type 0} (net : Network S) (until : ℕ) where
   steps_columns w c zero = refl
   steps_columns w c (suc n) = steps_columns (act net until w (Step c)).1 c n ∙ acted_columns w c
 
+  -- and no mailbox
+  made_mail : (w : World S) (c : ℕ) (p : Process S) (next : Result (Made S) NoStep) → (if_made w c p next).1.mail ≡ w.mail
+  made_mail w c p (Ok made) = refl
+  made_mail w c p (Err why) = refl
+
+  step_mail : (w : World S) (c : ℕ) (p : Option (Process S)) → (act_step net until w c p).1.mail ≡ w.mail
+  step_mail w c None = refl
+  step_mail w c (Some p) =
+      let late : Answer × World S = (Err NothingDue, w) in
+      cond_both (nat_lt (next p) (stamp until 0 0)) (if_made w c p (local_step net c p.now p.pending)) late (λ x. x.1.mail ≡ w.mail)
+      (λ e. made_mail w c p (local_step net c p.now p.pending)) (λ e. refl)
+
+  acted_mail : (w : World S) (c : ℕ) → (act net until w (Step c)).1.mail ≡ w.mail
+  unfolding act
+  acted_mail w c = step_mail w c (slice_get w.processes c)
+
+  pub steps_mail : (w : World S) (c n : ℕ) → (replay net until w (steps_of_one c n)).mail ≡ w.mail
+  steps_mail w c zero = refl
+  steps_mail w c (suc n) = steps_mail (act net until w (Step c)).1 c n ∙ acted_mail w c
+
 pub stays_ended : {M S : Type 0} (meaning : M → Meaning S) (chain : Chain M S) (old new : Running M S) (finished : Finished) (outcome : Outcome)
     → IsInstalledOn meaning chain old new finished → IsEndOf meaning old outcome → IsEndOf meaning new outcome
 stays_ended meaning chain old new finished outcome is h =

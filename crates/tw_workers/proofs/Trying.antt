@@ -29,7 +29,7 @@ use Rattle.tw_theory.specs.Transitions.{Move, Moment}
 use Rattle.tw_msgs.specs.declared.message.Message.{Message}
 use Rattle.tw_vtime.specs.Stamps.{never, phase_of, stamp}
 use Rattle.tw_vtime.specs.declared.limits.Limit.{Limit}
-use Rattle.tw_workers.proofs.Indexing.{set_twice}
+use Rattle.tw_workers.proofs.SameBut.{set_twice}
 
 -- ## What a transition sends
 

@@ -109,3 +109,8 @@ none_there (x ∷ xs) none = absurd (omega (arith, none))
 pub still_network : {M S X : Type 0} (meaning : M → Meaning S) (all : List Action) (e e' : Running M S) (result : Result X SweepRefused) → OnOk result (e' ≡ replayed meaning all e) → IfErr result (IsCutShort meaning all e e') → e'.network ≡ e.network
 still_network meaning all e e' (Ok x) done cut = ap (λ y. y.network) done
 still_network meaning all e e' (Err why) done cut = ap (λ y. y.network) cut.after
+
+-- and what was done is a beginning of it, or all of it
+pub done_of : {M S X : Type 0} (meaning : M → Meaning S) (all : List Action) (e e' : Running M S) (result : Result X SweepRefused) → OnOk result (e' ≡ replayed meaning all e) → IfErr result (IsCutShort meaning all e e') → (done : List Action) × (e' ≡ replayed meaning done e)
+done_of meaning all e e' (Ok x) done cut = (all, done)
+done_of meaning all e e' (Err why) done cut = (cut.done, cut.after)

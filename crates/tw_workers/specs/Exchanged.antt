@@ -5,15 +5,17 @@
 --     bound_at window x      the steps of a component that is given out now stand before it
 --     IsNext window x c      c is the component to be given out
 --     IsOrder window burst x order      its order
+--     IsNearOrder window burst reach x order      an order of it that goes less far
 --     NoneNext window x      there is none
 --     IsExact stamps ps      each component that is free stands in the agenda under its next stamp
 --     IsExactBut b stamps ps, IsExactUpTo n stamps ps      each but b does; each below n
-use Rattle.std.specs.Prelude.{◌≡◌, ◌≢◌, ◌<◌, ◌+◌, ℕ, nat_le, if◌then◌else◌, Bool, true, false, List, map, length, Option, Some, None, slice_get, slice_set}
+use Rattle.std.specs.Prelude.{◌≡◌, ◌≢◌, ◌<◌, ◌+◌, ◌-◌, ◌==◌, ℕ, min, nat_le, if◌then◌else◌, Bool, true, false, List, map, length, Option, Some, None, slice_get, slice_set}
 use Rattle.tw_board.specs.Known.{Known}
 use Rattle.tw_exec.specs.Chains.{start_at}
 use Rattle.tw_exec.specs.Running.{Running}
 use Rattle.tw_theory.specs.Board.{AtMost, numbers_of}
 use Rattle.tw_theory.specs.Chains.{Start}
+use Rattle.tw_theory.specs.Contents as Contents
 use Rattle.tw_theory.specs.Contents.{Process, next}
 use Rattle.tw_theory.specs.Exchange.{IsDrawn, bound_of}
 use Rattle.tw_vtime.specs.Stamps.{max_tick, never, stamp, tick_of}
@@ -41,17 +43,28 @@ bound_at window x = bound_of x.executive.until x.executive.world.gvt window
 abbrev pub IsNext : {M S : Type 0} → ℕ → Exchanged M S → ℕ → Type 0
 IsNext window x c = IsDrawn x.executive.until x.executive.world.gvt window x.busy x.executive.world.processes c
 
+-- the first stamp of the tick after gvt's and the window, where there is such a tick
+abbrev pub window_end : ℕ → ℕ → ℕ
+window_end gvt window = if nat_le (tick_of gvt + window + 1) max_tick then stamp (tick_of gvt + window + 1) 0 0 else never
+
+abbrev pub near_bound : ℕ → ℕ → ℕ → ℕ
+near_bound reach bound next = if reach == 0 then bound else min bound (window_end next (reach - 1))
+
+abbrev pub near_burst : ℕ → ℕ → ℕ
+near_burst reach burst = if reach == 0 then min burst 1 else burst
+
 -- an order of that component: from where it stands, for at most burst steps within the window
 pub record IsOrder {M S : Type 0} (window burst : ℕ) (x : Exchanged M S) (order : Start S) : Type 0 where
   pub next : IsNext window x order.component
   pub start : order ≡ start_at (bound_at window x) burst order.component x.executive.network next.process
 
+-- an order of that component that reaches only so many ticks beyond its next step, or, where that is 0, of one step
+pub record IsNearOrder {M S : Type 0} (window burst reach : ℕ) (x : Exchanged M S) (order : Start S) : Type 0 where
+  pub next : IsNext window x order.component
+  pub start : order ≡ start_at (near_bound reach (bound_at window x) (Contents.next next.process)) (near_burst reach burst) order.component x.executive.network next.process
+
 abbrev pub NoneNext : {M S : Type 0} → ℕ → Exchanged M S → Type 0
 NoneNext window x = (c : ℕ) → IsNext window x c → ⊥
-
--- the first stamp of the tick after gvt's and the window, where there is such a tick
-abbrev pub window_end : ℕ → ℕ → ℕ
-window_end gvt window = if nat_le (tick_of gvt + window + 1) max_tick then stamp (tick_of gvt + window + 1) 0 0 else never
 
 -- ---- how it is held
 

@@ -1,7 +1,7 @@
 -- What a sweep makes of an executive.
 --     replayed meaning actions e      the executive after these actions
---     swept meaning e      after a sweep
---     pass_of meaning e, passes_left meaning n e      the actions of a pass; of at most n passes
+--     sweep_of meaning e      the actions of a sweep
+--     pass_of meaning e, passes_left meaning n e, passes_of meaning e      the actions of a pass; of at most n passes; of those that a sweep begins with
 --     deliveries_from q e      what is left of its deliveries from the mailbox of q on
 --     is_idle p      nothing of p is outgoing, and nothing owed is overdue
 --     IsCutShort meaning actions e e' why      a beginning of these actions was taken, up to one that was refused for this reason
@@ -11,7 +11,7 @@ use Rattle.tw_exec.specs.Running.{Running}
 use Rattle.tw_network.specs.Contents.{network_of}
 use Rattle.tw_theory.specs.Bundles.{overdue}
 use Rattle.tw_theory.specs.Contents.{Process, next}
-use Rattle.tw_theory.specs.Exchange.{deliveries, is_empty, pass, passes, sweep}
+use Rattle.tw_theory.specs.Exchange.{deliveries, is_empty, pass, passes, sweep, work}
 use Rattle.tw_theory.specs.Executive.{Action, replay}
 use Rattle.tw_theory.specs.Memory.{WantsNodes}
 use Rattle.tw_workers.specs.declared.refused.SweepRefused.{SweepRefused}
@@ -30,6 +30,10 @@ pass_of meaning e = pass (network_of meaning e.network) e.until e.world
 -- at most n passes more
 abbrev pub passes_left : {M S : Type 0} → (M → Meaning S) → ℕ → Running M S → List Action
 passes_left meaning n e = passes (network_of meaning e.network) e.until n e.world
+
+-- until nothing is in transit and nothing owed is overdue
+abbrev pub passes_of : {M S : Type 0} → (M → Meaning S) → Running M S → List Action
+passes_of meaning e = passes_left meaning (work e.world) e
 
 abbrev pub deliveries_from : {M S : Type 0} → ℕ → Running M S → List Action
 deliveries_from q e = deliveries q (drop q e.world.mail)

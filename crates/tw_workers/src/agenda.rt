@@ -1,21 +1,21 @@
-//! Which component that is free comes next.
+//! Which of so many comes next.
 
-ghost use Rattle.std.specs.Prelude.{◌≡◌, ◌↔◌, ◌<◌, None, Some, IsTrue, IfOk, IfSome, length, replicate, slice_get, slice_set};
-ghost use Rattle.tw_workers.specs.Agenda.{AllOut, IsLeast};
+ghost use Rattle.std.specs.Prelude.{◌≡◌, ◌↔◌, ◌<◌, ◌≤◌, None, Some, IsTrue, IfOk, IfSome, length, replicate, slice_get, slice_set};
+ghost use Rattle.tw_vtime.specs.Stamps.{never};
+ghost use Rattle.tw_workers.specs.Agenda.{mark, AllLate, IsLeast};
 
 use std::alloc::{AllocError, Global};
 use std::marker::Model;
-use tw_heap::{Entry, EventHeap};
-use tw_msgs::Message;
+use tw_tournament::Tournament;
 use tw_vtime::Stamp;
 
-/// Of each component, the stamp of its next step, or `None` where it is given out; and those that are free in the order of these
-/// stamps. Once made it takes no memory.
+/// Of each component a stamp, or `None` where it has left; and the least of those that stand here, by stamp and then number. Once made
+/// it takes no memory.
 #[derive(Drop)]
 pub(crate) struct Agenda {
     stamps: Vec<Option<Stamp>>,
-    // The components that are free, each under its number.
-    heap: EventHeap,
+    // The stamps of those that stand here; the end for one that has left.
+    times: Tournament,
 }
 
 impl Model for Agenda {
@@ -26,18 +26,18 @@ impl Model for Agenda {
 
     ghost view = { λ a. a.stamps.items };
 
-    ghost invariant = { λ a. IsIndexed a.stamps.items a.heap };
+    ghost invariant = { λ a. IsIndexed a.stamps.items a.times.times };
 }
 
 impl Agenda {
-    /// So many components, all given out.
+    /// So many components, all of which have left.
     pub(crate) fn new(alloc: Global, count: usize) -> Result<Agenda, AllocError>
+        requires { count ≤ 4294967296 }
         ensures { IfOk result (λ a. a ≡ replicate count None) }
     {
         let stamps = Vec::from_elem(alloc, None, count)?;
-        let mut heap = EventHeap::new(alloc);
-        heap.reserve(count, count)?;
-        Ok(Agenda { stamps, heap })
+        let times = Tournament::new(alloc, count)?;
+        Ok(Agenda { stamps, times })
     }
 
     /// How many components there are.
@@ -47,7 +47,7 @@ impl Agenda {
         self.stamps.len()
     }
 
-    /// Whether a component is given out.
+    /// Whether a component has left.
     pub(crate) fn is_out(&self, component: usize) -> bool
         requires { component < length self.now }
         ensures { slice_get self.now component ≡ Some None ↔ IsTrue result }
@@ -55,51 +55,42 @@ impl Agenda {
         self.stamps[component].is_none()
     }
 
-    /// A component is free, and its next step is of this stamp.
+    /// A component stands here at this stamp.
     pub(crate) fn put(&mut self, component: usize, stamp: Stamp)
         requires { component < length self.old }
         ensures { self.new ≡ slice_set self.old component (Some stamp) }
     {
-        if self.stamps[component] == Some(stamp) {
-            return;
-        }
-        self.take_out(component);
-        self.enter(component, stamp);
-    }
-
-    // A component that was given out is free, and its next step is of this stamp.
-    fn enter(&mut self, component: usize, stamp: Stamp)
-        requires { slice_get self.old component ≡ Some None }
-        ensures { self.new ≡ slice_set self.old component (Some stamp) }
-    {
-        let key = Message {
-            stamp,
-            port: 0,
-            value: 0,
-            to: component,
-        };
-        self.heap.insert(component, key);
+        self.times.set(component, stamp);
         self.stamps[component] = Some(stamp);
     }
 
-    /// A component is given out.
+    /// A component leaves.
     pub(crate) fn take_out(&mut self, component: usize)
         requires { component < length self.old }
         ensures { self.new ≡ slice_set self.old component None }
     {
-        if self.stamps[component].is_some() {
-            self.heap.remove(component);
-            self.stamps[component] = None;
+        self.times.set(component, Stamp::END);
+        self.stamps[component] = None;
+    }
+
+    /// A component stands here at the start, or leaves.
+    pub(crate) fn mark(&mut self, component: usize, marked: bool)
+        requires { component < length self.old }
+        ensures { self.new ≡ slice_set self.old component (mark marked) }
+    {
+        if marked {
+            self.put(component, Stamp::START);
+        } else {
+            self.take_out(component);
         }
     }
 
-    /// The least of the components that are free, by stamp and then number, as an entry of its stamp under its number. In constant
-    /// time.
-    pub(crate) fn first(&self) -> Option<Entry>
-        ensures least { IfSome result (λ first. IsLeast self.now first.key.stamp first.index) }
-        ensures none { result ≡ None → AllOut self.now }
+    /// The least of those that stand here before the end, with its stamp.
+    pub(crate) fn first(&self) -> Option<(Stamp, usize)>
+        ensures least { IfSome result (λ first. IsLeast self.now first.0 first.1) }
+        ensures before_end { IfSome result (λ first. first.0 < never) }
+        ensures none { result ≡ None → AllLate self.now }
     {
-        self.heap.entries_law();
-        self.heap.first()
+        self.times.first()
     }
 }

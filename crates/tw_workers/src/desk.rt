@@ -1,6 +1,6 @@
 //! What lies under the lock that workers share.
 
-ghost use Rattle.std.specs.Prelude.{◌≡◌, ℕ, IfOk, IfSome};
+ghost use Rattle.std.specs.Prelude.{◌≡◌, ℕ, IfErr, IfOk, IfSome};
 ghost use Rattle.atomic_table.specs.Seated.{TableId};
 ghost use Rattle.tw_network.specs.Contents.{Contents};
 ghost use Rattle.tw_workers.specs.Ends.{IsDue, IsEndOf, IsMadeFor};
@@ -9,11 +9,13 @@ use crate::exchange::Exchange;
 use crate::orders::{Order, Prepareds};
 use crate::outcome::{Outcome, Setting, find_outcome};
 use crate::refused::SweepRefused;
+use crate::steering::{Ending, Pace, Window, tick_of};
 use std::alloc::Global;
 use std::marker::{Brand, Model, PhantomData};
 use tw_atomic::Atomic;
 use tw_chain::Cause;
-use tw_process::Stop;
+use tw_exec::Executive;
+use tw_process::{Finished, Stop};
 
 // How many chains are handed in, at most, between two sweeps.
 const CHAINS_BETWEEN_SWEEPS: u64 = 64;
@@ -39,6 +41,10 @@ impl<M> Given<M> for Brand {
 pub(crate) struct Desk<M: Atomic, H: Given<M>> {
     alloc: Global,
     exchange: Exchange<M>,
+    setting: Setting,
+    // How far each component may run ahead of its next step, and all of them of global virtual time.
+    paces: Vec<Pace>,
+    window: Window,
     // How many orders are given out and not yet handed in.
     out: u64,
     // How many chains were handed in since the last sweep.
@@ -61,19 +67,32 @@ impl<M: Atomic, H: Given<M>> Model for Desk<M, H> {
 }
 
 impl<M: Atomic, H: Given<M>> Desk<M, H> {
-    /// The exchange of what was handed in, before a run.
-    pub(crate) fn new(alloc: Global, exchange: Exchange<M>) -> Desk<M, H>
+    /// The exchange of what was handed in, before a run. Where memory is refused it comes back.
+    pub(crate) fn new(
+        alloc: Global,
+        exchange: Exchange<M>,
+        setting: Setting,
+    ) -> Result<Desk<M, H>, Exchange<M>>
         requires { H.is_given exchange.executive.network exchange.executive.until exchange.publisher.board }
-        ensures { result ≡ exchange }
+        ensures made { IfOk result (λ desk. desk ≡ exchange) }
+        ensures handed_back { IfErr result (λ back. back ≡ exchange) }
     {
-        Desk {
+        let executive = exchange.executive();
+        let window = Window::new(spread_of(executive), setting.window);
+        let Ok(paces) = Vec::from_elem(alloc, Pace::new(), executive.network().len()) else {
+            return Err(exchange);
+        };
+        Ok(Desk {
             alloc,
             exchange,
+            setting,
+            paces,
+            window,
             out: 0,
             handed_in: 0,
             end: None,
             of: PhantomData,
-        }
+        })
     }
 
     /// The exchange after a run, and how the run ended.
@@ -84,6 +103,9 @@ impl<M: Atomic, H: Given<M>> Desk<M, H> {
         let Desk {
             alloc: _,
             exchange,
+            setting: _,
+            paces: _,
+            window: _,
             out: _,
             handed_in: _,
             end,
@@ -102,13 +124,42 @@ impl<M: Atomic, H: Given<M>> Desk<M, H> {
         self.out == 0
     }
 
+    /// Whether an order can be given out.
+    pub(crate) fn has_order(&self) -> bool {
+        self.exchange.next(self.window.ticks()).is_some()
+    }
+
+    /// Whether there were an order if a sweep let global virtual time rise, where nothing is in transit.
+    pub(crate) fn has_order_once_swept(&self) -> bool {
+        let Some(first) = self.exchange.next(self.window.greatest()) else {
+            return false;
+        };
+        let executive = self.exchange.executive();
+        let least = least_tick(executive);
+        if first >= executive.network().len() || least <= tick_of(executive.gvt()) {
+            return false;
+        }
+        let edge = least.saturating_add(self.window.ticks());
+        tick_of(executive.contents(first).next()) <= edge
+    }
+
     /// Gives out an order. None where there is nothing to be given out, or where memory for it is refused; then it sweeps, and where
     /// that brings global virtual time no further, the run has ended.
-    pub(crate) fn draw(&mut self, setting: Setting) -> Option<Order<M>>
+    pub(crate) fn draw(&mut self) -> Option<Order<M>>
         ensures due { IfSome result (IsDue M.valid M.meaning self.old.executive.network self.old.executive.until) }
         ensures given { H.is_given self.old.executive.network self.old.executive.until self.old.publisher.board }
     {
-        match self.exchange.draw(setting.burst, setting.window) {
+        let reach = self.begin();
+        self.give_out(reach)
+    }
+
+    // Gives out the component that comes next, for as much as it may go.
+    fn give_out(&mut self, reach: u64) -> Option<Order<M>>
+        ensures due { IfSome result (IsDue M.valid M.meaning self.old.executive.network self.old.executive.until) }
+        ensures given { H.is_given self.old.executive.network self.old.executive.until self.old.publisher.board }
+    {
+        let window = self.window.ticks();
+        match self.exchange.draw_near(self.setting.burst, window, reach) {
             Ok(Some(order)) => {
                 self.out = self.out.saturating_add(1);
                 Some(order)
@@ -121,8 +172,35 @@ impl<M: Atomic, H: Given<M>> Desk<M, H> {
         }
     }
 
-    /// Hands in what was worked out from an order, and sweeps where that is due: after every chain of which not all was made, and
-    /// after so many chains. Once the run has ended nothing is swept any more.
+    // Looks at the component that comes next, and answers how far it may go. Where there is none, it is noted whether there were one
+    // in a wider window.
+    fn begin(&mut self) -> u64
+        ensures { self.new ≡ self.old }
+    {
+        let Some(component) = self.exchange.next(self.window.ticks()) else {
+            if self.out > 0 && self.exchange.next(self.window.greatest()).is_some() {
+                self.window.was_in_the_way();
+            }
+            return 0;
+        };
+        let executive = self.exchange.executive();
+        if component >= executive.network().len() {
+            return 0;
+        }
+        let process = executive.contents(component);
+        let (next, last) = (process.next(), process.last());
+        match self.paces.get_mut(component) {
+            Some(pace) => {
+                pace.begin(next, last);
+                pace.reach()
+            }
+            None => 0,
+        }
+    }
+
+    /// Hands in what was worked out from an order, and passes on what was sent, so that no component runs ahead of a message on its
+    /// way to it; or sweeps where that is due: after every chain of which not all was made, and after so many chains. Once the run
+    /// has ended neither is done any more.
     pub(crate) fn hand_in(&mut self, prepareds: Prepareds<M>)
         requires { (n : Contents M) (until : ℕ) (board : TableId) → H.is_given n until board → IsMadeFor M.meaning M.undone n until prepareds }
     {
@@ -133,6 +211,8 @@ impl<M: Atomic, H: Given<M>> Desk<M, H> {
             Stop::Ended(Cause::All) => {
                 if self.handed_in >= CHAINS_BETWEEN_SWEEPS {
                     self.sweep();
+                } else {
+                    self.pass_on();
                 }
             }
             Stop::Ended(Cause::Limit) | Stop::Stale => self.sweep(),
@@ -149,13 +229,58 @@ impl<M: Atomic, H: Given<M>> Desk<M, H> {
     {
         self.out = self.out.saturating_sub(1);
         self.handed_in = self.handed_in.saturating_add(1);
+        let (component, made) = (prepareds.component(), prepareds.len());
         let Ok(finished) = self.exchange.finish(prepareds) else {
             return None;
         };
         if self.end.is_some() {
             return None;
         }
+        self.learn(component, made, finished);
         Some(finished.stop)
+    }
+
+    // Learns from what became of a chain of so many steps of a component how far it may go, and the run.
+    fn learn(&mut self, component: usize, made: usize, finished: Finished)
+        ensures { self.new ≡ self.old }
+    {
+        let executive = self.exchange.executive();
+        if component >= executive.network().len() {
+            return;
+        }
+        let Some(pace) = self.paces.get_mut(component) else {
+            return;
+        };
+        let process = executive.contents(component);
+        let next = process.next();
+        let edge = tick_of(executive.gvt()).saturating_add(self.window.ticks());
+        let all = finished.stop == Stop::Ended(Cause::All);
+        let ending = Ending {
+            made: made as u64,
+            installed: finished.installed as u64,
+            at_bound: all
+                && tick_of(next) < executive.until()
+                && (pace.reach() == 0 || made < self.setting.burst),
+            next,
+            last: process.last(),
+            at_edge: tick_of(next) > edge,
+        };
+        if pace.end(&ending) {
+            self.window.was_in_the_way();
+        }
+        let lost = ending.made.saturating_sub(ending.installed);
+        self.window
+            .count(ending.installed, lost, process.pending_len());
+    }
+
+    // Posts and delivers what is in transit. Where that is refused it sweeps, as for any other want of memory or of nodes.
+    fn pass_on(&mut self) {
+        if self.end.is_some() {
+            return;
+        }
+        if let Err(refused) = self.exchange.settle() {
+            self.make_room(refused);
+        }
     }
 
     // Sweeps because a component found no memory, or has used up its nodes: what is committed frees some. Where that brings global
@@ -174,6 +299,8 @@ impl<M: Atomic, H: Given<M>> Desk<M, H> {
             return;
         }
         self.handed_in = 0;
+        self.window.count(0, self.exchange.take_undone(), 0);
+        self.window.steer();
         if let Err(refused) = self.exchange.sweep() {
             self.end = Some(Err(refused));
             return;
@@ -184,4 +311,25 @@ impl<M: Atomic, H: Given<M>> Desk<M, H> {
             Err(_) => self.end = Some(Err(SweepRefused::OutOfMemory)),
         }
     }
+}
+
+// The least tick of all next steps.
+fn least_tick<M: Atomic>(executive: &Executive<M>) -> u64 {
+    let mut least = u64::MAX;
+    for component in 0..executive.network().len() {
+        least = tick_of(executive.contents(component).next()).min(least);
+    }
+    least
+}
+
+// How many ticks lie between the least and the greatest next step of all components, the ends aside.
+fn spread_of<M: Atomic>(executive: &Executive<M>) -> u64 {
+    let mut greatest = 0;
+    for component in 0..executive.network().len() {
+        let next = executive.contents(component).next();
+        if !next.is_end() {
+            greatest = tick_of(next).max(greatest);
+        }
+    }
+    greatest.saturating_sub(least_tick(executive))
 }

@@ -7,8 +7,8 @@ ghost use Rattle.tw_exec.specs.declared.refused.Refused.TheVariants as refusals;
 ghost use Rattle.tw_theory.specs.Memory.{TakesMemory};
 ghost use Rattle.tw_workers.specs.Exchanged.{IsNotAhead, with_executive};
 
-use crate::agenda::Agenda;
-use crate::keeping::{component_of, free_all, refresh};
+use crate::keeping::{free_all, refresh_all};
+use crate::queues::Queues;
 use std::alloc::{AllocError, Global};
 use std::marker::Model;
 use tw_atomic::Atomic;
@@ -23,19 +23,19 @@ use tw_exec::{Action, Done, Executive, Refused};
 pub struct Exchange<M: Atomic> {
     pub(crate) alloc: Global,
     pub(crate) executive: Executive<M>,
-    // The components that are free, by their next steps.
-    pub(crate) agenda: Agenda,
+    pub(crate) queues: Queues,
     pub(crate) publisher: Publisher,
 }
 
 impl<M: Atomic> Model for Exchange<M> {
-    ghost use Rattle.tw_workers.specs.Exchanged.{Exchanged, IsExact, IsNotAhead, busy_in};
+    ghost use Rattle.tw_workers.specs.Exchanged.{Exchanged, IsNotAhead, busy_in};
+    ghost use Rattle.tw_workers.specs.Queues.{IsKept};
 
     ghost Value = { Exchanged M M.State };
 
-    ghost view = { λ x. record { executive = x.executive; busy = busy_in x.agenda; publisher = x.publisher } };
+    ghost view = { λ x. record { executive = x.executive; busy = busy_in x.queues.free; publisher = x.publisher } };
 
-    ghost invariant = { λ x. IsExact x.agenda x.executive.world.processes × IsNotAhead x.publisher x.executive };
+    ghost invariant = { λ x. IsKept x.queues x.executive.world × IsNotAhead x.publisher x.executive };
 }
 
 impl<M: Atomic> Exchange<M> {
@@ -53,15 +53,17 @@ impl<M: Atomic> Exchange<M> {
         ensures made { IfOk result (λ x. x ≡ record { executive = executive; busy = replicate (length executive.network.models) false; publisher = publisher }) }
         ensures handed_back { IfErr result (λ refused. (refused.0 ≡ executive) × (refused.1 ≡ publisher)) }
     {
-        let mut agenda = match Agenda::new(alloc, executive.network().len()) {
-            Ok(agenda) => agenda,
+        executive.network().facts();
+        let mut queues = match Queues::new(alloc, executive.network().len()) {
+            Ok(queues) => queues,
             Err(error) => return Err((executive, publisher, error)),
         };
-        free_all(&mut agenda, &executive);
+        free_all(&mut queues.free, &executive);
+        queues.note_all(&executive);
         Ok(Exchange {
             alloc,
             executive,
-            agenda,
+            queues,
             publisher,
         })
     }
@@ -75,7 +77,7 @@ impl<M: Atomic> Exchange<M> {
         let Exchange {
             alloc: _,
             executive,
-            agenda: _,
+            queues: _,
             publisher,
         } = self;
         (executive, publisher)
@@ -91,10 +93,19 @@ impl<M: Atomic> Exchange<M> {
         &self.executive
     }
 
+    // How many steps deliveries have taken back since this was last asked.
+    pub(crate) fn take_undone(&mut self) -> u64
+        ensures { self.new ≡ self.old }
+    {
+        let undone = self.queues.undone;
+        self.queues.undone = 0;
+        undone
+    }
+
     /// Takes an action of the executive, as its own [`act`](Executive::act) does. A component may be given out and act all the same:
     /// its chain is found stale then.
     ///
-    /// Refused as there; then nothing changes.
+    /// Refused as there; then nothing changes. Beside the action it costs as many steps as there are components.
     pub fn act(&mut self, action: Action) -> Result<Done, Refused>
         ensures done { OnOk result (self.new ≡ with_executive (after M.meaning action self.old.executive) self.old) }
         ensures answer { IfOk result (λ done. answer M.meaning action self.old.executive ≡ Ok done) }
@@ -106,11 +117,9 @@ impl<M: Atomic> Exchange<M> {
         ensures stays { OnErr result (self.new ≡ self.old) }
     {
         self.executive.facts();
-        let component = component_of(&action);
         let done = self.executive.act(action)?;
-        if let Some(component) = component {
-            refresh(&mut self.agenda, &self.executive, component);
-        }
+        refresh_all(&mut self.queues.free, &self.executive);
+        self.queues.note_all(&self.executive);
         Ok(done)
     }
 }

@@ -6,7 +6,7 @@ ghost use Rattle.tw_exec.specs.Chains.{IsInstalledOn};
 ghost use Rattle.tw_theory.specs.Exchange.{bound_of};
 ghost use Rattle.tw_theory.specs.Standing.{IsReady};
 ghost use Rattle.tw_vtime.specs.Stamps.{max_microstep, max_tick, stamp};
-ghost use Rattle.tw_workers.specs.Exchanged.{IsNext, IsOrder, NoneNext, bound_at, window_end, with_busy};
+ghost use Rattle.tw_workers.specs.Exchanged.{IsNearOrder, IsNext, IsOrder, NoneNext, bound_at, near_bound, near_burst, window_end, with_busy};
 
 use crate::exchange::Exchange;
 use crate::keeping::free;
@@ -43,8 +43,55 @@ impl<M: Atomic> Exchange<M> {
         let Ok(start) = self.executive.start(component, bound, burst) else {
             return Err(AllocError);
         };
-        self.agenda.take_out(component);
+        self.queues.free.take_out(component);
         Ok(Some(Order { start }))
+    }
+
+    /// Gives out the same component for less: where `reach` is 0, its order is for one step; else its steps stand, beside all that
+    /// [`draw`](Exchange::draw) says, less than `reach` ticks after that of its next step.
+    ///
+    /// Refused as there; then nothing changes.
+    pub fn draw_near(
+        &mut self,
+        burst: usize,
+        window: u64,
+        reach: u64,
+    ) -> Result<Option<Order<M>>, AllocError>
+        ensures drawn { IfOk result (λ drawn. IfSome drawn (IsNearOrder window burst reach self.old)) }
+        ensures known { IfOk result (λ drawn. IfSome drawn (λ order. order.component < length self.old.executive.network.models)) }
+        ensures ready { IfOk result (λ drawn. IfSome drawn (λ order. (m : M) → slice_get self.old.executive.network.models order.component ≡ Some m
+            → IsReady (M.valid m) (M.meaning m) order.component order.now order.messages)) }
+        ensures limit { IfOk result (λ drawn. IfSome drawn (λ order. order.micro_limit ≤ max_microstep)) }
+        ensures busy { IfOk result (λ drawn. IfSome drawn (λ order. self.new ≡ with_busy order.component true self.old)) }
+        ensures none { IfOk result (λ drawn. drawn ≡ None → NoneNext window self.old) }
+        ensures none_stays { IfOk result (λ drawn. drawn ≡ None → self.new ≡ self.old) }
+        ensures stays { OnErr result (self.new ≡ self.old) }
+    {
+        self.executive.facts();
+        let bound = bound_of(self.executive.until(), self.executive.gvt(), window);
+        let Some(component) = self.next_before(bound, window) else {
+            return Ok(None);
+        };
+        let next = self.executive.contents(component).next();
+        let before = near_bound(reach, bound, next);
+        let Ok(start) = self
+            .executive
+            .start(component, before, near_burst(reach, burst))
+        else {
+            return Err(AllocError);
+        };
+        self.queues.free.take_out(component);
+        Ok(Some(Order { start }))
+    }
+
+    /// The component that [`draw`](Exchange::draw) gives out.
+    pub fn next(&self, window: u64) -> Option<usize>
+        ensures next { IfSome result (IsNext window self.now) }
+        ensures none { result ≡ None → NoneNext window self.now }
+    {
+        self.executive.facts();
+        let bound = bound_of(self.executive.until(), self.executive.gvt(), window);
+        self.next_before(bound, window)
     }
 
     // The component that is to be given out, where the window ends at a bound.
@@ -54,11 +101,11 @@ impl<M: Atomic> Exchange<M> {
         ensures none { result ≡ None → NoneNext window self.now }
     {
         self.executive.facts();
-        let first = self.agenda.first()?;
-        if first.key.stamp >= bound {
+        let (next, component) = self.queues.free.first()?;
+        if next >= bound {
             return None;
         }
-        Some(first.index)
+        Some(component)
     }
 
     /// Hands in what was worked out from an order, by a model of the component's meaning: the steps that are the component's own next
@@ -82,7 +129,8 @@ impl<M: Atomic> Exchange<M> {
         let Ok(finished) = self.executive.install(component, chain) else {
             return Err(NoSuch);
         };
-        free(&mut self.agenda, &self.executive, component);
+        free(&mut self.queues.free, &self.executive, component);
+        self.queues.note_marks(&self.executive, component);
         Ok(finished)
     }
 
@@ -91,7 +139,7 @@ impl<M: Atomic> Exchange<M> {
         ensures { self.new ≡ with_busy order.component false self.old }
     {
         let Order { start } = order;
-        free(&mut self.agenda, &self.executive, start.component());
+        free(&mut self.queues.free, &self.executive, start.component());
     }
 }
 
@@ -114,4 +162,21 @@ fn window_end(gvt: Stamp, window: u64) -> Stamp
     }
     let tick = gvt.tick().saturating_add(window).saturating_add(1);
     Stamp::new(tick, 0, 0).unwrap_or(Stamp::END)
+}
+
+// The stamp before which the steps of an order stand that reaches so far from the component's next step: with a reach of 0 the bound.
+fn near_bound(reach: u64, bound: Stamp, next: Stamp) -> Stamp
+    ensures { result ≡ near_bound reach bound next }
+{
+    if reach == 0 {
+        return bound;
+    }
+    bound.min(window_end(next, reach - 1))
+}
+
+// How many steps an order is for that reaches so far: with a reach of 0 one at most.
+fn near_burst(reach: u64, burst: usize) -> usize
+    ensures { result ≡ near_burst reach burst }
+{
+    if reach == 0 { burst.min(1) } else { burst }
 }

@@ -1,26 +1,11 @@
 //! How the agenda keeps up with the executive.
 
 ghost use Rattle.std.specs.Prelude.{◌≡◌, false, length, replicate, slice_set};
-ghost use Rattle.tw_theory.specs.Memory.{component_of as component_meant};
 ghost use Rattle.tw_workers.specs.Exchanged.{IsExact, IsExactBut, busy_in};
 
 use crate::agenda::Agenda;
 use tw_atomic::Atomic;
-use tw_exec::{Action, Executive};
-
-/// The component that an action is of.
-pub(crate) fn component_of(action: &Action) -> Option<usize>
-    ensures { result ≡ component_meant action.now }
-{
-    match *action {
-        Action::Step(component)
-        | Action::Post(component)
-        | Action::Deliver(component, _)
-        | Action::Back(component, _)
-        | Action::Harvest(component) => Some(component),
-        Action::Raise => None,
-    }
-}
+use tw_exec::Executive;
 
 /// Every component is free, under its next stamp.
 pub(crate) fn free_all<M: Atomic>(agenda: &mut Agenda, executive: &Executive<M>)

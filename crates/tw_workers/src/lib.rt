@@ -2,20 +2,21 @@
 //!
 //! An [`Exchange`] gives out components ([`draw`](Exchange::draw)): a worker works out the next steps of one apart from it
 //! ([`compute`]), and hands them in ([`finish`](Exchange::finish)), where those that are the component's own next ones are made. From
-//! time to time a [`sweep`](Exchange::sweep) posts and delivers all that is in transit and commits, and then tells the board how far
-//! it came. Whoever calls in whatever order, the executive stays sound. Each call answers at once; none waits.
+//! time to time [`settle`](Exchange::settle) posts and delivers all that is in transit, and a [`sweep`](Exchange::sweep) also commits,
+//! and then tells the board how far it came. Whoever calls in whatever order, the executive stays sound. Each call answers at once; none waits.
 //!
 //! | File | Calls |
 //! |---|---|
 //! | `exchange` | making one, and what is read of it; `act`: an action of the executive's own |
 //! | `orders` | [`Order`] and [`Prepareds`], which must be spent; `compute`, which takes no part of the exchange |
 //! | `gate` | [`Gate`]: told of each order before it is worked out |
-//! | `giving` | `draw`, `finish`, `give_back` |
-//! | `sweeping` | `sweep` |
+//! | `giving` | `draw`, `draw_near`, `next`, `finish`, `give_back` |
+//! | `sweeping` | `settle`, `sweep` |
 //! | `states` | `state`: whether the run is complete, or in a fault ([`State`]) |
 //!
-//! `agenda` finds the component with the least next step without looking at all of them, and `keeping` keeps it so; `posting` tells
-//! the board how far the executive came.
+//! `queues` knows which component has the least next step, which have something to post and which mailboxes hold something, without
+//! looking at all of them (each an `agenda`), and is kept so (`keeping`); `posting` tells the board how far the executive came. `desk`
+//! is what lies under the lock of a run, and `steering` how far it lets components run ahead.
 #![tactic(auto)]
 
 mod agenda;
@@ -27,9 +28,11 @@ mod keeping;
 pub mod orders;
 pub mod outcome;
 mod posting;
+mod queues;
 mod refused;
 mod running;
 pub mod states;
+mod steering;
 mod sweeping;
 
 pub use exchange::Exchange;

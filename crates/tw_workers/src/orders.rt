@@ -1,6 +1,6 @@
 //! Orders, and what is worked out from them.
 
-ghost use Rattle.std.specs.Prelude.{◌≡◌, ◌≤◌};
+ghost use Rattle.std.specs.Prelude.{◌≡◌, ◌≤◌, length};
 ghost use Rattle.tw_theory.specs.Chains.{IsChain};
 ghost use Rattle.tw_theory.specs.Standing.{IsReady};
 ghost use Rattle.tw_vtime.specs.Stamps.{max_microstep};
@@ -60,6 +60,13 @@ impl<M: Atomic> Prepareds<M> {
         ensures { result ≡ self.now.run.start.component }
     {
         self.chain.component()
+    }
+
+    /// How many steps there are.
+    pub fn len(&self) -> usize
+        ensures { result ≡ length self.now.run.steps }
+    {
+        self.chain.len()
     }
 }
 

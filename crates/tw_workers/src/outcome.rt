@@ -15,14 +15,15 @@ use tw_exec::Executive;
 use tw_msgs::Record;
 use tw_vtime::{Limit, Stamp};
 
-/// How a run goes about its work. Its outcome does not depend on it.
+/// How a run goes about its work. Its outcome does not depend on it. Burst and window are bounds: within them a run finds by itself how
+/// far its components run ahead.
 #[derive(Clone, Copy, Debug, PartialEq, Eq)]
 pub struct Setting {
     /// How many workers there are, 1 to 64; the calling thread is one of them.
     pub workers: u64,
     /// How many steps of a component a worker makes at most before it hands them in, 1 to 256.
     pub burst: usize,
-    /// How many ticks after that of global virtual time a component may run ahead, 0 to 1,099,511,627,774.
+    /// How many ticks after that of global virtual time a component may run ahead at most, 0 to 1,099,511,627,774.
     pub window: u64,
 }
 

@@ -15,14 +15,18 @@ use crate::outcome::{Outcome, RunFault, Setting};
 use crate::posting::post;
 use crate::refused::SweepRefused;
 use std::alloc::Global;
+use std::hint::spin_loop;
 use std::marker::Brand;
-use std::sync::{Arc, Condvar, Mutex, Wait};
+use std::sync::{Arc, Condvar, Mutex, MutexGuard, Wait};
 use std::thread;
 use std::thread::Threads;
 use tw_atomic::Atomic;
 use tw_board::Publisher;
 use tw_exec::Executive;
 use tw_network::Network;
+
+// How often a worker looks whether the lock is free before it sleeps.
+const LOOKS: u64 = 1_000;
 
 // What the workers of a run share.
 struct Shared<M: Atomic, H: Given<M>> {
@@ -31,7 +35,7 @@ struct Shared<M: Atomic, H: Given<M>> {
     changed: Condvar,
     network: Arc<Network<M>>,
     until: u64,
-    setting: Setting,
+    workers: u64,
 }
 
 /// Runs an executive to the end by so many workers, each in a thread of its own; the calling thread is one of them. A thread that
@@ -139,12 +143,16 @@ where
     ensures end { IfSome result.1 (λ end. IfOk end (IsEndOf M.meaning result.0.executive)) }
 {
     let until = exchange.executive().until();
+    let desk = match Desk::new(alloc, exchange, setting) {
+        Ok(desk) => desk,
+        Err(exchange) => return (exchange, None),
+    };
     let shared: Shared<M, H> = Shared {
-        desk: Mutex::new(Desk::new(alloc, exchange)),
+        desk: Mutex::new(desk),
         changed: Condvar::new(),
         network,
         until,
-        setting,
+        workers: setting.workers,
     };
     work_all(rt, &shared, gate);
     let Shared {
@@ -152,7 +160,7 @@ where
         changed: _,
         network: _,
         until: _,
-        setting: _,
+        workers: _,
     } = shared;
     desk.into_inner().into_parts()
 }
@@ -176,7 +184,7 @@ where
         move |scope|
             requires { IsOnly H.is_given (arc_value shared.now.network) shared.now.until }
         {
-            for _ in 1..shared.setting.workers {
+            for _ in 1..shared.workers {
                 let started = scope.spawn(
                     move ||
                         requires { IsOnly H.is_given (arc_value shared.now.network) shared.now.until }
@@ -219,25 +227,37 @@ fn next_order<M: Atomic, H: Given<M>, R: Wait>(
     requires made { IfSome done (IsMadeFor M.meaning M.undone (arc_value shared.now.network) shared.now.until) }
     ensures { IfSome result (IsDue M.valid M.meaning (arc_value shared.now.network) shared.now.until) }
 {
-    let mut desk = shared.desk.lock(rt);
+    let mut desk = lock_soon(rt, &shared.desk);
     if let Some(prepareds) = done {
         desk.hand_in(prepareds);
-        shared.changed.notify_all();
     }
     for _ in rt.forever() {
         if desk.is_over() {
             shared.changed.notify_all();
             return None;
         }
-        if let Some(order) = desk.draw(shared.setting) {
+        if let Some(order) = desk.draw() {
+            if desk.has_order() {
+                shared.changed.notify_one();
+            }
             return Some(order);
         }
-        if desk.is_idle() {
+        if desk.is_idle() || desk.has_order_once_swept() {
             desk.sweep();
-            shared.changed.notify_all();
         } else {
             desk = shared.changed.wait(rt, desk);
         }
     }
     unreachable!()
+}
+
+// Takes the lock. It looks a while before it sleeps: who holds it soon lets go.
+fn lock_soon<'a, T, R: Wait>(rt: &R, lock: &'a Mutex<T>) -> MutexGuard<'a, T> {
+    for _ in 0..LOOKS {
+        if let Some(guard) = lock.try_lock() {
+            return guard;
+        }
+        spin_loop();
+    }
+    lock.lock(rt)
 }

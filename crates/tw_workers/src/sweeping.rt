@@ -1,23 +1,44 @@
 //! All that is in transit posted and delivered, and all that can be committed committed.
 
 ghost use Rattle.std.specs.List.{AllByRecursion as Each};
-ghost use Rattle.std.specs.Prelude.{◌≡◌, ◌<◌, IfErr, IfOk, OnErr, OnOk, length, suc};
+ghost use Rattle.std.specs.Prelude.{◌≡◌, ◌<◌, [], IfErr, IfOk, OnErr, OnOk, length, suc, true};
 ghost use Rattle.tw_exec.specs.Running.{after};
 ghost use Rattle.tw_theory.specs.Board.{numbers_of};
-ghost use Rattle.tw_theory.specs.Exchange.{all_empty, all_idle, deliveries, harvests, is_swept, posts};
+ghost use Rattle.tw_theory.specs.Exchange.{all_empty, deliveries, harvests, is_swept, posts};
+ghost use Rattle.tw_theory.specs.Executive.{mail_of, Post};
 ghost use Rattle.tw_vtime.specs.Stamps.{never};
-ghost use Rattle.tw_workers.specs.Sweeping.{deliveries_from, is_idle, pass_of, replayed, sweep_of, IsCutShort, IsUnderWay, IsWanting};
+ghost use Rattle.tw_workers.specs.Exchanged.{busy_in};
+ghost use Rattle.tw_workers.specs.Queues.{IsAsLong, IsElsewhereSame, IsKept};
+ghost use Rattle.tw_workers.specs.Sweeping.{deliveries_from, is_idle, pass_of, passes_of, replayed, sweep_of, IsCutShort, IsUnderWay, IsWanting};
 
 use crate::exchange::Exchange;
-use crate::keeping::refresh_all;
+use crate::keeping::{refresh, refresh_all};
 use crate::posting::post;
+use crate::queues::Queues;
 use crate::refused::SweepRefused;
+use tw_actions::Received;
 use tw_atomic::Atomic;
-use tw_exec::{Action, Executive, Refused};
+use tw_exec::{Action, Done, Executive, Refused};
 use tw_process::Process;
 use tw_vtime::Stamp;
 
 impl<M: Atomic> Exchange<M> {
+    /// Posts what each component sends and delivers all that lies in mailboxes, again and again, until nothing is in transit and
+    /// nothing owed is overdue: what a [`sweep`](Exchange::sweep) begins with. Nothing is committed, and nothing posted on the board.
+    ///
+    /// Refused for want of memory (4), or of nodes (12) where the lists of a process would have more than 1,048,576; what was done
+    /// before that stays done, and the next call, or a sweep, does the rest.
+    pub fn settle(&mut self) -> Result<(), SweepRefused>
+        ensures settled { OnOk result (self.new.executive ≡ replayed M.meaning (passes_of M.meaning self.old.executive) self.old.executive) }
+        ensures nothing_left { OnOk result (is_swept self.new.executive.world ≡ true) }
+        ensures cut_short { IfErr result (IsCutShort M.meaning (passes_of M.meaning self.old.executive) self.old.executive self.new.executive) }
+        ensures publisher { self.new.publisher ≡ self.old.publisher }
+        ensures busy { self.new.busy ≡ self.old.busy }
+    {
+        self.executive.facts();
+        settle_all(&mut self.executive, &mut self.queues)
+    }
+
     /// Posts what each component sends and delivers all that lies in mailboxes, again and again, until nothing is in transit and
     /// nothing owed is overdue; then raises global virtual time, and commits what is before it; then posts global virtual time and
     /// how many records are committed on the board. Answers global virtual time.
@@ -33,48 +54,53 @@ impl<M: Atomic> Exchange<M> {
         ensures busy { self.new.busy ≡ self.old.busy }
     {
         self.executive.facts();
-        let swept = sweep_all(&mut self.executive);
-        refresh_all(&mut self.agenda, &self.executive);
+        let swept = sweep_all(&mut self.executive, &mut self.queues);
+        refresh_all(&mut self.queues.free, &self.executive);
+        self.queues.note_all(&self.executive);
         let gvt = swept?;
         post(&mut self.publisher, &self.executive);
         Ok(gvt)
     }
 }
 
-// A sweep of an executive.
-fn sweep_all<M: Atomic>(executive: &mut Executive<M>) -> Result<Stamp, SweepRefused>
+// A sweep of an executive. Beside it is kept only who is given out.
+fn sweep_all<M: Atomic>(
+    executive: &mut Executive<M>,
+    queues: &mut Queues,
+) -> Result<Stamp, SweepRefused>
+    requires { IsKept queues.old executive.old.world }
     ensures swept { OnOk result (executive.new ≡ replayed M.meaning (sweep_of M.meaning executive.old) executive.old) }
     ensures gvt { IfOk result (λ gvt. gvt ≡ executive.new.world.gvt) }
     ensures cut_short { IfErr result (IsCutShort M.meaning (sweep_of M.meaning executive.old) executive.old executive.new) }
+    ensures counts { IsAsLong queues.old queues.new }
+    ensures busy { busy_in queues.new.free ≡ busy_in queues.old.free }
 {
     executive.facts();
-    while !is_swept(executive) {
-        pass(executive)?;
-        executive.facts();
-    }
+    settle_all(executive, queues)?;
+    executive.facts();
     take(executive, Action::Raise)?;
     harvest_all(executive)?;
     Ok(executive.gvt())
 }
 
-// Whether nothing is in transit, and nothing owed is overdue.
-fn is_swept<M: Atomic>(executive: &Executive<M>) -> bool
-    ensures { result ≡ is_swept executive.now.world }
-{
-    all_idle(executive) && all_empty(executive)
-}
-
-// Whether nothing is outgoing, and nothing owed is overdue.
-fn all_idle<M: Atomic>(executive: &Executive<M>) -> bool
-    ensures { result ≡ all_idle executive.now.world.processes }
+// The passes of a sweep.
+fn settle_all<M: Atomic>(
+    executive: &mut Executive<M>,
+    queues: &mut Queues,
+) -> Result<(), SweepRefused>
+    requires { IsKept queues.old executive.old.world }
+    ensures settled { OnOk result (executive.new ≡ replayed M.meaning (passes_of M.meaning executive.old) executive.old) }
+    ensures nothing_left { OnOk result (is_swept executive.new.world ≡ true) }
+    ensures cut_short { IfErr result (IsCutShort M.meaning (passes_of M.meaning executive.old) executive.old executive.new) }
+    ensures kept { IsKept queues.new executive.new.world }
+    ensures busy { busy_in queues.new.free ≡ busy_in queues.old.free }
 {
     executive.facts();
-    for component in 0..executive.network().len() {
-        if !is_idle(executive.contents(component)) {
-            return false;
-        }
+    while !queues.is_clear() {
+        pass(executive, queues)?;
+        executive.facts();
     }
-    true
+    Ok(())
 }
 
 // Whether no mailbox holds anything.
@@ -91,7 +117,7 @@ pub(crate) fn all_empty<M: Atomic>(executive: &Executive<M>) -> bool
 }
 
 // Whether nothing of a component is outgoing, and nothing that it owes is overdue.
-fn is_idle<M: Atomic>(process: &Process<M>) -> bool
+pub(crate) fn is_idle<M: Atomic>(process: &Process<M>) -> bool
     requires { Each (λ m. m.stamp < never) process.now.process.owed }
     ensures { result ≡ is_idle process.now.process }
 {
@@ -105,49 +131,142 @@ fn is_idle<M: Atomic>(process: &Process<M>) -> bool
 }
 
 // A post of each component, and a delivery of each item that lies in a mailbox then.
-fn pass<M: Atomic>(executive: &mut Executive<M>) -> Result<(), SweepRefused>
+fn pass<M: Atomic>(executive: &mut Executive<M>, queues: &mut Queues) -> Result<(), SweepRefused>
+    requires { IsKept queues.old executive.old.world }
     ensures done { OnOk result (executive.new ≡ replayed M.meaning (pass_of M.meaning executive.old) executive.old) }
     ensures cut_short { IfErr result (IsCutShort M.meaning (pass_of M.meaning executive.old) executive.old executive.new) }
+    ensures kept { IsKept queues.new executive.new.world }
+    ensures busy { busy_in queues.new.free ≡ busy_in queues.old.free }
 {
-    post_all(executive)?;
-    deliver_all(executive)?;
+    post_all(executive, queues)?;
+    deliver_all(executive, queues)?;
     Ok(())
 }
 
-// A post of each component.
-fn post_all<M: Atomic>(executive: &mut Executive<M>) -> Result<(), SweepRefused>
+// A post of each component: of those that have something to post. Another one's would do nothing.
+fn post_all<M: Atomic>(
+    executive: &mut Executive<M>,
+    queues: &mut Queues,
+) -> Result<(), SweepRefused>
+    requires { IsKept queues.old executive.old.world }
     ensures done { OnOk result (executive.new ≡ replayed M.meaning (posts 0 (length executive.old.world.processes)) executive.old) }
     ensures cut_short { IfErr result (IsCutShort M.meaning (posts 0 (length executive.old.world.processes)) executive.old executive.new) }
+    ensures kept { IsKept queues.new executive.new.world }
+    ensures busy { busy_in queues.new.free ≡ busy_in queues.old.free }
 {
     executive.facts();
-    for component in 0..executive.network().len() {
-        take(executive, Action::Post(component))?;
+    while let Some((_, sender)) = queues.posting.first() {
+        post_one(executive, queues, sender)?;
+        executive.facts();
     }
+    Ok(())
+}
+
+// A post of a component.
+fn post_one<M: Atomic>(
+    executive: &mut Executive<M>,
+    queues: &mut Queues,
+    sender: usize,
+) -> Result<(), SweepRefused>
+    requires near { sender < length executive.old.network.models }
+    requires kept { IsKept queues.old executive.old.world }
+    ensures done { OnOk result (executive.new ≡ after M.meaning (Post sender) executive.old) }
+    ensures wanting { IfErr result (IsWanting M.meaning executive.old (Post sender)) }
+    ensures stays { OnErr result (executive.new ≡ executive.old) }
+    ensures kept { IsKept queues.new executive.new.world }
+    ensures busy { busy_in queues.new.free ≡ busy_in queues.old.free }
+{
+    executive.facts();
+    let process = executive.contents(sender);
+    if process.owed_len() > 0 {
+        return post_owing(executive, queues, sender);
+    }
+    let Ok(items) = process.outgoing() else {
+        return Err(SweepRefused::OutOfMemory);
+    };
+    take(executive, Action::Post(sender))?;
+    queues.note_posted(items.as_slice());
+    queues.note(executive, sender);
+    Ok(())
+}
+
+// A post of a component that owes messages. Whose anti-messages it makes is not known before, so each mailbox is looked at again.
+fn post_owing<M: Atomic>(
+    executive: &mut Executive<M>,
+    queues: &mut Queues,
+    sender: usize,
+) -> Result<(), SweepRefused>
+    requires { IsKept queues.old executive.old.world }
+    ensures done { OnOk result (executive.new ≡ after M.meaning (Post sender) executive.old) }
+    ensures wanting { IfErr result (IsWanting M.meaning executive.old (Post sender)) }
+    ensures stays { OnErr result (executive.new ≡ executive.old) }
+    ensures kept { IsKept queues.new executive.new.world }
+    ensures busy { busy_in queues.new.free ≡ busy_in queues.old.free }
+{
+    executive.facts();
+    take(executive, Action::Post(sender))?;
+    refresh(&mut queues.free, executive, sender);
+    executive.facts();
+    queues.note_all(executive);
     Ok(())
 }
 
 // A delivery of each item that lies in a mailbox.
-fn deliver_all<M: Atomic>(executive: &mut Executive<M>) -> Result<(), SweepRefused>
+fn deliver_all<M: Atomic>(
+    executive: &mut Executive<M>,
+    queues: &mut Queues,
+) -> Result<(), SweepRefused>
+    requires { IsKept queues.old executive.old.world }
     ensures done { OnOk result (executive.new ≡ replayed M.meaning (deliveries 0 executive.old.world.mail) executive.old) }
     ensures cut_short { IfErr result (IsCutShort M.meaning (deliveries 0 executive.old.world.mail) executive.old executive.new) }
+    ensures kept { IsKept queues.new executive.new.world }
+    ensures busy { busy_in queues.new.free ≡ busy_in queues.old.free }
 {
     executive.facts();
-    for receiver in 0..executive.network().len() {
-        deliver_to(executive, receiver)?;
+    while let Some((_, receiver)) = queues.delivering.first() {
+        deliver_box(executive, queues, receiver)?;
+        executive.facts();
     }
-    executive.facts();
     Ok(())
 }
 
+// A delivery of each item that lies in the mailbox of a component.
+fn deliver_box<M: Atomic>(
+    executive: &mut Executive<M>,
+    queues: &mut Queues,
+    receiver: usize,
+) -> Result<(), SweepRefused>
+    requires near { receiver < length executive.old.network.models }
+    requires kept { IsKept queues.old executive.old.world }
+    ensures done { OnOk result (IsUnderWay M.meaning (deliveries_from receiver executive.old) (deliveries_from (suc receiver) executive.new) executive.old executive.new) }
+    ensures cut_short { IfErr result (IsCutShort M.meaning (deliveries_from receiver executive.old) executive.old executive.new) }
+    ensures emptied { OnOk result (mail_of executive.new.world.mail receiver ≡ []) }
+    ensures elsewhere { IsElsewhereSame receiver executive.old.world executive.new.world }
+    ensures kept { IsKept queues.new executive.new.world }
+    ensures busy { busy_in queues.new.free ≡ busy_in queues.old.free }
+{
+    let delivered = deliver_to(executive, receiver, &mut queues.undone);
+    queues.note(executive, receiver);
+    delivered
+}
+
 // A delivery of each item that lies in the mailbox of a component; those of the mailboxes behind it are left.
-fn deliver_to<M: Atomic>(executive: &mut Executive<M>, receiver: usize) -> Result<(), SweepRefused>
+fn deliver_to<M: Atomic>(
+    executive: &mut Executive<M>,
+    receiver: usize,
+    undone: &mut u64,
+) -> Result<(), SweepRefused>
     requires { receiver < length executive.old.network.models }
     ensures done { OnOk result (IsUnderWay M.meaning (deliveries_from receiver executive.old) (deliveries_from (suc receiver) executive.new) executive.old executive.new) }
     ensures cut_short { IfErr result (IsCutShort M.meaning (deliveries_from receiver executive.old) executive.old executive.new) }
+    ensures emptied { OnOk result (mail_of executive.new.world.mail receiver ≡ []) }
+    ensures elsewhere { IsElsewhereSame receiver executive.old.world executive.new.world }
+    ensures network { executive.new.network ≡ executive.old.network }
 {
     executive.facts();
     while !executive.mail(receiver).is_empty() {
-        take(executive, Action::Deliver(receiver, 0))?;
+        let done = take(executive, Action::Deliver(receiver, 0))?;
+        *undone = undone.saturating_add(undone_by(&done));
         executive.facts();
     }
     Ok(())
@@ -166,14 +285,22 @@ fn harvest_all<M: Atomic>(executive: &mut Executive<M>) -> Result<(), SweepRefus
 }
 
 // Takes an action of a sweep. None of these is refused but for want of memory or of nodes.
-fn take<M: Atomic>(executive: &mut Executive<M>, action: Action) -> Result<(), SweepRefused>
+fn take<M: Atomic>(executive: &mut Executive<M>, action: Action) -> Result<Done, SweepRefused>
     ensures done { OnOk result (executive.new ≡ after M.meaning action executive.old) }
     ensures wanting { IfErr result (IsWanting M.meaning executive.old action) }
     ensures stays { OnErr result (executive.new ≡ executive.old) }
 {
     match executive.act(action) {
-        Ok(_) => Ok(()),
+        Ok(done) => Ok(done),
         Err(Refused::Full) => Err(SweepRefused::Full),
         Err(_) => Err(SweepRefused::OutOfMemory),
+    }
+}
+
+// How many steps an action took back, a delivery.
+fn undone_by(done: &Done) -> u64 {
+    match *done {
+        Done::Received(Received::Straggler(count) | Received::Annihilated(count)) => count,
+        _ => 0,
     }
 }

@@ -72,6 +72,10 @@ fn make_change(rt: &impl Abort, alloc: Global, times: &mut Tournament, change: &
     let mut firsts = Vec::new(alloc);
     times.collect(least, &mut firsts).expect(rt, "memory");
     assert!(rt; firsts.as_slice() == change.firsts);
+    let Some((time, number)) = times.first() else {
+        panic!(rt; "none is the first");
+    };
+    assert!(rt; time == least && change.firsts.first() == Some(&number));
 }
 
 #[test]
@@ -82,5 +86,5 @@ fn the_first_of_five_and_of_none(rt: HostRuntime) {
         make_change(&rt, rt.alloc(), &mut times, next);
     }
     let none = Tournament::new(rt.alloc(), 0).expect(&rt, "memory");
-    assert!(rt; none.least() == Stamp::END);
+    assert!(rt; none.least() == Stamp::END && none.first().is_none());
 }

@@ -1,5 +1,5 @@
 -- From the top of a side on down: where the right half has some of the time, the left half is listed first.
-use Rattle.std.proofs.Common.{◌≡◌, ◌≢◌, ◌<◌, ◌≤◌, subst, ◌++◌, ◌+◌, ◌/◌, [], refl, ap, sym, ◌∙◌, arith, rules, append-nil, append_assoc, take, drop}
+use Rattle.std.proofs.Common.{◌≡◌, ◌≢◌, ◌<◌, ◌≤◌, subst, ◌++◌, ◌+◌, ◌/◌, refl, ap, sym, ◌∙◌, arith, rules, append-nil, append_assoc, take, drop}
 use Rattle.tw_tournament.specs.Times.{numbers_at}
 use Rattle.tw_tournament.specs.Winners.{at, PlayFor}
 use Rattle.tw_tournament.proofs.Gathered.{IsSplit, place_within, read_at, split, none_below, one_there, both_sides, left_there}

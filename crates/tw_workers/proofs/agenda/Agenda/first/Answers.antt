@@ -1,10 +1,11 @@
-use Rattle.std.proofs.Common.{sym, subst, ◌∙◌}
-use Rattle.tw_workers.proofs.Indexing.{least_is, none_first}
-use Rattle.tw_workers.specs.Agenda.{AllOut}
+use Rattle.tw_workers.proofs.Indexing.{early, late, least_is}
 use Rattle.tw_workers.proofs.agenda.Agenda.first.Goals as goal
 
 pub returns-clause-least : goal.returns-clause-least
-returns-clause-least c = least_is c.self.inside.stamps.items c.args.self.now c.self.inside.heap c.first.result c.self.view_is c.self.invariant c.entries_law.ensures.rising c.first.ensures.value c.first.ensures.there
+returns-clause-least c = least_is c.self.inside.stamps.items c.args.self.now c.self.inside.times.times c.first.result c.self.view_is c.self.invariant c.first.ensures.first
 
 pub returns-clause-none : goal.returns-clause-none
-returns-clause-none c = λ none. subst AllOut c.self.view_is (none_first c.self.inside.stamps.items c.self.inside.heap c.self.invariant (sym c.first.ensures.value ∙ none))
+returns-clause-none c = λ none. late c.self.inside.stamps.items c.args.self.now c.self.inside.times.times c.self.view_is c.self.invariant (c.first.ensures.none none)
+
+pub returns-clause-before_end : goal.returns-clause-before_end
+returns-clause-before_end c = early c.self.inside.times.times c.first.result c.first.ensures.first

@@ -1,26 +1,27 @@
-use Rattle.std.proofs.Common.{[], ◌∷◌, sym, ap, subst, ◌∙◌}
-use Rattle.tw_network.specs.Contents.{network_of}
+use Rattle.std.proofs.Common.{[], ◌∷◌, length, sym, ap, subst, ◌∙◌}
 use Rattle.tw_workers.proofs.Behind.{still_behind}
-use Rattle.tw_workers.proofs.Following.{IsSameBut, acts_on_none, acts_on_one, exact_but}
+use Rattle.tw_workers.proofs.Marking.{marks_count}
+use Rattle.tw_workers.proofs.PassByPass.{mail_count, process_count}
 use Rattle.tw_workers.specs.Exchanged.{IsExact}
 use Rattle.tw_workers.proofs.exchange.Exchange.act.Goals as goal
 
-pub refresh-requires : goal.refresh-requires
-refresh-requires g c =
-    let e = c.self.inside.executive in
-    let b = c.in-Some.component in
-    let same = subst (IsSameBut b e.world.processes) (sym (ap (λ x. x.world.processes) c.in_ok-done.ensures.done)) (acts_on_one (network_of g.M.Atomic.meaning e.network) e.until e.world c.args.action b (sym c.component_of-component.ensures ∙ c.in-Some.is)) in
-    exact_but c.self.inside.agenda e.world.processes c.act.new.self.world.processes b c.self.invariant.0 same
+pub refresh_all-requires : goal.refresh_all-requires
+refresh_all-requires g c =
+    c.self.invariant.0.free.count ∙ process_count g.M.Atomic.meaning c.self.inside.executive c.facts.ensures ∙ sym (ap (λ x. length x.network.models) c.in_ok-done.ensures.done)
 
-pub invariant_of-self-in-Some : goal.invariant_of-self-in-Some
-invariant_of-self-in-Some g c =
+pub note_all-requires-clause-posting : goal.note_all-requires-clause-posting
+note_all-requires-clause-posting g c =
+    (marks_count c.self.inside.queues c.self.inside.executive.world c.self.invariant.0.marks).0
+    ∙ process_count g.M.Atomic.meaning c.self.inside.executive c.facts.ensures ∙ sym (ap (λ x. length x.network.models) c.in_ok-done.ensures.done)
+
+pub note_all-requires-clause-delivering : goal.note_all-requires-clause-delivering
+note_all-requires-clause-delivering g c =
+    (marks_count c.self.inside.queues c.self.inside.executive.world c.self.invariant.0.marks).1
+    ∙ mail_count g.M.Atomic.meaning c.self.inside.executive c.facts.ensures ∙ sym (ap (λ x. length x.network.models) c.in_ok-done.ensures.done)
+
+pub invariant_of-self-2 : goal.invariant_of-self-2
+invariant_of-self-2 g c =
     let e = c.self.inside.executive in (
-      c.refresh.ensures.exact,
+      record { free = subst (λ l. IsExact l c.act.new.self.world.processes) (sym c.note_all.ensures.free) c.refresh_all.ensures.exact; marks = c.note_all.ensures.marked },
       still_behind g.M.Atomic.meaning (c.args.action ∷ []) e c.act.new.self c.self.inside.publisher c.facts.ensures c.in_ok-done.ensures.done c.self.invariant.1,
     )
-
-pub invariant_of-self-in_default : goal.invariant_of-self-in_default
-invariant_of-self-in_default g c =
-    let e = c.self.inside.executive in
-    let exact = subst (IsExact c.self.inside.agenda) (sym (ap (λ x. x.world.processes) c.in_ok-done.ensures.done ∙ acts_on_none (network_of g.M.Atomic.meaning e.network) e.until e.world c.args.action (sym c.component_of-component.ensures ∙ c.in_default.is))) c.self.invariant.0 in
-    (exact, still_behind g.M.Atomic.meaning (c.args.action ∷ []) e c.act.new.self c.self.inside.publisher c.facts.ensures c.in_ok-done.ensures.done c.self.invariant.1)

@@ -30,7 +30,14 @@ returns-in_default-clause-none g c = λ _. c.next_before.ensures.none c.in_defau
 
 pub invariant_of-self : goal.invariant_of-self
 invariant_of-self g c =
-    (subst (λ a. IsExact a c.self.inside.executive.world.processes) (sym c.take_out.ensures) (exact_out c.self.inside.agenda c.self.inside.executive.world.processes c.in-Some.component c.self.invariant.0), c.self.invariant.1)
+    let kept = c.self.invariant.0 in
+    let ps = c.self.inside.executive.world.processes in (
+      record {
+        free = subst (λ a. IsExact a ps) (sym c.take_out.ensures) (exact_out c.self.inside.queues.free ps c.in-Some.component kept.free);
+        marks = record { posting = kept.marks.posting; delivering = kept.marks.delivering };
+      },
+      c.self.invariant.1,
+    )
 
 pub returns-clause-drawn : goal.returns-clause-drawn
 returns-clause-drawn g c =
@@ -54,5 +61,5 @@ returns-clause-ready g c = λ m at.
 
 pub returns-clause-busy : goal.returns-clause-busy
 returns-clause-busy g c =
-    let busy = ap busy_in c.take_out.ensures ∙ busy_out c.self.inside.agenda c.in-Some.component ∙ (λ i. slice_set (c.self.view_is i).busy (sym (same g c) i) true) in
+    let busy = ap busy_in c.take_out.ensures ∙ busy_out c.self.inside.queues.free c.in-Some.component ∙ (λ i. slice_set (c.self.view_is i).busy (sym (same g c) i) true) in
     λ i. record { executive = (c.self.view_is i).executive; busy = busy i; publisher = (c.self.view_is i).publisher }

@@ -1,9 +1,13 @@
-use Rattle.std.proofs.Common.{sym, ap, subst}
+use Rattle.std.proofs.Common.{sym, ap, subst, ◌∙◌}
 use Rattle.tw_network.specs.Contents.{network_of}
 use Rattle.tw_laws.specs.Chains.{steps_of_one}
 use Rattle.tw_workers.proofs.Behind.{still_behind}
-use Rattle.tw_workers.proofs.Following.{IsSameBut, exact_but, steps_on_one}
-use Rattle.tw_workers.specs.Exchanged.{IsExactBut}
+use Rattle.tw_workers.proofs.Following.{exact_but, steps_on_one}
+use Rattle.tw_workers.proofs.Marking.{marks_but}
+use Rattle.tw_workers.proofs.SameBut.{nothing_else}
+use Rattle.tw_workers.proofs.Staying.{steps_mail}
+use Rattle.tw_workers.specs.Exchanged.{IsExact, IsExactBut}
+use Rattle.tw_workers.specs.Queues.{AreMarkedBut, IsSameBut}
 use Rattle.tw_workers.proofs.exchange.Exchange.finish.Goals as goal
 
 pub free-requires : goal.free-requires
@@ -11,12 +15,25 @@ free-requires g c =
     let e = c.self.inside.executive in
     let b = c.prepareds.inside.chain.run.start.component in
     let same = subst (IsSameBut b e.world.processes) (sym (ap (λ x. x.world.processes) c.in-Ok.ensures.installed.steps)) (steps_on_one (network_of g.M.Atomic.meaning e.network) e.until e.world b c.in-Ok.finished.installed) in
-    subst (λ k. IsExactBut k c.self.inside.agenda c.install.new.self.world.processes) (sym c.component-component.ensures) (exact_but c.self.inside.agenda e.world.processes c.install.new.self.world.processes b c.self.invariant.0 same)
+    subst (λ k. IsExactBut k c.self.inside.queues.free c.install.new.self.world.processes) (sym c.component-component.ensures) (exact_but c.self.inside.queues.free e.world.processes c.install.new.self.world.processes b c.self.invariant.0.free same)
+
+pub note_marks-requires-clause-but : goal.note_marks-requires-clause-but
+note_marks-requires-clause-but g c =
+    let e = c.self.inside.executive in
+    let w = e.world in
+    let new = c.install.new.self.world in
+    let b = c.prepareds.inside.chain.run.start.component in
+    let net = network_of g.M.Atomic.meaning e.network in
+    let n = c.in-Ok.finished.installed in
+    let same = subst (IsSameBut b w.processes) (sym (ap (λ x. x.world.processes) c.in-Ok.ensures.installed.steps)) (steps_on_one net e.until w b n) in
+    let mail = subst (IsSameBut b w.mail) (sym (ap (λ x. x.world.mail) c.in-Ok.ensures.installed.steps ∙ steps_mail net e.until w b n)) (nothing_else b w.mail) in
+    let marks = marks_but c.self.inside.queues w new b c.self.invariant.0.marks same mail in
+    subst (λ k. AreMarkedBut k (record c.self.inside.queues { free = c.free.new.agenda }) new) (sym c.component-component.ensures) (record { posting = marks.posting; delivering = marks.delivering })
 
 pub invariant_of-self-2 : goal.invariant_of-self-2
 invariant_of-self-2 g c =
     let e = c.self.inside.executive in
     let steps = steps_of_one c.prepareds.inside.chain.run.start.component c.in-Ok.finished.installed in (
-      c.free.ensures.exact,
+      record { free = subst (λ l. IsExact l c.install.new.self.world.processes) (sym c.note_marks.ensures.free) c.free.ensures.exact; marks = c.note_marks.ensures.marked },
       still_behind g.M.Atomic.meaning steps e c.install.new.self c.self.inside.publisher c.facts.ensures c.in-Ok.ensures.installed.steps c.self.invariant.1,
     )

@@ -8,20 +8,19 @@ use Rattle.tw_workers.proofs.exchange.Exchange.next_before.Goals as goal
 pub returns-then-ge-clause-none : goal.returns-then-ge-clause-none
 returns-then-ge-clause-none g c = λ _ d drawn.
     let e = c.self.inside.executive in
-    let late : bound_of e.until e.world.gvt c.args.window ≤ c.in_ok-first.first.key.stamp = omega (arith, ge c.in_ok-first.first.key.stamp c.args.bound c.if-ge.ensures, c.requires, ap (bound_at c.args.window) c.self.view_is) in
-    none_early e.until e.world.gvt c.args.window c.facts.ensures.bound c.self.inside.agenda e.world.processes c.self.invariant.0
-    c.in_ok-first.first.key.stamp c.in_ok-first.first.index c.in_ok-first.ensures.least late d (subst (λ x. IsNext c.args.window x d) (sym c.self.view_is) drawn)
+    let late : bound_of e.until e.world.gvt c.args.window ≤ c.in_ok-next.next = omega (arith, ge c.in_ok-next.next c.args.bound c.if-ge.ensures, c.requires, ap (bound_at c.args.window) c.self.view_is) in
+    none_early e.until e.world.gvt c.args.window c.facts.ensures.bound c.self.inside.queues.free e.world.processes c.self.invariant.0.free
+    c.in_ok-next.next c.in_ok-next.component c.in_ok-next.ensures.least late d (subst (λ x. IsNext c.args.window x d) (sym c.self.view_is) drawn)
 
-pub returns-in_err-first-clause-none : goal.returns-in_err-first-clause-none
-returns-in_err-first-clause-none g c = λ _ d drawn.
+pub returns-in_err-next-clause-none : goal.returns-in_err-next-clause-none
+returns-in_err-next-clause-none g c = λ _ d drawn.
     let e = c.self.inside.executive in
-    none_free e.until e.world.gvt c.args.window c.facts.ensures.bound c.self.inside.agenda e.world.processes c.self.invariant.0
-    (c.first.ensures.none c.in_err-first.was) d (subst (λ x. IsNext c.args.window x d) (sym c.self.view_is) drawn)
+    none_free e.until e.world.gvt c.args.window c.facts.ensures.bound c.self.inside.queues.free e.world.processes c.self.invariant.0.free
+    (c.first.ensures.none c.in_err-next.was) d (subst (λ x. IsNext c.args.window x d) (sym c.self.view_is) drawn)
 
 pub returns-clause-next : goal.returns-clause-next
 returns-clause-next g c =
     let e = c.self.inside.executive in
-    let first = c.in_ok-first.first in
-    let early : first.key.stamp < bound_of e.until e.world.gvt c.args.window = omega (arith, not_ge first.key.stamp c.args.bound c.if-ge.ensures, c.requires, ap (bound_at c.args.window) c.self.view_is) in
-    subst (λ x. IsNext c.args.window x first.index) c.self.view_is
-    (drawn_is e.until e.world.gvt c.args.window c.facts.ensures.bound c.self.inside.agenda e.world.processes c.self.invariant.0 first.key.stamp first.index c.in_ok-first.ensures.least early)
+    let early : c.in_ok-next.next < bound_of e.until e.world.gvt c.args.window = omega (arith, not_ge c.in_ok-next.next c.args.bound c.if-ge.ensures, c.requires, ap (bound_at c.args.window) c.self.view_is) in
+    subst (λ x. IsNext c.args.window x c.in_ok-next.component) c.self.view_is
+    (drawn_is e.until e.world.gvt c.args.window c.facts.ensures.bound c.self.inside.queues.free e.world.processes c.self.invariant.0.free c.in_ok-next.next c.in_ok-next.component c.in_ok-next.ensures.least early)

@@ -3,7 +3,8 @@ ghost use Rattle.std.specs.Prelude.{◌≡◌, ◌↔◌, IsTrue};
 
 use std::alloc::{AllocError, Global};
 use tw_atomic::{Atomic, Outbox, Turn};
-use tw_machine::machine::{Kept, Machine};
+use tw_machine::kept::Kept;
+use tw_machine::machine::Machine;
 use tw_machine::memory::State as MachineState;
 use tw_models::{Model, Residue, State};
 

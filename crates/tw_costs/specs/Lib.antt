@@ -1,3 +1,4 @@
+pub mod Seen
 pub mod Names
 pub mod Functions
 pub mod Turns

@@ -1,6 +1,7 @@
 //! How many computations what is sent and the words make. Counts end at 262,145, one past what is allowed.
-ghost use Rattle.std.specs.Prelude.{◌≡◌, ◌≤◌, ◌*◌, min, sum_by};
+ghost use Rattle.std.specs.Prelude.{◌≡◌, ◌≤◌, ◌*◌, map, min, option_map, sum_by};
 ghost use Rattle.tw_program_text.specs.Views.{tree};
+ghost use Rattle.tw_costs.specs.Seen as plain;
 ghost use Rattle.tw_costs.specs.Members.{value_work, when_work, each_work, once_work, sendings, output_work, shown_over, word_over, word_work};
 
 use crate::declaration::{OutputText, Value};
@@ -10,7 +11,7 @@ use tw_program_text::Expr as Tree;
 
 /// The computations of an expression in a member, at most 262,145.
 fn value_work(standings: &[Standing], written: &Value) -> usize
-    ensures value { result ≡ min (value_work standings.now written.now) 262145 }
+    ensures value { result ≡ min (value_work standings.now (plain.value written.now)) 262145 }
     ensures small { result ≤ 262145 }
 {
     match written {
@@ -21,7 +22,7 @@ fn value_work(standings: &[Standing], written: &Value) -> usize
 
 /// The computations of a condition, at most 262,145.
 fn when_work(standings: &[Standing], when: &Option<Value>) -> usize
-    ensures value { result ≡ min (when_work standings.now when.now) 262145 }
+    ensures value { result ≡ min (when_work standings.now (option_map plain.value when.now)) 262145 }
     ensures small { result ≤ 262145 }
 {
     match when {
@@ -32,7 +33,7 @@ fn when_work(standings: &[Standing], when: &Option<Value>) -> usize
 
 /// The computations of a queue's name, at most 262,145.
 fn each_work(standings: &[Standing], each: &Option<Tree>) -> usize
-    ensures value { result ≡ min (each_work standings.now each.now) 262145 }
+    ensures value { result ≡ min (each_work standings.now (option_map tree each.now)) 262145 }
     ensures small { result ≤ 262145 }
 {
     match each {
@@ -43,7 +44,7 @@ fn each_work(standings: &[Standing], each: &Option<Tree>) -> usize
 
 /// The computations of an output that is sent once, at most 262,145.
 fn once_work(standings: &[Standing], text: &OutputText) -> usize
-    ensures value { result ≡ min (once_work standings.now text.now) 262145 }
+    ensures value { result ≡ min (once_work standings.now (plain.output text.now)) 262145 }
     ensures small { result ≤ 262145 }
 {
     let sent = value_work(standings, &text.port) + value_work(standings, &text.value);
@@ -52,7 +53,7 @@ fn once_work(standings: &[Standing], text: &OutputText) -> usize
 
 /// How often an output is sent at the most.
 fn sendings(standings: &[Standing], each: &Option<Tree>) -> usize
-    ensures value { result ≡ sendings standings.now each.now }
+    ensures value { result ≡ sendings standings.now (option_map tree each.now) }
     ensures small { result ≤ 65535 }
 {
     match each {
@@ -64,7 +65,7 @@ fn sendings(standings: &[Standing], each: &Option<Tree>) -> usize
 /// The computations of an output, at most 262,145.
 #[tactic(auto, using(crate::proofs::Capped::capped))]
 fn output_work(standings: &[Standing], text: &OutputText) -> usize
-    ensures value { result ≡ min (output_work standings.now text.now) 262145 }
+    ensures value { result ≡ min (output_work standings.now (plain.output text.now)) 262145 }
     ensures small { result ≤ 262145 }
 {
     (sendings(standings, &text.each) * once_work(standings, text)).min(262145)
@@ -72,7 +73,7 @@ fn output_work(standings: &[Standing], text: &OutputText) -> usize
 
 /// The computations of all outputs, at most 262,145.
 pub fn outputs_work(standings: &[Standing], texts: &[OutputText]) -> usize
-    ensures value { result ≡ min (sum_by (output_work standings.now) texts.now) 262145 }
+    ensures value { result ≡ min (sum_by (output_work standings.now) (map plain.output texts.now)) 262145 }
     ensures small { result ≤ 262145 }
 {
     let mut total = 0;
@@ -111,7 +112,7 @@ fn word_over(standings: &[Standing], written: &Tree) -> usize
 
 /// The computations of an entry of `words`, at most 262,145.
 fn word_work(standings: &[Standing], written: &Value) -> usize
-    ensures value { result ≡ min (word_work standings.now written.now) 262145 }
+    ensures value { result ≡ min (word_work standings.now (plain.value written.now)) 262145 }
     ensures small { result ≤ 262145 }
 {
     match written {
@@ -122,7 +123,7 @@ fn word_work(standings: &[Standing], written: &Value) -> usize
 
 /// The computations of all words, at most 262,145.
 pub fn words_work(standings: &[Standing], texts: &[Value]) -> usize
-    ensures value { result ≡ min (sum_by (word_work standings.now) texts.now) 262145 }
+    ensures value { result ≡ min (sum_by (word_work standings.now) (map plain.value texts.now)) 262145 }
     ensures small { result ≤ 262145 }
 {
     let mut total = 0;

@@ -1,6 +1,7 @@
 //! What each name of a machine stands for.
-ghost use Rattle.std.specs.Prelude.{◌≡◌, ◌+◌, ◌≤◌, min, IfOk, map, length, slice_index_or, string_bytes};
+ghost use Rattle.std.specs.Prelude.{◌≡◌, ◌+◌, ◌≤◌, min, IfOk, map, length, slice_index_or};
 ghost use Rattle.tw_program_text.specs.Letters.{functions, same_text};
+ghost use Rattle.tw_costs.specs.Seen as plain;
 ghost use Rattle.tw_costs.specs.Names.{constant, start_of, room_of, count_of, list_given, cells, rooms, numbers, given_number, none_taken, taken, things, place_named, standing_of, own_standings, texts, standings_of, standing_at};
 ghost use Rattle.tw_costs.specs.declared.names.Standing.TheVariants.{Nothing};
 
@@ -39,7 +40,7 @@ pub struct Places {
 
 /// The number that a constant is, if it is given.
 pub fn constant(given: &Given, one: Constant) -> Option<i64>
-    ensures { result ≡ constant given.now one }
+    ensures { result ≡ constant (plain.given given.now) one }
 {
     match one {
         Constant::Number(number) => Some(number),
@@ -49,14 +50,14 @@ pub fn constant(given: &Given, one: Constant) -> Option<i64>
 
 /// What a register has at the start.
 pub fn start_of(given: &Given, start: Constant) -> i64
-    ensures { result ≡ start_of given.now start }
+    ensures { result ≡ start_of (plain.given given.now) start }
 {
     constant(given, start).unwrap_or(0)
 }
 
 /// The room of a queue, at most 1,024.
 pub fn room_of(given: &Given, room: Constant) -> u16
-    ensures value { result ≡ room_of given.now room }
+    ensures value { result ≡ room_of (plain.given given.now) room }
     ensures small { result ≤ 1024 }
 {
     start_of(given, room).max(0).min(1024) as u16
@@ -64,7 +65,7 @@ pub fn room_of(given: &Given, room: Constant) -> u16
 
 /// How many queues an array has, at most 16.
 pub fn count_of(given: &Given, count: Constant) -> u32
-    ensures value { result ≡ count_of given.now count }
+    ensures value { result ≡ count_of (plain.given given.now) count }
     ensures small { result ≤ 16 }
 {
     start_of(given, count).max(0).min(16) as u32
@@ -72,7 +73,7 @@ pub fn count_of(given: &Given, count: Constant) -> u32
 
 /// The list that is given for a parameter; empty where none is.
 pub fn list_given(given: &Given, place: usize) -> &[i64]
-    ensures { result.now ≡ list_given given.now place }
+    ensures { result.now ≡ list_given (plain.given given.now) place }
 {
     match given.lists.get(place) {
         Some(list) => list.as_slice(),
@@ -89,7 +90,7 @@ pub fn standing_at(standings: &[Standing], name: usize) -> Standing
 
 /// How many cells a name takes, at most 65.
 fn cell_count(given: &Given, thing: &Thing) -> u32
-    ensures value { result ≡ min (length (cells given.now thing.now)) 65 }
+    ensures value { result ≡ min (length (cells (plain.given given.now) (plain.thing thing.now))) 65 }
     ensures small { result ≤ 65 }
 {
     let _ = given;
@@ -102,7 +103,7 @@ fn cell_count(given: &Given, thing: &Thing) -> u32
 
 /// How many queues a name takes.
 fn queue_count(given: &Given, thing: &Thing) -> u32
-    ensures value { result ≡ length (rooms given.now thing.now) }
+    ensures value { result ≡ length (rooms (plain.given given.now) (plain.thing thing.now)) }
     ensures small { result ≤ 16 }
 {
     match thing {
@@ -114,7 +115,7 @@ fn queue_count(given: &Given, thing: &Thing) -> u32
 
 /// How many numbers of tables a name takes, at most 65,537.
 fn number_count(given: &Given, thing: &Thing) -> u32
-    ensures value { result ≡ min (length (numbers given.now thing.now)) 65537 }
+    ensures value { result ≡ min (length (numbers (plain.given given.now) (plain.thing thing.now))) 65537 }
     ensures small { result ≤ 65537 }
 {
     match thing {
@@ -134,7 +135,7 @@ fn added(at: u32, more: u32, most: u32) -> u32
 
 /// What is taken behind a name, counted to one past what a machine may have.
 fn taken(given: &Given, at: Places, thing: &Thing) -> Places
-    ensures { result ≡ taken given.now at thing.now }
+    ensures { result ≡ taken (plain.given given.now) at (plain.thing thing.now) }
 {
     Places {
         cells: added(at.cells, cell_count(given, thing), 65),
@@ -155,7 +156,7 @@ fn given_number(number: Option<i64>) -> Standing
 
 /// What a name stands for, where so much is taken before it.
 fn standing_of(given: &Given, at: Places, thing: &Thing) -> Standing
-    ensures { result ≡ standing_of given.now at thing.now }
+    ensures { result ≡ standing_of (plain.given given.now) at (plain.thing thing.now) }
 {
     match thing {
         Thing::Parameter(place) => given_number(given.numbers.get(*place).copied()),
@@ -182,7 +183,7 @@ fn standing_of(given: &Given, at: Places, thing: &Thing) -> Standing
 
 /// What the names that are declared stand for.
 fn own_standings(alloc: Global, given: &Given, names: &[Named]) -> Result<Vec<Standing>, AllocError>
-    ensures { IfOk result (λ standings. standings.items ≡ own_standings given.now none_taken (things names.now)) }
+    ensures { IfOk result (λ standings. standings.items ≡ own_standings (plain.given given.now) none_taken (things (map plain.name names.now))) }
 {
     let mut standings = Vec::with_capacity(alloc, names.len())?;
     let mut at = Places {
@@ -206,7 +207,7 @@ fn same_text(a: &[u8], b: &[u8]) -> bool
 
 /// The place of the first name that is this text; their count where there is none.
 fn place_named(names: &[Named], text: &[u8]) -> usize
-    ensures { result ≡ place_named 0 (texts names.now) text.now }
+    ensures { result ≡ place_named 0 (texts (map plain.name names.now)) text.now }
 {
     for (index, named) in names.iter().enumerate() {
         if same_text(named.name.as_bytes(), text) {
@@ -228,7 +229,7 @@ fn named_standings(
     own: &[Standing],
     functions: &[&[u8]],
 ) -> Result<Vec<Standing>, AllocError>
-    ensures { IfOk result (λ standings. standings.items ≡ map (λ f. standing_at own.now (place_named 0 (texts names.now) f.now)) functions.now) }
+    ensures { IfOk result (λ standings. standings.items ≡ map (λ f. standing_at own.now (place_named 0 (texts (map plain.name names.now)) f.now)) functions.now) }
 {
     let mut standings = Vec::with_capacity(alloc, functions.len())?;
     for function in functions {
@@ -244,7 +245,7 @@ pub fn standings_of(
     given: &Given,
     names: &[Named],
 ) -> Result<Vec<Standing>, AllocError>
-    ensures { IfOk result (λ standings. standings.items ≡ standings_of given.now names.now) }
+    ensures { IfOk result (λ standings. standings.items ≡ standings_of (plain.given given.now) (map plain.name names.now)) }
 {
     let own = own_standings(alloc, given, names)?;
     let mut standings = named_standings(alloc, names, &own, &FUNCTION_NAMES)?;

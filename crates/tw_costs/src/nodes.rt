@@ -1,7 +1,8 @@
 //! How many nodes a machine has. Counts end at 4,097, one past what is allowed.
-ghost use Rattle.std.specs.Prelude.{◌≡◌, ◌≤◌, min, sum_by};
+ghost use Rattle.std.specs.Prelude.{◌≡◌, ◌≤◌, map, min, option_map, sum_by};
 ghost use Rattle.tw_program_text.specs.Tree.{nodes, nodes_statement, nodes_block, nodes_arms};
 ghost use Rattle.tw_program_text.specs.Views.{tree, told, body, chain};
+ghost use Rattle.tw_costs.specs.Seen as plain;
 ghost use Rattle.tw_costs.specs.Members.{value_nodes, when_nodes, each_nodes, output_nodes, all_nodes};
 
 use crate::declaration::{Declaration, OutputText, Value};
@@ -71,7 +72,7 @@ fn nodes_arms(arms: &Arms) -> usize
 
 /// The nodes of an expression in a member, at most 4,097.
 fn value_nodes(written: &Value) -> usize
-    ensures value { result ≡ min (value_nodes written.now) 4097 }
+    ensures value { result ≡ min (value_nodes (plain.value written.now)) 4097 }
     ensures small { result ≤ 4097 }
 {
     match written {
@@ -82,7 +83,7 @@ fn value_nodes(written: &Value) -> usize
 
 /// The nodes of a condition, at most 4,097.
 fn when_nodes(when: &Option<Value>) -> usize
-    ensures value { result ≡ min (when_nodes when.now) 4097 }
+    ensures value { result ≡ min (when_nodes (option_map plain.value when.now)) 4097 }
     ensures small { result ≤ 4097 }
 {
     match when {
@@ -93,7 +94,7 @@ fn when_nodes(when: &Option<Value>) -> usize
 
 /// The nodes of a queue, at most 4,097.
 fn each_nodes(each: &Option<Tree>) -> usize
-    ensures value { result ≡ min (each_nodes each.now) 4097 }
+    ensures value { result ≡ min (each_nodes (option_map tree each.now)) 4097 }
     ensures small { result ≤ 4097 }
 {
     match each {
@@ -104,7 +105,7 @@ fn each_nodes(each: &Option<Tree>) -> usize
 
 /// The nodes of an entry of what is sent, at most 4,097.
 fn output_nodes(text: &OutputText) -> usize
-    ensures value { result ≡ min (output_nodes text.now) 4097 }
+    ensures value { result ≡ min (output_nodes (plain.output text.now)) 4097 }
     ensures small { result ≤ 4097 }
 {
     let sent = value_nodes(&text.port) + value_nodes(&text.value);
@@ -113,7 +114,7 @@ fn output_nodes(text: &OutputText) -> usize
 
 /// The nodes of what is sent, at most 4,097.
 fn outputs_nodes(texts: &[OutputText]) -> usize
-    ensures value { result ≡ min (sum_by output_nodes texts.now) 4097 }
+    ensures value { result ≡ min (sum_by output_nodes (map plain.output texts.now)) 4097 }
     ensures small { result ≤ 4097 }
 {
     let mut total = 0;
@@ -125,7 +126,7 @@ fn outputs_nodes(texts: &[OutputText]) -> usize
 
 /// The nodes of the words, at most 4,097.
 fn words_nodes(texts: &[Value]) -> usize
-    ensures value { result ≡ min (sum_by value_nodes texts.now) 4097 }
+    ensures value { result ≡ min (sum_by value_nodes (map plain.value texts.now)) 4097 }
     ensures small { result ≤ 4097 }
 {
     let mut total = 0;
@@ -137,7 +138,7 @@ fn words_nodes(texts: &[Value]) -> usize
 
 /// The nodes of a machine's programs, outputs and words, at most 4,097.
 pub fn all_nodes(declaration: &Declaration) -> usize
-    ensures value { result ≡ min (all_nodes declaration.now) 4097 }
+    ensures value { result ≡ min (all_nodes (plain.declaration declaration.now)) 4097 }
 {
     let programs = nodes_block(&declaration.internal) + nodes_block(&declaration.external);
     let sent = outputs_nodes(declaration.outputs.as_slice());

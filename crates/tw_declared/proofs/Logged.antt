@@ -17,15 +17,14 @@ use Rattle.tw_program_text.specs.declared.words.Verb.{Verb}
 use Rattle.tw_program_text.specs.declared.words.Verb.TheVariants.{Push, Insert, Remove, Put}
 use Rattle.tw_program_text.specs.declared.words.Operator.TheVariants.{Comma}
 use Rattle.tw_program_text.specs.Tree.{Tree, Number, Name, Known, Indexed, Call, RandomBelow, Group, Negate, Not, Binary, Statement, Assign, Act, Pop, Draw, Wait, Passivate, If, IfElse, Repeat, Block, Empty, Then, Arms, One, More}
-use Rattle.tw_program_text.specs.Views.{body}
-use Rattle.tw_costs.specs.declared.declaration.Declaration.{Declaration}
+use Rattle.tw_costs.specs.Seen.{Declaration}
 use Rattle.tw_costs.specs.declared.names.Standing.{Standing}
 use Rattle.tw_costs.specs.Turns.{written_turns}
 use Rattle.tw_costs.specs.Work.{work, counted_turns, statement_work, block_work, tests_work, greatest_work}
 use Rattle.tw_costs.specs.Members.{all_nodes, output_work, word_work}
 use Rattle.tw_declared.specs.declared.limits.BadMachine.{BadMachine}
 use Rattle.tw_declared.specs.declared.limits.BadMachine.TheVariants.{TooManyCells, TooManyQueues, TooMuchRoom, TooManyNumbers, TooManyNodes, TooManyComputations}
-use Rattle.tw_declared.specs.Seen.{branch}
+use Rattle.tw_machine.specs.Seen.{branch}
 use Rattle.tw_declared.specs.Expressions.{expression, queue}
 use Rattle.tw_declared.specs.Statements.{cell, assigned, put, acted, turns, statement, block, chosen}
 use Rattle.tw_declared.specs.Limits.{limit}
@@ -127,13 +126,13 @@ few_logged m n i e f g h k = le-ltb 1048575 (max m n) (omega (arith, f, g, ltb-f
 within : (a b c d e : Bool) → a ≡ false → b ≡ false → c ≡ false → d ≡ false → e ≡ false → (if a then Some any.TooManyCells else if b then Some any.TooManyQueues else if c then Some any.TooMuchRoom else if d then Some any.TooManyNumbers else if e then Some any.TooMuchLogged else None) ≡ None
 within a b c d e f g h i j = rw (f, g, h, i, j) refl
 
-pub within_any : (ss : List Standing) (d : Declaration) (p : ProgramText) → p.internal ≡ block ss (body d.internal) → p.external ≡ block ss (body d.external) → limit ss d p ≡ None → fault_of p ≡ None
+pub within_any : (ss : List Standing) (d : Declaration) (p : ProgramText) → p.internal ≡ block ss d.internal → p.external ≡ block ss d.external → limit ss d p ≡ None → fault_of p ≡ None
 within_any ss d p e f h =
-    let outputs = sum_by (output_work ss) d.outputs.items in
-    let words = sum_by (word_work ss) d.words.items in
+    let outputs = sum_by (output_work ss) d.outputs in
+    let words = sum_by (word_work ss) d.words in
     let rest : Option BadMachine = if nat_lt 262144 outputs then Some TooManyComputations else if nat_lt 262144 words then Some TooManyComputations else None in
-    let q = passed (nat_lt 64 (length p.cells)) (nat_lt 16 (length p.rooms)) (nat_lt 4096 (sum p.rooms)) (nat_lt 65536 (length p.numbers)) (nat_lt 4096 (all_nodes d)) (nat_lt 262144 (block_work ss (body d.internal))) (nat_lt 262144 (block_work ss (body d.external))) rest h in
-    let internal : needs p.internal ≤ 2 * block_work ss (body d.internal) = rw e (block-needs ss (body d.internal)) in
-    let external : needs p.external ≤ 2 * block_work ss (body d.external) = rw f (block-needs ss (body d.external)) in
-    let logged = few_logged (needs p.internal) (needs p.external) (block_work ss (body d.internal)) (block_work ss (body d.external)) internal external q.internal q.external in
+    let q = passed (nat_lt 64 (length p.cells)) (nat_lt 16 (length p.rooms)) (nat_lt 4096 (sum p.rooms)) (nat_lt 65536 (length p.numbers)) (nat_lt 4096 (all_nodes d)) (nat_lt 262144 (block_work ss d.internal)) (nat_lt 262144 (block_work ss d.external)) rest h in
+    let internal : needs p.internal ≤ 2 * block_work ss d.internal = rw e (block-needs ss d.internal) in
+    let external : needs p.external ≤ 2 * block_work ss d.external = rw f (block-needs ss d.external) in
+    let logged = few_logged (needs p.internal) (needs p.external) (block_work ss d.internal) (block_work ss d.external) internal external q.internal q.external in
     within (nat_lt 64 (length p.cells)) (nat_lt 16 (length p.rooms)) (nat_lt 4096 (sum p.rooms)) (nat_lt 65536 (length p.numbers)) (nat_lt 1048575 (max (needs p.internal) (needs p.external))) q.cells q.queues q.room q.numbers logged

@@ -5,7 +5,7 @@ use Rattle.tw_machine.specs.declared.language.Statement.TheVariants.{Skip, Then'
 use Rattle.tw_machine.specs.Undoing.{needs}
 use Rattle.tw_machine.specs.Program.{ProgramText}
 use Rattle.tw_machine.specs.Limits.{fault_of}
-use Rattle.tw_declared.specs.Seen.{seen_statement, seen_program}
+use Rattle.tw_machine.specs.Seen.{seen_statement, seen_program}
 
 pub needs_seen : (s : Statement) → needs (seen_statement s) ≡ needs s
 needs_seen Skip = refl

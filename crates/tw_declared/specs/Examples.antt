@@ -16,12 +16,11 @@ use Rattle.tw_program_text.specs.declared.words.Operator.TheVariants.{Comma, Equ
 use Rattle.tw_program_text.specs.declared.words.Verb.TheVariants.{Push, Put}
 use Rattle.tw_program_text.specs.Tree.{Tree, Number, Name, Known, Indexed, Call, RandomBelow, Binary, Statement, Assign, Act, Pop, Draw, Wait, If, Repeat, Block, Empty, Then, One}
 use Rattle.tw_costs.specs.declared.declaration.Constant.TheVariants as c
-use Rattle.tw_costs.specs.declared.declaration.Given.{Given}
-use Rattle.tw_costs.specs.declared.declaration.Thing.TheVariants as thing
+use Rattle.tw_costs.specs.Seen.{Given, register}
 use Rattle.tw_costs.specs.declared.names.Standing.{Standing}
 use Rattle.tw_costs.specs.declared.names.Standing.TheVariants as s
 use Rattle.tw_costs.specs.Names.{none_taken, own_standings}
-use Rattle.tw_declared.specs.Seen.{one, two, both, branch, repeated}
+use Rattle.tw_machine.specs.Seen.{one, two, both, branch, repeated}
 use Rattle.tw_declared.specs.Statements.{statement, block}
 use Rattle.tw_declared.specs.Rows.{row_of, twice}
 use Rattle.tw_costs.specs.Work.{statement_work, block_work}
@@ -39,7 +38,7 @@ adder = s.Cell 0 ∷ s.Cell 1 ∷ s.Cell 2 ∷ []
 
 abbrev pub adder_names : Type 0
 adder_names =
-    (given : Given) → own_standings given none_taken (thing.Register (c.Number (pos 0)) ∷ thing.Register (c.Number (pos 0)) ∷ thing.Register (c.Number (pos 0)) ∷ []) ≡ adder
+    (given : Given) → own_standings given none_taken (register (c.Number (pos 0)) ∷ register (c.Number (pos 0)) ∷ register (c.Number (pos 0)) ∷ []) ≡ adder
 
 -- count += 1, sum += value, last = value
 abbrev pub adder_external : Block

@@ -22,7 +22,7 @@ use Rattle.tw_costs.specs.declared.names.Standing.{Standing}
 use Rattle.tw_costs.specs.declared.names.Standing.TheVariants as s
 use Rattle.tw_costs.specs.Names.{standing_at}
 use Rattle.tw_costs.specs.Functions.{function_of}
-use Rattle.tw_declared.specs.Seen.{one, two, choose}
+use Rattle.tw_machine.specs.Seen.{one, two, choose}
 
 abbrev pub zero_expr : Expr
 zero_expr = Plain (leaf.Number (pos 0))

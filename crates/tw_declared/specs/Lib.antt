@@ -1,4 +1,3 @@
-pub mod Seen
 pub mod Expressions
 pub mod Statements
 pub mod Program

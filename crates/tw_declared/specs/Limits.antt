@@ -1,12 +1,8 @@
 -- What is wrong with a machine as it is declared, with the numbers that are given: its members in order, then its limits. The first counts.
-use Rattle.std.specs.Prelude.{ℕ, ℤ, pos, negsuc, Bool, true, false, not, ◌&&◌, List, [], ◌∷◌, length, sum, sum_by, Option, Some, None, nat_lt, nat_le, if◌then◌else◌, option_and_then, option_map, slice_get}
+use Rattle.std.specs.Prelude.{ℕ, ℤ, pos, negsuc, Bool, true, false, not, ◌&&◌, List, [], ◌∷◌, length, sum, sum_by, Option, Some, None, nat_lt, nat_le, if◌then◌else◌, option_and_then, slice_get}
 use Rattle.tw_machine.specs.Program.{ProgramText}
 use Rattle.tw_program_text.specs.Tree.{Statement, If, IfElse, Repeat, Block, Empty, Then, Arms, One, More}
-use Rattle.tw_program_text.specs.Views.{body}
-use Rattle.tw_costs.specs.declared.declaration.Declaration.{Declaration}
-use Rattle.tw_costs.specs.declared.declaration.Given.{Given}
-use Rattle.tw_costs.specs.declared.declaration.Thing.{Thing}
-use Rattle.tw_costs.specs.declared.declaration.Thing.TheVariants.{RegisterArray, Queue, QueueArray, Table, ListTable}
+use Rattle.tw_costs.specs.Seen.{Declaration, Given, Declares, registers, queue, queues, table, list_table}
 use Rattle.tw_declared.specs.declared.limits.BadMachine.{BadMachine}
 use Rattle.tw_declared.specs.declared.limits.BadMachine.TheVariants as bad
 use Rattle.tw_costs.specs.declared.names.Standing.{Standing}
@@ -35,23 +31,23 @@ list_up_to most (Some list) = length_up_to most list
 list_up_to most None = true
 
 -- an array register has 1 to 64 cells
-abbrev pub is_register : Thing → Bool
-is_register (RegisterArray cs) = length_up_to 64 cs.items
+abbrev pub is_register : Declares → Bool
+is_register (registers cs) = length_up_to 64 cs
 is_register _ = true
 
 -- an array of queues has 1 to 16, and a queue has room for 1 to 1,024
-abbrev pub is_queue : Given → Thing → Bool
-is_queue given (Queue c) = constant_up_to 1024 (constant given c)
-is_queue given (QueueArray n c) = constant_up_to 16 (constant given n) && constant_up_to 1024 (constant given c)
+abbrev pub is_queue : Given → Declares → Bool
+is_queue given (queue c) = constant_up_to 1024 (constant given c)
+is_queue given (queues n c) = constant_up_to 16 (constant given n) && constant_up_to 1024 (constant given c)
 is_queue given _ = true
 
 -- a table has 1 to 65,536 numbers
-abbrev pub is_table : Given → Thing → Bool
-is_table given (Table ns) = length_up_to 65536 ns.items
-is_table given (ListTable k) = list_up_to 65536 (option_map (λ list. list.items) (slice_get given.lists.items k))
+abbrev pub is_table : Given → Declares → Bool
+is_table given (table ns) = length_up_to 65536 ns
+is_table given (list_table k) = list_up_to 65536 (slice_get given.lists k)
 is_table given _ = true
 
-abbrev pub all : (Thing → Bool) → List Thing → Bool
+abbrev pub all : (Declares → Bool) → List Declares → Bool
 all test [] = true
 all test (thing ∷ things) = test thing && all test things
 
@@ -79,14 +75,14 @@ abbrev mutual
 -- the first of a machine's members that is wrong
 abbrev pub members_fault : Given → Declaration → List Standing → Option BadMachine
 members_fault given d ss =
-    if not (all is_register (things d.names.items)) then Some bad.CellCount
-    else if not (all (is_queue given) (things d.names.items)) then Some bad.QueueCount
-    else if not (all (is_table given) (things d.names.items)) then Some bad.TableCount
-    else if not (constant_up_to 1099511627775 (option_and_then (constant given) d.longest)) then Some bad.Longest
-    else if not (turns_fit ss (body d.internal) && turns_fit ss (body d.external)) then Some bad.Turns
-    else if nat_lt 64 (length d.outputs.items) then Some bad.OutputCount
-    else if not (length_up_to 64 d.words.items) then Some bad.WordCount
-    else if twice (rows ss d.words.items) then Some bad.WordTwice
+    if not (all is_register (things d.names)) then Some bad.CellCount
+    else if not (all (is_queue given) (things d.names)) then Some bad.QueueCount
+    else if not (all (is_table given) (things d.names)) then Some bad.TableCount
+    else if not (constant_up_to 1099511627774 (option_and_then (constant given) d.longest)) then Some bad.Longest
+    else if not (turns_fit ss d.internal && turns_fit ss d.external) then Some bad.Turns
+    else if nat_lt 64 (length d.outputs) then Some bad.OutputCount
+    else if not (length_up_to 64 d.words) then Some bad.WordCount
+    else if twice (rows ss d.words) then Some bad.WordTwice
     else None
 
 -- the first limit that is passed: of cells, queues and numbers, of nodes, of computations of each kind by itself
@@ -97,10 +93,10 @@ limit ss d p =
     else if nat_lt 4096 (sum p.rooms) then Some bad.TooMuchRoom
     else if nat_lt 65536 (length p.numbers) then Some bad.TooManyNumbers
     else if nat_lt 4096 (all_nodes d) then Some bad.TooManyNodes
-    else if nat_lt 262144 (block_work ss (body d.internal)) then Some bad.TooManyComputations
-    else if nat_lt 262144 (block_work ss (body d.external)) then Some bad.TooManyComputations
-    else if nat_lt 262144 (sum_by (output_work ss) d.outputs.items) then Some bad.TooManyComputations
-    else if nat_lt 262144 (sum_by (word_work ss) d.words.items) then Some bad.TooManyComputations
+    else if nat_lt 262144 (block_work ss d.internal) then Some bad.TooManyComputations
+    else if nat_lt 262144 (block_work ss d.external) then Some bad.TooManyComputations
+    else if nat_lt 262144 (sum_by (output_work ss) d.outputs) then Some bad.TooManyComputations
+    else if nat_lt 262144 (sum_by (word_work ss) d.words) then Some bad.TooManyComputations
     else None
 
 abbrev pub otherwise : Option BadMachine → Option BadMachine → Option BadMachine
@@ -110,5 +106,5 @@ otherwise None later = later
 -- the first fault of a machine, with what is given
 abbrev pub fault_of : Given → Declaration → Option BadMachine
 fault_of given d =
-    let ss = standings_of given d.names.items in
+    let ss = standings_of given d.names in
     otherwise (members_fault given d ss) (limit ss d (program_of given d))

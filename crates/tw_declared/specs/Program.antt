@@ -9,13 +9,9 @@ use Rattle.tw_machine.specs.declared.language.Word.TheVariants as word
 use Rattle.tw_machine.specs.Program.{ProgramText}
 use Rattle.tw_machine.specs.Values.{brought}
 use Rattle.tw_program_text.specs.Tree.{Tree, Number, Name, Indexed}
-use Rattle.tw_program_text.specs.Views.{tree, body}
 use Rattle.tw_costs.specs.declared.declaration.Constant.{Constant}
-use Rattle.tw_costs.specs.declared.declaration.Declaration.{Declaration}
-use Rattle.tw_costs.specs.declared.declaration.Given.{Given}
-use Rattle.tw_costs.specs.declared.declaration.OutputText.{OutputText}
-use Rattle.tw_costs.specs.declared.declaration.Value.{Value}
-use Rattle.tw_costs.specs.declared.declaration.Value.TheVariants as v
+use Rattle.tw_costs.specs.Seen.{Declaration, Given, Value, whole, tree}
+use Rattle.tw_costs.specs.Seen as plain
 use Rattle.tw_costs.specs.declared.names.Standing.{Standing}
 use Rattle.tw_costs.specs.declared.names.Standing.TheVariants as s
 use Rattle.tw_costs.specs.Names.{constant, start_of, cells, rooms, numbers, things, standing_at, standings_of}
@@ -24,17 +20,17 @@ use Rattle.tw_declared.specs.Statements.{block}
 
 -- an expression in a member
 abbrev pub value : List Standing → Value → Expr
-value ss (v.Number n) = Plain (leaf.Number n)
-value ss (v.Text e) = expression ss (tree e)
+value ss (whole n) = Plain (leaf.Number n)
+value ss (tree e) = expression ss e
 
 -- an entry of what is sent
-abbrev pub output : List Standing → OutputText → Output
+abbrev pub output : List Standing → plain.Output → Output
 output ss o =
     record {
       when = option_map (value ss) o.when;
-      each = option_map (λ q. queue ss (tree q)) o.each;
+      each = option_map (queue ss) o.each;
       port = value ss o.port;
-      value = value ss o.value;
+      value = value ss o.sent;
     }
 
 -- a queue, an array register, or else an expression
@@ -54,8 +50,8 @@ word_of ss (Indexed n (Number i)) = word_numbered (standing_at ss n) i (expressi
 word_of ss e = word.Number (expression ss e)
 
 abbrev pub shown_word : List Standing → Value → Word
-shown_word ss (v.Number n) = word.Number (Plain (leaf.Number n))
-shown_word ss (v.Text e) = word_of ss (tree e)
+shown_word ss (whole n) = word.Number (Plain (leaf.Number n))
+shown_word ss (tree e) = word_of ss e
 
 -- a number modulo 2^64
 abbrev pub seed : ℤ → ℕ
@@ -72,16 +68,16 @@ ticks given c = option_and_then wait (option_and_then (constant given) c)
 
 abbrev pub program_of : Given → Declaration → ProgramText
 program_of given d =
-    let ss = standings_of given d.names.items in
+    let ss = standings_of given d.names in
     record {
-      cells = flat_map (cells given) (things d.names.items);
-      rooms = flat_map (rooms given) (things d.names.items);
+      cells = flat_map (cells given) (things d.names);
+      rooms = flat_map (rooms given) (things d.names);
       seed = seed (start_of given d.random);
       first = ticks given d.first;
       longest = ticks given d.longest;
-      numbers = flat_map (numbers given) (things d.names.items);
-      internal = block ss (body d.internal);
-      external = block ss (body d.external);
-      outputs = map (output ss) d.outputs.items;
-      words = map (shown_word ss) d.words.items;
+      numbers = flat_map (numbers given) (things d.names);
+      internal = block ss d.internal;
+      external = block ss d.external;
+      outputs = map (output ss) d.outputs;
+      words = map (shown_word ss) d.words;
     }

@@ -2,9 +2,7 @@
 use Rattle.std.specs.Prelude.{ℕ, ◌-◌, min, Bool, false, ◌&&◌, ◌||◌, ◌==◌, List, [], ◌∷◌, Option, Some, None, filter_map, if◌then◌else◌}
 use Rattle.tw_machine.specs.declared.language.Span.{Span}
 use Rattle.tw_program_text.specs.Tree.{Tree, Number, Name, Indexed}
-use Rattle.tw_program_text.specs.Views.{tree}
-use Rattle.tw_costs.specs.declared.declaration.Value.{Value}
-use Rattle.tw_costs.specs.declared.declaration.Value.TheVariants as v
+use Rattle.tw_costs.specs.Seen.{Value, whole, tree}
 use Rattle.tw_costs.specs.declared.names.Standing.{Standing}
 use Rattle.tw_costs.specs.declared.names.Standing.TheVariants as s
 use Rattle.tw_declared.specs.declared.rows.Row.{Row}
@@ -30,8 +28,8 @@ row_of ss (Indexed n (Number i)) = row_numbered n i (standing_at ss n)
 row_of ss _ = None
 
 abbrev pub shown_row : List Standing → Value → Option Row
-shown_row ss (v.Number n) = None
-shown_row ss (v.Text e) = row_of ss (tree e)
+shown_row ss (whole n) = None
+shown_row ss (tree e) = row_of ss e
 
 abbrev pub same_row : Row → Row → Bool
 same_row a b = a.name == b.name && a.index == b.index

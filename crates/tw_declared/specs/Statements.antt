@@ -19,7 +19,7 @@ use Rattle.tw_costs.specs.declared.names.Standing.{Standing}
 use Rattle.tw_costs.specs.declared.names.Standing.TheVariants as s
 use Rattle.tw_costs.specs.Names.{standing_at}
 use Rattle.tw_costs.specs.Turns.{written_turns}
-use Rattle.tw_declared.specs.Seen.{both, branch, repeated}
+use Rattle.tw_machine.specs.Seen.{both, branch, repeated}
 use Rattle.tw_declared.specs.Expressions.{no_target, expression, queue}
 
 -- a register by its name

@@ -1,7 +1,7 @@
 //! Expressions of texts in the machine's language.
 ghost use Rattle.std.specs.Prelude.{◌≡◌, IfOk};
 ghost use Rattle.tw_program_text.specs.Views.{tree};
-ghost use Rattle.tw_declared.specs.Seen.{seen, seen_target, one, two, choose};
+ghost use Rattle.tw_machine.specs.Seen.{seen, seen_target, one, two, choose};
 ghost use Rattle.tw_declared.specs.Expressions.{known, number, named, indexed, queue_named, queue_indexed, operation, measured, at, place, expression, applied, choice, queue};
 
 use crate::making::{choose, one, two, zero};

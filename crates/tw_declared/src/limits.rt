@@ -1,7 +1,8 @@
 //! What is wrong with a machine as it is declared, the first of it.
-ghost use Rattle.std.specs.Prelude.{◌≡◌, ◌≤◌, length, sum, option_and_then};
+ghost use Rattle.std.specs.Prelude.{◌≡◌, ◌≤◌, length, map, sum, option_and_then};
 ghost use Rattle.tw_machine.specs.Program.{text_of};
 ghost use Rattle.tw_program_text.specs.Views.{told, body, chain};
+ghost use Rattle.tw_costs.specs.Seen as plain;
 ghost use Rattle.tw_costs.specs.Names.{constant, things};
 ghost use Rattle.tw_declared.specs.Limits.{is_up_to, constant_up_to, length_up_to, is_register, is_queue, is_table, all, is_turns, turns_fit, turns_fit_statement, turns_fit_arms, members_fault, limit};
 ghost use Rattle.tw_declared.specs.declared.limits.BadMachine.TheVariants.{OutOfMemory};
@@ -29,7 +30,7 @@ pub enum BadMachine {
     QueueCount,
     #[error("a table has 1 to 65,536 numbers")]
     TableCount,
-    #[error("the longest wait is 1 to 1,099,511,627,775")]
+    #[error("the longest wait is 1 to 1,099,511,627,774")]
     Longest,
     #[error("a block is repeated 0 to 64 times")]
     Turns,
@@ -61,12 +62,12 @@ impl From<AllocError> for BadMachine {
     }
 }
 
-/// Whether the greatest wait is 1 to 1,099,511,627,775, if it is given.
+/// Whether the greatest wait is 1 to 1,099,511,627,774, if it is given.
 fn is_longest(given: &Given, longest: Option<Constant>) -> bool
-    ensures { result ≡ constant_up_to 1099511627775 (option_and_then (constant given.now) longest) }
+    ensures { result ≡ constant_up_to 1099511627774 (option_and_then (constant (plain.given given.now)) longest) }
 {
     match longest {
-        Some(longest) => constant_up_to(1099511627775, constant(given, longest)),
+        Some(longest) => constant_up_to(1099511627774, constant(given, longest)),
         None => true,
     }
 }
@@ -102,7 +103,7 @@ pub fn constant_up_to(most: u64, number: Option<i64>) -> bool
 
 /// Whether an array register has 1 to 64 cells.
 fn is_register(thing: &Thing) -> bool
-    ensures { result ≡ is_register thing.now }
+    ensures { result ≡ is_register (plain.thing thing.now) }
 {
     match thing {
         Thing::RegisterArray(cells) => cells.len() >= 1 && cells.len() <= 64,
@@ -112,7 +113,7 @@ fn is_register(thing: &Thing) -> bool
 
 /// Whether there are as many queues, and as much room, as there may be.
 fn is_queue(given: &Given, thing: &Thing) -> bool
-    ensures { result ≡ is_queue given.now thing.now }
+    ensures { result ≡ is_queue (plain.given given.now) (plain.thing thing.now) }
 {
     match thing {
         Thing::Queue(room) => constant_up_to(1024, constant(given, *room)),
@@ -126,7 +127,7 @@ fn is_queue(given: &Given, thing: &Thing) -> bool
 
 /// Whether a table has 1 to 65,536 numbers.
 fn is_table(given: &Given, thing: &Thing) -> bool
-    ensures { result ≡ is_table given.now thing.now }
+    ensures { result ≡ is_table (plain.given given.now) (plain.thing thing.now) }
 {
     match thing {
         Thing::Table(numbers) => numbers.len() >= 1 && numbers.len() <= 65536,
@@ -140,7 +141,7 @@ fn is_table(given: &Given, thing: &Thing) -> bool
 
 /// Whether all array registers have as many cells as they may have.
 fn are_registers(names: &[Named]) -> bool
-    ensures { result ≡ all is_register (things names.now) }
+    ensures { result ≡ all is_register (things (map plain.name names.now)) }
 {
     for named in names {
         if !is_register(&named.thing) {
@@ -152,7 +153,7 @@ fn are_registers(names: &[Named]) -> bool
 
 /// Whether this is so of all queues.
 fn are_queues(given: &Given, names: &[Named]) -> bool
-    ensures { result ≡ all (is_queue given.now) (things names.now) }
+    ensures { result ≡ all (is_queue (plain.given given.now)) (things (map plain.name names.now)) }
 {
     for named in names {
         if !is_queue(given, &named.thing) {
@@ -164,7 +165,7 @@ fn are_queues(given: &Given, names: &[Named]) -> bool
 
 /// Whether this is so of all tables.
 fn are_tables(given: &Given, names: &[Named]) -> bool
-    ensures { result ≡ all (is_table given.now) (things names.now) }
+    ensures { result ≡ all (is_table (plain.given given.now)) (things (map plain.name names.now)) }
 {
     for named in names {
         if !is_table(given, &named.thing) {
@@ -233,7 +234,7 @@ pub fn members_fault(
     declaration: &Declaration,
     standings: &[Standing],
 ) -> Option<BadMachine>
-    ensures { result ≡ members_fault given.now declaration.now standings.now }
+    ensures { result ≡ members_fault (plain.given given.now) (plain.declaration declaration.now) standings.now }
 {
     let names = declaration.names.as_slice();
     if !are_registers(names) {
@@ -267,7 +268,7 @@ pub fn members_fault(
 
 /// The first limit that is passed.
 pub fn limit(standings: &[Standing], declaration: &Declaration, parts: &Parts) -> Option<BadMachine>
-    ensures { result ≡ limit standings.now declaration.now (text_of parts.now) }
+    ensures { result ≡ limit standings.now (plain.declaration declaration.now) (text_of parts.now) }
 {
     if parts.cells.len() > 64 {
         return Some(BadMachine::TooManyCells);

@@ -1,7 +1,7 @@
 //! Expressions and statements of the machine's language, made of parts.
 ghost use Rattle.std.specs.Prelude.{◌≡◌, IfOk};
 ghost use Rattle.tw_declared.specs.Expressions.{zero_expr};
-ghost use Rattle.tw_declared.specs.Seen.{seen, seen_statement, one, two, choose, both, branch, repeated};
+ghost use Rattle.tw_machine.specs.Seen.{seen, seen_statement, one, two, choose, both, branch, repeated};
 
 use std::alloc::{AllocError, Global};
 use tw_machine::language::{Binary, Expr, Leaf, Statement, Unary};

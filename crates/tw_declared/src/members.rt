@@ -2,8 +2,9 @@
 ghost use Rattle.std.specs.Prelude.{◌≡◌, ◌≤◌, min, IfOk, map, option_map};
 ghost use Rattle.tw_program_text.specs.Views.{tree};
 ghost use Rattle.tw_machine.specs.Values.{brought};
+ghost use Rattle.tw_costs.specs.Seen as plain;
 ghost use Rattle.tw_costs.specs.Names.{start_of};
-ghost use Rattle.tw_declared.specs.Seen.{seen, seen_target, seen_output, seen_word};
+ghost use Rattle.tw_machine.specs.Seen.{seen, seen_target, seen_output, seen_word};
 ghost use Rattle.tw_declared.specs.Expressions.{number, queue};
 ghost use Rattle.tw_declared.specs.Program.{value, output, word_named, word_numbered, word_of, shown_word, seed, wait, ticks};
 
@@ -15,7 +16,7 @@ use tw_program_text::Expr as Tree;
 
 /// An expression in a member.
 fn value(alloc: Global, standings: &[Standing], written: &Value) -> Result<Expr, AllocError>
-    ensures { IfOk result (λ e. seen e ≡ value standings.now written.now) }
+    ensures { IfOk result (λ e. seen e ≡ value standings.now (plain.value written.now)) }
 {
     match written {
         Value::Number(number) => Ok(Expr::Plain(Leaf::Number(*number))),
@@ -29,7 +30,7 @@ fn condition(
     standings: &[Standing],
     when: &Option<Value>,
 ) -> Result<Option<Expr>, AllocError>
-    ensures { IfOk result (λ test. option_map seen test ≡ option_map (value standings.now) when.now) }
+    ensures { IfOk result (λ test. option_map seen test ≡ option_map (value standings.now) (option_map plain.value when.now)) }
 {
     match when {
         Some(test) => Ok(Some(value(alloc, standings, test)?)),
@@ -43,7 +44,7 @@ fn gone_through(
     standings: &[Standing],
     each: &Option<Tree>,
 ) -> Result<Option<Target>, AllocError>
-    ensures { IfOk result (λ target. option_map seen_target target ≡ option_map (λ q. queue standings.now (tree q)) each.now) }
+    ensures { IfOk result (λ target. option_map seen_target target ≡ option_map (queue standings.now) (option_map tree each.now)) }
 {
     match each {
         Some(tree) => Ok(Some(queue(alloc, standings, tree)?)),
@@ -53,7 +54,7 @@ fn gone_through(
 
 /// An entry of what is sent.
 fn output(alloc: Global, standings: &[Standing], text: &OutputText) -> Result<Output, AllocError>
-    ensures { IfOk result (λ o. seen_output o ≡ output standings.now text.now) }
+    ensures { IfOk result (λ o. seen_output o ≡ output standings.now (plain.output text.now)) }
 {
     Ok(Output {
         when: condition(alloc, standings, &text.when)?,
@@ -111,7 +112,7 @@ fn word_of(alloc: Global, standings: &[Standing], written: &Tree) -> Result<Word
 
 /// What an entry of `words` shows.
 fn shown_word(alloc: Global, standings: &[Standing], written: &Value) -> Result<Word, AllocError>
-    ensures { IfOk result (λ word. seen_word word ≡ shown_word standings.now written.now) }
+    ensures { IfOk result (λ word. seen_word word ≡ shown_word standings.now (plain.value written.now)) }
 {
     match written {
         Value::Number(number) => Ok(Word::Number(Expr::Plain(Leaf::Number(*number)))),
@@ -125,7 +126,7 @@ pub fn outputs(
     standings: &[Standing],
     texts: &[OutputText],
 ) -> Result<Vec<Output>, AllocError>
-    ensures { IfOk result (λ outputs. map seen_output outputs.items ≡ map (output standings.now) texts.now) }
+    ensures { IfOk result (λ outputs. map seen_output outputs.items ≡ map (output standings.now) (map plain.output texts.now)) }
 {
     let mut outputs = Vec::with_capacity(alloc, texts.len())?;
     for text in texts {
@@ -140,7 +141,7 @@ pub fn words(
     standings: &[Standing],
     texts: &[Value],
 ) -> Result<Vec<Word>, AllocError>
-    ensures { IfOk result (λ words. map seen_word words.items ≡ map (shown_word standings.now) texts.now) }
+    ensures { IfOk result (λ words. map seen_word words.items ≡ map (shown_word standings.now) (map plain.value texts.now)) }
 {
     let mut words = Vec::with_capacity(alloc, texts.len())?;
     for text in texts {
@@ -162,7 +163,7 @@ fn modulo(number: i64) -> u64
 
 /// From which the random number is drawn at the start.
 pub fn seed(given: &Given, random: Constant) -> u64
-    ensures { result ≡ seed (start_of given.now random) }
+    ensures { result ≡ seed (start_of (plain.given given.now) random) }
 {
     modulo(start_of(given, random))
 }
@@ -180,7 +181,7 @@ fn wait(number: i64) -> Option<u64>
 
 /// A time that a constant says, if it is not negative.
 pub fn ticks(given: &Given, said: Option<Constant>) -> Option<u64>
-    ensures { result ≡ ticks given.now said }
+    ensures { result ≡ ticks (plain.given given.now) said }
 {
     wait(constant(given, said?)?)
 }

@@ -2,9 +2,9 @@
 ghost use Rattle.std.specs.Prelude.{◌≡◌, ◌≢◌, IfOk, IfErr, Some, None};
 ghost use Rattle.tw_machine.specs.Limits.{fault_of as limits_of};
 ghost use Rattle.tw_machine.specs.Program.{text_of};
-ghost use Rattle.tw_program_text.specs.Views.{body};
+ghost use Rattle.tw_costs.specs.Seen as plain;
 ghost use Rattle.tw_costs.specs.Names.{standings_of};
-ghost use Rattle.tw_declared.specs.Seen.{seen_statement, seen_program};
+ghost use Rattle.tw_machine.specs.Seen.{seen_statement, seen_program};
 ghost use Rattle.tw_declared.specs.Statements.{block};
 ghost use Rattle.tw_declared.specs.Program.{program_of};
 ghost use Rattle.tw_declared.specs.Limits.{members_fault, limit, fault_of};
@@ -26,8 +26,8 @@ fn parts_of(
     declaration: &Declaration,
     standings: &[Standing],
 ) -> Result<Parts, AllocError>
-    requires { standings.now ≡ standings_of given.now declaration.now.names.items }
-    ensures { IfOk result (λ parts. seen_program (text_of parts) ≡ program_of given.now declaration.now) }
+    requires { standings.now ≡ standings_of (plain.given given.now) (plain.declaration declaration.now).names }
+    ensures { IfOk result (λ parts. seen_program (text_of parts) ≡ program_of (plain.given given.now) (plain.declaration declaration.now)) }
 {
     let names = declaration.names.as_slice();
     Ok(Parts {
@@ -61,9 +61,9 @@ fn members_held(
     declaration: &Declaration,
     standings: &[Standing],
 ) -> Result<(), BadMachine>
-    requires { standings.now ≡ standings_of given.now declaration.now.names.items }
-    ensures held { IfOk result (λ _. members_fault given.now declaration.now standings.now ≡ None) }
-    ensures refused { IfErr result (λ bad. fault_of given.now declaration.now ≡ Some bad) }
+    requires { standings.now ≡ standings_of (plain.given given.now) (plain.declaration declaration.now).names }
+    ensures held { IfOk result (λ _. members_fault (plain.given given.now) (plain.declaration declaration.now) standings.now ≡ None) }
+    ensures refused { IfErr result (λ bad. fault_of (plain.given given.now) (plain.declaration declaration.now) ≡ Some bad) }
 {
     held(members_fault(given, declaration, standings))
 }
@@ -86,11 +86,11 @@ fn limited(
     declaration: &Declaration,
     parts: Parts,
 ) -> Result<Program, BadMachine>
-    requires internal { seen_statement parts.internal ≡ block standings.now (body declaration.now.internal) }
-    requires external { seen_statement parts.external ≡ block standings.now (body declaration.now.external) }
+    requires internal { seen_statement parts.internal ≡ block standings.now (plain.declaration declaration.now).internal }
+    requires external { seen_statement parts.external ≡ block standings.now (plain.declaration declaration.now).external }
     ensures made { IfOk result (λ program. program ≡ text_of parts) }
-    ensures sound { IfOk result (λ _. limit standings.now declaration.now (text_of parts) ≡ None) }
-    ensures refused { IfErr result (λ bad. limit standings.now declaration.now (text_of parts) ≡ Some bad) }
+    ensures sound { IfOk result (λ _. limit standings.now (plain.declaration declaration.now) (text_of parts) ≡ None) }
+    ensures refused { IfErr result (λ bad. limit standings.now (plain.declaration declaration.now) (text_of parts) ≡ Some bad) }
 {
     held(limit(standings, declaration, &parts))?;
     Ok(program(parts))
@@ -103,9 +103,9 @@ pub fn declared(
     given: &Given,
     declaration: &Declaration,
 ) -> Result<Program, BadMachine>
-    ensures made { IfOk result (λ program. seen_program program ≡ program_of given.now declaration.now) }
-    ensures sound { IfOk result (λ _. fault_of given.now declaration.now ≡ None) }
-    ensures refused { IfErr result (λ bad. bad ≢ OutOfMemory → fault_of given.now declaration.now ≡ Some bad) }
+    ensures made { IfOk result (λ program. seen_program program ≡ program_of (plain.given given.now) (plain.declaration declaration.now)) }
+    ensures sound { IfOk result (λ _. fault_of (plain.given given.now) (plain.declaration declaration.now) ≡ None) }
+    ensures refused { IfErr result (λ bad. bad ≢ OutOfMemory → fault_of (plain.given given.now) (plain.declaration declaration.now) ≡ Some bad) }
 {
     let standings = standings_of(alloc, given, declaration.names.as_slice())?;
     members_held(given, declaration, &standings)?;

@@ -1,6 +1,7 @@
 //! The rows among the words of a machine: no queue and no array register stands there twice.
-ghost use Rattle.std.specs.Prelude.{◌≡◌};
+ghost use Rattle.std.specs.Prelude.{◌≡◌, map};
 ghost use Rattle.tw_program_text.specs.Views.{tree};
+ghost use Rattle.tw_costs.specs.Seen as plain;
 ghost use Rattle.tw_declared.specs.Rows.{which, row_named, row_numbered, row_of, shown_row, rows, among, twice};
 
 use tw_costs::{Standing, Value, standing_at};
@@ -64,7 +65,7 @@ fn row_of(standings: &[Standing], written: &Tree) -> Option<Row>
 
 /// The row that an entry of `words` is.
 fn shown_row(standings: &[Standing], written: &Value) -> Option<Row>
-    ensures { result ≡ shown_row standings.now written.now }
+    ensures { result ≡ shown_row standings.now (plain.value written.now) }
 {
     match written {
         Value::Number(_) => None,
@@ -74,7 +75,7 @@ fn shown_row(standings: &[Standing], written: &Value) -> Option<Row>
 
 /// Whether a row stands among these words.
 fn among(standings: &[Standing], one: Row, words: &[Value]) -> bool
-    ensures { result ≡ among one (rows standings.now words.now) }
+    ensures { result ≡ among one (rows standings.now (map plain.value words.now)) }
 {
     for word in words {
         if let Some(other) = shown_row(standings, word) {
@@ -88,7 +89,7 @@ fn among(standings: &[Standing], one: Row, words: &[Value]) -> bool
 
 /// Whether a row stands twice among the words.
 pub fn twice(standings: &[Standing], words: &[Value]) -> bool
-    ensures { result ≡ twice (rows standings.now words.now) }
+    ensures { result ≡ twice (rows standings.now (map plain.value words.now)) }
 {
     let Some((first, rest)) = words.split_first() else {
         return false;

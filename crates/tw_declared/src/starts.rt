@@ -1,5 +1,6 @@
 //! What a machine has at the start: the cells of its registers, the rooms of its queues, the numbers of its tables.
 ghost use Rattle.std.specs.Prelude.{◌≡◌, ◌++◌, ◌≤◌, IfOk, OnOk, flat_map, map, replicate};
+ghost use Rattle.tw_costs.specs.Seen as plain;
 ghost use Rattle.tw_costs.specs.Names.{start_of, cells, rooms, numbers, things};
 
 use std::alloc::{AllocError, Global};
@@ -7,7 +8,7 @@ use tw_costs::{Constant, Given, Named, Thing, count_of, list_given, room_of, sta
 
 /// Appends what the cells of an array register have at the start.
 fn push_starts(given: &Given, starts: &[Constant], cells: &mut Vec<i64>) -> Result<(), AllocError>
-    ensures { OnOk result (cells.new.items ≡ cells.old.items ++ map (start_of given.now) starts.now) }
+    ensures { OnOk result (cells.new.items ≡ cells.old.items ++ map (start_of (plain.given given.now)) starts.now) }
 {
     for start in starts {
         cells.push(start_of(given, *start))?;
@@ -28,7 +29,7 @@ fn push_rooms(count: u32, room: u16, rooms: &mut Vec<u16>) -> Result<(), AllocEr
 
 /// Appends the cells of a name.
 fn push_cells(given: &Given, thing: &Thing, out: &mut Vec<i64>) -> Result<(), AllocError>
-    ensures { OnOk result (out.new.items ≡ out.old.items ++ cells given.now thing.now) }
+    ensures { OnOk result (out.new.items ≡ out.old.items ++ cells (plain.given given.now) (plain.thing thing.now)) }
 {
     match thing {
         Thing::Register(start) => out.push(start_of(given, *start))?,
@@ -40,7 +41,7 @@ fn push_cells(given: &Given, thing: &Thing, out: &mut Vec<i64>) -> Result<(), Al
 
 /// Appends the rooms of a name.
 fn push_queues(given: &Given, thing: &Thing, out: &mut Vec<u16>) -> Result<(), AllocError>
-    ensures { OnOk result (out.new.items ≡ out.old.items ++ rooms given.now thing.now) }
+    ensures { OnOk result (out.new.items ≡ out.old.items ++ rooms (plain.given given.now) (plain.thing thing.now)) }
 {
     match thing {
         Thing::Queue(room) => out.push(room_of(given, *room))?,
@@ -54,7 +55,7 @@ fn push_queues(given: &Given, thing: &Thing, out: &mut Vec<u16>) -> Result<(), A
 
 /// Appends the numbers of a table.
 fn push_numbers(given: &Given, thing: &Thing, out: &mut Vec<i64>) -> Result<(), AllocError>
-    ensures { OnOk result (out.new.items ≡ out.old.items ++ numbers given.now thing.now) }
+    ensures { OnOk result (out.new.items ≡ out.old.items ++ numbers (plain.given given.now) (plain.thing thing.now)) }
 {
     match thing {
         Thing::Table(numbers) => out.extend_from_slice(numbers)?,
@@ -66,7 +67,7 @@ fn push_numbers(given: &Given, thing: &Thing, out: &mut Vec<i64>) -> Result<(), 
 
 /// The cells of all registers at the start. The only error is want of memory.
 pub fn all_cells(alloc: Global, given: &Given, names: &[Named]) -> Result<Vec<i64>, AllocError>
-    ensures { IfOk result (λ out. out.items ≡ flat_map (cells given.now) (things names.now)) }
+    ensures { IfOk result (λ out. out.items ≡ flat_map (cells (plain.given given.now)) (things (map plain.name names.now))) }
 {
     let mut out = Vec::new(alloc);
     for named in names {
@@ -77,7 +78,7 @@ pub fn all_cells(alloc: Global, given: &Given, names: &[Named]) -> Result<Vec<i6
 
 /// The rooms of all queues. The only error is want of memory.
 pub fn all_rooms(alloc: Global, given: &Given, names: &[Named]) -> Result<Vec<u16>, AllocError>
-    ensures { IfOk result (λ out. out.items ≡ flat_map (rooms given.now) (things names.now)) }
+    ensures { IfOk result (λ out. out.items ≡ flat_map (rooms (plain.given given.now)) (things (map plain.name names.now))) }
 {
     let mut out = Vec::new(alloc);
     for named in names {
@@ -88,7 +89,7 @@ pub fn all_rooms(alloc: Global, given: &Given, names: &[Named]) -> Result<Vec<u1
 
 /// The numbers of all tables. The only error is want of memory.
 pub fn all_numbers(alloc: Global, given: &Given, names: &[Named]) -> Result<Vec<i64>, AllocError>
-    ensures { IfOk result (λ out. out.items ≡ flat_map (numbers given.now) (things names.now)) }
+    ensures { IfOk result (λ out. out.items ≡ flat_map (numbers (plain.given given.now)) (things (map plain.name names.now))) }
 {
     let mut out = Vec::new(alloc);
     for named in names {

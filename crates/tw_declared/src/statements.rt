@@ -1,7 +1,7 @@
 //! Statements of texts in the machine's language.
 ghost use Rattle.std.specs.Prelude.{◌≡◌, ◌≤◌, IfOk};
 ghost use Rattle.tw_program_text.specs.Views.{tree, told, body, chain};
-ghost use Rattle.tw_declared.specs.Seen.{seen, seen_target, seen_statement};
+ghost use Rattle.tw_machine.specs.Seen.{seen, seen_target, seen_statement};
 ghost use Rattle.tw_declared.specs.Statements.{cell_named, cell_indexed, cell, assigned, put, acted, turns, statement, block, chosen};
 
 use crate::expressions::{expression, queue};

@@ -4,9 +4,10 @@ use Rattle.tw_program_text.specs.Kinds.{kinds_of}
 use Rattle.tw_program_text.specs.TextViews.{names_of, declarations}
 use Rattle.tw_program_text.specs.declared.kinds.Declared.{Declared}
 use Rattle.tw_program_text.specs.declared.kinds.Kind.{Kind}
+use Rattle.tw_costs.specs.Seen.{Name}
 use Rattle.tw_machine_file.specs.Declares.{texts}
 use Rattle.tw_machine_file.specs.Machine.{language}
-use Rattle.tw_machine_file.specs.Seen.{Name, kind_of}
+use Rattle.tw_machine_file.specs.Seen.{kind_of}
 use Rattle.tw_machine_file.specs.Texts.{language_of}
 
 names_in : (ds : List Declared) → names_of ds ≡ map (λ (d : List ℕ × Kind). d.0) (declarations ds)

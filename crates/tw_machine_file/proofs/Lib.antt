@@ -1,2 +1,4 @@
 pub mod Languages
+pub mod Loops
+pub mod OneMachineMore
 pub mod Saying

@@ -1,5 +1,5 @@
 -- Constants: whole numbers of 64 bits with a sign, and names of parameters that are numbers.
-use Rattle.std.specs.Prelude.{◌++◌, ◌∷◌, [], ℕ, ℤ, List, Bool, true, Option, option_and_then, option_map, Result, Ok}
+use Rattle.std.specs.Prelude.{[], ℕ, ℤ, List, Bool, true, Option, option_and_then, option_map, Result, Ok}
 use Rattle.std.specs.Option.{option_or}
 use Rattle.serde_json.specs.Data.{Data, Items, no_items, item}
 use Rattle.serde_json.specs.Find.{as_i64, as_number, as_str}
@@ -7,7 +7,7 @@ use Rattle.tw_program_text.specs.Text.{position}
 use Rattle.tw_declared.specs.Limits.{is_up_to}
 use Rattle.tw_costs.specs.declared.declaration.Constant.{Constant}
 use Rattle.tw_costs.specs.declared.declaration.Constant.TheVariants as c
-use Rattle.tw_machine_file.specs.Fault.{Fault, wrong, once, expected, provided}
+use Rattle.tw_machine_file.specs.Fault.{Fault, wrong, once, with_rest, expected, provided}
 use Rattle.tw_machine_file.specs.declared.fault.Part.{Part}
 use Rattle.tw_machine_file.specs.declared.fault.Why.TheVariants as why
 
@@ -31,12 +31,12 @@ is_within most (c.Parameter k) = true
 abbrev pub count : Part → ℕ → List (List ℕ) → Data → Result Constant Fault
 count part most numbers d = once (constant part numbers d) (λ n. provided (is_within most n) (wrong part why.Count) n)
 
--- each item a constant, behind those before
-abbrev pub constants : Part → List (List ℕ) → List Constant → Items → Result (List Constant) Fault
-constants part numbers before no_items = Ok before
-constants part numbers before (item d ds) = once (constant part numbers d) (λ c. constants part numbers (before ++ c ∷ []) ds)
+-- each item a constant
+abbrev pub constants : Part → List (List ℕ) → Items → Result (List Constant) Fault
+constants part numbers no_items = Ok []
+constants part numbers (item d ds) = with_rest (constant part numbers d) (constants part numbers ds)
 
 -- each item a whole number
-abbrev pub wholes : Part → List ℤ → Items → Result (List ℤ) Fault
-wholes part before no_items = Ok before
-wholes part before (item d ds) = once (expected part why.Shape (whole_of d)) (λ n. wholes part (before ++ n ∷ []) ds)
+abbrev pub wholes : Part → Items → Result (List ℤ) Fault
+wholes part no_items = Ok []
+wholes part (item d ds) = with_rest (expected part why.Shape (whole_of d)) (wholes part ds)

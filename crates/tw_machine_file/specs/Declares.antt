@@ -6,11 +6,12 @@ use Rattle.serde_json.specs.Find.{get, as_array, as_object, as_str, at}
 use Rattle.serde_json.specs.Events.{items_len}
 use Rattle.tw_program_text.specs.Letters.{same_text}
 use Rattle.tw_program_text.specs.Text.{position}
+use Rattle.tw_costs.specs.Seen.{Declares, Name, parameter, list_parameter, register, registers, queue, queues, table, list_table}
 use Rattle.tw_costs.specs.declared.declaration.Constant.{Constant}
 use Rattle.tw_machine_file.specs.Constants.{constant, constants, count, wholes}
 use Rattle.tw_machine_file.specs.Fault.{Fault, wrong, once, made, expected}
 use Rattle.tw_machine_file.specs.Names.{is_among, is_name, is_own_name}
-use Rattle.tw_machine_file.specs.Seen.{Declares, parameter, list_parameter, register, registers, queue, queues, table, list_table, Name, Scope}
+use Rattle.tw_machine_file.specs.Seen.{Scope}
 use Rattle.tw_machine_file.specs.Values.{is_long}
 use Rattle.tw_machine_file.specs.declared.declarations.Section.{Section}
 use Rattle.tw_machine_file.specs.declared.declarations.Section.TheVariants as section
@@ -24,7 +25,7 @@ use Rattle.tw_machine_file.specs.declared.fault.Why.TheVariants as why
 abbrev pub register_by : List (List ℕ) → Data → Option Items → Result Declares Fault
 register_by numbers d None = made register (constant part.Registers numbers d)
 register_by numbers d (Some items) =
-    if is_long 64 items then made registers (constants part.Registers numbers [] items) else Err (wrong part.Registers why.Count)
+    if is_long 64 items then made registers (constants part.Registers numbers items) else Err (wrong part.Registers why.Count)
 
 -- in an array: from 1 to this
 abbrev pub queue_part : ℕ → List (List ℕ) → Option Data → Result Constant Fault
@@ -41,7 +42,7 @@ queue_by numbers d (Some items) =
 -- a table: an array of 1 to 65,536 whole numbers, or the name of a parameter, which is a list then
 abbrev pub table_by : List (List ℕ) → Data → Option Items → Result Declares Fault
 table_by lists d None = expected part.Tables why.Constant (option_map list_table (option_and_then (position 0 lists) (as_str d)))
-table_by lists d (Some items) = if is_long 65536 items then made table (wholes part.Tables [] items) else Err (wrong part.Tables why.Count)
+table_by lists d (Some items) = if is_long 65536 items then made table (wholes part.Tables items) else Err (wrong part.Tables why.Count)
 
 abbrev pub part_of : Section → Part
 part_of section.Registers = part.Registers

@@ -4,11 +4,12 @@ use Rattle.serde_json.specs.Data.{Data, unsigned, Items, number, string, array, 
 use Rattle.tw_program_text.specs.Tree.{Number, Name, Indexed, RandomBelow, Binary, Empty, Then, Assign, Wait, Draw}
 use Rattle.tw_program_text.specs.declared.words.Change.TheVariants.{Add}
 use Rattle.tw_program_text.specs.declared.words.Operator.TheVariants.{Plus}
+use Rattle.tw_costs.specs.Seen.{Given, parameter, list_parameter, register, list_table, whole, tree}
 use Rattle.tw_costs.specs.declared.declaration.Constant.TheVariants as c
 use Rattle.tw_machine_file.specs.Fault.{Fault, wrong, text}
-use Rattle.tw_machine_file.specs.Given.{Given, given_of}
+use Rattle.tw_machine_file.specs.Given.{given_of}
 use Rattle.tw_machine_file.specs.Machine.{machine_of}
-use Rattle.tw_machine_file.specs.Seen.{Machine, parameter, list_parameter, register, list_table, whole, tree}
+use Rattle.tw_machine_file.specs.Seen.{Machine}
 use Rattle.tw_machine_file.specs.declared.fault.Part.TheVariants as part
 use Rattle.tw_machine_file.specs.declared.fault.Why.TheVariants as why
 
@@ -60,18 +61,18 @@ source = source_with (codes "made += 1") (with_name plain)
 abbrev pub declared_source : Machine
 declared_source = record {
   name = codes "source";
-  scope = record {
+  declaration = record {
     names = (codes "seed", parameter 0) ∷ (codes "gaps", list_parameter 0) ∷ (codes "made", register (c.Number (pos 0))) ∷ (codes "gap", list_table 0) ∷ [];
-    numbers = codes "seed" ∷ [];
-    lists = codes "gaps" ∷ [];
-  };
-  starts = record { random = c.Parameter 0; first = Some (c.Number (pos 1)); longest = None };
-  texts = record {
+    random = c.Parameter 0;
+    first = Some (c.Number (pos 1));
+    longest = None;
     internal = Then (Then (Then Empty (Assign (Name 12) Add (Number 1)) false) (Wait (Indexed 13 (RandomBelow (Number 20)))) true) Draw false;
     external = Empty;
     outputs = record { port = whole (pos 0); sent = tree (Binary Plus (Name 12) (Number 1)); when = None; each = None } ∷ [];
     words = tree (Name 12) ∷ [];
   };
+  numbers = codes "seed" ∷ [];
+  lists = codes "gaps" ∷ [];
 }
 
 pub record Source : Type 0 where

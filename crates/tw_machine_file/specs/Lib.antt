@@ -3,7 +3,9 @@ pub mod Declares
 pub mod Examples
 pub mod Fault
 pub mod Given
+pub mod Limited
 pub mod Machine
+pub mod Machines
 pub mod Names
 pub mod Outputs
 pub mod Said

@@ -4,6 +4,7 @@ use Rattle.serde_json.specs.Data.{Data}
 use Rattle.serde_json.specs.Find.{as_object, as_str, get}
 use Rattle.tw_program_text.specs.Kinds.{kinds_of}
 use Rattle.tw_program_text.specs.Tree.{Block}
+use Rattle.tw_costs.specs.Seen.{Declaration, Name, Output, Value}
 use Rattle.tw_costs.specs.declared.declaration.Constant.{Constant}
 use Rattle.tw_costs.specs.declared.declaration.Constant.TheVariants as c
 use Rattle.tw_machine_file.specs.Constants.{constant, count}
@@ -11,7 +12,7 @@ use Rattle.tw_machine_file.specs.Declares.{scope_of, texts}
 use Rattle.tw_machine_file.specs.Fault.{Fault, wrong, once, made, expected, provided}
 use Rattle.tw_machine_file.specs.Names.{is_among, is_machine_name}
 use Rattle.tw_machine_file.specs.Outputs.{outputs_in}
-use Rattle.tw_machine_file.specs.Seen.{Machine, Name, Output, Scope, Starts, Texts, Value, kind_of}
+use Rattle.tw_machine_file.specs.Seen.{Machine, Scope, Starts, Texts, kind_of}
 use Rattle.tw_machine_file.specs.Texts.{Language, program_in}
 use Rattle.tw_machine_file.specs.Values.{are_among}
 use Rattle.tw_machine_file.specs.Words.{words_in}
@@ -52,7 +53,7 @@ first_in numbers (Some d) = made Some (constant part.First numbers d)
 -- from 1 to the last tick
 abbrev pub longest_in : List (List ℕ) → Option Data → Result (Option Constant) Fault
 longest_in numbers None = Ok None
-longest_in numbers (Some d) = made Some (count part.Longest 1099511627775 numbers d)
+longest_in numbers (Some d) = made Some (count part.Longest 1099511627774 numbers d)
 
 abbrev pub starts_made : Constant → Option Constant → Option Constant → Starts
 starts_made random first longest = record { random = random; first = first; longest = longest }
@@ -82,8 +83,21 @@ texts_of d l =
 
 -- ---- the machine, by its members in order
 
+-- what is declared by its names, its constants and its texts
+abbrev pub declaration_made : Scope → Starts → Texts → Declaration
+declaration_made s starts texts = record {
+  names = s.names;
+  random = starts.random;
+  first = starts.first;
+  longest = starts.longest;
+  internal = texts.internal;
+  external = texts.external;
+  outputs = texts.outputs;
+  words = texts.words;
+}
+
 abbrev pub machine_made : List ℕ → Scope → Starts → Texts → Machine
-machine_made name s starts texts = record { name = name; scope = s; starts = starts; texts = texts }
+machine_made name s starts texts = record { name = name; declaration = declaration_made s starts texts; numbers = s.numbers; lists = s.lists }
 
 -- behind machines of these names
 abbrev pub machine_of : List (List ℕ) → Data → Result Machine Fault

@@ -1,11 +1,12 @@
 -- The member `output`: what is sent.
-use Rattle.std.specs.Prelude.{◌++◌, ◌∷◌, [], ℕ, ◌+◌, List, Option, Some, None, Result, Ok, codes, nat_le}
+use Rattle.std.specs.Prelude.{◌∷◌, [], ℕ, ◌+◌, List, Option, Some, None, Result, Ok, codes, nat_le}
 use Rattle.serde_json.specs.Data.{Data, Items, no_items, item, Members}
 use Rattle.serde_json.specs.Events.{items_len}
 use Rattle.serde_json.specs.Find.{as_array, as_object, get}
 use Rattle.tw_program_text.specs.declared.kinds.Member.TheVariants as member
-use Rattle.tw_machine_file.specs.Fault.{Fault, wrong, once, made, expected, provided}
-use Rattle.tw_machine_file.specs.Seen.{Value, Output}
+use Rattle.tw_program_text.specs.Tree.{Tree}
+use Rattle.tw_costs.specs.Seen.{Value, Output}
+use Rattle.tw_machine_file.specs.Fault.{Fault, wrong, once, made, with_rest, expected, provided}
 use Rattle.tw_machine_file.specs.Texts.{Language, tree_in, value_in}
 use Rattle.tw_machine_file.specs.Values.{are_among}
 use Rattle.tw_machine_file.specs.declared.fault.Part.{Part}
@@ -28,11 +29,11 @@ abbrev pub when_of : Language → ℕ → Option Data → Result (Option Value) 
 when_of l i None = Ok None
 when_of l i (Some d) = made Some (value_in l (part.When i) member.Value d)
 
-abbrev pub each_of : Language → ℕ → Option Data → Result (Option Value) Fault
+abbrev pub each_of : Language → ℕ → Option Data → Result (Option Tree) Fault
 each_of l i None = Ok None
 each_of l i (Some d) = made Some (tree_in l (part.Each i) member.Each d)
 
-abbrev pub output_made : Value → Value → Option Value → Option Value → Output
+abbrev pub output_made : Value → Value → Option Value → Option Tree → Output
 output_made port sent when each = record { port = port; sent = sent; when = when; each = each }
 
 -- its members in order
@@ -44,9 +45,10 @@ output_of l i d =
     once (when_of l i (get (codes "when") d)) (λ when.
     made (output_made port sent when) (each_of l i (get (codes "each") d))))))
 
-abbrev pub outputs_of : Language → ℕ → List Output → Items → Result (List Output) Fault
-outputs_of l i before no_items = Ok before
-outputs_of l i before (item d ds) = once (output_of l i d) (λ o. outputs_of l (i + 1) (before ++ o ∷ []) ds)
+-- the entries from place i on
+abbrev pub outputs_of : Language → ℕ → Items → Result (List Output) Fault
+outputs_of l i no_items = Ok []
+outputs_of l i (item d ds) = with_rest (output_of l i d) (outputs_of l (i + 1) ds)
 
 -- an array of at most 64
 abbrev pub few_outputs : Data → Result Items Fault
@@ -55,4 +57,4 @@ few_outputs d = once (expected part.Output why.Shape (as_array d)) (λ items. pr
 -- the member, if there is one
 abbrev pub outputs_in : Language → Option Data → Result (List Output) Fault
 outputs_in l None = Ok []
-outputs_in l (Some d) = once (few_outputs d) (outputs_of l 0 [])
+outputs_in l (Some d) = once (few_outputs d) (outputs_of l 0)

@@ -1,5 +1,5 @@
 -- The texts of a machine: programs, and expressions in members.
-use Rattle.std.specs.Prelude.{◌++◌, ◌∷◌, [], ℕ, ℤ, List, Option, Some, None, Result, Ok, option_and_then}
+use Rattle.std.specs.Prelude.{◌++◌, ◌∷◌, [], ℕ, ℤ, List, Option, Some, None, Result, Ok, option_and_then, option_map}
 use Rattle.std.specs.Option.{ok_or, option_or}
 use Rattle.serde_json.specs.Data.{Data, Items, no_items, item}
 use Rattle.serde_json.specs.Find.{as_array, as_str}
@@ -9,10 +9,10 @@ use Rattle.tw_program_text.specs.TextViews.{names_of, declarations}
 use Rattle.tw_program_text.specs.declared.kinds.Declared.{Declared}
 use Rattle.tw_program_text.specs.declared.kinds.Kind.{Kind}
 use Rattle.tw_program_text.specs.declared.kinds.Member.{Member}
+use Rattle.tw_costs.specs.Seen.{Value, whole, tree}
 use Rattle.tw_machine_file.specs.Constants.{whole_of}
 use Rattle.tw_machine_file.specs.Fault.{Fault, text, once, made, expected}
 use Rattle.tw_machine_file.specs.Said.{program_said, tree_said}
-use Rattle.tw_machine_file.specs.Seen.{Value, whole, tree}
 use Rattle.tw_machine_file.specs.declared.fault.Part.{Part}
 use Rattle.tw_machine_file.specs.declared.fault.Why.TheVariants as why
 
@@ -27,14 +27,15 @@ said part o = ok_or o (text part)
 
 -- ---- programs
 
--- lines behind a text, each after a newline
-abbrev pub lines_behind : List ℕ → Items → Option (List ℕ)
-lines_behind before no_items = Some before
-lines_behind before (item d ds) = option_and_then (λ line. lines_behind (before ++ 10 ∷ line) ds) (as_str d)
+-- lines, each after a newline
+abbrev pub more_lines : Items → Option (List ℕ)
+more_lines no_items = Some []
+more_lines (item d ds) = option_and_then (λ line. option_map (λ rest. 10 ∷ line ++ rest) (more_lines ds)) (as_str d)
 
+-- lines, with a newline between two
 abbrev pub lines : Items → Option (List ℕ)
 lines no_items = Some []
-lines (item d ds) = option_and_then (λ line. lines_behind line ds) (as_str d)
+lines (item d ds) = option_and_then (λ line. option_map (λ rest. line ++ rest) (more_lines ds)) (as_str d)
 
 -- a text, or an array of texts, which are its lines
 abbrev pub text_of : Data → Option (List ℕ)
@@ -56,12 +57,12 @@ abbrev pub tree_text : Language → Part → Member → List ℕ → Result Tree
 tree_text l part member t = said part (tree_said member l.names l.kinds t)
 
 -- the text of a member
-abbrev pub tree_in : Language → Part → Member → Data → Result Value Fault
-tree_in l part member d = once (expected part why.Shape (as_str d)) (λ t. made tree (tree_text l part member t))
+abbrev pub tree_in : Language → Part → Member → Data → Result Tree Fault
+tree_in l part member d = once (expected part why.Shape (as_str d)) (tree_text l part member)
 
 abbrev pub value_by : Language → Part → Member → Data → Option ℤ → Result Value Fault
 value_by l part member d (Some n) = Ok (whole n)
-value_by l part member d None = tree_in l part member d
+value_by l part member d None = made tree (tree_in l part member d)
 
 -- a whole number, or a text
 abbrev pub value_in : Language → Part → Member → Data → Result Value Fault

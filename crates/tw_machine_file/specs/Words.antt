@@ -7,8 +7,8 @@ use Rattle.tw_program_text.specs.Kinds.{is_shown}
 use Rattle.tw_program_text.specs.Tree.{Tree, Number, Name, Indexed}
 use Rattle.tw_program_text.specs.declared.kinds.Kind.{Kind}
 use Rattle.tw_program_text.specs.declared.kinds.Member.TheVariants as member
-use Rattle.tw_machine_file.specs.Fault.{Fault, wrong, once, expected, provided}
-use Rattle.tw_machine_file.specs.Seen.{Value, tree}
+use Rattle.tw_costs.specs.Seen.{Value, tree}
+use Rattle.tw_machine_file.specs.Fault.{Fault, wrong, once, made, expected, provided}
 use Rattle.tw_machine_file.specs.Texts.{Language, value_in}
 use Rattle.tw_machine_file.specs.Values.{is_long}
 use Rattle.tw_machine_file.specs.declared.fault.Part.TheVariants as part
@@ -34,9 +34,10 @@ abbrev pub word_of : Language → ℕ → List Value → Data → Result Value F
 word_of l i before d =
     once (value_in l (part.Word i) member.Shown d) (λ v. provided (not (list_any (is_again l.kinds v) before)) (wrong (part.Word i) why.Twice) v)
 
+-- the words from place i on, behind those before
 abbrev pub words_of : Language → ℕ → List Value → Items → Result (List Value) Fault
-words_of l i before no_items = Ok before
-words_of l i before (item d ds) = once (word_of l i before d) (λ v. words_of l (i + 1) (before ++ v ∷ []) ds)
+words_of l i before no_items = Ok []
+words_of l i before (item d ds) = once (word_of l i before d) (λ v. made (λ vs. v ∷ vs) (words_of l (i + 1) (before ++ v ∷ []) ds))
 
 -- an array of 1 to 64
 abbrev pub some_words : Data → Result Items Fault

@@ -1,5 +1,5 @@
 //! Constants: whole numbers, and names of parameters that are numbers.
-ghost use Rattle.std.specs.Prelude.{◌≡◌, ◌≢◌, [], Ok, Err, IfOk, IfErr, map, string_bytes};
+ghost use Rattle.std.specs.Prelude.{◌≡◌, ◌≢◌, Ok, Err, IfOk, IfErr, map, string_bytes};
 ghost use Rattle.serde_json.specs.View.{view, items_view};
 ghost use Rattle.tw_declared.specs.Limits.{is_up_to};
 ghost use Rattle.tw_machine_file.specs.Constants.{constant, constant_of, constants, count, is_within, wholes};
@@ -66,14 +66,15 @@ pub fn count(
 }
 
 /// Each of these values as a constant.
+#[tactic(auto, using(crate::proofs::Loops::behind_none, crate::proofs::Loops::behind_more))]
 pub fn constants(
     alloc: Global,
     part: Part,
     numbers: &[String],
     values: &[Value],
 ) -> Result<Vec<Constant>, MachineFault>
-    ensures ok { IfOk result (λ v. constants part (map string_bytes numbers.now) [] (items_view values.now) ≡ Ok v.items) }
-    ensures err { IfErr result (λ e. e ≢ MachineFault.OutOfMemory → constants part (map string_bytes numbers.now) [] (items_view values.now) ≡ Err (fault e)) }
+    ensures ok { IfOk result (λ v. constants part (map string_bytes numbers.now) (items_view values.now) ≡ Ok v.items) }
+    ensures err { IfErr result (λ e. e ≢ MachineFault.OutOfMemory → constants part (map string_bytes numbers.now) (items_view values.now) ≡ Err (fault e)) }
 {
     let mut read = Vec::new(alloc);
     for value in values {
@@ -83,9 +84,10 @@ pub fn constants(
 }
 
 /// Each of these values as a whole number.
+#[tactic(auto, using(crate::proofs::Loops::behind_none, crate::proofs::Loops::behind_more))]
 pub fn wholes(alloc: Global, part: Part, values: &[Value]) -> Result<Vec<i64>, MachineFault>
-    ensures ok { IfOk result (λ v. wholes part [] (items_view values.now) ≡ Ok v.items) }
-    ensures err { IfErr result (λ e. e ≢ MachineFault.OutOfMemory → wholes part [] (items_view values.now) ≡ Err (fault e)) }
+    ensures ok { IfOk result (λ v. wholes part (items_view values.now) ≡ Ok v.items) }
+    ensures err { IfErr result (λ e. e ≢ MachineFault.OutOfMemory → wholes part (items_view values.now) ≡ Err (fault e)) }
 {
     let mut read = Vec::new(alloc);
     for value in values {

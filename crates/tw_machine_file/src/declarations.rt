@@ -3,6 +3,7 @@ ghost use Rattle.std.specs.Prelude.{◌≡◌, ◌≢◌, ◌++◌, ◌∷◌, [
 ghost use Rattle.serde_json.specs.Find.{as_array, as_object, as_str, at, get};
 ghost use Rattle.serde_json.specs.View.{view, items_view, members_view};
 ghost use Rattle.tw_program_text.specs.Text.{position};
+ghost use Rattle.tw_costs.specs.Seen.{name, thing};
 ghost use Rattle.tw_machine_file.specs.Declares.{
   declare,
   declare_all,
@@ -29,7 +30,7 @@ ghost use Rattle.tw_machine_file.specs.Declares.{
 };
 ghost use Rattle.tw_machine_file.specs.Fault.{fault};
 ghost use Rattle.tw_machine_file.specs.Names.{is_among};
-ghost use Rattle.tw_machine_file.specs.Seen.{name, scope, thing};
+ghost use Rattle.tw_machine_file.specs.Seen.{scope};
 
 use crate::constants::{constant, constants, count, wholes};
 use crate::fault::{MachineFault, Part, Why};

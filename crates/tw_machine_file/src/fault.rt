@@ -1,9 +1,11 @@
 //! What is wrong with a machine.
 ghost use Rattle.std.specs.Prelude.{◌≡◌};
+ghost use Rattle.tw_machine_file.specs.Limited.{limited};
 ghost use Rattle.tw_machine_file.specs.declared.fault.MachineFault.TheVariants.{OutOfMemory};
 
 use std::alloc::{AllocError, AllocFailed};
 use thiserror::Error;
+use tw_declared::BadMachine;
 use tw_program_text::Place;
 
 /// A part of a machine, or of a component of one. Entries are numbered from 0.
@@ -79,6 +81,9 @@ pub enum MachineFault {
     /// joined.
     #[error("a text of a machine says nothing")]
     Text(Part, Place),
+    /// It passes this limit, with what is given for its parameters.
+    #[error("{0}")]
+    Limit(BadMachine),
 }
 
 impl From<AllocError> for MachineFault {
@@ -94,5 +99,16 @@ impl<T: Drop> From<AllocFailed<T>> for MachineFault {
 
     fn from(_failed: AllocFailed<T>) -> MachineFault {
         MachineFault::OutOfMemory
+    }
+}
+
+impl From<BadMachine> for MachineFault {
+    ghost from_gives = { λ bad fault. fault ≡ limited bad };
+
+    fn from(bad: BadMachine) -> MachineFault {
+        match bad {
+            BadMachine::OutOfMemory => MachineFault::OutOfMemory,
+            bad => MachineFault::Limit(bad),
+        }
     }
 }

@@ -1,9 +1,10 @@
 //! What a component gives for the parameters of its machine.
-ghost use Rattle.std.specs.Prelude.{◌≡◌, ◌≢◌, ◌+◌, [], Ok, Err, IfOk, IfErr, is_some, length, map, option_map, string_bytes};
+ghost use Rattle.std.specs.Prelude.{◌≡◌, ◌≢◌, ◌+◌, Ok, Err, IfOk, IfErr, is_some, length, map, option_map, string_bytes};
 ghost use Rattle.serde_json.specs.Find.{get};
 ghost use Rattle.serde_json.specs.View.{view, items_view};
+ghost use Rattle.tw_costs.specs.Seen.{given};
 ghost use Rattle.tw_machine_file.specs.Fault.{fault};
-ghost use Rattle.tw_machine_file.specs.Given.{given, given_of, has_count, has_exactly, list_given, lists_given, long_list, number_given, numbers_given};
+ghost use Rattle.tw_machine_file.specs.Given.{given_of, has_count, has_exactly, list_given, lists_given, long_list, number_given, numbers_given};
 
 use crate::constants::wholes;
 use crate::fault::{MachineFault, Part, Why};
@@ -26,9 +27,10 @@ fn number_given(index: usize, member: Option<&Value>) -> Result<i64, MachineFaul
     }
 }
 
+#[tactic(auto, using(crate::proofs::Loops::behind_none, crate::proofs::Loops::behind_more))]
 fn numbers_given(alloc: Global, value: &Value, names: &[String]) -> Result<Vec<i64>, MachineFault>
-    ensures ok { IfOk result (λ v. numbers_given (view value.now) 0 [] (map string_bytes names.now) ≡ Ok v.items) }
-    ensures err { IfErr result (λ e. e ≢ MachineFault.OutOfMemory → numbers_given (view value.now) 0 [] (map string_bytes names.now) ≡ Err (fault e)) }
+    ensures ok { IfOk result (λ v. numbers_given (view value.now) 0 (map string_bytes names.now) ≡ Ok v.items) }
+    ensures err { IfErr result (λ e. e ≢ MachineFault.OutOfMemory → numbers_given (view value.now) 0 (map string_bytes names.now) ≡ Err (fault e)) }
 {
     let mut numbers = Vec::with_capacity(alloc, names.len())?;
     for (index, name) in names.iter().enumerate() {
@@ -60,13 +62,14 @@ fn list_given(alloc: Global, index: usize, member: Option<&Value>) -> Result<Vec
     }
 }
 
+#[tactic(auto, using(crate::proofs::Loops::behind_none, crate::proofs::Loops::behind_more))]
 fn lists_given(
     alloc: Global,
     value: &Value,
     names: &[String],
 ) -> Result<Vec<Vec<i64>>, MachineFault>
-    ensures ok { IfOk result (λ v. lists_given (view value.now) 0 [] (map string_bytes names.now) ≡ Ok (map (λ list. list.items) v.items)) }
-    ensures err { IfErr result (λ e. e ≢ MachineFault.OutOfMemory → lists_given (view value.now) 0 [] (map string_bytes names.now) ≡ Err (fault e)) }
+    ensures ok { IfOk result (λ v. lists_given (view value.now) 0 (map string_bytes names.now) ≡ Ok (map (λ list. list.items) v.items)) }
+    ensures err { IfErr result (λ e. e ≢ MachineFault.OutOfMemory → lists_given (view value.now) 0 (map string_bytes names.now) ≡ Err (fault e)) }
 {
     let mut lists = Vec::with_capacity(alloc, names.len())?;
     for (index, name) in names.iter().enumerate() {

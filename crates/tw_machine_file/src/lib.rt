@@ -2,12 +2,13 @@
 //!
 //! - [`machine_of`]: the machine that a value declares, or the first thing that is wrong with it and where.
 //! - [`FileMachine`]: its name, its declaration, and the names of its parameters that are numbers and lists.
-//! - [`given_of`]: what a component gives for the parameters of its machine.
+//! - [`machines_in`]: all machines of a file, each within its limits.
+//! - [`given_of`], [`program_in`]: what a component gives for the parameters of its machine, and the program that this makes.
 //! - [`MachineFault`], [`Part`], [`Why`]: what is wrong, in which part, and how.
 //! - [`said_law`]: the program that a text says is the one that the language's grammar gives it, and no other.
 //! - [`examples`]: machines by hand.
 //!
-//! What hangs on the numbers of a component, as the limits of a machine, is no matter of its value alone.
+//! The limits of a machine that no component uses are looked at with nothing given for its parameters.
 #![tactic(auto)]
 
 mod constants;
@@ -16,6 +17,7 @@ pub mod examples;
 mod fault;
 mod given;
 mod machine;
+mod machines;
 mod names;
 mod outputs;
 mod texts;
@@ -25,4 +27,5 @@ mod words;
 pub use fault::{MachineFault, Part, Why};
 pub use given::given_of;
 pub use machine::{FileMachine, machine_of};
+pub use machines::{machines_in, program_in};
 pub use texts::said_law;

@@ -64,7 +64,7 @@ const MEMBERS: [&[u8]; 12] = [
 ];
 
 /// The last tick.
-const MAX_TICK: u64 = 1_099_511_627_775;
+const MAX_TICK: u64 = 1_099_511_627_774;
 
 /// Looks at the name of a machine: whether it may be one, and has not come before.
 fn new_name(before: &[String], name: &str) -> Result<(), MachineFault>

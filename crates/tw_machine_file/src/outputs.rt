@@ -1,10 +1,10 @@
 //! What a machine sends.
-ghost use Rattle.std.specs.Prelude.{◌≡◌, ◌≢◌, [], Ok, Err, IfOk, IfErr, map, option_map};
+ghost use Rattle.std.specs.Prelude.{◌≡◌, ◌≢◌, Ok, Err, IfOk, IfErr, map, option_map};
 ghost use Rattle.serde_json.specs.View.{view, items_view, members_view};
-ghost use Rattle.tw_program_text.specs.Views.{tree as spelled};
+ghost use Rattle.tw_program_text.specs.Views.{tree};
+ghost use Rattle.tw_costs.specs.Seen.{output, value};
 ghost use Rattle.tw_machine_file.specs.Fault.{fault};
 ghost use Rattle.tw_machine_file.specs.Outputs.{each_of, entry_of, few_outputs, output_of, outputs_in, outputs_of, sent_value, when_of};
-ghost use Rattle.tw_machine_file.specs.Seen.{output, tree, value};
 ghost use Rattle.tw_machine_file.specs.Texts.{language_of};
 
 use crate::fault::{MachineFault, Part, Why};
@@ -75,7 +75,7 @@ fn each_of(
     index: usize,
     member: Option<&Value>,
 ) -> Result<Option<Expr>, MachineFault>
-    ensures ok { IfOk result (λ q. each_of (language_of declared.now) index (option_map (λ v. view v.now) member.entry) ≡ Ok (option_map (λ q. tree (spelled q)) q)) }
+    ensures ok { IfOk result (λ q. each_of (language_of declared.now) index (option_map (λ v. view v.now) member.entry) ≡ Ok (option_map tree q)) }
     ensures err { IfErr result (λ e. e ≢ MachineFault.OutOfMemory → each_of (language_of declared.now) index (option_map (λ v. view v.now) member.entry) ≡ Err (fault e)) }
 {
     match member {
@@ -113,13 +113,14 @@ fn output_of(
     })
 }
 
+#[tactic(auto, using(crate::proofs::Loops::behind_none, crate::proofs::Loops::behind_more))]
 fn outputs_of(
     alloc: Global,
     declared: &[Declared],
     values: &[Value],
 ) -> Result<Vec<OutputText>, MachineFault>
-    ensures ok { IfOk result (λ v. outputs_of (language_of declared.now) 0 [] (items_view values.now) ≡ Ok (map output v.items)) }
-    ensures err { IfErr result (λ e. e ≢ MachineFault.OutOfMemory → outputs_of (language_of declared.now) 0 [] (items_view values.now) ≡ Err (fault e)) }
+    ensures ok { IfOk result (λ v. outputs_of (language_of declared.now) 0 (items_view values.now) ≡ Ok (map output v.items)) }
+    ensures err { IfErr result (λ e. e ≢ MachineFault.OutOfMemory → outputs_of (language_of declared.now) 0 (items_view values.now) ≡ Err (fault e)) }
 {
     let mut outputs = Vec::new(alloc);
     for (index, value) in values.iter().enumerate() {

@@ -2,12 +2,12 @@
 ghost use Rattle.std.specs.Prelude.{◌≡◌, ◌≢◌, ◌++◌, ◌∷◌, [], Some, None, Ok, Err, IfOk, IfErr, map, option_map, string_bytes};
 ghost use Rattle.serde_json.specs.View.{view, items_view};
 ghost use Rattle.tw_program_text.specs.TextViews.{declarations, names_of};
-ghost use Rattle.tw_program_text.specs.Views.{body, tree as spelled};
-ghost use Rattle.tw_machine_file.specs.Declares.{texts};
+ghost use Rattle.tw_program_text.specs.Views.{body, tree};
+ghost use Rattle.tw_costs.specs.Seen.{name, thing, value};
 ghost use Rattle.tw_machine_file.specs.Fault.{fault};
 ghost use Rattle.tw_machine_file.specs.Said.{SaysPrograms, SaysTrees};
-ghost use Rattle.tw_machine_file.specs.Seen.{kind_of, name, thing, tree, value};
-ghost use Rattle.tw_machine_file.specs.Texts.{language_of, lines, lines_behind, program_in, program_text, text_of, tree_in, tree_text, value_in};
+ghost use Rattle.tw_machine_file.specs.Seen.{kind_of};
+ghost use Rattle.tw_machine_file.specs.Texts.{language_of, lines, more_lines, program_in, program_text, text_of, tree_in, tree_text, value_in};
 
 use crate::fault::{MachineFault, Part, Why};
 use crate::values::items_of;
@@ -54,9 +54,10 @@ pub fn kinds_in(alloc: Global, declared: &[Declared]) -> Result<Vec<Kind>, Alloc
     kinds_of(alloc, declared)
 }
 
-/// The lines behind a first one.
+/// A first line, and the lines behind it.
+#[tactic(auto, using(crate::proofs::Loops::one_line_more))]
 fn lines_behind(alloc: Global, first: &str, values: &[Value]) -> Result<Option<String>, AllocError>
-    ensures { IfOk result (λ o. option_map string_bytes o ≡ lines_behind first.now (items_view values.now)) }
+    ensures { IfOk result (λ o. option_map string_bytes o ≡ option_map (λ rest. first.now ++ rest) (more_lines (items_view values.now))) }
 {
     let mut text = String::from_str(alloc, first)?;
     for value in values {
@@ -120,7 +121,7 @@ fn expression(
     member: Member,
     text: &str,
 ) -> Result<Expr, MachineFault>
-    ensures ok { IfOk result (λ e. tree_text (language_of declared.now) part member text.now ≡ Ok (spelled e)) }
+    ensures ok { IfOk result (λ e. tree_text (language_of declared.now) part member text.now ≡ Ok (tree e)) }
     ensures err { IfErr result (λ e. e ≢ MachineFault.OutOfMemory → tree_text (language_of declared.now) part member text.now ≡ Err (fault e)) }
 {
     match read_member(alloc, member, declared, text, NODES) {
@@ -157,7 +158,7 @@ pub fn tree_in(
     member: Member,
     value: &Value,
 ) -> Result<Expr, MachineFault>
-    ensures ok { IfOk result (λ e. tree_in (language_of declared.now) part member (view value.now) ≡ Ok (tree (spelled e))) }
+    ensures ok { IfOk result (λ e. tree_in (language_of declared.now) part member (view value.now) ≡ Ok (tree e)) }
     ensures err { IfErr result (λ e. e ≢ MachineFault.OutOfMemory → tree_in (language_of declared.now) part member (view value.now) ≡ Err (fault e)) }
 {
     match value.as_str() {

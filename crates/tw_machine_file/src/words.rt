@@ -3,8 +3,8 @@ ghost use Rattle.std.specs.Prelude.{◌≡◌, ◌≢◌, [], Ok, Err, IfOk, IfE
 ghost use Rattle.std.specs.List.{list_any};
 ghost use Rattle.serde_json.specs.View.{view, items_view};
 ghost use Rattle.tw_program_text.specs.Views.{tree as spelled};
+ghost use Rattle.tw_costs.specs.Seen.{value};
 ghost use Rattle.tw_machine_file.specs.Fault.{fault};
-ghost use Rattle.tw_machine_file.specs.Seen.{value};
 ghost use Rattle.tw_machine_file.specs.Texts.{language_of};
 ghost use Rattle.tw_machine_file.specs.Words.{is_again, is_same_number, is_same_tree, some_words, word_of, words_in, words_of};
 
@@ -90,6 +90,7 @@ fn word_of(
     Ok(word)
 }
 
+#[tactic(auto, using(crate::proofs::Loops::behind_none, crate::proofs::Loops::behind_more))]
 fn words_of(
     alloc: Global,
     declared: &[Declared],

@@ -1,5 +1,6 @@
-use Rattle.std.proofs.Common.{◌≡◌, ◌+◌, ◌≤◌, min, drop}
+use Rattle.std.proofs.Common.{◌≡◌, ◌+◌, ◌≤◌, min, drop, map}
 use Rattle.std.specs.Prelude.{sum_by}
+use Rattle.tw_costs.specs.Seen.{output}
 use Rattle.tw_costs.specs.Members.{output_work}
 use Rattle.tw_costs.proofs.computing.outputs_work.Given as goal
 
@@ -7,6 +8,6 @@ use Rattle.tw_costs.proofs.computing.outputs_work.Given as goal
 abbrev pub invariant-loop-text : goal.invariant-loop-text
 invariant-loop-text l =
     record {
-      rest : min (l.total + sum_by (output_work l.standings) (drop l.text-index l.texts)) 262145 ≡ min (sum_by (output_work l.standings) l.texts) 262145;
+      rest : min (l.total + sum_by (output_work l.standings) (map output (drop l.text-index l.texts))) 262145 ≡ min (sum_by (output_work l.standings) (map output l.texts)) 262145;
       small : l.total ≤ 262145;
     }

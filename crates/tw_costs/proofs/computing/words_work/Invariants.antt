@@ -1,5 +1,6 @@
-use Rattle.std.proofs.Common.{◌≡◌, ◌+◌, ◌≤◌, min, drop}
+use Rattle.std.proofs.Common.{◌≡◌, ◌+◌, ◌≤◌, min, drop, map}
 use Rattle.std.specs.Prelude.{sum_by}
+use Rattle.tw_costs.specs.Seen.{value}
 use Rattle.tw_costs.specs.Members.{word_work}
 use Rattle.tw_costs.proofs.computing.words_work.Given as goal
 
@@ -7,6 +8,6 @@ use Rattle.tw_costs.proofs.computing.words_work.Given as goal
 abbrev pub invariant-loop-text : goal.invariant-loop-text
 invariant-loop-text l =
     record {
-      rest : min (l.total + sum_by (word_work l.standings) (drop l.text-index l.texts)) 262145 ≡ min (sum_by (word_work l.standings) l.texts) 262145;
+      rest : min (l.total + sum_by (word_work l.standings) (map value (drop l.text-index l.texts))) 262145 ≡ min (sum_by (word_work l.standings) (map value l.texts)) 262145;
       small : l.total ≤ 262145;
     }

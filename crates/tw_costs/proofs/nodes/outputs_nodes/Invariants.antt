@@ -1,5 +1,6 @@
-use Rattle.std.proofs.Common.{◌≡◌, ◌+◌, ◌≤◌, min, drop}
+use Rattle.std.proofs.Common.{◌≡◌, ◌+◌, ◌≤◌, min, drop, map}
 use Rattle.std.specs.Prelude.{sum_by}
+use Rattle.tw_costs.specs.Seen.{output}
 use Rattle.tw_costs.specs.Members.{output_nodes}
 use Rattle.tw_costs.proofs.nodes.outputs_nodes.Given as goal
 
@@ -7,6 +8,6 @@ use Rattle.tw_costs.proofs.nodes.outputs_nodes.Given as goal
 abbrev pub invariant-loop-text : goal.invariant-loop-text
 invariant-loop-text l =
     record {
-      rest : min (l.total + sum_by output_nodes (drop l.text-index l.texts)) 4097 ≡ min (sum_by output_nodes l.texts) 4097;
+      rest : min (l.total + sum_by output_nodes (map output (drop l.text-index l.texts))) 4097 ≡ min (sum_by output_nodes (map output l.texts)) 4097;
       small : l.total ≤ 4097;
     }

@@ -1,5 +1,6 @@
-use Rattle.std.proofs.Common.{◌≡◌, ◌+◌, ◌≤◌, min, drop}
+use Rattle.std.proofs.Common.{◌≡◌, ◌+◌, ◌≤◌, min, drop, map}
 use Rattle.std.specs.Prelude.{sum_by}
+use Rattle.tw_costs.specs.Seen.{value}
 use Rattle.tw_costs.specs.Members.{value_nodes}
 use Rattle.tw_costs.proofs.nodes.words_nodes.Given as goal
 
@@ -7,6 +8,6 @@ use Rattle.tw_costs.proofs.nodes.words_nodes.Given as goal
 abbrev pub invariant-loop-text : goal.invariant-loop-text
 invariant-loop-text l =
     record {
-      rest : min (l.total + sum_by value_nodes (drop l.text-index l.texts)) 4097 ≡ min (sum_by value_nodes l.texts) 4097;
+      rest : min (l.total + sum_by value_nodes (map value (drop l.text-index l.texts))) 4097 ≡ min (sum_by value_nodes (map value l.texts)) 4097;
       small : l.total ≤ 4097;
     }

@@ -1,5 +1,6 @@
-use Rattle.std.proofs.Common.{◌≡◌, ◌≢◌, ◌∙◌, ap, sym, Option, Some, None, Result, Ok, Err, IfOk, IfErr}
+use Rattle.std.proofs.Common.{◌≡◌, ◌≢◌, ◌∙◌, ap, map, sym, Option, Some, None, Result, Ok, Err, IfOk, IfErr}
 use Rattle.tw_machine.specs.Program.{text_of}
+use Rattle.tw_costs.specs.Seen.{declaration, given, name}
 use Rattle.tw_costs.specs.Names.{standings_of}
 use Rattle.tw_declared.specs.Limits.{members_fault, limit, fault_of}
 use Rattle.tw_declared.specs.declared.limits.BadMachine.{BadMachine}
@@ -16,14 +17,14 @@ first_fault (Ok x) f g e h = tt
 first_fault (Err bad) f g e h = λ _. e ∙ h
 
 -- what is found of the parts is the machine's
-found : (c : goal.After-drop-standings-2) → fault_of c.args.given.now c.args.declaration.now ≡ limit c.deref-3.result.now c.args.declaration.now (text_of c.in_ok-parts.parts)
+found : (c : goal.After-drop-standings-2) → fault_of (given c.args.given.now) (declaration c.args.declaration.now) ≡ limit c.deref-3.result.now (declaration c.args.declaration.now) (text_of c.in_ok-parts.parts)
 found c =
-    let given = c.args.given.now in
-    let d = c.args.declaration.now in
+    let g = given c.args.given.now in
+    let d = declaration c.args.declaration.now in
     let p = text_of c.in_ok-parts.parts in
-    let same = c.in_ok-standings.ensures ∙ ap (standings_of given) c.as_slice.ensures.value in
-    let held = ap (members_fault given d) (sym c.deref.ensures.value) ∙ c.in_ok-members_held.ensures.held in
-    behind_members given d c.in_ok-standings.standings.items p same c.in_ok-parts.ensures held
+    let same = c.in_ok-standings.ensures ∙ ap (λ names. standings_of g (map name names)) c.as_slice.ensures.value in
+    let held = ap (members_fault g d) (sym c.deref.ensures.value) ∙ c.in_ok-members_held.ensures.held in
+    behind_members g d c.in_ok-standings.standings.items p same c.in_ok-parts.ensures held
     ∙ ap (λ ss. limit ss d p) (sym c.deref-3.ensures.value)
 
 pub returns-clause-sound : goal.returns-clause-sound

@@ -1,6 +1,7 @@
 use Rattle.std.proofs.Common.{◌∙◌, sym}
 use Rattle.tw_machine.specs.Program.{text_of}
-use Rattle.tw_declared.specs.Seen.{seen_program}
+use Rattle.tw_costs.specs.Seen.{declaration}
+use Rattle.tw_machine.specs.Seen.{seen_program}
 use Rattle.tw_declared.proofs.Places.{limits_seen}
 use Rattle.tw_declared.proofs.Logged.{within_any}
 use Rattle.tw_declared.proofs.programs.limited.Goals as goal
@@ -10,4 +11,4 @@ pub program-requires : goal.program-requires
 program-requires c =
     let p = text_of c.args.parts in
     let none = sym c.limit.ensures ∙ c.in_ok-held.ensures.held in
-    sym (limits_seen p) ∙ within_any c.args.standings.now c.args.declaration.now (seen_program p) c.requires.internal c.requires.external none
+    sym (limits_seen p) ∙ within_any c.args.standings.now (declaration c.args.declaration.now) (seen_program p) c.requires.internal c.requires.external none

@@ -1,4 +1,5 @@
 use Rattle.std.proofs.Common.{◌≡◌, ◌∙◌, ap, sym, Option, Some, Result, Ok, Err, IfErr}
+use Rattle.tw_costs.specs.Seen.{declaration, given}
 use Rattle.tw_declared.specs.Limits.{otherwise}
 use Rattle.tw_declared.specs.declared.limits.BadMachine.{BadMachine}
 use Rattle.tw_declared.proofs.Faults.{from_members}
@@ -11,4 +12,4 @@ first_found (Err bad) all first later found e same h = e ∙ ap (λ (o : Option 
 
 pub returns-clause-refused : goal.returns-clause-refused
 returns-clause-refused c =
-    first_found c.held.result _ _ _ _ (from_members c.args.given.now c.args.declaration.now c.args.standings.now c.requires) c.members_fault.ensures c.held.ensures.refused
+    first_found c.held.result _ _ _ _ (from_members (given c.args.given.now) (declaration c.args.declaration.now) c.args.standings.now c.requires) c.members_fault.ensures c.held.ensures.refused

@@ -1,7 +1,7 @@
 use Rattle.std.proofs.Common.{◌≡◌, drop, map}
+use Rattle.tw_costs.specs.Seen.{name}
 use Rattle.tw_machine_file.specs.Declares.{texts}
 use Rattle.tw_machine_file.specs.Names.{is_among}
-use Rattle.tw_machine_file.specs.Seen.{name}
 use Rattle.tw_machine_file.proofs.declarations.is_declared.Given as goal
 
 abbrev pub invariant-loop-named : goal.invariant-loop-named

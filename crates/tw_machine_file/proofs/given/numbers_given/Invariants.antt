@@ -1,9 +1,10 @@
-use Rattle.std.proofs.Common.{◌≡◌, [], drop, map, string_bytes}
+use Rattle.std.proofs.Common.{◌≡◌, drop, map, string_bytes}
 use Rattle.serde_json.specs.View.{view}
 use Rattle.tw_machine_file.specs.Given.{numbers_given}
+use Rattle.tw_machine_file.proofs.Loops.{behind}
 use Rattle.tw_machine_file.proofs.given.numbers_given.Given as goal
 
 -- what has come, and what is to come
 abbrev pub invariant-loop-index : goal.invariant-loop-index
 invariant-loop-index l =
-    numbers_given (view l.value) l.index l.numbers.items (map string_bytes (drop l.index l.names)) ≡ numbers_given (view l.value) 0 [] (map string_bytes l.names)
+    behind l.numbers.items (numbers_given (view l.value) l.index (map string_bytes (drop l.index l.names))) ≡ numbers_given (view l.value) 0 (map string_bytes l.names)

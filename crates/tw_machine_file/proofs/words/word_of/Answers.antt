@@ -4,8 +4,8 @@ use Rattle.serde_json.specs.Data.{Data}
 use Rattle.serde_json.specs.View.{view}
 use Rattle.tw_program_text.specs.declared.kinds.Kind.{Kind}
 use Rattle.tw_program_text.specs.declared.kinds.Member.TheVariants.{Shown}
+use Rattle.tw_costs.specs.Seen.{Value, value}
 use Rattle.tw_machine_file.specs.Fault.{Fault, once, provided, wrong}
-use Rattle.tw_machine_file.specs.Seen.{Value, value}
 use Rattle.tw_machine_file.specs.Texts.{Language, language_of, value_in}
 use Rattle.tw_machine_file.specs.Words.{is_again, word_of}
 use Rattle.tw_machine_file.specs.declared.fault.Part.TheVariants.{Word}

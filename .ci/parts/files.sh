@@ -114,6 +114,28 @@ printf '{"format":"tw-2","micro_limit":1,"components":[{"name":"%s","couplings":
 ended=$?
 [[ ! -s $out && $(<"$err") == "twarp: 9 TooMany" ]]
 count "20,001 parts and a name of 80,000 bytes" 2 "$ended" $?
+# Counts a file of format tw-3 with one machine of these members, and a component of it that gives a list of two.
+check_machine() {
+    printf '{"format":"tw-3","micro_limit":1,"models":[{"name":"m","parameters":["list"],%s}],' "$3" >"$file"
+    printf '"components":[{"name":"x","model":"m","list":[4,5]}],"couplings":[],"inputs":[]}' >>"$file"
+    checks "$2"
+    count "$1" 0 0 $?
+}
+
+# The numbers of a table, one more than said.
+numbers() {
+    printf '%s0' "$(times '0,' "$1")"
+}
+
+shown='"words":["t[0]"]'
+check_machine "65,534 numbers of a table and 2 of a list" 0 '"tables":{"t":['"$(numbers 65533)"'],"u":"list"},'"$shown"
+check_machine "65,535 numbers of a table and 2 of a list" 21 '"tables":{"t":['"$(numbers 65534)"'],"u":"list"},'"$shown"
+check_machine "65,536 numbers of a table" 21 '"tables":{"t":['"$(numbers 65535)"'],"u":"list"},'"$shown"
+check_machine "65,537 numbers of a table" 21 '"tables":{"t":['"$(numbers 65536)"'],"u":"list"},'"$shown"
+tables='"tables":{"t":[1],"u":"list"}'
+check_machine "4,096 nodes" 0 "$tables"',"internal":"'"$(times 'draw ' 4094)"'",'"$shown"
+check_machine "4,097 nodes" 21 "$tables"',"internal":"'"$(times 'draw ' 4095)"'",'"$shown"
+check_machine "4,097 nodes of a text" 21 "$tables"',"internal":"'"$(times 'draw ' 4097)"'",'"$shown"
 inputs=$(times '{"tick":1,"to":"u","port":0,"value":0},' 65535)
 unknown='{"tick":1,"to":"no","port":0,"value":0}'
 check_long "65,536 inputs" 5 tw-2 1 "$tally" "$inputs$unknown"

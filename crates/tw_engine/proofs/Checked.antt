@@ -1,7 +1,7 @@
 -- From what is told of a network or a fault to what a check says of the bytes of the file.
 use Rattle.std.proofs.Common.{ℕ, List, inl, inr, refl, subst, sym}
 use Rattle.std.specs.Prelude.{◌≢◌, Option}
-use Rattle.tw_models.specs.declared.model.Model.{Model}
+use Rattle.tw_any_model.specs.declared.any_model.AnyModel.{AnyModel}
 use Rattle.tw_network.specs.Contents.{Contents}
 use Rattle.tw_netfile.specs.TreeMeaning.{IsFault, IsMeaning}
 use Rattle.tw_netfile.specs.declared.refused.FileRefused.{FileRefused}
@@ -9,7 +9,7 @@ use Rattle.tw_netfile.specs.declared.refused.FileRefused.TheVariants.{OutOfMemor
 use Rattle.tw_engine.specs.Checks.{IsCheck, IsCounted, IsTold}
 use Rattle.tw_engine.specs.declared.exit.Exit.{Exit}
 
-pub checked_network : (bytes : List ℕ) (n : Contents Model) (exit : Exit) (old new : Option (List ℕ))
+pub checked_network : (bytes : List ℕ) (n : Contents AnyModel) (exit : Exit) (old new : Option (List ℕ))
     → IsMeaning bytes n → IsCounted n exit old new → IsCheck bytes exit old new
 checked_network bytes n exit old new means (inl failed) = subst (λ e. IsCheck bytes e old new) (sym failed) tt
 checked_network bytes n exit old new means (inr (done, written)) = subst (λ e. IsCheck bytes e old new) (sym done) (n, means, written)

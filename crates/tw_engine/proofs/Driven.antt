@@ -8,13 +8,13 @@ use Rattle.tw_engine.specs.declared.exit.Exit.TheVariants.{Done, Bad, Fault, Wan
 use Rattle.tw_engine.specs.Exits.{exit_of}
 use Rattle.tw_engine.specs.Scripting.{IsScriptExit}
 use Rattle.tw_exec.specs.Running.{Running}
-use Rattle.tw_models.specs.Model.{model_meaning}
-use Rattle.tw_models.specs.declared.model.Model.{Model}
-use Rattle.tw_models.specs.declared.model.State.{State}
+use Rattle.tw_any_model.specs.AnyModel.{any_meaning}
+use Rattle.tw_any_model.specs.declared.any_model.AnyModel.{AnyModel}
+use Rattle.tw_any_model.specs.declared.any_model.AnyState.{AnyState}
 use Rattle.tw_netfile.specs.TreeMeaning.{IsMeaning}
 use Rattle.tw_network.specs.Contents.{Contents}
 use Rattle.tw_play.specs.Playing.{Played}
-use Rattle.tw_play.specs.Telling.{IsDrawnShort, IsPlayed, IsWhollyDrawn}
+use Rattle.tw_play.specs.Telling.{IsCutShort, IsDrawnShort, IsPlayed, IsWhollyDrawn}
 use Rattle.tw_script.specs.Schedules.{seeded}
 use Rattle.tw_script.specs.Scripts.{IsScript}
 use Rattle.tw_script.specs.declared.command.Command.{Command}
@@ -23,33 +23,38 @@ use Rattle.tw_texts.specs.declared.traces.NotWritten.{NotWritten}
 use Rattle.tw_texts.specs.declared.traces.NotWritten.TheVariants.{OutOfMemory, WriteFailed}
 use Rattle.tw_theory.specs.Contents.{Cancel}
 
-module _ (bytes : List ℕ) (n : Contents Model) (means : IsMeaning bytes n) (until : ℕ) (way : Cancel) (begun p : Played Model State) (is : begun ≡ first n way until) (e : Running Model State) (at : e ≡ p.executive)
+module _ (bytes : List ℕ) (n : Contents AnyModel) (means : IsMeaning bytes n) (until : ℕ) (way : Cancel) (begun p : Played AnyModel AnyState) (is : begun ≡ first n way until) (e : Running AnyModel AnyState) (at : e ≡ p.executive)
     (old mid new : Option (List ℕ)) where
-  pub scripted : (script : List ℕ) (commands : List Command) → IsScript n.names script commands → IsPlayed model_meaning commands begun p old mid → (exit : Exit) → IsTraced e exit mid new → IsScripted bytes script until way exit old new
+  pub scripted : (script : List ℕ) (commands : List Command) → IsScript n.names script commands → IsPlayed any_meaning commands begun p old mid → (exit : Exit) → IsTraced e exit mid new → IsScripted bytes script until way exit old new
   scripted script commands says whole exit traced =
-      go exit (subst (λ b. IsPlayed model_meaning commands b p old mid) is whole) (subst (λ r. IsTraced r exit mid new) at traced)
+      go exit (subst (λ b. IsPlayed any_meaning commands b p old mid) is whole) (subst (λ r. IsTraced r exit mid new) at traced)
     where
-      go : (exit : Exit) → IsPlayed model_meaning commands (first n way until) p old mid → IsTraced p.executive exit mid new → IsScripted bytes script until way exit old new
+      go : (exit : Exit) → IsPlayed any_meaning commands (first n way until) p old mid → IsTraced p.executive exit mid new → IsScripted bytes script until way exit old new
       go Done w t = (n, means, (commands, says, (p, mid, w, t)))
       go Fault w t = t
       go (Bad why line) w t = absurd t
       go (Want why) w t = inr (n, means, (commands, says, inr (p, mid, w, t)))
       go NoWrite w t = t
 
-  pub seed_drawn : (seed steps : ℕ) → IsWhollyDrawn model_meaning (seeded seed) steps begun p old mid → (exit : Exit) → IsTraced e exit mid new → IsSeeded bytes seed steps until way exit old new
+  -- what ends for want of memory, or for a failed writer
+  pub script_short : (script : List ℕ) (commands : List Command) → IsScript n.names script commands → (why : NotWritten) → (why ≡ OutOfMemory → IsCutShort any_meaning commands begun old new)
+      → IsScripted bytes script until way (exit_of (not_written_refusal why)) old new
+  script_short script commands says OutOfMemory h = inr (n, means, (commands, says, inl (refl, subst (λ b. IsCutShort any_meaning commands b old new) is (h refl))))
+  script_short script commands says WriteFailed h = tt
+
+  pub seed_drawn : (seed steps : ℕ) → IsWhollyDrawn any_meaning (seeded seed) steps begun p old mid → (exit : Exit) → IsTraced e exit mid new → IsSeeded bytes seed steps until way exit old new
   seed_drawn seed steps whole exit traced =
-      go exit (subst (λ b. IsWhollyDrawn model_meaning (seeded seed) steps b p old mid) is whole) (subst (λ r. IsTraced r exit mid new) at traced)
+      go exit (subst (λ b. IsWhollyDrawn any_meaning (seeded seed) steps b p old mid) is whole) (subst (λ r. IsTraced r exit mid new) at traced)
     where
-      go : (exit : Exit) → IsWhollyDrawn model_meaning (seeded seed) steps (first n way until) p old mid → IsTraced p.executive exit mid new → IsSeeded bytes seed steps until way exit old new
+      go : (exit : Exit) → IsWhollyDrawn any_meaning (seeded seed) steps (first n way until) p old mid → IsTraced p.executive exit mid new → IsSeeded bytes seed steps until way exit old new
       go Done w t = (n, means, (p, mid, w, t))
       go Fault w t = t
       go (Bad why line) w t = absurd t
       go (Want why) w t = inr (n, means, inr (p, mid, w, t))
       go NoWrite w t = t
 
-  -- what ends for want of memory, or for a failed writer
-  pub seed_short : (seed steps : ℕ) (why : NotWritten) → (why ≡ OutOfMemory → IsDrawnShort model_meaning (seeded seed) steps begun old new) → IsSeeded bytes seed steps until way (exit_of (not_written_refusal why)) old new
-  seed_short seed steps OutOfMemory h = inr (n, means, inl (refl, subst (λ b. IsDrawnShort model_meaning (seeded seed) steps b old new) is (h refl)))
+  pub seed_short : (seed steps : ℕ) (why : NotWritten) → (why ≡ OutOfMemory → IsDrawnShort any_meaning (seeded seed) steps begun old new) → IsSeeded bytes seed steps until way (exit_of (not_written_refusal why)) old new
+  seed_short seed steps OutOfMemory h = inr (n, means, inl (refl, subst (λ b. IsDrawnShort any_meaning (seeded seed) steps b old new) is (h refl)))
   seed_short seed steps WriteFailed h = tt
 
 -- ---- a script that is refused
@@ -58,7 +63,7 @@ keeps_all : (o : Option (List ℕ)) → Keeps o o
 keeps_all None = tt
 keeps_all (Some xs) = refl
 
-pub script_refused : (bytes : List ℕ) (n : Contents Model) → IsMeaning bytes n → (until : ℕ) (way : Cancel) (script : List ℕ) (exit : Exit) (old : Option (List ℕ))
+pub script_refused : (bytes : List ℕ) (n : Contents AnyModel) → IsMeaning bytes n → (until : ℕ) (way : Cancel) (script : List ℕ) (exit : Exit) (old : Option (List ℕ))
     → IsScriptExit n.names script exit → IsScripted bytes script until way exit old old
 script_refused bytes n means until way script exit old (inl want) = subst (λ e. IsScripted bytes script until way e old old) (sym want) (inl (refl, keeps_all old))
 script_refused bytes n means until way script exit old (inr (inl many)) = subst (λ e. IsScripted bytes script until way e old old) (sym many.0) (keeps_all old, inr (n, means, (refl, many.1)))

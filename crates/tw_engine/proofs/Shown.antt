@@ -4,8 +4,8 @@ use Rattle.std.specs.Prelude.{Option, None, Some}
 use Rattle.std.proofs.lemmas.Option.{slice_get_past}
 use Rattle.tw_vtime.specs.declared.limits.Limit.{Limit}
 use Rattle.tw_msgs.specs.declared.record.Record.{Record}
-use Rattle.tw_models.specs.declared.model.Model.{Model}
-use Rattle.tw_models.specs.Model.{model_meaning}
+use Rattle.tw_any_model.specs.declared.any_model.AnyModel.{AnyModel}
+use Rattle.tw_any_model.specs.AnyModel.{any_meaning}
 use Rattle.tw_network.specs.Contents.{Contents, network_of}
 use Rattle.tw_theory.specs.Transitions.{output, moved, transition}
 use Rattle.tw_theory.specs.Simulator.{sequential, rounds, round}
@@ -27,8 +27,8 @@ beginning_of_more old new text more b = (
   sym (append_assoc b.0 b.1 more) ∙ ap (λ l. l ++ more) b.3,
 )
 
-run_of_shown : (bytes : List ℕ) (until : ℕ) (n : Contents Model) (exit : Exit) (old new : Option (List ℕ)) → IsMeaning bytes n
-    → IsShown n (sequential (network_of model_meaning n) until).records (run_fault n until) exit old new → IsRun bytes until exit old new
+run_of_shown : (bytes : List ℕ) (until : ℕ) (n : Contents AnyModel) (exit : Exit) (old new : Option (List ℕ)) → IsMeaning bytes n
+    → IsShown n (sequential (network_of any_meaning n) until).records (run_fault n until) exit old new → IsRun bytes until exit old new
 run_of_shown bytes until n Done old new means shown = (n, means, shown)
 run_of_shown bytes until n Fault old new means shown = (n, means, shown)
 run_of_shown bytes until n (Bad why line) old new means shown = absurd shown
@@ -37,8 +37,8 @@ run_of_shown bytes until n (Want why) old new means (is, inr begun) = (is, inr (
 run_of_shown bytes until n NoWrite old new means shown = shown
 
 -- what is shown of the records and the fault of the sequential run
-pub shown_run : (bytes : List ℕ) (until : ℕ) (n : Contents Model) (records : List Record) (fault : Option (ℕ × ℕ × Limit)) (exit : Exit) (old new : Option (List ℕ))
-    → IsMeaning bytes n → records ≡ (sequential (network_of model_meaning n) until).records → fault ≡ run_fault n until
+pub shown_run : (bytes : List ℕ) (until : ℕ) (n : Contents AnyModel) (records : List Record) (fault : Option (ℕ × ℕ × Limit)) (exit : Exit) (old new : Option (List ℕ))
+    → IsMeaning bytes n → records ≡ (sequential (network_of any_meaning n) until).records → fault ≡ run_fault n until
     → IsShown n records fault exit old new → IsRun bytes until exit old new
 shown_run bytes until n records fault exit old new means all met shown =
     run_of_shown bytes until n exit old new means
@@ -54,7 +54,7 @@ none_is_some : (fault : ℕ × ℕ × Limit) → ◌≡◌ {A = Option (ℕ × �
 none_is_some fault e = cc e
 
 demo_of_shown : (exit : Exit) (old new : Option (List ℕ))
-    → IsShown demo_network (sequential (network_of model_meaning demo_network) 5).records (run_fault demo_network 5) exit old new → IsDemo exit old new
+    → IsShown demo_network (sequential (network_of any_meaning demo_network) 5).records (run_fault demo_network 5) exit old new → IsDemo exit old new
 demo_of_shown Done old new shown = shown.1
 demo_of_shown Fault old new shown = none_is_some shown.0.0 (sym demo_no_fault ∙ shown.0.1)
 demo_of_shown (Bad why line) old new shown = shown
@@ -62,7 +62,7 @@ demo_of_shown (Want why) old new shown = inl shown
 demo_of_shown NoWrite old new shown = shown
 
 -- what workers write of a file's network
-pub run_of_worked : (bytes : List ℕ) (until : ℕ) (n : Contents Model) (exit : Exit) (old new : Option (List ℕ)) → IsMeaning bytes n
+pub run_of_worked : (bytes : List ℕ) (until : ℕ) (n : Contents AnyModel) (exit : Exit) (old new : Option (List ℕ)) → IsMeaning bytes n
     → IsWorked n until exit old new → IsRunByWorkers bytes until exit old new
 run_of_worked bytes until n exit old new means (inl shown) = inl (run_of_shown bytes until n exit old new means shown)
 run_of_worked bytes until n exit old new means (inr (inl full)) = inr full
@@ -70,8 +70,8 @@ run_of_worked bytes until n exit old new means (inr (inr late)) =
     inl (subst (λ (e : Exit). IsRun bytes until e old new) (sym late.0) (late.2, refl, inl (refl, late.1)))
 
 -- what they write of the demonstration
-pub demo_of_worked : (n : Contents Model) (exit : Exit) (old new : Option (List ℕ)) → n ≡ demo_network → IsWorked n 5 exit old new → IsDemo exit old new
-demo_of_worked n exit old new is worked = demo_of (subst (λ (m : Contents Model). IsWorked m 5 exit old new) is worked)
+pub demo_of_worked : (n : Contents AnyModel) (exit : Exit) (old new : Option (List ℕ)) → n ≡ demo_network → IsWorked n 5 exit old new → IsDemo exit old new
+demo_of_worked n exit old new is worked = demo_of (subst (λ (m : Contents AnyModel). IsWorked m 5 exit old new) is worked)
   where
     demo_of : IsWorked demo_network 5 exit old new → IsDemo exit old new
     demo_of (inl shown) = demo_of_shown exit old new shown

@@ -4,7 +4,7 @@
 use Rattle.std.specs.Prelude.{◌≡◌, ◌≢◌, ◌⊎◌, ◌++◌, ℕ, List, Option, None, codes, length}
 use Rattle.std.specs.Fmt.{decimal}
 use Rattle.std.specs.Io.KnownBytes.{Appends, Keeps}
-use Rattle.tw_models.specs.declared.model.Model.{Model}
+use Rattle.tw_any_model.specs.declared.any_model.AnyModel.{AnyModel}
 use Rattle.tw_network.specs.Contents.{Contents}
 use Rattle.tw_vtime.specs.declared.refusal.Refusal.TheVariants as refusal
 use Rattle.tw_netfile.specs.Refused.{file_refusal}
@@ -16,7 +16,7 @@ use Rattle.tw_engine.specs.declared.exit.Exit.{Exit}
 use Rattle.tw_engine.specs.declared.exit.Exit.TheVariants.{Done, Bad, Fault, Want, NoWrite}
 
 -- how many components, couplings and inputs, of a tree those of its flat network
-abbrev pub check_text : Contents Model → List ℕ
+abbrev pub check_text : Contents AnyModel → List ℕ
 check_text n =
     codes "ok: " ++ (decimal (length n.models) ++ (codes " components, "
     ++ (decimal (length n.couplings) ++ (codes " couplings, "
@@ -38,7 +38,7 @@ IsCheck bytes NoWrite old new = Unit {0}
 -- ---- its parts
 
 -- what is told of a network
-abbrev pub IsCounted : Contents Model → Exit → Option (List ℕ) → Option (List ℕ) → Type 0
+abbrev pub IsCounted : Contents AnyModel → Exit → Option (List ℕ) → Option (List ℕ) → Type 0
 IsCounted n exit old new = (exit ≡ NoWrite) ⊎ ((exit ≡ Done) × Appends old new (check_text n))
 
 -- what is told of a fault

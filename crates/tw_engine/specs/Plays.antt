@@ -8,9 +8,9 @@ use Rattle.tw_engine.specs.Runs.{Means, IsCause, name_in}
 use Rattle.tw_engine.specs.declared.exit.Exit.{Exit}
 use Rattle.tw_engine.specs.declared.exit.Exit.TheVariants.{Done, Bad, Fault, Want, NoWrite}
 use Rattle.tw_exec.specs.Running.{Running, start}
-use Rattle.tw_models.specs.Model.{model_meaning}
-use Rattle.tw_models.specs.declared.model.Model.{Model}
-use Rattle.tw_models.specs.declared.model.State.{State}
+use Rattle.tw_any_model.specs.AnyModel.{any_meaning}
+use Rattle.tw_any_model.specs.declared.any_model.AnyModel.{AnyModel}
+use Rattle.tw_any_model.specs.declared.any_model.AnyState.{AnyState}
 use Rattle.tw_network.specs.Contents.{Contents, network_of}
 use Rattle.tw_play.specs.Playing.{Played, begun}
 use Rattle.tw_play.specs.Telling.{IsCutShort, IsDrawnShort, IsPlayed, IsWhollyDrawn}
@@ -28,11 +28,11 @@ use Rattle.tw_vtime.specs.declared.refusal.Refusal.TheVariants as refusal
 -- ---- the trace at the end
 
 -- the lines of what the simulator records before the least commit line
-abbrev pub committed_text : Running Model State → List ℕ
-committed_text e = trace_text (name_in e.network.names) (before (least_line e.world.processes) (sequential (network_of model_meaning e.network) e.until).records)
+abbrev pub committed_text : Running AnyModel AnyState → List ℕ
+committed_text e = trace_text (name_in e.network.names) (before (least_line e.world.processes) (sequential (network_of any_meaning e.network) e.until).records)
 
 -- it is written, or memory was wanting, or the writer failed
-abbrev pub IsTraced : Running Model State → Exit → Option (List ℕ) → Option (List ℕ) → Type 0
+abbrev pub IsTraced : Running AnyModel AnyState → Exit → Option (List ℕ) → Option (List ℕ) → Type 0
 IsTraced e Done old new = Appends old new (committed_text e)
 IsTraced e Fault old new = ⊥
 IsTraced e (Bad why line) old new = ⊥
@@ -42,22 +42,22 @@ IsTraced e NoWrite old new = Unit {0}
 -- ---- answers, and then the trace
 
 -- all is played (Whole says what went out, and where it ended), and then the trace is written; or memory was wanting before (Short)
-abbrev pub IsDriven : (Played Model State → Option (List ℕ) → Option (List ℕ) → Type 0) → (Option (List ℕ) → Option (List ℕ) → Type 0) → Exit → Option (List ℕ) → Option (List ℕ) → Type 0
-IsDriven Whole Short Done old new = (p : Played Model State) × (mid : Option (List ℕ)) × Whole p old mid × IsTraced p.executive Done mid new
+abbrev pub IsDriven : (Played AnyModel AnyState → Option (List ℕ) → Option (List ℕ) → Type 0) → (Option (List ℕ) → Option (List ℕ) → Type 0) → Exit → Option (List ℕ) → Option (List ℕ) → Type 0
+IsDriven Whole Short Done old new = (p : Played AnyModel AnyState) × (mid : Option (List ℕ)) × Whole p old mid × IsTraced p.executive Done mid new
 IsDriven Whole Short Fault old new = ⊥
 IsDriven Whole Short (Bad why line) old new = ⊥
-IsDriven Whole Short (Want why) old new = ((why ≡ refusal.OutOfMemory) × Short old new) ⊎ ((p : Played Model State) × (mid : Option (List ℕ)) × Whole p old mid × IsTraced p.executive (Want why) mid new)
+IsDriven Whole Short (Want why) old new = ((why ≡ refusal.OutOfMemory) × Short old new) ⊎ ((p : Played AnyModel AnyState) × (mid : Option (List ℕ)) × Whole p old mid × IsTraced p.executive (Want why) mid new)
 IsDriven Whole Short NoWrite old new = Unit {0}
 
 -- the executive of a network at its start, driven by hand
-abbrev pub first : Contents Model → Cancel → ℕ → Played Model State
-first n way until = begun (start model_meaning n way until)
+abbrev pub first : Contents AnyModel → Cancel → ℕ → Played AnyModel AnyState
+first n way until = begun (start any_meaning n way until)
 
-abbrev pub IsDrivenBy : Contents Model → List Command → Cancel → ℕ → Exit → Option (List ℕ) → Option (List ℕ) → Type 0
-IsDrivenBy n commands way until exit old new = IsDriven (IsPlayed model_meaning commands (first n way until)) (IsCutShort model_meaning commands (first n way until)) exit old new
+abbrev pub IsDrivenBy : Contents AnyModel → List Command → Cancel → ℕ → Exit → Option (List ℕ) → Option (List ℕ) → Type 0
+IsDrivenBy n commands way until exit old new = IsDriven (IsPlayed any_meaning commands (first n way until)) (IsCutShort any_meaning commands (first n way until)) exit old new
 
-abbrev pub IsDrawnBy : Contents Model → ℕ → ℕ → Cancel → ℕ → Exit → Option (List ℕ) → Option (List ℕ) → Type 0
-IsDrawnBy n seed steps way until exit old new = IsDriven (IsWhollyDrawn model_meaning (seeded seed) steps (first n way until)) (IsDrawnShort model_meaning (seeded seed) steps (first n way until)) exit old new
+abbrev pub IsDrawnBy : Contents AnyModel → ℕ → ℕ → Cancel → ℕ → Exit → Option (List ℕ) → Option (List ℕ) → Type 0
+IsDrawnBy n seed steps way until exit old new = IsDriven (IsWhollyDrawn any_meaning (seeded seed) steps (first n way until)) (IsDrawnShort any_meaning (seeded seed) steps (first n way until)) exit old new
 
 -- ---- by the bytes of the files
 

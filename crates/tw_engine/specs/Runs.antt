@@ -9,9 +9,10 @@ use Rattle.tw_vtime.specs.declared.limits.Limit.{Limit}
 use Rattle.tw_vtime.specs.declared.refusal.Refusal.{Refusal}
 use Rattle.tw_vtime.specs.declared.refusal.Refusal.TheVariants as refusal
 use Rattle.tw_msgs.specs.declared.record.Record.{Record}
-use Rattle.tw_models.specs.declared.model.Model.{Model}
+use Rattle.tw_any_model.specs.declared.any_model.AnyModel.{AnyModel}
+use Rattle.tw_any_model.specs.declared.any_model.AnyModel.TheVariants.{BuiltIn}
 use Rattle.tw_models.specs.declared.model.Model.TheVariants.{Gen, Tally}
-use Rattle.tw_models.specs.Model.{model_meaning}
+use Rattle.tw_any_model.specs.AnyModel.{any_meaning}
 use Rattle.tw_network.specs.Contents.{Contents, network_of}
 use Rattle.tw_theory.specs.Simulator.{sequential}
 use Rattle.tw_netfile.specs.Refused.{file_refusal}
@@ -36,21 +37,21 @@ abbrev pub fault_text : List (List ℕ) → Option (ℕ × ℕ × Limit) → Lis
 fault_text names None = []
 fault_text names (Some fault) = fault_line (name_in names fault.0) fault.1 fault.2
 
-abbrev pub run_fault : Contents Model → ℕ → Option (ℕ × ℕ × Limit)
-run_fault n until = (sequential (network_of model_meaning n) until).fault
+abbrev pub run_fault : Contents AnyModel → ℕ → Option (ℕ × ℕ × Limit)
+run_fault n until = (sequential (network_of any_meaning n) until).fault
 
 -- the lines of records, and of a fault
-abbrev pub text_of : Contents Model → List Record → Option (ℕ × ℕ × Limit) → List ℕ
+abbrev pub text_of : Contents AnyModel → List Record → Option (ℕ × ℕ × Limit) → List ℕ
 text_of n records fault = trace_text (name_in n.names) records ++ fault_text n.names fault
 
-abbrev pub run_text : Contents Model → ℕ → List ℕ
-run_text n until = text_of n (sequential (network_of model_meaning n) until).records (run_fault n until)
+abbrev pub run_text : Contents AnyModel → ℕ → List ℕ
+run_text n until = text_of n (sequential (network_of any_meaning n) until).records (run_fault n until)
 
 -- ---- how a run ends, by the bytes of its file
 
 -- the bytes mean a network of which this is true
-abbrev pub Means : List ℕ → (Contents Model → Type 0) → Type 0
-Means bytes Holds = (n : Contents Model) × IsMeaning bytes n × Holds n
+abbrev pub Means : List ℕ → (Contents AnyModel → Type 0) → Type 0
+Means bytes Holds = (n : Contents AnyModel) × IsMeaning bytes n × Holds n
 
 -- the end tick is too late, or the file is refused for this
 abbrev pub IsCause : List ℕ → ℕ → Refusal → Type 0
@@ -79,7 +80,7 @@ IsFileExit bytes exit =
     ⊎ ((fault : FileRefused) × IsFault bytes fault × (exit ≡ Bad (file_refusal fault) None))
 
 -- what is written of records and a fault
-abbrev pub IsShown : Contents Model → List Record → Option (ℕ × ℕ × Limit) → Exit → Option (List ℕ) → Option (List ℕ) → Type 0
+abbrev pub IsShown : Contents AnyModel → List Record → Option (ℕ × ℕ × Limit) → Exit → Option (List ℕ) → Option (List ℕ) → Type 0
 IsShown n records fault Done old new = (fault ≡ None) × Appends old new (text_of n records fault)
 IsShown n records fault Fault old new = ((found : ℕ × ℕ × Limit) × (fault ≡ Some found)) × Appends old new (text_of n records fault)
 IsShown n records fault (Bad why line) old new = ⊥
@@ -87,19 +88,19 @@ IsShown n records fault (Want why) old new = (why ≡ refusal.OutOfMemory) × (K
 IsShown n records fault NoWrite old new = Unit {0}
 
 -- how a run of a network by workers ends: its text is written, or they want nodes (12), or the end tick is too late
-abbrev pub IsWorked : Contents Model → ℕ → Exit → Option (List ℕ) → Option (List ℕ) → Type 0
+abbrev pub IsWorked : Contents AnyModel → ℕ → Exit → Option (List ℕ) → Option (List ℕ) → Type 0
 IsWorked n until exit old new =
-    IsShown n (sequential (network_of model_meaning n) until).records (run_fault n until) exit old new
+    IsShown n (sequential (network_of any_meaning n) until).records (run_fault n until) exit old new
     ⊎ ((exit ≡ Want refusal.Full) × Keeps old new)
     ⊎ ((exit ≡ Bad refusal.BadTick None) × (max_tick < until) × Keeps old new)
 
 -- ---- the jobs
 
 -- a generator of period 2 and value 5, and a tally that it feeds
-abbrev pub demo_network : Contents Model
+abbrev pub demo_network : Contents AnyModel
 demo_network = record {
   names = codes "g" ∷ codes "t" ∷ [];
-  models = Gen (record { period = 2; value = pos 5 }) ∷ Tally ∷ [];
+  models = BuiltIn (Gen (record { period = 2; value = pos 5 })) ∷ BuiltIn Tally ∷ [];
   couplings = (0, 0, 1, 0) ∷ [];
   inputs = [];
   micro_limit = 100;

@@ -5,8 +5,8 @@ ghost use Rattle.tw_engine.specs.Checks.{IsCheck, IsCounted, IsTold};
 use crate::exit::Exit;
 use std::alloc::Global;
 use std::io::Write;
+use tw_any_model::AnyModel;
 use tw_faults::explain;
-use tw_models::Model;
 use tw_netfile::{FileRefused, network_of_any_file};
 use tw_network::Network;
 use tw_vtime::Refusal;
@@ -22,7 +22,7 @@ pub(crate) fn check_bytes<W: Write>(alloc: Global, bytes: &[u8], out: &mut W) ->
 }
 
 // Writes how many components, couplings and inputs a network has.
-fn write_counts<W: Write>(network: &Network<Model>, out: &mut W) -> Exit
+fn write_counts<W: Write>(network: &Network<AnyModel>, out: &mut W) -> Exit
     ensures { IsCounted network.now result (W.contents out.old) (W.contents out.new) }
 {
     let components = network.len();

@@ -10,6 +10,7 @@ use std::io::Write;
 use std::sync::Wait;
 use std::thread::Threads;
 use std::time::Clock;
+use tw_any_model::AnyModel;
 use tw_line::Setting;
 use tw_models::Model;
 use tw_network::Network;
@@ -43,13 +44,13 @@ pub(crate) fn demo<R: Threads + Wait + Clock + Eprint + Sync, W: Write>(
 
 // The network of the demonstration: a generator of period 2 and value 5, and a tally that it feeds.
 // Such a network is refused for want of memory alone.
-fn gen_tally(alloc: Global) -> Result<Network<Model>, AllocError>
+fn gen_tally(alloc: Global) -> Result<Network<AnyModel>, AllocError>
     ensures { IfOk result (λ n. n ≡ demo_network) }
 {
     let mut components = Vec::new(alloc);
-    let generator = Model::generator(2, 5).unwrap();
+    let generator = AnyModel::BuiltIn(Model::generator(2, 5).unwrap());
     components.push((String::from_str(alloc, "g")?, generator))?;
-    let tally = Model::tally().unwrap();
+    let tally = AnyModel::BuiltIn(Model::tally().unwrap());
     components.push((String::from_str(alloc, "t")?, tally))?;
     let mut couplings = Vec::new(alloc);
     couplings.push((0, 0, 1, 0))?;

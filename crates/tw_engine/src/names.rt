@@ -3,14 +3,14 @@
 ghost use Rattle.std.specs.Prelude.{◌≡◌};
 ghost use Rattle.tw_engine.specs.Runs.{name_in};
 
-use tw_models::Model;
+use tw_any_model::AnyModel;
 use tw_network::Network;
 use tw_texts::Names;
 
 /// The components of a network, by name. A number that no component has gets the empty text.
 #[derive(Drop)]
 pub(crate) struct NetworkNames<'a> {
-    pub(crate) network: &'a Network<Model>,
+    pub(crate) network: &'a Network<AnyModel>,
 }
 
 impl Names for NetworkNames<'_> {

@@ -13,8 +13,8 @@ use crate::names::NetworkNames;
 use crate::runs::network;
 use std::alloc::Global;
 use std::io::Write;
+use tw_any_model::AnyModel;
 use tw_exec::Executive;
-use tw_models::Model;
 use tw_network::Network;
 use tw_play::{Player, play_script, play_seed};
 use tw_process::Cancel;
@@ -25,7 +25,7 @@ use tw_vtime::Refusal;
 // Drives the executive of a network by a script.
 pub(crate) fn play_by_script<W: Write>(
     alloc: Global,
-    network: Network<Model>,
+    network: Network<AnyModel>,
     script: &[u8],
     until: u64,
     cancel: Cancel,
@@ -74,7 +74,7 @@ pub(crate) fn play_by_seed<W: Write>(
 }
 
 // The commands of a script.
-fn commands(alloc: Global, script: &[u8], network: &Network<Model>) -> Result<Vec<Command>, Exit>
+fn commands(alloc: Global, script: &[u8], network: &Network<AnyModel>) -> Result<Vec<Command>, Exit>
     ensures ok { IfOk result (λ commands. IsScript network.now.names script.now commands.items) }
     ensures err { IfErr result (IsScriptExit network.now.names script.now) }
 {
@@ -92,10 +92,10 @@ fn commands(alloc: Global, script: &[u8], network: &Network<Model>) -> Result<Ve
 // An executive at its start, to be driven by hand.
 fn player(
     alloc: Global,
-    network: Network<Model>,
+    network: Network<AnyModel>,
     until: u64,
     cancel: Cancel,
-) -> Result<Player<Model>, Exit>
+) -> Result<Player<AnyModel>, Exit>
     ensures ok { IfOk result (λ player. player ≡ first network cancel until) }
     ensures err { IfErr result (λ exit. (exit ≡ Exit.Want refusal.OutOfMemory) ⊎ ((exit ≡ Exit.Bad refusal.BadTick None) × (max_tick < until))) }
 {
@@ -106,7 +106,7 @@ fn player(
 }
 
 // Writes the trace of what is committed up to the least commit line.
-fn write_committed<W: Write>(alloc: Global, executive: &Executive<Model>, out: &mut W) -> Exit
+fn write_committed<W: Write>(alloc: Global, executive: &Executive<AnyModel>, out: &mut W) -> Exit
     ensures { IsTraced executive.now result (W.contents out.old) (W.contents out.new) }
 {
     let Ok(records) = executive.trace(alloc) else {

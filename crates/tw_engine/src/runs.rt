@@ -20,8 +20,8 @@ use std::io::{ErrorKind, Read, Write};
 use std::sync::Wait;
 use std::thread::Threads;
 use std::time::Clock;
+use tw_any_model::AnyModel;
 use tw_line::{Driver, Job};
-use tw_models::Model;
 use tw_netfile::network_of_any_file;
 use tw_network::Network;
 use tw_process::Cancel;
@@ -193,7 +193,7 @@ fn run<W: Write>(alloc: Global, bytes: &[u8], until: u64, out: &mut W) -> Exit
 }
 
 // The network that a file's bytes mean.
-pub(crate) fn network(alloc: Global, bytes: &[u8]) -> Result<Network<Model>, Exit>
+pub(crate) fn network(alloc: Global, bytes: &[u8]) -> Result<Network<AnyModel>, Exit>
     ensures ok { IfOk result (IsMeaning bytes.now) }
     ensures err { IfErr result (IsFileExit bytes.now) }
 {
@@ -206,7 +206,7 @@ pub(crate) fn network(alloc: Global, bytes: &[u8]) -> Result<Network<Model>, Exi
 // The fault of a network's sequential run, if it ends in one.
 fn fault_of(
     alloc: Global,
-    network: &Network<Model>,
+    network: &Network<AnyModel>,
     until: u64,
 ) -> Result<Option<(usize, Stamp, Limit)>, Exit>
     ensures fault { IfOk result (λ fault. fault ≡ run_fault network.now until) }
@@ -237,7 +237,7 @@ pub(crate) fn last_line(
 // Writes the trace of a run and the line of its fault.
 pub(crate) fn write_run<W: Write>(
     alloc: Global,
-    network: &Network<Model>,
+    network: &Network<AnyModel>,
     seq: &Seq,
     out: &mut W,
 ) -> Exit

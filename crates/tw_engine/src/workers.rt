@@ -2,7 +2,7 @@
 
 ghost use Rattle.std.specs.Prelude.{◌≡◌, ◌≤◌, ◌<◌, ◌⊎◌, IfErr, IfOk, None};
 ghost use Rattle.tw_engine.specs.Runs.{IsRunByWorkers, IsWorked};
-ghost use Rattle.tw_models.specs.Model.{model_meaning};
+ghost use Rattle.tw_any_model.specs.AnyModel.{any_meaning};
 ghost use Rattle.tw_network.specs.Contents.{network_of};
 ghost use Rattle.tw_theory.specs.Simulator.{sequential};
 ghost use Rattle.tw_vtime.specs.Stamps.{max_tick};
@@ -17,11 +17,11 @@ use std::io::Write;
 use std::sync::{Arc, Wait};
 use std::thread::Threads;
 use std::time::Clock;
+use tw_any_model::{AnyModel, AnyState};
 use tw_board::{Board, Publisher};
 use tw_exec::Executive;
 use tw_laws::endings::outcome_law;
 use tw_line::Setting;
-use tw_models::{Model, State};
 use tw_network::Network;
 use tw_process::Cancel;
 use tw_progress::while_telling;
@@ -51,7 +51,7 @@ pub(crate) fn run_by_workers<R: Threads + Wait + Clock + Eprint + Sync, W: Write
 pub(crate) fn run_network<R: Threads + Wait + Clock + Eprint + Sync, W: Write>(
     rt: &R,
     alloc: Global,
-    network: Network<Model>,
+    network: Network<AnyModel>,
     until: u64,
     cancel: Cancel,
     setting: Setting,
@@ -76,10 +76,10 @@ pub(crate) fn run_network<R: Threads + Wait + Clock + Eprint + Sync, W: Write>(
 // An executive at its start.
 fn started(
     alloc: Global,
-    network: Network<Model>,
+    network: Network<AnyModel>,
     until: u64,
     cancel: Cancel,
-) -> Result<Executive<Model>, Exit>
+) -> Result<Executive<AnyModel>, Exit>
     ensures network { IfOk result (λ e. e.network ≡ network) }
     ensures until { IfOk result (λ e. e.until ≡ until) }
     ensures err { IfErr result (λ exit. (exit ≡ Exit.Want refusal.OutOfMemory) ⊎ ((exit ≡ Exit.Bad refusal.BadTick None) × (max_tick < until))) }
@@ -94,15 +94,15 @@ fn started(
 fn worked<R: Threads + Wait + Clock + Eprint + Sync>(
     rt: &R,
     alloc: Global,
-    executive: Executive<Model>,
+    executive: Executive<AnyModel>,
     setting: Setting,
 ) -> Result<Seq, Refusal>
-    ensures records { IfOk result (λ seq. seq.records.items ≡ (sequential (network_of model_meaning executive.network) executive.until).records) }
-    ensures fault { IfOk result (λ seq. seq.fault ≡ (sequential (network_of model_meaning executive.network) executive.until).fault) }
+    ensures records { IfOk result (λ seq. seq.records.items ≡ (sequential (network_of any_meaning executive.network) executive.until).records) }
+    ensures fault { IfOk result (λ seq. seq.fault ≡ (sequential (network_of any_meaning executive.network) executive.until).fault) }
     ensures err { IfErr result (λ why. (why ≡ refusal.OutOfMemory) ⊎ (why ≡ refusal.Full)) }
 {
     executive.facts();
-    outcome_law::<State>();
+    outcome_law::<AnyState>();
     match outcome(rt, alloc, executive, setting) {
         Ok(Outcome::Complete(records)) => Ok(Seq {
             records,
@@ -120,10 +120,10 @@ fn worked<R: Threads + Wait + Clock + Eprint + Sync>(
 fn outcome<R: Threads + Wait + Clock + Eprint + Sync>(
     rt: &R,
     alloc: Global,
-    executive: Executive<Model>,
+    executive: Executive<AnyModel>,
     setting: Setting,
 ) -> Result<Outcome, Refusal>
-    ensures outcome { IfOk result (IsEnd model_meaning executive.network executive.until) }
+    ensures outcome { IfOk result (IsEnd any_meaning executive.network executive.until) }
     ensures err { IfErr result (λ why. (why ≡ refusal.OutOfMemory) ⊎ (why ≡ refusal.Full)) }
 {
     let Ok((mut board, publisher)) = Board::new(alloc) else {
@@ -142,7 +142,7 @@ fn outcome<R: Threads + Wait + Clock + Eprint + Sync>(
         until,
         move || -> Result<Outcome, Refusal>
             requires { IsNotAhead publisher executive }
-            ensures outcome { IfOk result (IsEnd model_meaning executive.network executive.until) }
+            ensures outcome { IfOk result (IsEnd any_meaning executive.network executive.until) }
             ensures err { IfErr result (λ why. (why ≡ refusal.OutOfMemory) ⊎ (why ≡ refusal.Full)) }
         { posted(rt, alloc, executive, setting, publisher) },
     )
@@ -152,12 +152,12 @@ fn outcome<R: Threads + Wait + Clock + Eprint + Sync>(
 fn posted<R: Threads + Wait + Sync>(
     rt: &R,
     alloc: Global,
-    executive: Executive<Model>,
+    executive: Executive<AnyModel>,
     setting: Setting,
     publisher: Publisher,
 ) -> Result<Outcome, Refusal>
     requires { IsNotAhead publisher executive }
-    ensures outcome { IfOk result (IsEnd model_meaning executive.network executive.until) }
+    ensures outcome { IfOk result (IsEnd any_meaning executive.network executive.until) }
     ensures err { IfErr result (λ why. (why ≡ refusal.OutOfMemory) ⊎ (why ≡ refusal.Full)) }
 {
     let (ended, _) = run(rt, alloc, executive, in_range(setting), &Open, publisher);

@@ -1,5 +1,7 @@
 //! Names, couplings and inputs that are at fault.
 
+use crate::given::late_starts;
+use crate::machines::machines_of;
 use crate::outline::{Level, Outline, items_at, name_of, place_of};
 use crate::parameters::check_range;
 use crate::stop::Stop;
@@ -232,8 +234,12 @@ fn first_like(couplings: &[Value], item: &Value) -> Option<usize> {
     None
 }
 
-// Looks for an input whose tick is too late.
-pub(crate) fn bad_ticks(alloc: Global, value: &Value) -> Result<(), Stop> {
+// Looks for a first wait of a machine that is too long, and then for an input whose tick is too late.
+pub(crate) fn bad_ticks(alloc: Global, value: &Value, outline: &Outline<'_>) -> Result<(), Stop> {
+    if outline.has_machines {
+        let machines = machines_of(alloc, value)?;
+        late_starts(alloc, outline, machines.as_slice())?;
+    }
     for (i, input) in items_at(value, "inputs").iter().enumerate() {
         let place = format!(in alloc; "inputs[{i}]")?;
         check_range(alloc, place.as_str(), input, "tick", 0, MAX_TICK)?;

@@ -67,7 +67,7 @@ fn unconnected(
         NetworkRefused::SelfCoupling => self_couplings(alloc, outline),
         NetworkRefused::DuplicateRoute => repeated_routes(alloc, outline),
         NetworkRefused::TooMany => too_many(alloc, value, outline),
-        NetworkRefused::BadTick => bad_ticks(alloc, value),
+        NetworkRefused::BadTick => bad_ticks(alloc, value, outline),
         NetworkRefused::BadLimit => bad_limit(alloc, value),
         NetworkRefused::BadName => bad_names(alloc, outline),
         NetworkRefused::DuplicateName => repeated_names(alloc, outline),

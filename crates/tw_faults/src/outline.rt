@@ -38,17 +38,21 @@ pub(crate) struct Outline<'a> {
     pub(crate) levels: Vec<Level<'a>>,
     /// Depth first.
     pub(crate) atoms: Vec<Atom<'a>>,
-    /// Whether components may be coupled models: the format is `tw-2`.
+    /// Whether components may be coupled models: the format is `tw-2` or `tw-3`.
     pub(crate) has_trees: bool,
+    /// Whether components may be machines of `models`: the format is `tw-3`.
+    pub(crate) has_machines: bool,
 }
 
 impl<'a> Outline<'a> {
     // The outline of a file.
     pub(crate) fn new(alloc: Global, value: &'a Value) -> Result<Outline<'a>, AllocError> {
+        let format = value.get("format").and_then(Value::as_str).unwrap_or("");
         let mut outline = Outline {
             levels: Vec::new(alloc),
             atoms: Vec::new(alloc),
-            has_trees: value.get("format").and_then(Value::as_str) == Some("tw-2"),
+            has_trees: format == "tw-2" || format == "tw-3",
+            has_machines: format == "tw-3",
         };
         let file = Level {
             place: String::from_str(alloc, "the file")?,

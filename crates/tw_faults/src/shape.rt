@@ -1,14 +1,52 @@
 //! Members that are missing, unknown or of another type.
 
+use crate::given::{check_given, check_tables, machine_named};
+use crate::machines::{Machine, machines_of};
+use crate::names::MODELS;
+use crate::nearest::Nearest;
 use crate::outline::{Outline, items_at, place_of};
 use crate::stop::Stop;
 use crate::words::{described, listed, quoted};
 use serde_json::Value;
 use std::alloc::Global;
 
-// Looks for another shape: first in the members of the file, then in its models in order, then in its inputs.
+/// The members of a network file.
+const MEMBERS: [&str; 5] = ["format", "micro_limit", "components", "couplings", "inputs"];
+
+/// The members of a network file of format tw-3.
+const MEMBERS_OF_MACHINES: [&str; 6] = [
+    "format",
+    "micro_limit",
+    "models",
+    "components",
+    "couplings",
+    "inputs",
+];
+
+// Looks for another shape: first in the members of the file, then in its machines in order, then in its models in
+// order, then in its inputs.
 pub(crate) fn bad_shape(alloc: Global, value: &Value, outline: &Outline<'_>) -> Result<(), Stop> {
-    check_file(alloc, value)?;
+    check_file(alloc, value, outline)?;
+    let machines = if outline.has_machines {
+        machines_of(alloc, value)?
+    } else {
+        Vec::new(alloc)
+    };
+    check_levels(alloc, outline, machines.as_slice())?;
+    check_tables(alloc, outline, machines.as_slice())?;
+    for (i, input) in items_at(value, "inputs").iter().enumerate() {
+        let place = format!(in alloc; "inputs[{i}]")?;
+        check_input(alloc, place.as_str(), input)?;
+    }
+    Ok(())
+}
+
+// Looks at the components and couplings of the file and of the models in it.
+fn check_levels(
+    alloc: Global,
+    outline: &Outline<'_>,
+    machines: &[Machine<'_>],
+) -> Result<(), Stop> {
     for level in &outline.levels {
         let place = level.place.as_str();
         check_list(alloc, place, level.value, "components")?;
@@ -20,7 +58,13 @@ pub(crate) fn bad_shape(alloc: Global, value: &Value, outline: &Outline<'_>) -> 
                 i,
                 component,
             )?;
-            check_component(alloc, place.as_str(), component, outline.has_trees)?;
+            check_component(
+                alloc,
+                place.as_str(),
+                component,
+                outline.has_trees,
+                machines,
+            )?;
         }
         check_list(alloc, place, level.value, "couplings")?;
         for (i, coupling) in items_at(level.value, "couplings").iter().enumerate() {
@@ -28,33 +72,30 @@ pub(crate) fn bad_shape(alloc: Global, value: &Value, outline: &Outline<'_>) -> 
             check_coupling(alloc, place.as_str(), coupling)?;
         }
     }
-    for (i, input) in items_at(value, "inputs").iter().enumerate() {
-        let place = format!(in alloc; "inputs[{i}]")?;
-        check_input(alloc, place.as_str(), input)?;
-    }
     Ok(())
 }
 
 // Looks at the members of the file itself.
-fn check_file(alloc: Global, value: &Value) -> Result<(), Stop> {
+fn check_file(alloc: Global, value: &Value, outline: &Outline<'_>) -> Result<(), Stop> {
     let place = "the file";
-    check_members(
-        alloc,
-        place,
-        value,
-        "a network file",
-        &[],
-        &["format", "micro_limit", "components", "couplings", "inputs"],
-    )?;
+    let what = "a network file";
+    if outline.has_machines {
+        check_members(alloc, place, value, what, &[], &MEMBERS_OF_MACHINES)?;
+    } else {
+        check_members(alloc, place, value, what, &[], &MEMBERS)?;
+    }
     check_text(alloc, place, value, "format")?;
     if let Some(format) = value.get("format").and_then(Value::as_str) {
-        if format != "tw-1" && format != "tw-2" {
+        if format != "tw-1" && format != "tw-2" && format != "tw-3" {
             let format = quoted(alloc, format)?;
-            let line = format!(in alloc; "{place}: format is {format}, not \"tw-1\" or \"tw-2\"")?;
+            let line = format!(in alloc;
+                "{place}: format is {format}, not \"tw-1\", \"tw-2\" or \"tw-3\""
+            )?;
             return Err(Stop::Fault(line));
         }
     }
     check_count(alloc, place, value, "micro_limit")?;
+    check_list(alloc, place, value, "models")?;
     check_list(alloc, place, value, "inputs")
 }
 
@@ -64,6 +105,7 @@ fn check_component(
     place: &str,
     component: &Value,
     has_trees: bool,
+    machines: &[Machine<'_>],
 ) -> Result<(), Stop> {
     if has_trees && component.is_object() && component.get("model").is_none() {
         if component.get("components").is_none() && component.get("couplings").is_none() {
@@ -80,11 +122,16 @@ fn check_component(
         )?;
         return check_text(alloc, place, component, "name");
     }
-    check_atom(alloc, place, component)
+    check_atom(alloc, place, component, machines)
 }
 
 // Looks at a component that has a model, or should have one.
-fn check_atom(alloc: Global, place: &str, atom: &Value) -> Result<(), Stop> {
+fn check_atom(
+    alloc: Global,
+    place: &str,
+    atom: &Value,
+    machines: &[Machine<'_>],
+) -> Result<(), Stop> {
     check_present(alloc, place, atom, "a component", "name")?;
     check_text(alloc, place, atom, "name")?;
     check_present(alloc, place, atom, "a component", "model")?;
@@ -105,27 +152,47 @@ fn check_atom(alloc: Global, place: &str, atom: &Value) -> Result<(), Stop> {
             check_members(alloc, place, atom, "a queue", common, &["service"])?;
             check_count(alloc, place, atom, "service")
         }
-        "hop" => {
-            check_members(
-                alloc,
-                place,
-                atom,
-                "a hop",
-                common,
-                &["seed", "ports", "spread"],
-            )?;
-            check_count(alloc, place, atom, "seed")?;
-            check_count(alloc, place, atom, "ports")?;
-            check_count(alloc, place, atom, "spread")
-        }
-        model => {
-            let model = quoted(alloc, model)?;
-            let line = format!(in alloc;
-                "{place}: no model {model}; there are gen, tally, relay, queue, hop"
-            )?;
-            Err(Stop::Fault(line))
-        }
+        "hop" => check_hop(alloc, place, atom, common),
+        model => match machine_named(machines, model) {
+            Some(machine) => check_given(alloc, place, atom, machine),
+            None => unknown_model(alloc, place, model, machines),
+        },
     }
+}
+
+// Looks at a hop.
+fn check_hop(alloc: Global, place: &str, atom: &Value, common: &[&str]) -> Result<(), Stop> {
+    let own = &["seed", "ports", "spread"];
+    check_members(alloc, place, atom, "a hop", common, own)?;
+    check_count(alloc, place, atom, "seed")?;
+    check_count(alloc, place, atom, "ports")?;
+    check_count(alloc, place, atom, "spread")
+}
+
+// Stops at a model that there is not.
+fn unknown_model(
+    alloc: Global,
+    place: &str,
+    model: &str,
+    machines: &[Machine<'_>],
+) -> Result<(), Stop> {
+    let shown = quoted(alloc, model)?;
+    if machines.is_empty() {
+        let line = format!(in alloc;
+            "{place}: no model {shown}; there are gen, tally, relay, queue, hop"
+        )?;
+        return Err(Stop::Fault(line));
+    }
+    let mut nearest = Nearest::new(model);
+    for machine in machines {
+        nearest.look(alloc, machine.read.name.as_str())?;
+    }
+    nearest.look_all(alloc, &MODELS)?;
+    let question = nearest.question(alloc)?;
+    let line = format!(in alloc;
+        "{place}: no model {shown}; there are gen, tally, relay, queue, hop and those of models{question}"
+    )?;
+    Err(Stop::Fault(line))
 }
 
 // Looks at a coupling.
@@ -172,7 +239,7 @@ fn check_input(alloc: Global, place: &str, input: &Value) -> Result<(), Stop> {
 }
 
 // Stops at what is no object, at an unknown member, and then at a missing one. The words name those of `own`.
-fn check_members(
+pub(crate) fn check_members(
     alloc: Global,
     place: &str,
     value: &Value,
@@ -263,7 +330,12 @@ fn check_count(alloc: Global, place: &str, value: &Value, name: &str) -> Result<
 }
 
 // Stops at a member that is there and no whole number of 64 bits with sign.
-fn check_value(alloc: Global, place: &str, value: &Value, name: &str) -> Result<(), Stop> {
+pub(crate) fn check_value(
+    alloc: Global,
+    place: &str,
+    value: &Value,
+    name: &str,
+) -> Result<(), Stop> {
     match value.get(name) {
         Some(found) if !found.is_i64() => other_type(
             alloc,

@@ -18,7 +18,7 @@ fn net<'a>(alloc: Global) -> Arg<'a>
     ensures local { result.global ≡ false }
 {
     Arg::new(alloc, "net").required(true).value_name("NET").help(
-        "The network: the path of a JSON file of the format tw-1 or tw-2",
+        "The network: the path of a JSON file of the format tw-1, tw-2 or tw-3",
     )
 }
 

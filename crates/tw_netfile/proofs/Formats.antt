@@ -10,7 +10,7 @@ use Rattle.tw_netfile.specs.Components.{after}
 use Rattle.tw_netfile.specs.Meaning.{json_of, meaning_of, network_of, shape_of}
 use Rattle.tw_netfile.specs.Shape.{file_of, has_members, is_format, text_at}
 use Rattle.tw_netfile.specs.TreeMeaning.{tree_in}
-use Rattle.tw_netfile.specs.TreeShape.{TreeFile, is_tree_format, tree_file_of}
+use Rattle.tw_netfile.specs.TreeShape.{TreeFile, is_machines_format, is_tree_format, machines_file_of, tree_file_of, tree_of}
 use Rattle.tw_netfile.specs.declared.refused.FileRefused.{FileRefused}
 use Rattle.tw_netfile.specs.declared.refused.FileRefused.TheVariants.{BadShape}
 
@@ -25,12 +25,28 @@ one_name {A} {B} true (Some t) x y a is = by (bytes_eq t (codes "tw-2")) refl is
     by true same e = ap (λ u. cond (bytes_eq u (codes "tw-1")) y None) ((bytes_eq-Decides t (codes "tw-2")).0 same)
     by false other e = absurd cc
 
-no_file : (d : Data) (file : TreeFile) → tree_file_of d ≡ Some file → file_of d ≡ None
-no_file d file is = one_name (has_members 5 d) (text_at (codes "format") d) _ _ file is
+-- neither of these two
+other_name : {A B : Type 0} (b c : Bool) (format : Option (List ℕ)) (x : Option A) (y : Option B) (a : A)
+    → cond b (cond (is_machines_format format) x None) None ≡ Some a → cond c (cond (is_format format) y None) None ≡ None
+other_name false c format x y a is = absurd cc
+other_name true c None x y a is = absurd cc
+other_name true false (Some t) x y a is = refl
+other_name {A} {B} true true (Some t) x y a is = by (bytes_eq t (codes "tw-3")) refl is
+  where
+    by : (s : Bool) → bytes_eq t (codes "tw-3") ≡ s → cond s x None ≡ Some a → cond (bytes_eq t (codes "tw-1")) y None ≡ None
+    by true same e = ap (λ u. cond (bytes_eq u (codes "tw-1")) y None) ((bytes_eq-Decides t (codes "tw-3")).0 same)
+    by false other e = absurd cc
+
+no_file : (d : Data) (file : TreeFile) → tree_of d ≡ Some file → file_of d ≡ None
+no_file d file is = by (is_tree_format (text_at (codes "format") d)) is
+  where
+    by : (b : Bool) → cond b (tree_file_of d) (machines_file_of d) ≡ Some file → file_of d ≡ None
+    by true at = one_name (has_members 5 d) (text_at (codes "format") d) _ _ file at
+    by false at = other_name (has_members 6 d) (has_members 5 d) (text_at (codes "format") d) _ _ file at
 
 pub one_format : (bytes : List ℕ) (file : TreeFile) → tree_in bytes ≡ Some file → meaning_of bytes ≡ Err BadShape
 one_format bytes file is = by (json_of bytes) is
   where
-    by : (r : Result Data FileRefused) → option_and_then tree_file_of (result_ok r) ≡ Some file → after (λ d. after network_of (shape_of d)) r ≡ Err BadShape
+    by : (r : Result Data FileRefused) → option_and_then tree_of (result_ok r) ≡ Some file → after (λ d. after network_of (shape_of d)) r ≡ Err BadShape
     by (Ok d) at = ap (λ o. after network_of (ok_or o BadShape)) (no_file d file at)
     by (Err e) at = absurd cc

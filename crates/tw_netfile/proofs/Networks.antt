@@ -1,7 +1,7 @@
 -- What a file means, by the parts that are made of it.
 use Rattle.std.proofs.Common.{◌≡◌, ℕ, List, map, sym, refl}
 use Rattle.std.specs.Prelude.{Ok}
-use Rattle.tw_models.specs.declared.model.Model.{Model}
+use Rattle.tw_any_model.specs.declared.any_model.AnyModel.{AnyModel}
 use Rattle.tw_network.specs.Contents.{Input}
 use Rattle.tw_theory.specs.Network.{Coupling}
 use Rattle.tw_netfile.specs.Components.{components_made}
@@ -11,7 +11,7 @@ use Rattle.tw_netfile.specs.Shape.{File, FileComponent, FileCoupling, FileInput}
 
 -- where the models are made, and couplings and inputs have numbers
 pub network_known : (file : File) (cs : List FileComponent) (ks : List FileCoupling) (is : List FileInput) (number : List ℕ → ℕ)
-    (components : List (List ℕ × Model)) (couplings : List Coupling) (inputs : List Input)
+    (components : List (List ℕ × AnyModel)) (couplings : List Coupling) (inputs : List Input)
     → cs ≡ file.components → ks ≡ file.couplings → is ≡ file.inputs
     → components_made cs ≡ Ok components → number ≡ number_of (names_of cs)
     → couplings ≡ map (numbered_coupling number) ks → inputs ≡ map (numbered_input number) is

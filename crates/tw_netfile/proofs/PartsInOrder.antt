@@ -8,7 +8,8 @@ use Rattle.serde_json.specs.Data.{Data, Items}
 use Rattle.serde_json.specs.Find.{get, as_array}
 use Rattle.serde_json.specs.View.{view, items_view}
 use Rattle.serde_json.specs.declared.value.Value.{Value}
-use Rattle.tw_models.specs.declared.model.Model.{Model}
+use Rattle.tw_any_model.specs.declared.any_model.AnyModel.{AnyModel}
+use Rattle.tw_machine_file.specs.Seen.{Machine}
 use Rattle.tw_nested.specs.declared.tree.Nested.{Nested}
 use Rattle.tw_nested.specs.declared.tree.Part.{Part, roll-Part, out-Part, fold-roll-Part, roll-out-Part}
 use Rattle.tw_nested.specs.declared.tree.Part.TheOpen.{Part-F}
@@ -16,7 +17,7 @@ use Rattle.tw_nested.specs.Tree.{Parts, Link, no_parts, part_view, parts_of, par
 use Rattle.tw_netfile.specs.Components.{after}
 use Rattle.tw_netfile.specs.Shape.{FileCoupling, all_read, array_at, coupling_of, of_two}
 use Rattle.tw_netfile.specs.TreeShape.{FileTree, links_named, part_names, part_read, parts_read, tree_made, tree_read}
-use Rattle.tw_netfile.specs.declared.draft.ModelDraft.{ModelDraft}
+use Rattle.tw_netfile.specs.declared.draft.AnyDraft.{AnyDraft}
 use Rattle.tw_netfile.specs.declared.refused.FileRefused.{FileRefused}
 use Rattle.tw_netfile.specs.declared.refused.FileRefused.TheVariants.{OutOfMemory}
 
@@ -54,40 +55,40 @@ passed_on (Err e) f P is at = λ other. subst P (sym is) (at (λ same. other (is
 -- ---- reading
 
 -- what the values from i on read, after the parts that were read before
-abbrev pub parts_left : (Data → Option FileTree) → List Value → List (String Global × Part ModelDraft) → ℕ → Option (Parts ModelDraft)
-parts_left tree vs done i = option_map (parts_then {M = ModelDraft} done) (parts_read tree (items_view (drop i vs)))
+abbrev pub parts_left : List Machine → (Data → Option FileTree) → List Value → List (String Global × Part AnyDraft) → ℕ → Option (Parts AnyDraft)
+parts_left ms tree vs done i = option_map (parts_then {M = AnyDraft} done) (parts_read ms tree (items_view (drop i vs)))
 
-regroup : (done : List (String Global × Part ModelDraft)) (p : String Global × Part ModelDraft) (o : Option (Parts ModelDraft))
-    → option_map (parts_then {M = ModelDraft} done) (option_map (part_view {M = ModelDraft} p.1 (string_bytes p.0)) o) ≡ option_map (parts_then {M = ModelDraft} (done ++ p ∷ [])) o
+regroup : (done : List (String Global × Part AnyDraft)) (p : String Global × Part AnyDraft) (o : Option (Parts AnyDraft))
+    → option_map (parts_then {M = AnyDraft} done) (option_map (part_view {M = AnyDraft} p.1 (string_bytes p.0)) o) ≡ option_map (parts_then {M = AnyDraft} (done ++ p ∷ [])) o
 regroup done p None = refl
-regroup done p (Some rest) = ap (λ (x : Parts ModelDraft). Some x) (one_part_more {M = ModelDraft} done p rest)
+regroup done p (Some rest) = ap (λ (x : Parts AnyDraft). Some x) (one_part_more {M = AnyDraft} done p rest)
 
-pub part_more : (tree : Data → Option FileTree) (vs : List Value) (done : List (String Global × Part ModelDraft)) (i : ℕ) (v : Value) (p : String Global × Part ModelDraft)
-    → i < length vs → part_read tree (view (get_or vs i v)) ≡ Some (part_view {M = ModelDraft} p.1 (string_bytes p.0)) → parts_left tree vs done i ≡ parts_left tree vs (done ++ p ∷ []) (i + 1)
-part_more tree vs done i v p h is = rw (add-one, drop-cons vs i v h, is) (regroup done p (parts_read tree (items_view (drop (suc i) vs))))
+pub part_more : (ms : List Machine) (tree : Data → Option FileTree) (vs : List Value) (done : List (String Global × Part AnyDraft)) (i : ℕ) (v : Value) (p : String Global × Part AnyDraft)
+    → i < length vs → part_read ms tree (view (get_or vs i v)) ≡ Some (part_view {M = AnyDraft} p.1 (string_bytes p.0)) → parts_left ms tree vs done i ≡ parts_left ms tree vs (done ++ p ∷ []) (i + 1)
+part_more ms tree vs done i v p h is = rw (add-one, drop-cons vs i v h, is) (regroup done p (parts_read ms tree (items_view (drop (suc i) vs))))
 
-pub no_part : (tree : Data → Option FileTree) (vs : List Value) (done : List (String Global × Part ModelDraft)) (i : ℕ) (v : Value)
-    → i < length vs → part_read tree (view (get_or vs i v)) ≡ None → parts_left tree vs done i ≡ None
-no_part tree vs done i v h is = rw (drop-cons vs i v h, is) refl
+pub no_part : (ms : List Machine) (tree : Data → Option FileTree) (vs : List Value) (done : List (String Global × Part AnyDraft)) (i : ℕ) (v : Value)
+    → i < length vs → part_read ms tree (view (get_or vs i v)) ≡ None → parts_left ms tree vs done i ≡ None
+no_part ms tree vs done i v h is = rw (drop-cons vs i v h, is) refl
 
-pub all_read_parts : (tree : Data → Option FileTree) (vs : List Value) (done : List (String Global × Part ModelDraft)) (i : ℕ) → length vs ≤ i → parts_left tree vs done i ≡ Some (parts_of {M = ModelDraft} done)
-all_read_parts tree vs done i past =
-    ap (λ (xs : List Value). option_map (parts_then {M = ModelDraft} done) (parts_read tree (items_view xs))) (none_left vs vs i refl past)
-    ∙ ap (λ (x : Parts ModelDraft). Some x) (all_parts {M = ModelDraft} done)
+pub all_read_parts : (ms : List Machine) (tree : Data → Option FileTree) (vs : List Value) (done : List (String Global × Part AnyDraft)) (i : ℕ) → length vs ≤ i → parts_left ms tree vs done i ≡ Some (parts_of {M = AnyDraft} done)
+all_read_parts ms tree vs done i past =
+    ap (λ (xs : List Value). option_map (parts_then {M = AnyDraft} done) (parts_read ms tree (items_view xs))) (none_left vs vs i refl past)
+    ∙ ap (λ (x : Parts AnyDraft). Some x) (all_parts {M = AnyDraft} done)
 
 -- a model is read as its parts and couplings are
-module _ (room r : ℕ) (above : room ≡ suc r) (d : Data) (ds : Items) (components : Some ds ≡ option_and_then as_array (get (codes "components") d)) where
-  of_parts : (o : Option (Parts ModelDraft)) → parts_read (tree_read r) ds ≡ o → tree_read room d ≡ of_two (λ parts couplings. (parts, links_named parts couplings)) o (array_at coupling_of (codes "couplings") d)
+module _ (ms : List Machine) (room r : ℕ) (above : room ≡ suc r) (d : Data) (ds : Items) (components : Some ds ≡ option_and_then as_array (get (codes "components") d)) where
+  of_parts : (o : Option (Parts AnyDraft)) → parts_read ms (tree_read ms r) ds ≡ o → tree_read ms room d ≡ of_two (λ parts couplings. (parts, links_named parts couplings)) o (array_at coupling_of (codes "couplings") d)
   of_parts o is =
-      ap (λ n. tree_read n d) above
-      ∙ ap (λ (x : Option Items). of_two (λ parts couplings. (parts, links_named parts couplings)) (option_and_then (parts_read (tree_read r)) x) (array_at coupling_of (codes "couplings") d)) (sym components)
-      ∙ ap (λ (x : Option (Parts ModelDraft)). of_two (λ parts couplings. (parts, links_named parts couplings)) x (array_at coupling_of (codes "couplings") d)) is
+      ap (λ n. tree_read ms n d) above
+      ∙ ap (λ (x : Option Items). of_two (λ parts couplings. (parts, links_named parts couplings)) (option_and_then (parts_read ms (tree_read ms r)) x) (array_at coupling_of (codes "couplings") d)) (sym components)
+      ∙ ap (λ (x : Option (Parts AnyDraft)). of_two (λ parts couplings. (parts, links_named parts couplings)) x (array_at coupling_of (codes "couplings") d)) is
 
-  pub no_tree : parts_read (tree_read r) ds ≡ None → tree_read room d ≡ None
+  pub no_tree : parts_read ms (tree_read ms r) ds ≡ None → tree_read ms room d ≡ None
   no_tree is = of_parts None is
 
-  pub whole_tree : (parts : Parts ModelDraft) (ks : Items) (couplings : List FileCoupling) → parts_read (tree_read r) ds ≡ Some parts
-      → Some ks ≡ option_and_then as_array (get (codes "couplings") d) → all_read coupling_of ks ≡ Some couplings → tree_read room d ≡ Some (parts, links_named parts couplings)
+  pub whole_tree : (parts : Parts AnyDraft) (ks : Items) (couplings : List FileCoupling) → parts_read ms (tree_read ms r) ds ≡ Some parts
+      → Some ks ≡ option_and_then as_array (get (codes "couplings") d) → all_read coupling_of ks ≡ Some couplings → tree_read ms room d ≡ Some (parts, links_named parts couplings)
   whole_tree parts ks couplings is there read =
       of_parts (Some parts) is
       ∙ ap (λ (x : Option Items). of_two (λ parts couplings. (parts, links_named parts couplings)) (Some parts) (option_and_then (all_read coupling_of) x)) (sym there)
@@ -114,31 +115,31 @@ name_more {M} ps done i p name h is =
 -- ---- models
 
 -- what the parts from i on make, after those that were made before
-abbrev pub models_left : List (String Global × Part ModelDraft) → List (String Global × Part Model) → ℕ → Result (Parts Model) FileRefused
-models_left ps done i = after (λ more. Ok (parts_then {M = Model} done more)) (tree_made (parts_of {M = ModelDraft} (drop i ps)))
+abbrev pub models_left : List (String Global × Part AnyDraft) → List (String Global × Part AnyModel) → ℕ → Result (Parts AnyModel) FileRefused
+models_left ps done i = after (λ more. Ok (parts_then {M = AnyModel} done more)) (tree_made (parts_of {M = AnyDraft} (drop i ps)))
 
-remade : (done : List (String Global × Part Model)) (p : String Global × Part Model) (r : Result (Parts Model) FileRefused)
-    → after (λ more. Ok (parts_then {M = Model} done more)) (after (λ more. Ok (part_view {M = Model} p.1 (string_bytes p.0) more)) r) ≡ after (λ more. Ok (parts_then {M = Model} (done ++ p ∷ []) more)) r
+remade : (done : List (String Global × Part AnyModel)) (p : String Global × Part AnyModel) (r : Result (Parts AnyModel) FileRefused)
+    → after (λ more. Ok (parts_then {M = AnyModel} done more)) (after (λ more. Ok (part_view {M = AnyModel} p.1 (string_bytes p.0) more)) r) ≡ after (λ more. Ok (parts_then {M = AnyModel} (done ++ p ∷ []) more)) r
 remade done p (Err e) = refl
-remade done p (Ok more) = ap (λ (x : Parts Model). Ok x) (one_part_more {M = Model} done p more)
+remade done p (Ok more) = ap (λ (x : Parts AnyModel). Ok x) (one_part_more {M = AnyModel} done p more)
 
-module _ (ps qs : List (String Global × Part ModelDraft)) (done : List (String Global × Part Model)) (i : ℕ) (q : String Global × Part ModelDraft) (same : qs ≡ ps) (lt : i < length qs) (is : q ≡ get_or qs i q) where
-  at_part : models_left ps done i ≡ after (λ more. Ok (parts_then {M = Model} done more)) (tree_made (part_view {M = ModelDraft} q.1 (string_bytes q.0) (parts_of {M = ModelDraft} (drop (i + 1) ps))))
-  at_part = ap (λ (xs : List (String Global × Part ModelDraft)). after (λ more. Ok (parts_then {M = Model} done more)) (tree_made (parts_of {M = ModelDraft} xs))) (at_place ps qs i q same lt is)
+module _ (ps qs : List (String Global × Part AnyDraft)) (done : List (String Global × Part AnyModel)) (i : ℕ) (q : String Global × Part AnyDraft) (same : qs ≡ ps) (lt : i < length qs) (is : q ≡ get_or qs i q) where
+  at_part : models_left ps done i ≡ after (λ more. Ok (parts_then {M = AnyModel} done more)) (tree_made (part_view {M = AnyDraft} q.1 (string_bytes q.0) (parts_of {M = AnyDraft} (drop (i + 1) ps))))
+  at_part = ap (λ (xs : List (String Global × Part AnyDraft)). after (λ more. Ok (parts_then {M = AnyModel} done more)) (tree_made (parts_of {M = AnyDraft} xs))) (at_place ps qs i q same lt is)
 
-  pub model_more : (p : String Global × Part Model) → string_bytes p.0 ≡ string_bytes q.0
-      → ((name : List ℕ) (rest : Parts ModelDraft) → tree_made (part_view {M = ModelDraft} q.1 name rest) ≡ after (λ more. Ok (part_view {M = Model} p.1 name more)) (tree_made rest))
+  pub model_more : (p : String Global × Part AnyModel) → string_bytes p.0 ≡ string_bytes q.0
+      → ((name : List ℕ) (rest : Parts AnyDraft) → tree_made (part_view {M = AnyDraft} q.1 name rest) ≡ after (λ more. Ok (part_view {M = AnyModel} p.1 name more)) (tree_made rest))
       → models_left ps done i ≡ models_left ps (done ++ p ∷ []) (i + 1)
   model_more p named makes =
       at_part
-      ∙ ap (λ (r : Result (Parts Model) FileRefused). after (λ more. Ok (parts_then {M = Model} done more)) r) (makes (string_bytes q.0) (parts_of {M = ModelDraft} (drop (i + 1) ps)))
-      ∙ (λ j. after (λ more. Ok (parts_then {M = Model} done more)) (after (λ more. Ok (part_view {M = Model} p.1 (sym named j) more)) (tree_made (parts_of {M = ModelDraft} (drop (i + 1) ps)))))
-      ∙ remade done p (tree_made (parts_of {M = ModelDraft} (drop (i + 1) ps)))
+      ∙ ap (λ (r : Result (Parts AnyModel) FileRefused). after (λ more. Ok (parts_then {M = AnyModel} done more)) r) (makes (string_bytes q.0) (parts_of {M = AnyDraft} (drop (i + 1) ps)))
+      ∙ (λ j. after (λ more. Ok (parts_then {M = AnyModel} done more)) (after (λ more. Ok (part_view {M = AnyModel} p.1 (sym named j) more)) (tree_made (parts_of {M = AnyDraft} (drop (i + 1) ps)))))
+      ∙ remade done p (tree_made (parts_of {M = AnyDraft} (drop (i + 1) ps)))
 
-  pub no_model : (e : FileRefused) → ((name : List ℕ) (rest : Parts ModelDraft) → tree_made (part_view {M = ModelDraft} q.1 name rest) ≡ Err e) → models_left ps done i ≡ Err e
-  no_model e fails = at_part ∙ ap (λ (r : Result (Parts Model) FileRefused). after (λ more. Ok (parts_then {M = Model} done more)) r) (fails (string_bytes q.0) (parts_of {M = ModelDraft} (drop (i + 1) ps)))
+  pub no_model : (e : FileRefused) → ((name : List ℕ) (rest : Parts AnyDraft) → tree_made (part_view {M = AnyDraft} q.1 name rest) ≡ Err e) → models_left ps done i ≡ Err e
+  no_model e fails = at_part ∙ ap (λ (r : Result (Parts AnyModel) FileRefused). after (λ more. Ok (parts_then {M = AnyModel} done more)) r) (fails (string_bytes q.0) (parts_of {M = AnyDraft} (drop (i + 1) ps)))
 
-pub all_models : (ps qs : List (String Global × Part ModelDraft)) (done : List (String Global × Part Model)) (i : ℕ) → qs ≡ ps → length qs ≤ i → models_left ps done i ≡ Ok (parts_of {M = Model} done)
+pub all_models : (ps qs : List (String Global × Part AnyDraft)) (done : List (String Global × Part AnyModel)) (i : ℕ) → qs ≡ ps → length qs ≤ i → models_left ps done i ≡ Ok (parts_of {M = AnyModel} done)
 all_models ps qs done i same past =
-    ap (λ (xs : List (String Global × Part ModelDraft)). after (λ more. Ok (parts_then {M = Model} done more)) (tree_made (parts_of {M = ModelDraft} xs))) (none_left ps qs i same past)
-    ∙ ap (λ (x : Parts Model). Ok x) (all_parts {M = Model} done)
+    ap (λ (xs : List (String Global × Part AnyDraft)). after (λ more. Ok (parts_then {M = AnyModel} done more)) (tree_made (parts_of {M = AnyDraft} xs))) (none_left ps qs i same past)
+    ∙ ap (λ (x : Parts AnyModel). Ok x) (all_parts {M = AnyModel} done)

@@ -3,8 +3,8 @@ use Rattle.std.proofs.Common.{◌≡◌, ◌∙◌, ◌<◌, ◌≤◌, ℕ, Lis
 use Rattle.std.proofs.lemmas.Bool.Decides.{nat_tests}
 use Rattle.std.proofs.lemmas.List.{length-map}
 use Rattle.std.specs.Prelude.{◌&&◌, nat_le, Some, Result, Ok}
-use Rattle.tw_models.specs.declared.model.Model.{Model}
-use Rattle.tw_models.specs.Model.{model_meaning}
+use Rattle.tw_any_model.specs.declared.any_model.AnyModel.{AnyModel}
+use Rattle.tw_any_model.specs.AnyModel.{any_meaning}
 use Rattle.tw_nested.specs.Tree.{Parts, Link, flat_names}
 use Rattle.tw_network.specs.Contents.{Contents, Input}
 use Rattle.tw_network.specs.Faults.{unless}
@@ -29,17 +29,17 @@ and_false false = refl
 
 -- ---- the fault of a tree, with and without its inputs
 
-module _ (parts : Parts Model) (links : List Link) (micro_limit : ℕ) (inputs : List Input) where
+module _ (parts : Parts AnyModel) (links : List Link) (micro_limit : ℕ) (inputs : List Input) where
   too_many : 65536 < length inputs → tree_count_fault parts links (length inputs) ≡ Some TooMany
   too_many more = ap (λ b. unless (is_few parts links && b) TooMany) (above (length inputs) more) ∙ ap (λ b. unless b TooMany) (and_false (is_few parts links))
 
-  pub too_many_inputs : 65536 < length inputs → IsTreeFault model_meaning parts links inputs micro_limit TooMany
+  pub too_many_inputs : 65536 < length inputs → IsTreeFault any_meaning parts links inputs micro_limit TooMany
   too_many_inputs more = in_tree TooMany (rw (too_many more) refl)
 
-  same_tree : length inputs ≤ 65536 → tree_fault model_meaning parts links [] micro_limit ≡ tree_fault model_meaning parts links inputs micro_limit
+  same_tree : length inputs ≤ 65536 → tree_fault any_meaning parts links [] micro_limit ≡ tree_fault any_meaning parts links inputs micro_limit
   same_tree few = rw (within (length inputs) few) refl
 
-  pub without_inputs : length inputs ≤ 65536 → (e : NetworkRefused) → IsTreeFault model_meaning parts links [] micro_limit e → IsTreeFault model_meaning parts links inputs micro_limit e
+  pub without_inputs : length inputs ≤ 65536 → (e : NetworkRefused) → IsTreeFault any_meaning parts links [] micro_limit e → IsTreeFault any_meaning parts links inputs micro_limit e
   without_inputs few e (in_tree f is) = in_tree f (sym (same_tree few) ∙ is)
   without_inputs few e (in_couplings none many) = in_couplings (sym (same_tree few) ∙ none) many
   without_inputs few e (in_inputs flat f none are is) = absurd cc
@@ -49,7 +49,7 @@ module _ (parts : Parts Model) (links : List Link) (micro_limit : ℕ) (inputs :
 ok_once : {A : Type 0} (a b : A) (r : Result A FileRefused) → r ≡ Ok a → r ≡ Ok b → a ≡ b
 ok_once a b r x y = cc
 
-module _ (file : TreeFile) (parts : Parts Model) (links : List Link) (made : tree_made file.parts ≡ Ok parts) (same : links ≡ file.links) where
+module _ (file : TreeFile) (parts : Parts AnyModel) (links : List Link) (made : tree_made file.parts ≡ Ok parts) (same : links ≡ file.links) where
   pub many_inputs : 65536 < length file.inputs → IsTreeFileFault file (Network TooMany)
   many_inputs more =
       in_network parts (Network TooMany) made
@@ -61,16 +61,16 @@ module _ (file : TreeFile) (parts : Parts Model) (links : List Link) (made : tre
         fault,
         is,
         without_inputs parts file.links file.micro_limit (inputs_named parts file.inputs) (subst (λ (n : ℕ). n ≤ 65536) (sym (length-map file.inputs _)) few) fault
-            (subst (λ (ins : List Input). IsTreeFault model_meaning parts file.links ins file.micro_limit fault) empty
-            (subst (λ (ls : List Link). IsTreeFault model_meaning parts ls none file.micro_limit fault) same first)),
+            (subst (λ (ins : List Input). IsTreeFault any_meaning parts file.links ins file.micro_limit fault) empty
+            (subst (λ (ls : List Link). IsTreeFault any_meaning parts ls none file.micro_limit fault) same first)),
       )
 
   -- inputs by the names of the network that was made first, of the parts that were made then
-  module _ (first : Parts Model) (before : tree_made file.parts ≡ Ok first) (names : List (List ℕ)) (named : names ≡ flat_names [] first) (inputs : List Input) (numbered : inputs ≡ map (numbered_input (number_of names)) file.inputs) where
+  module _ (first : Parts AnyModel) (before : tree_made file.parts ≡ Ok first) (names : List (List ℕ)) (named : names ≡ flat_names [] first) (inputs : List Input) (numbered : inputs ≡ map (numbered_input (number_of names)) file.inputs) where
     as_named : inputs ≡ inputs_named parts file.inputs
     as_named = numbered ∙ ap (λ (ns : List (List ℕ)). map (numbered_input (number_of ns)) file.inputs) (named ∙ ap (flat_names []) (ok_once first parts (tree_made file.parts) before made))
 
-    pub means : (n : Contents Model) → IsNetworkOfTree parts links inputs file.micro_limit n → IsTreeMeaning file n
+    pub means : (n : Contents AnyModel) → IsNetworkOfTree parts links inputs file.micro_limit n → IsTreeMeaning file n
     means n is = record {
       parts = parts;
       made = made;

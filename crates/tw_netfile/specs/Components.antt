@@ -1,12 +1,17 @@
 -- The models that a file's components mean: the parameters of each are in range, or the first that is not is the fault.
+--     any_model_of draft      the model that a component is to be, or what is wrong with its parameters
 --     components_made components      the components with their models, or the first fault
 use Rattle.std.specs.Prelude.{ℕ, List, [], ◌∷◌, Bool, ◌&&◌, nat_le, if◌then◌else◌, Result, Ok, Err}
 use Rattle.std.specs.Result.{result_map_both}
+use Rattle.tw_any_model.specs.declared.any_model.AnyModel.{AnyModel}
+use Rattle.tw_any_model.specs.declared.any_model.AnyModel.TheVariants as any
 use Rattle.tw_models.specs.declared.bad_model.BadModel.{BadModel}
 use Rattle.tw_models.specs.declared.bad_model.BadModel.TheVariants.{BadPort, BadTick}
 use Rattle.tw_models.specs.declared.model.Model.{Model}
 use Rattle.tw_models.specs.declared.model.Model.TheVariants as model
 use Rattle.tw_netfile.specs.Shape.{FileComponent}
+use Rattle.tw_netfile.specs.declared.draft.AnyDraft.{AnyDraft}
+use Rattle.tw_netfile.specs.declared.draft.AnyDraft.TheVariants.{BuiltIn, Machine}
 use Rattle.tw_netfile.specs.declared.draft.ModelDraft.{ModelDraft}
 use Rattle.tw_netfile.specs.declared.refused.FileRefused.{FileRefused}
 use Rattle.tw_netfile.specs.declared.refused.FileRefused.TheVariants.{Parameter}
@@ -32,13 +37,18 @@ model_of (Hop seed ports spread) =
     then made_if (nat_le 1 spread && nat_le spread 1048576) BadTick (model.Hop (record { seed = seed; ports = ports; spread = spread }))
     else Err BadPort
 
+-- one of the five with its parameters in range, or a machine, whose program is made
+abbrev pub any_model_of : AnyDraft → Result AnyModel FileRefused
+any_model_of (BuiltIn draft) = result_map_both any.BuiltIn Parameter (model_of draft)
+any_model_of (Machine program) = Ok (any.Machine (record { program = program }))
+
 -- each of a list made alike, or the first fault
 abbrev pub all_made : {A B E : Type 0} → (A → Result B E) → List A → Result (List B) E
 all_made make [] = Ok []
 all_made make (a ∷ more) = after (λ first. after (λ rest. Ok (first ∷ rest)) (all_made make more)) (make a)
 
-abbrev pub component_made : FileComponent → Result (List ℕ × Model) FileRefused
-component_made c = result_map_both (λ m. (c.0, m)) Parameter (model_of c.1)
+abbrev pub component_made : FileComponent → Result (List ℕ × AnyModel) FileRefused
+component_made c = after (λ m. Ok (c.0, m)) (any_model_of c.1)
 
-abbrev pub components_made : List FileComponent → Result (List (List ℕ × Model)) FileRefused
+abbrev pub components_made : List FileComponent → Result (List (List ℕ × AnyModel)) FileRefused
 components_made components = all_made component_made components

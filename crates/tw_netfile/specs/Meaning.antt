@@ -5,8 +5,8 @@ use Rattle.std.specs.Option.{ok_or}
 use Rattle.std.specs.Str.{is_utf8}
 use Rattle.serde_json.specs.Data.{Data}
 use Rattle.serde_json.specs.Read.{read}
-use Rattle.tw_models.specs.declared.model.Model.{Model}
-use Rattle.tw_models.specs.Model.{model_meaning}
+use Rattle.tw_any_model.specs.declared.any_model.AnyModel.{AnyModel}
+use Rattle.tw_any_model.specs.AnyModel.{any_meaning}
 use Rattle.tw_network.specs.Contents.{Contents, Input, handed_in}
 use Rattle.tw_network.specs.Faults.{first_fault}
 use Rattle.tw_network.specs.declared.refused.NetworkRefused.{NetworkRefused}
@@ -26,22 +26,22 @@ abbrev pub shape_of : Data → Result File FileRefused
 shape_of d = ok_or (file_of d) BadShape
 
 -- a network's contents, if there is no fault
-abbrev pub judged : Option NetworkRefused → Contents Model → Result (Contents Model) FileRefused
+abbrev pub judged : Option NetworkRefused → Contents AnyModel → Result (Contents AnyModel) FileRefused
 judged None n = Ok n
 judged (Some fault) n = Err (Network fault)
 
-abbrev pub network_made : List (List ℕ × Model) → List Coupling → List Input → ℕ → Result (Contents Model) FileRefused
+abbrev pub network_made : List (List ℕ × AnyModel) → List Coupling → List Input → ℕ → Result (Contents AnyModel) FileRefused
 network_made components couplings inputs micro_limit =
-    judged (first_fault model_meaning components couplings inputs micro_limit) (handed_in components couplings inputs micro_limit)
+    judged (first_fault any_meaning components couplings inputs micro_limit) (handed_in components couplings inputs micro_limit)
 
 -- couplings and inputs get numbers for names
-abbrev pub network_numbered : (List ℕ → ℕ) → File → List (List ℕ × Model) → Result (Contents Model) FileRefused
+abbrev pub network_numbered : (List ℕ → ℕ) → File → List (List ℕ × AnyModel) → Result (Contents AnyModel) FileRefused
 network_numbered number file components =
     network_made components (map (numbered_coupling number) file.couplings) (map (numbered_input number) file.inputs) file.micro_limit
 
 -- the models first, then the network
-abbrev pub network_of : File → Result (Contents Model) FileRefused
+abbrev pub network_of : File → Result (Contents AnyModel) FileRefused
 network_of file = after (network_numbered (number_of (names_of file.components)) file) (components_made file.components)
 
-abbrev pub meaning_of : List ℕ → Result (Contents Model) FileRefused
+abbrev pub meaning_of : List ℕ → Result (Contents AnyModel) FileRefused
 meaning_of bytes = after (λ d. after network_of (shape_of d)) (json_of bytes)

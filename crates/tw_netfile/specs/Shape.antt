@@ -1,17 +1,23 @@
 -- What a network file says, read off its JSON value: exactly these members, each of its type.
+--     component_of machines d      a component, where these machines may be named
 --     file_of d      what the value says, where it has the shape of a network file (format tw-1)
 use Rattle.std.specs.Prelude.{◌==◌, ◌∷◌, [], ℕ, ℤ, List, Bool, false, Option, Some, None, codes, option_and_then, option_map, if◌then◌else◌}
 use Rattle.std.specs.Str.{bytes_eq}
-use Rattle.std.specs.Option.{option_map_or}
+use Rattle.std.specs.Option.{option_map_or, option_or}
+use Rattle.std.specs.Result.{result_ok}
 use Rattle.serde_json.specs.Data.{Data, Items, no_items, item}
 use Rattle.serde_json.specs.Find.{get, as_number, as_u64, as_i64, as_str, as_array, as_object, at}
 use Rattle.serde_json.specs.Events.{members_len, items_len}
+use Rattle.tw_machine_file.specs.Machines.{program_in}
+use Rattle.tw_machine_file.specs.Seen as file
+use Rattle.tw_netfile.specs.declared.draft.AnyDraft.{AnyDraft}
+use Rattle.tw_netfile.specs.declared.draft.AnyDraft.TheVariants.{BuiltIn, Machine}
 use Rattle.tw_netfile.specs.declared.draft.ModelDraft.{ModelDraft}
 use Rattle.tw_netfile.specs.declared.draft.ModelDraft.TheVariants.{Gen, Tally, Relay, Queue, Hop}
 
 -- a component: its name, and its model with parameters that may be out of range
 abbrev pub FileComponent : Type 0
-FileComponent = List ℕ × ModelDraft
+FileComponent = List ℕ × AnyDraft
 
 -- a coupling: source, its port, destination, its port
 abbrev pub FileCoupling : Type 0
@@ -105,10 +111,23 @@ model_named name d =
     else if bytes_eq name (codes "hop") then hop_of d
     else None
 
-abbrev pub component_of : Data → Option FileComponent
-component_of d =
+-- the first machine of a name
+abbrev pub machine_named : List file.Machine → List ℕ → Option file.Machine
+machine_named [] name = None
+machine_named (m ∷ ms) name = if bytes_eq m.name name then Some m else machine_named ms name
+
+-- its program, with what the component gives for its parameters
+abbrev pub machine_of : file.Machine → Data → Option AnyDraft
+machine_of m d = option_map Machine (result_ok (program_in m d))
+
+-- one of the five, or else a machine
+abbrev pub model_in : List file.Machine → Data → List ℕ → Option AnyDraft
+model_in machines d name = option_or (option_map BuiltIn (model_named name d)) (option_and_then (λ m. machine_of m d) (machine_named machines name))
+
+abbrev pub component_of : List file.Machine → Data → Option FileComponent
+component_of machines d =
     of_two (λ name model. (name, model)) (text_at (codes "name") d)
-    (option_and_then (λ model. model_named model d) (text_at (codes "model") d))
+    (option_and_then (model_in machines d) (text_at (codes "model") d))
 
 abbrev pub coupling_of : Data → Option FileCoupling
 coupling_of d =
@@ -138,7 +157,7 @@ abbrev pub file_of : Data → Option File
 file_of d =
     if has_members 5 d
     then if is_format (text_at (codes "format") d)
-    then of_four file_made (count_at (codes "micro_limit") d) (array_at component_of (codes "components") d)
+    then of_four file_made (count_at (codes "micro_limit") d) (array_at (component_of []) (codes "components") d)
     (array_at coupling_of (codes "couplings") d) (array_at input_of (codes "inputs") d)
     else None
     else None

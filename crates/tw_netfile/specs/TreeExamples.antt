@@ -1,12 +1,14 @@
 -- Worked examples of nested networks: the value of a file, and what it says, written down by hand.
 use Rattle.std.specs.Prelude.{ℕ, ◌≡◌, List, [], ◌∷◌, ◌++◌, codes, pos, Some}
 use Rattle.serde_json.specs.Data.{Data, unsigned, Items, number, string, array, object, no_items, item, no_members, member}
-use Rattle.tw_models.specs.declared.model.Model.{Model}
+use Rattle.tw_any_model.specs.declared.any_model.AnyModel.{AnyModel}
+use Rattle.tw_any_model.specs.declared.any_model.AnyModel.TheVariants as any
 use Rattle.tw_models.specs.declared.model.Model.TheVariants as model
 use Rattle.tw_nested.specs.declared.tree.End.TheVariants.{Here, Part}
 use Rattle.tw_nested.specs.Tree.{Parts, Link, no_parts, atom, coupled, flat_names}
 use Rattle.tw_netfile.specs.TreeShape.{TreeFile, tree_file_of, tree_made}
-use Rattle.tw_netfile.specs.declared.draft.ModelDraft.{ModelDraft}
+use Rattle.tw_netfile.specs.declared.draft.AnyDraft.{AnyDraft}
+use Rattle.tw_netfile.specs.declared.draft.AnyDraft.TheVariants.{BuiltIn}
 use Rattle.tw_netfile.specs.declared.draft.ModelDraft.TheVariants.{Gen, Tally, Relay}
 use Rattle.std.specs.Prelude.{Ok}
 
@@ -56,11 +58,11 @@ links_in_root = (Part 0, 0, Part 1, 3) ∷ (Part 1, 1, Part 2, 0) ∷ []
 abbrev pub parts_with : {M : Type 0} → M → M → M → M → List Link → Parts M
 parts_with a b c d links = atom (codes "g") a (coupled (codes "X") (atom (codes "r") b (atom (codes "t") c no_parts)) links (atom (codes "u") d no_parts))
 
-abbrev pub drafts_with : List Link → Parts ModelDraft
-drafts_with links = parts_with (Gen 2 (pos 5)) (Relay 0) Tally Tally links
+abbrev pub drafts_with : List Link → Parts AnyDraft
+drafts_with links = parts_with (BuiltIn (Gen 2 (pos 5))) (BuiltIn (Relay 0)) (BuiltIn Tally) (BuiltIn Tally) links
 
-abbrev pub models_with : List Link → Parts Model
-models_with links = parts_with (model.Gen (record { period = 2; value = pos 5 })) (model.Relay (record { delay = 0 })) model.Tally model.Tally links
+abbrev pub models_with : List Link → Parts AnyModel
+models_with links = parts_with (any.BuiltIn (model.Gen (record { period = 2; value = pos 5 }))) (any.BuiltIn (model.Relay (record { delay = 0 }))) (any.BuiltIn model.Tally) (any.BuiltIn model.Tally) links
 
 abbrev pub file_with : List Link → List Link → TreeFile
 file_with in_x in_root = record { micro_limit = 100; parts = drafts_with in_x; links = in_root; inputs = [] }

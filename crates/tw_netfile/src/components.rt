@@ -8,13 +8,13 @@ ghost use Rattle.tw_netfile.specs.Draft.{component_view, components_view};
 use crate::draft::ComponentDraft;
 use crate::refused::FileRefused;
 use std::alloc::Global;
-use tw_models::Model;
+use tw_any_model::AnyModel;
 
 // The components, where all their models' parameters are in range.
 pub fn components_made(
     alloc: Global,
     drafts: &[ComponentDraft],
-) -> Result<Vec<(String, Model)>, FileRefused>
+) -> Result<Vec<(String, AnyModel)>, FileRefused>
     ensures ok { IfOk result (λ v. components_made (components_view drafts.now) ≡ Ok (named v.items)) }
     ensures err { IfErr result (λ e. e ≢ FileRefused.OutOfMemory → components_made (components_view drafts.now) ≡ Err e) }
 {
@@ -25,7 +25,7 @@ pub fn components_made(
     Ok(components)
 }
 
-fn component_made(alloc: Global, draft: &ComponentDraft) -> Result<(String, Model), FileRefused>
+fn component_made(alloc: Global, draft: &ComponentDraft) -> Result<(String, AnyModel), FileRefused>
     ensures ok { IfOk result (λ c. component_made (component_view draft.now) ≡ Ok (string_bytes c.0, c.1)) }
     ensures err { IfErr result (λ e. e ≢ FileRefused.OutOfMemory → component_made (component_view draft.now) ≡ Err e) }
 {

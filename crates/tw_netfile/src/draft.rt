@@ -1,8 +1,12 @@
 //! What a network file says, before it is known to be a network.
 
 ghost use Rattle.std.specs.Prelude.{◌≡◌};
-ghost use Rattle.tw_netfile.specs.Components.{model_of};
+ghost use Rattle.std.specs.Prelude.{◌≢◌, Ok, Err, IfOk, IfErr};
+ghost use Rattle.tw_netfile.specs.Components.{any_model_of, model_of};
 
+use crate::refused::FileRefused;
+use tw_any_model::AnyModel;
+use tw_machine::machine::{Machine, Shared};
 use tw_models::{BadModel, Model};
 use tw_network::Nested;
 
@@ -35,11 +39,33 @@ impl ModelDraft {
     }
 }
 
+/// What a component is to be: one of the five models with its parameters, or a machine whose program is made.
+#[derive(Drop)]
+pub enum AnyDraft {
+    BuiltIn(ModelDraft),
+    Machine(Shared),
+}
+
+impl AnyDraft {
+    // The model, where its parameters are in range.
+    pub fn model(&self) -> Result<AnyModel, FileRefused>
+        ensures ok { IfOk result (λ m. any_model_of self.now ≡ Ok m) }
+        ensures err { IfErr result (λ e. e ≢ FileRefused.OutOfMemory → any_model_of self.now ≡ Err e) }
+    {
+        match self {
+            AnyDraft::BuiltIn(draft) => Ok(AnyModel::BuiltIn(draft.model()?)),
+            AnyDraft::Machine(program) => Ok(AnyModel::Machine(Machine {
+                program: program.again()?,
+            })),
+        }
+    }
+}
+
 /// A component of a file, its name lent by the file's value.
-#[derive(Clone, Copy, Debug)]
+#[derive(Drop)]
 pub struct ComponentDraft<'a> {
     pub name: &'a str,
-    pub model: ModelDraft,
+    pub model: AnyDraft,
 }
 
 /// A coupling of a file, with the names of its ends.
@@ -61,7 +87,7 @@ pub struct InputDraft<'a> {
 }
 
 /// A network file, each of whose members has its type.
-#[derive(Debug, Drop)]
+#[derive(Drop)]
 pub struct Draft<'a> {
     pub micro_limit: u64,
     pub components: Vec<ComponentDraft<'a>>,
@@ -74,6 +100,6 @@ pub struct Draft<'a> {
 #[derive(Drop)]
 pub struct TreeDraft<'a> {
     pub micro_limit: u64,
-    pub root: Nested<ModelDraft>,
+    pub root: Nested<AnyDraft>,
     pub inputs: Vec<InputDraft<'a>>,
 }

@@ -13,7 +13,7 @@ use crate::refused::FileRefused;
 use crate::shape::draft_of;
 use serde_json::Value;
 use std::alloc::Global;
-use tw_models::Model;
+use tw_any_model::AnyModel;
 use tw_network::{Coupling, Input, Network};
 
 /// The network that a file's bytes mean, a JSON text of format `tw-1`.
@@ -26,7 +26,7 @@ use tw_network::{Coupling, Input, Network};
 /// ([`FileRefused::Network`]), where a name that no component has is an unknown component (5) and a port
 /// above 255 is a port above 15 (6). Want of memory ([`FileRefused::OutOfMemory`], 4) may come at any point
 /// instead. After any of them nothing is left. Nothing is said of an object that has a member twice.
-pub fn network_of_file(alloc: Global, bytes: &[u8]) -> Result<Network<Model>, FileRefused>
+pub fn network_of_file(alloc: Global, bytes: &[u8]) -> Result<Network<AnyModel>, FileRefused>
     ensures network { IfOk result (λ n. meaning_of bytes.now ≡ Ok n) }
     ensures first_fault { IfErr result (λ e. e ≢ FileRefused.OutOfMemory → meaning_of bytes.now ≡ Err e) }
 {
@@ -48,7 +48,7 @@ pub fn json_of(alloc: Global, bytes: &[u8]) -> Result<Value, FileRefused>
 }
 
 // The network that a draft means.
-pub fn network_of(alloc: Global, draft: &Draft) -> Result<Network<Model>, FileRefused>
+pub fn network_of(alloc: Global, draft: &Draft) -> Result<Network<AnyModel>, FileRefused>
     ensures ok { IfOk result (λ n. network_of (draft_view draft.now) ≡ Ok n) }
     ensures err { IfErr result (λ e. e ≢ FileRefused.OutOfMemory → network_of (draft_view draft.now) ≡ Err e) }
 {
@@ -64,11 +64,11 @@ pub fn network_of(alloc: Global, draft: &Draft) -> Result<Network<Model>, FileRe
 // The network of these parts, or its first fault.
 fn network_made(
     alloc: Global,
-    components: Vec<(String, Model)>,
+    components: Vec<(String, AnyModel)>,
     couplings: Vec<Coupling>,
     inputs: Vec<Input>,
     micro_limit: u64,
-) -> Result<Network<Model>, FileRefused>
+) -> Result<Network<AnyModel>, FileRefused>
     ensures ok { IfOk result (λ n. network_made (named components.items) couplings.items inputs.items micro_limit ≡ Ok n) }
     ensures err { IfErr result (λ e. e ≢ FileRefused.OutOfMemory → network_made (named components.items) couplings.items inputs.items micro_limit ≡ Err e) }
 {

@@ -1,20 +1,23 @@
-//! Network files: the bytes of a JSON text (format `tw-1` or `tw-2`) to a network of the five models.
+//! Network files: the bytes of a JSON text (format `tw-1`, `tw-2` or `tw-3`) to a network of the five models and of
+//! machines.
 //!
-//! - [`network_of_any_file`]: the network that a file of either format means, or the first fault in a fixed order.
-//! - [`network_of_file`]: the same of a file of format `tw-1` alone; one of `tw-2` has another shape.
+//! - [`network_of_any_file`]: the network that a file of any format means, or the first fault in a fixed order.
+//! - [`network_of_file`]: the same of a file of format `tw-1` alone; one of another format has another shape.
 //! - [`FileRefused`]: that fault; it turns into the workspace's table of refusals by `From`.
 //!
 //! What a file of format `tw-1` means is a function of its bytes, in three steps: the JSON value that they write;
 //! what the value says, where it has exactly the members of a network file, each of its type; and then the models,
 //! whose parameters are in range, and a network of them, in which the number of a component stands for its
 //! name. A file of format `tw-2` says a tree of coupled models in the same steps; which flat network a tree means is
-//! said by the couplings along which its paths lead, so it is a relation.
+//! said by the couplings along which its paths lead, so it is a relation. A file of format `tw-3` says such a tree too,
+//! and declares machines, which its components may name as their models.
 #![tactic(auto)]
 
 mod components;
 mod draft;
 pub mod examples;
 mod file;
+mod machines;
 mod numbers;
 mod refused;
 mod shape;

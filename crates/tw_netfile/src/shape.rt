@@ -1,7 +1,8 @@
 //! What a network file's JSON value says: exactly its members, each of its type.
 
-ghost use Rattle.std.specs.Prelude.{◌≡◌, ◌≢◌, Some, None, Ok, Err, IfOk, IfErr, codes, option_map};
+ghost use Rattle.std.specs.Prelude.{◌≡◌, ◌≢◌, [], Some, None, Ok, Err, IfOk, IfErr, codes, map, option_map};
 ghost use Rattle.serde_json.specs.View.{view, items_view};
+ghost use Rattle.tw_machine_file.specs.Seen.{machine};
 ghost use Rattle.tw_netfile.specs.Draft.{
   component_view,
   components_view,
@@ -31,9 +32,11 @@ ghost use Rattle.tw_netfile.specs.Shape.{
 };
 
 use crate::draft::{ComponentDraft, CouplingDraft, Draft, InputDraft, ModelDraft};
+use crate::machines::model_in;
 use crate::refused::FileRefused;
 use serde_json::Value;
 use std::alloc::Global;
+use tw_machine_file::FileMachine;
 
 // What the file's value says, where it has the shape of a network file.
 pub fn draft_of<'a>(alloc: Global, value: &'a Value) -> Result<Draft<'a>, FileRefused>
@@ -70,15 +73,12 @@ fn components_of<'a>(
     alloc: Global,
     values: &'a [Value],
 ) -> Result<Vec<ComponentDraft<'a>>, FileRefused>
-    ensures ok { IfOk result (λ v. all_read component_of (items_view values.now) ≡ Some (components_view v.items)) }
-    ensures err { IfErr result (λ e. e ≢ FileRefused.OutOfMemory → (e ≡ FileRefused.BadShape) × (all_read component_of (items_view values.now) ≡ None)) }
+    ensures ok { IfOk result (λ v. all_read (component_of []) (items_view values.now) ≡ Some (components_view v.items)) }
+    ensures err { IfErr result (λ e. e ≢ FileRefused.OutOfMemory → (e ≡ FileRefused.BadShape) × (all_read (component_of []) (items_view values.now) ≡ None)) }
 {
     let mut components = Vec::new(alloc);
     for value in values {
-        let Some(component) = component_of(value) else {
-            return Err(FileRefused::BadShape);
-        };
-        components.push(component)?;
+        components.push(component_of(alloc, &[], value)?)?;
     }
     Ok(components)
 }
@@ -114,15 +114,26 @@ pub fn inputs_of<'a>(alloc: Global, values: &'a [Value]) -> Result<Vec<InputDraf
     Ok(inputs)
 }
 
-pub fn component_of<'a>(value: &'a Value) -> Option<ComponentDraft<'a>>
-    ensures { option_map component_view result ≡ component_of (view value.now) }
+// A component, where these machines may be named.
+pub fn component_of<'a>(
+    alloc: Global,
+    machines: &[FileMachine],
+    value: &'a Value,
+) -> Result<ComponentDraft<'a>, FileRefused>
+    ensures ok { IfOk result (λ c. component_of (map machine machines.now) (view value.now) ≡ Some (component_view c)) }
+    ensures err { IfErr result (λ e. e ≢ FileRefused.OutOfMemory → (e ≡ FileRefused.BadShape) × (component_of (map machine machines.now) (view value.now) ≡ None)) }
 {
-    let name = text_at(value, "name")?;
-    let model = model_named(text_at(value, "model")?, value)?;
-    Some(ComponentDraft { name, model })
+    let Some(name) = text_at(value, "name") else {
+        return Err(FileRefused::BadShape);
+    };
+    let Some(model) = text_at(value, "model") else {
+        return Err(FileRefused::BadShape);
+    };
+    let model = model_in(alloc, machines, value, model)?;
+    Ok(ComponentDraft { name, model })
 }
 
-fn model_named(name: &str, value: &Value) -> Option<ModelDraft>
+pub fn model_named(name: &str, value: &Value) -> Option<ModelDraft>
     ensures { result ≡ model_named name.now (view value.now) }
 {
     if name == "gen" {

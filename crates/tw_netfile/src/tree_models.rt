@@ -5,15 +5,15 @@ ghost use Rattle.tw_nested.specs.Tree.{Parts, part_view, parts_of};
 ghost use Rattle.tw_netfile.specs.Components.{after};
 ghost use Rattle.tw_netfile.specs.TreeShape.{tree_made};
 
-use crate::draft::ModelDraft;
+use crate::draft::AnyDraft;
 use crate::refused::FileRefused;
 use std::alloc::Global;
-use tw_models::Model;
+use tw_any_model::AnyModel;
 use tw_network::{Nested, Part};
 
 // The tree, where all its models' parameters are in range.
 #[cycle(made)]
-pub fn tree_made(alloc: Global, draft: &Nested<ModelDraft>) -> Result<Nested<Model>, FileRefused>
+pub fn tree_made(alloc: Global, draft: &Nested<AnyDraft>) -> Result<Nested<AnyModel>, FileRefused>
     ensures ok { IfOk result (λ n. tree_made (parts_of draft.now.parts.items) ≡ Ok (parts_of n.parts.items)) }
     ensures couplings { IfOk result (λ n. n.couplings.items ≡ draft.now.couplings.items) }
     ensures err { IfErr result (λ e. e ≢ FileRefused.OutOfMemory → tree_made (parts_of draft.now.parts.items) ≡ Err e) }
@@ -30,9 +30,9 @@ pub fn tree_made(alloc: Global, draft: &Nested<ModelDraft>) -> Result<Nested<Mod
 
 // The part, whatever comes after it.
 #[cycle(made)]
-fn part_made(alloc: Global, part: &Part<ModelDraft>) -> Result<Part<Model>, FileRefused>
-    ensures ok { IfOk result (λ p. (name : List ℕ) (rest : Parts ModelDraft) → tree_made (part_view part.now name rest) ≡ after (λ more. Ok (part_view p name more)) (tree_made rest)) }
-    ensures err { IfErr result (λ e. e ≢ FileRefused.OutOfMemory → (name : List ℕ) (rest : Parts ModelDraft) → tree_made (part_view part.now name rest) ≡ Err e) }
+fn part_made(alloc: Global, part: &Part<AnyDraft>) -> Result<Part<AnyModel>, FileRefused>
+    ensures ok { IfOk result (λ p. (name : List ℕ) (rest : Parts AnyDraft) → tree_made (part_view part.now name rest) ≡ after (λ more. Ok (part_view p name more)) (tree_made rest)) }
+    ensures err { IfErr result (λ e. e ≢ FileRefused.OutOfMemory → (name : List ℕ) (rest : Parts AnyDraft) → tree_made (part_view part.now name rest) ≡ Err e) }
 {
     match part {
         Part::Atom(draft) => Ok(Part::Atom(draft.model()?)),

@@ -1,15 +1,19 @@
-//! What the JSON value of a file of format `tw-2` says: a tree of components.
+//! What the JSON value of a file of format `tw-2` or `tw-3` says: a tree of components.
 
 ghost use Rattle.std.specs.Prelude.{◌≡◌, ◌≢◌, Some, None, Ok, Err, IfOk, IfErr, codes, map, option_and_then, option_map, string_bytes};
 ghost use Rattle.serde_json.specs.Find.{as_array, get};
 ghost use Rattle.serde_json.specs.View.{view, items_view};
+ghost use Rattle.tw_machine_file.specs.Seen.{machine};
 ghost use Rattle.tw_nested.specs.Tree.{part_view, parts_of};
 ghost use Rattle.tw_netfile.specs.Draft.{couplings_view};
 ghost use Rattle.tw_netfile.specs.Shape.{text_at};
 ghost use Rattle.tw_netfile.specs.TreeDraft.{tree_view};
 ghost use Rattle.tw_netfile.specs.TreeShape.{
+  is_machines_format,
   is_tree_format,
   links_named,
+  machines_file_of,
+  machines_file_with,
   part_names,
   part_read,
   parts_read,
@@ -17,12 +21,14 @@ ghost use Rattle.tw_netfile.specs.TreeShape.{
   tree_read,
 };
 
-use crate::draft::{CouplingDraft, ModelDraft, TreeDraft};
+use crate::draft::{AnyDraft, CouplingDraft, TreeDraft};
+use crate::machines::machines_at;
 use crate::numbers::Numbers;
 use crate::refused::FileRefused;
 use crate::shape::{component_of, count_at, couplings_of, has_members, inputs_of, text_at};
 use serde_json::Value;
 use std::alloc::{AllocError, Global};
+use tw_machine_file::FileMachine;
 use tw_network::{Link, Nested, Part};
 
 /// More levels than a JSON text of 127 levels can have: a level of parts takes two, an object and an array.
@@ -49,7 +55,53 @@ pub fn tree_draft_of<'a>(alloc: Global, value: &'a Value) -> Result<TreeDraft<'a
     let Some(micro_limit) = count_at(value, "micro_limit") else {
         return Err(FileRefused::BadShape);
     };
-    let root = tree_read(alloc, value, ROOM)?;
+    let root = tree_read(alloc, &[], value, ROOM)?;
+    let Some(inputs) = items_at(value, "inputs") else {
+        return Err(FileRefused::BadShape);
+    };
+    let inputs = inputs_of(alloc, inputs)?;
+    Ok(TreeDraft {
+        micro_limit,
+        root,
+        inputs,
+    })
+}
+
+// Whether the value is that of a file of format `tw-3`.
+pub fn has_machines(value: &Value) -> bool
+    ensures { result ≡ is_machines_format (text_at (codes "format") (view value.now)) }
+{
+    match text_at(value, "format") {
+        Some(format) => format == "tw-3",
+        None => false,
+    }
+}
+
+// What the value of a file of format `tw-3` says.
+pub fn machines_draft_of<'a>(alloc: Global, value: &'a Value) -> Result<TreeDraft<'a>, FileRefused>
+    ensures ok { IfOk result (λ d. machines_file_of (view value.now) ≡ Some (tree_view d)) }
+    ensures err { IfErr result (λ e. e ≢ FileRefused.OutOfMemory → (e ≡ FileRefused.BadShape) × (machines_file_of (view value.now) ≡ None)) }
+{
+    if !has_members(value, 6) || !has_machines(value) {
+        return Err(FileRefused::BadShape);
+    }
+    let machines = machines_at(alloc, value)?;
+    machines_draft_with(alloc, value, machines.as_slice())
+}
+
+// What else the file says, where its components may be these machines.
+fn machines_draft_with<'a>(
+    alloc: Global,
+    value: &'a Value,
+    machines: &[FileMachine],
+) -> Result<TreeDraft<'a>, FileRefused>
+    ensures ok { IfOk result (λ d. machines_file_with (view value.now) (map machine machines.now) ≡ Some (tree_view d)) }
+    ensures err { IfErr result (λ e. e ≢ FileRefused.OutOfMemory → (e ≡ FileRefused.BadShape) × (machines_file_with (view value.now) (map machine machines.now) ≡ None)) }
+{
+    let Some(micro_limit) = count_at(value, "micro_limit") else {
+        return Err(FileRefused::BadShape);
+    };
+    let root = tree_read(alloc, machines, value, ROOM)?;
     let Some(inputs) = items_at(value, "inputs") else {
         return Err(FileRefused::BadShape);
     };
@@ -63,9 +115,14 @@ pub fn tree_draft_of<'a>(alloc: Global, value: &'a Value) -> Result<TreeDraft<'a
 
 // The parts and couplings of a model of no more levels than there is room for.
 #[cycle(trees)]
-fn tree_read(alloc: Global, value: &Value, room: usize) -> Result<Nested<ModelDraft>, FileRefused>
-    ensures ok { IfOk result (λ n. tree_read room (view value.now) ≡ Some (parts_of n.parts.items, n.couplings.items)) }
-    ensures err { IfErr result (λ e. e ≢ FileRefused.OutOfMemory → (e ≡ FileRefused.BadShape) × (tree_read room (view value.now) ≡ None)) }
+fn tree_read(
+    alloc: Global,
+    machines: &[FileMachine],
+    value: &Value,
+    room: usize,
+) -> Result<Nested<AnyDraft>, FileRefused>
+    ensures ok { IfOk result (λ n. tree_read (map machine machines.now) room (view value.now) ≡ Some (parts_of n.parts.items, n.couplings.items)) }
+    ensures err { IfErr result (λ e. e ≢ FileRefused.OutOfMemory → (e ≡ FileRefused.BadShape) × (tree_read (map machine machines.now) room (view value.now) ≡ None)) }
 {
     if room == 0 {
         return Err(FileRefused::BadShape);
@@ -73,7 +130,7 @@ fn tree_read(alloc: Global, value: &Value, room: usize) -> Result<Nested<ModelDr
     let Some(components) = items_at(value, "components") else {
         return Err(FileRefused::BadShape);
     };
-    let parts = parts_read(alloc, components, room - 1)?;
+    let parts = parts_read(alloc, machines, components, room - 1)?;
     let Some(couplings) = items_at(value, "couplings") else {
         return Err(FileRefused::BadShape);
     };
@@ -85,15 +142,16 @@ fn tree_read(alloc: Global, value: &Value, room: usize) -> Result<Nested<ModelDr
 #[cycle(trees)]
 fn parts_read(
     alloc: Global,
+    machines: &[FileMachine],
     values: &[Value],
     room: usize,
-) -> Result<Vec<(String, Part<ModelDraft>)>, FileRefused>
-    ensures ok { IfOk result (λ v. parts_read (tree_read room) (items_view values.now) ≡ Some (parts_of v.items)) }
-    ensures err { IfErr result (λ e. e ≢ FileRefused.OutOfMemory → (e ≡ FileRefused.BadShape) × (parts_read (tree_read room) (items_view values.now) ≡ None)) }
+) -> Result<Vec<(String, Part<AnyDraft>)>, FileRefused>
+    ensures ok { IfOk result (λ v. parts_read (map machine machines.now) (tree_read (map machine machines.now) room) (items_view values.now) ≡ Some (parts_of v.items)) }
+    ensures err { IfErr result (λ e. e ≢ FileRefused.OutOfMemory → (e ≡ FileRefused.BadShape) × (parts_read (map machine machines.now) (tree_read (map machine machines.now) room) (items_view values.now) ≡ None)) }
 {
     let mut parts = Vec::new(alloc);
     for value in values {
-        parts.push(part_read(alloc, value, room)?)?;
+        parts.push(part_read(alloc, machines, value, room)?)?;
     }
     Ok(parts)
 }
@@ -101,15 +159,20 @@ fn parts_read(
 #[cycle(trees)]
 fn part_read(
     alloc: Global,
+    machines: &[FileMachine],
     value: &Value,
     room: usize,
-) -> Result<(String, Part<ModelDraft>), FileRefused>
-    ensures ok { IfOk result (λ p. part_read (tree_read room) (view value.now) ≡ Some (part_view p.1 (string_bytes p.0))) }
-    ensures err { IfErr result (λ e. e ≢ FileRefused.OutOfMemory → (e ≡ FileRefused.BadShape) × (part_read (tree_read room) (view value.now) ≡ None)) }
+) -> Result<(String, Part<AnyDraft>), FileRefused>
+    ensures ok { IfOk result (λ p. part_read (map machine machines.now) (tree_read (map machine machines.now) room) (view value.now) ≡ Some (part_view p.1 (string_bytes p.0))) }
+    ensures err { IfErr result (λ e. e ≢ FileRefused.OutOfMemory → (e ≡ FileRefused.BadShape) × (part_read (map machine machines.now) (tree_read (map machine machines.now) room) (view value.now) ≡ None)) }
 {
-    if let Some(component) = component_of(value) {
-        let name = String::from_str(alloc, component.name)?;
-        return Ok((name, Part::Atom(component.model)));
+    match component_of(alloc, machines, value) {
+        Ok(component) => {
+            let name = String::from_str(alloc, component.name)?;
+            return Ok((name, Part::Atom(component.model)));
+        }
+        Err(FileRefused::BadShape) => {}
+        Err(refused) => return Err(refused),
     }
     if !has_members(value, 3) {
         return Err(FileRefused::BadShape);
@@ -117,7 +180,7 @@ fn part_read(
     let Some(name) = text_at(value, "name") else {
         return Err(FileRefused::BadShape);
     };
-    let inner = tree_read(alloc, value, room)?;
+    let inner = tree_read(alloc, machines, value, room)?;
     let name = String::from_str(alloc, name)?;
     Ok((name, Part::Coupled(inner)))
 }
@@ -125,7 +188,7 @@ fn part_read(
 // The couplings of a model, by the places of its parts.
 fn links_named(
     alloc: Global,
-    parts: &[(String, Part<ModelDraft>)],
+    parts: &[(String, Part<AnyDraft>)],
     drafts: &[CouplingDraft<'_>],
 ) -> Result<Vec<Link>, AllocError>
     ensures { IfOk result (λ v. v.items ≡ links_named (parts_of parts.now) (couplings_view drafts.now)) }
@@ -137,7 +200,7 @@ fn links_named(
 
 fn part_names<'a>(
     alloc: Global,
-    parts: &'a [(String, Part<ModelDraft>)],
+    parts: &'a [(String, Part<AnyDraft>)],
 ) -> Result<Vec<&'a str>, AllocError>
     ensures { IfOk result (λ v. map (λ n. n.now) v.items ≡ part_names (parts_of parts.now)) }
 {

@@ -1,4 +1,4 @@
-//! Network files of either format to the networks that they mean.
+//! Network files of any format to the networks that they mean.
 
 ghost use Rattle.std.specs.Prelude.{◌≡◌, ◌≢◌, ℕ, List, Some, Err, IfOk, IfErr, length, map};
 ghost use Rattle.tw_nested.specs.Tree.{parts_of};
@@ -16,15 +16,15 @@ use crate::numbers::port_of;
 use crate::refused::FileRefused;
 use crate::shape::draft_of;
 use crate::tree_models::tree_made;
-use crate::tree_shape::{is_tree, tree_draft_of};
+use crate::tree_shape::{has_machines, is_tree, machines_draft_of, tree_draft_of};
 use std::alloc::{AllocError, Global};
-use tw_models::Model;
+use tw_any_model::AnyModel;
 use tw_network::{Input, Nested, Network, NetworkRefused};
 
 /// As many inputs as a network may have.
 const MAX_INPUTS: usize = 65_536;
 
-/// The network that a file's bytes mean, a JSON text of format `tw-1` or `tw-2`.
+/// The network that a file's bytes mean, a JSON text of format `tw-1`, `tw-2` or `tw-3`.
 ///
 /// A file of format `tw-1` means what [`network_of_file`](crate::network_of_file) says, with its faults. One of
 /// format `tw-2` says a tree of coupled models (Chow and Zeigler 1994) and means the flat network of it: its
@@ -35,13 +35,21 @@ const MAX_INPUTS: usize = 65_536;
 /// input's that no atom has, is an unknown component (5), and a port above 255 is a port above 15 (6). Want of
 /// memory (4) may come at any point instead. After any of them nothing is left. Nothing is said of an object that
 /// has a member twice.
-pub fn network_of_any_file(alloc: Global, bytes: &[u8]) -> Result<Network<Model>, FileRefused>
+///
+/// One of format `tw-3` says the same, but that it declares machines in its member `models`, and a component may name
+/// one in place of one of the five models: what is wrong with a machine, or with what a component gives for its
+/// parameters, is 21 (reverse computation by derivation: Carothers, Perumalla and Fujimoto 1999).
+pub fn network_of_any_file(alloc: Global, bytes: &[u8]) -> Result<Network<AnyModel>, FileRefused>
     ensures network { IfOk result (IsMeaning bytes.now) }
     ensures first_fault { IfErr result (λ e. e ≢ FileRefused.OutOfMemory → IsFault bytes.now e) }
 {
     let value = json_of(alloc, bytes)?;
     if is_tree(&value) {
         let tree = tree_draft_of(alloc, &value)?;
+        return network_of_tree(alloc, &tree);
+    }
+    if has_machines(&value) {
+        let tree = machines_draft_of(alloc, &value)?;
         return network_of_tree(alloc, &tree);
     }
     let draft = draft_of(alloc, &value)?;
@@ -55,7 +63,7 @@ pub fn formats_law()
 
 // The network that a tree means. Without its inputs it is made first: that network finds atoms by name, and it is
 // no larger than a network may be.
-fn network_of_tree(alloc: Global, tree: &TreeDraft) -> Result<Network<Model>, FileRefused>
+fn network_of_tree(alloc: Global, tree: &TreeDraft) -> Result<Network<AnyModel>, FileRefused>
     ensures ok { IfOk result (IsTreeMeaning (tree_view tree.now)) }
     ensures err { IfErr result (λ e. e ≢ FileRefused.OutOfMemory → IsTreeFileFault (tree_view tree.now) e) }
 {
@@ -72,10 +80,10 @@ fn network_of_tree(alloc: Global, tree: &TreeDraft) -> Result<Network<Model>, Fi
 // The network of a tree with these inputs, or its first fault.
 fn nested(
     alloc: Global,
-    root: Nested<Model>,
+    root: Nested<AnyModel>,
     inputs: Vec<Input>,
     micro_limit: u64,
-) -> Result<Network<Model>, FileRefused>
+) -> Result<Network<AnyModel>, FileRefused>
     ensures ok { IfOk result (IsNetworkOfTree (parts_of root.parts.items) root.couplings.items inputs.items micro_limit) }
     ensures err { IfErr result (λ e. e ≢ FileRefused.OutOfMemory → IsRefusedTree (parts_of root.parts.items) root.couplings.items inputs.items micro_limit e) }
 {
@@ -88,7 +96,7 @@ fn nested(
 // Inputs by the numbers of the components that they name.
 fn inputs_named(
     alloc: Global,
-    network: &Network<Model>,
+    network: &Network<AnyModel>,
     drafts: &[InputDraft],
 ) -> Result<Vec<Input>, AllocError>
     ensures { IfOk result (λ v. v.items ≡ map (numbered_input (number_of network.now.names)) (inputs_view drafts.now)) }
@@ -102,7 +110,7 @@ fn inputs_named(
 }
 
 // The number of the component that has the name, or one that no component has.
-fn number_in(network: &Network<Model>, name: &str) -> usize
+fn number_in(network: &Network<AnyModel>, name: &str) -> usize
     ensures { result ≡ number_of network.now.names name.now }
 {
     network.facts();

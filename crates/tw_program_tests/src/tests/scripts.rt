@@ -4,8 +4,8 @@
 use rand_core::utils::NextWord;
 use rand_pcg::Pcg32;
 use std::process::Abort;
+use tw_any_model::AnyModel;
 use tw_exec::{Action, Executive};
-use tw_models::Model;
 use tw_netfile::network_of_file;
 use tw_script::{Command, Schedule, commands_of_script};
 use tw_vtime::Stamp;
@@ -49,7 +49,7 @@ fn each_form_of_a_line_says_its_command(rt: HostRuntime) {
 }
 
 /// Asserts that a seed gives these actions to an executive that does not move.
-fn assert_gives(rt: &impl Abort, executive: &Executive<Model>, seed: u64, actions: &[Action]) {
+fn assert_gives(rt: &impl Abort, executive: &Executive<AnyModel>, seed: u64, actions: &[Action]) {
     let mut schedule = Schedule::new(seed);
     for action in actions {
         assert!(rt; schedule.next_action(executive) == Some(*action));

@@ -1,4 +1,4 @@
-use Rattle.std.proofs.Common.{◌≡◌, map}
+use Rattle.std.proofs.Common.{◌≡◌, [], map}
 use Rattle.serde_json.specs.View.{items_view}
 use Rattle.tw_netfile.specs.Shape.{all_read, component_of}
 use Rattle.tw_netfile.specs.Draft.{component_view}
@@ -7,5 +7,5 @@ use Rattle.tw_netfile.proofs.shape.components_of.Given as goal
 
 abbrev pub invariant-loop-value : goal.invariant-loop-value
 invariant-loop-value l =
-    all_read component_of (items_view l.values)
-    ≡ rest_read component_of l.values (map component_view l.components.items) l.value-index
+    all_read (component_of []) (items_view l.values)
+    ≡ rest_read (component_of []) l.values (map component_view l.components.items) l.value-index

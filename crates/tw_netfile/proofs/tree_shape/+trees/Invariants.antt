@@ -1,5 +1,6 @@
-use Rattle.std.proofs.Common.{◌≡◌, ◌+◌, ◌*◌}
+use Rattle.std.proofs.Common.{◌≡◌, ◌+◌, ◌*◌, map}
 use Rattle.serde_json.specs.View.{items_view}
+use Rattle.tw_machine_file.specs.Seen.{machine}
 use Rattle.tw_netfile.specs.TreeShape.{parts_read, tree_read}
 use Rattle.tw_netfile.proofs.PartsInOrder.{parts_left}
 use Rattle.tw_netfile.proofs.tree_shape.+trees.Given as goal
@@ -14,4 +15,4 @@ abbrev pub decreases-part_read : goal.decreases-part_read
 decreases-part_read l = 3 * l.room + 1
 
 abbrev pub invariant-parts_read-loop-value : goal.invariant-parts_read-loop-value
-invariant-parts_read-loop-value l = parts_read (tree_read l.room) (items_view l.values) ≡ parts_left (tree_read l.room) l.values l.parts.items l.value-index
+invariant-parts_read-loop-value l = parts_read (map machine l.machines) (tree_read (map machine l.machines) l.room) (items_view l.values) ≡ parts_left (map machine l.machines) (tree_read (map machine l.machines) l.room) l.values l.parts.items l.value-index

@@ -1,0 +1,238 @@
+//! What is wrong with the parameters, registers, queues and tables of a machine.
+
+use crate::names::{bad_name, bad_parameter, is_list, is_parameter, parameters_of};
+use crate::nearest::Nearest;
+use crate::words::{described, quoted};
+use serde_json::Value;
+use std::alloc::{AllocError, Global};
+
+/// What a whole number with a sign is.
+pub(crate) const WHOLE: &str = "a whole number from -9223372036854775808 to 9223372036854775807";
+
+/// The kinds of what is declared by name: their members, and what one is called.
+const SECTIONS: [(&str, &str); 3] = [
+    ("registers", "a register"),
+    ("queues", "a queue"),
+    ("tables", "a table"),
+];
+
+// The first fault of the parameters.
+pub(crate) fn parameters_fault(
+    alloc: Global,
+    machine: &Value,
+) -> Result<Option<String>, AllocError> {
+    let names = parameters_of(machine);
+    for (i, name) in names.iter().enumerate() {
+        let found = described(alloc, name)?;
+        let Some(text) = name.as_str() else {
+            return Ok(Some(format!(in alloc; "parameters[{i}] is {found}, not a text")?));
+        };
+        if let Some(reason) = bad_parameter(alloc, text)? {
+            return Ok(Some(format!(in alloc; "parameters[{i}]: {reason}")?));
+        }
+        if first_text(names, text) < i {
+            return Ok(Some(format!(in alloc; "parameters[{i}]: {found} stood before")?));
+        }
+    }
+    Ok(None)
+}
+
+// The place of the first text like this one; their number where there is none.
+fn first_text(texts: &[Value], text: &str) -> usize {
+    for (i, other) in texts.iter().enumerate() {
+        if other.as_str() == Some(text) {
+            return i;
+        }
+    }
+    texts.len()
+}
+
+// The first fault of registers, queues or tables.
+pub(crate) fn section_fault(
+    alloc: Global,
+    machine: &Value,
+    member: &str,
+) -> Result<Option<String>, AllocError> {
+    let Some(value) = machine.get(member) else {
+        return Ok(None);
+    };
+    let Some(members) = value.as_object() else {
+        let found = described(alloc, value)?;
+        return Ok(Some(format!(in alloc; "{member} is {found}, not an object")?));
+    };
+    for (name, value) in members.iter() {
+        let name = name.as_str();
+        if let Some(reason) = name_fault(alloc, machine, member, name)? {
+            return Ok(Some(format!(in alloc; "{member}: {reason}")?));
+        }
+        if let Some(reason) = entry_fault(alloc, machine, member, value)? {
+            let name = quoted(alloc, name)?;
+            return Ok(Some(format!(in alloc; "{member}: {name} {reason}")?));
+        }
+    }
+    Ok(None)
+}
+
+// Why a name may not be declared here.
+fn name_fault(
+    alloc: Global,
+    machine: &Value,
+    member: &str,
+    name: &str,
+) -> Result<Option<String>, AllocError> {
+    if let Some(reason) = bad_name(alloc, name)? {
+        return Ok(Some(reason));
+    }
+    let shown = quoted(alloc, name)?;
+    if is_parameter(machine, name) {
+        return Ok(Some(format!(in alloc; "{shown} is the name of a parameter too")?));
+    }
+    for (section, what) in &SECTIONS {
+        if *section == member {
+            break;
+        }
+        let declared = machine.get(*section).and_then(|members| members.get(name));
+        if declared.is_some() {
+            return Ok(Some(format!(in alloc; "{shown} is the name of {what} too")?));
+        }
+    }
+    Ok(None)
+}
+
+// What is wrong with what a name declares, as words behind the name.
+fn entry_fault(
+    alloc: Global,
+    machine: &Value,
+    member: &str,
+    value: &Value,
+) -> Result<Option<String>, AllocError> {
+    match (member, value.as_array()) {
+        ("registers", None) => not_constant(alloc, machine, value, "is"),
+        ("registers", Some(cells)) => cells_fault(alloc, machine, cells.as_slice()),
+        ("queues", None) => out_of_range(alloc, machine, value, "has room for", 1024),
+        ("queues", Some(parts)) => queues_fault(alloc, machine, parts.as_slice()),
+        (_, None) => not_list(alloc, machine, value),
+        (_, Some(numbers)) => numbers_fault(alloc, numbers.as_slice()),
+    }
+}
+
+// What is wrong with the cells of an array register.
+fn cells_fault(
+    alloc: Global,
+    machine: &Value,
+    cells: &[Value],
+) -> Result<Option<String>, AllocError> {
+    let count = cells.len();
+    if count < 1 || count > 64 {
+        return Ok(Some(format!(in alloc; "has {count} cells, 1 to 64")?));
+    }
+    for (i, cell) in cells.iter().enumerate() {
+        let has = format!(in alloc; "has at [{i}]")?;
+        if let Some(reason) = not_constant(alloc, machine, cell, has.as_str())? {
+            return Ok(Some(reason));
+        }
+    }
+    Ok(None)
+}
+
+// What is wrong with an array of queues.
+fn queues_fault(
+    alloc: Global,
+    machine: &Value,
+    parts: &[Value],
+) -> Result<Option<String>, AllocError> {
+    let (Some(count), Some(room), 2) = (parts.first(), parts.last(), parts.len()) else {
+        let count = parts.len();
+        let line = format!(in alloc; "is a list of {count}, not of two: a count and a room")?;
+        return Ok(Some(line));
+    };
+    if let Some(reason) = out_of_range(alloc, machine, count, "has a count of", 16)? {
+        return Ok(Some(reason));
+    }
+    out_of_range(alloc, machine, room, "has room for", 1024)
+}
+
+// What is wrong with the numbers of a table.
+fn numbers_fault(alloc: Global, numbers: &[Value]) -> Result<Option<String>, AllocError> {
+    let count = numbers.len();
+    if count < 1 || count > 65536 {
+        return Ok(Some(format!(in alloc; "has {count} numbers, 1 to 65536")?));
+    }
+    for (i, number) in numbers.iter().enumerate() {
+        if !number.is_i64() {
+            let found = described(alloc, number)?;
+            return Ok(Some(format!(in alloc; "has {found} at [{i}], not {WHOLE}")?));
+        }
+    }
+    Ok(None)
+}
+
+// Why a table is no list, if it is no name of a parameter.
+fn not_list(alloc: Global, machine: &Value, value: &Value) -> Result<Option<String>, AllocError> {
+    let name = value.as_str().unwrap_or("");
+    if is_parameter(machine, name) {
+        return Ok(None);
+    }
+    let found = described(alloc, value)?;
+    let question = nearest_parameter(alloc, machine, name, true)?;
+    let line = format!(in alloc;
+        "is {found}, neither a list nor the name of a parameter{question}"
+    )?;
+    Ok(Some(line))
+}
+
+// Why a value is no constant, if it is none.
+pub(crate) fn not_constant(
+    alloc: Global,
+    machine: &Value,
+    value: &Value,
+    is: &str,
+) -> Result<Option<String>, AllocError> {
+    let name = value.as_str().unwrap_or("");
+    if value.is_i64() || (is_parameter(machine, name) && !is_list(machine, name)) {
+        return Ok(None);
+    }
+    let found = described(alloc, value)?;
+    let question = nearest_parameter(alloc, machine, name, false)?;
+    let line = format!(in alloc;
+        "{is} {found}, neither {WHOLE} nor the name of a parameter that is a number{question}"
+    )?;
+    Ok(Some(line))
+}
+
+// Why a value is no constant from 1 to this, if it is none.
+pub(crate) fn out_of_range(
+    alloc: Global,
+    machine: &Value,
+    value: &Value,
+    is: &str,
+    most: i64,
+) -> Result<Option<String>, AllocError> {
+    if let Some(reason) = not_constant(alloc, machine, value, is)? {
+        return Ok(Some(reason));
+    }
+    match value.as_i64() {
+        Some(number) if number < 1 => { Ok(Some(format!(in alloc; "{is} {number}, at least 1")?)) }
+        Some(number) if number > most => {
+            Ok(Some(format!(in alloc; "{is} {number}, at most {most}")?))
+        }
+        _ => Ok(None),
+    }
+}
+
+// The question for the parameter that was meant, of those that may be lists or of those that are numbers.
+fn nearest_parameter(
+    alloc: Global,
+    machine: &Value,
+    name: &str,
+    lists: bool,
+) -> Result<String, AllocError> {
+    let mut nearest = Nearest::new(name);
+    for one in parameters_of(machine) {
+        let one = one.as_str().unwrap_or("");
+        if lists || !is_list(machine, one) {
+            nearest.look(alloc, one)?;
+        }
+    }
+    nearest.question(alloc)
+}

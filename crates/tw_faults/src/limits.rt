@@ -1,0 +1,241 @@
+//! The limit that a machine passes, in words.
+
+use crate::machines::Machine;
+use crate::members::member_text;
+use crate::spelling::words_of;
+use crate::words::quoted;
+use std::alloc::{AllocError, Global};
+use tw_costs::{
+    block_work, constant, count_of, list_given, outputs_work, room_of, standings_of, words_work,
+};
+use tw_declared::{BadMachine, Constant, Given, Thing};
+use tw_machine_file::{FileMachine, Part};
+use tw_vtime::MAX_TICK;
+
+/// The most computations of a run.
+const MAX_WORK: usize = 262_144;
+
+/// The most turns of a block.
+const MAX_TURNS: i64 = 64;
+
+/// What is counted of a machine.
+#[derive(Clone, Copy)]
+enum Counted {
+    Cells,
+    Queues,
+    Room,
+    Numbers,
+}
+
+// The line for a limit that a machine passes with these numbers.
+pub(crate) fn limit_fault(
+    alloc: Global,
+    given: &Given,
+    machine: &Machine<'_>,
+    bad: BadMachine,
+) -> Result<String, AllocError> {
+    let read = &machine.read;
+    match bad {
+        BadMachine::QueueCount => queue_fault(alloc, given, read, bad),
+        BadMachine::Longest => longest_fault(alloc, given, read, bad),
+        BadMachine::Turns => turns_fault(alloc, given, machine, bad),
+        BadMachine::TooManyCells => {
+            let cells = total(given, read, Counted::Cells);
+            format!(in alloc; "registers have {cells} cells together, at most 64")
+        }
+        BadMachine::TooManyQueues => {
+            let queues = total(given, read, Counted::Queues);
+            format!(in alloc; "{queues} queues, at most 16")
+        }
+        BadMachine::TooMuchRoom => {
+            let room = total(given, read, Counted::Room);
+            format!(in alloc; "queues have room for {room} values together, at most 4096")
+        }
+        BadMachine::TooManyNumbers => {
+            let numbers = total(given, read, Counted::Numbers);
+            format!(in alloc; "tables have {numbers} numbers together, at most 65536")
+        }
+        BadMachine::TooManyNodes => String::from_str(
+            alloc,
+            "more than 4096 nodes in programs, outputs and words together",
+        ),
+        BadMachine::TooManyComputations => work_fault(alloc, given, read),
+        bad => format!(in alloc; "{bad}"),
+    }
+}
+
+// A number of all things that a machine declares.
+fn total(given: &Given, machine: &FileMachine, counted: Counted) -> usize {
+    let mut total = 0usize;
+    for named in &machine.declaration.names {
+        total = total.saturating_add(count(given, &named.thing, counted));
+    }
+    total
+}
+
+// A number of a thing that a machine declares.
+fn count(given: &Given, thing: &Thing, counted: Counted) -> usize {
+    match (counted, thing) {
+        (Counted::Cells, Thing::Register(_)) | (Counted::Queues, Thing::Queue(_)) => 1,
+        (Counted::Cells, Thing::RegisterArray(cells)) => cells.len(),
+        (Counted::Queues, Thing::QueueArray(count, _)) => count_of(given, *count) as usize,
+        (Counted::Room, Thing::Queue(room)) => room_of(given, *room) as usize,
+        (Counted::Room, Thing::QueueArray(count, room)) => {
+            let count = count_of(given, *count) as usize;
+            count.saturating_mul(room_of(given, *room) as usize)
+        }
+        (Counted::Numbers, Thing::Table(numbers)) => numbers.len(),
+        (Counted::Numbers, Thing::ListTable(place)) => list_given(given, *place).len(),
+        _ => 0,
+    }
+}
+
+// How many numbers the tables of a machine have that stand in it.
+pub(crate) fn own_numbers(alloc: Global, machine: &FileMachine) -> usize {
+    let nothing = Given {
+        numbers: Vec::new(alloc),
+        lists: Vec::new(alloc),
+    };
+    total(&nothing, machine, Counted::Numbers)
+}
+
+// The words for a number out of its range, behind what has it.
+fn range_words(
+    alloc: Global,
+    number: i64,
+    least: i64,
+    most: i64,
+) -> Result<Option<String>, AllocError> {
+    if number < least {
+        return Ok(Some(format!(in alloc; "{number}, at least {least}")?));
+    }
+    if number > most {
+        return Ok(Some(format!(in alloc; "{number}, at most {most}")?));
+    }
+    Ok(None)
+}
+
+// The words for a constant out of its range, if it is given.
+fn given_words(
+    alloc: Global,
+    given: &Given,
+    one: Constant,
+    most: i64,
+) -> Result<Option<String>, AllocError> {
+    match constant(given, one) {
+        Some(number) => range_words(alloc, number, 1, most),
+        None => Ok(None),
+    }
+}
+
+// The words for a count or a room of a queue.
+fn queue_words(alloc: Global, given: &Given, thing: &Thing) -> Result<Option<String>, AllocError> {
+    let room = match thing {
+        Thing::Queue(room) => *room,
+        Thing::QueueArray(count, room) => {
+            if let Some(words) = given_words(alloc, given, *count, 16)? {
+                return Ok(Some(format!(in alloc; "has a count of {words}")?));
+            }
+            *room
+        }
+        _ => return Ok(None),
+    };
+    match given_words(alloc, given, room, 1024)? {
+        Some(words) => Ok(Some(format!(in alloc; "has room for {words}")?)),
+        None => Ok(None),
+    }
+}
+
+// The first queue whose count or room is out of its range.
+fn queue_fault(
+    alloc: Global,
+    given: &Given,
+    machine: &FileMachine,
+    bad: BadMachine,
+) -> Result<String, AllocError> {
+    for named in &machine.declaration.names {
+        if let Some(words) = queue_words(alloc, given, &named.thing)? {
+            let name = quoted(alloc, named.name.as_str())?;
+            return format!(in alloc; "queues: {name} {words}");
+        }
+    }
+    format!(in alloc; "{bad}")
+}
+
+// The longest wait, out of its range.
+fn longest_fault(
+    alloc: Global,
+    given: &Given,
+    machine: &FileMachine,
+    bad: BadMachine,
+) -> Result<String, AllocError> {
+    if let Some(longest) = machine.declaration.longest {
+        if let Some(words) = given_words(alloc, given, longest, MAX_TICK as i64)? {
+            return format!(in alloc; "longest is {words}");
+        }
+    }
+    format!(in alloc; "{bad}")
+}
+
+// The first block that is repeated too often, or a negative number of times.
+fn turns_fault(
+    alloc: Global,
+    given: &Given,
+    machine: &Machine<'_>,
+    bad: BadMachine,
+) -> Result<String, AllocError> {
+    for part in &[Part::Internal, Part::External] {
+        let said = member_text(alloc, machine.value, *part)?;
+        let mut is_repeated = false;
+        for word in &words_of(alloc, said.text.as_str())? {
+            if is_repeated {
+                let name = word.text.as_str();
+                if let Some(words) = turns_words(alloc, given, &machine.read, name)? {
+                    let place = said.place.as_str();
+                    let (line, column) = (word.place.line, word.place.column);
+                    return format!(in alloc;
+                        "{place}, line {line}, column {column}: {name} is {words}"
+                    );
+                }
+            }
+            is_repeated = word.text.as_str() == "repeat";
+        }
+    }
+    format!(in alloc; "{bad}")
+}
+
+// The words for a parameter by which a block is repeated.
+fn turns_words(
+    alloc: Global,
+    given: &Given,
+    machine: &FileMachine,
+    name: &str,
+) -> Result<Option<String>, AllocError> {
+    for (i, number) in machine.numbers.iter().enumerate() {
+        if number.as_str() == name {
+            return match given.numbers.get(i) {
+                Some(number) => range_words(alloc, *number, 0, MAX_TURNS),
+                None => Ok(None),
+            };
+        }
+    }
+    Ok(None)
+}
+
+// The first run that may make too many computations.
+fn work_fault(alloc: Global, given: &Given, machine: &FileMachine) -> Result<String, AllocError> {
+    let declaration = &machine.declaration;
+    let standings = standings_of(alloc, given, declaration.names.as_slice())?;
+    let what = if block_work(&standings, &declaration.internal) > MAX_WORK {
+        "a run of internal"
+    } else if block_work(&standings, &declaration.external) > MAX_WORK {
+        "an item of external"
+    } else if outputs_work(&standings, declaration.outputs.as_slice()) > MAX_WORK {
+        "output"
+    } else if words_work(&standings, declaration.words.as_slice()) > MAX_WORK {
+        "words"
+    } else {
+        "a part"
+    };
+    format!(in alloc; "{what} may take more than {MAX_WORK} computations")
+}

@@ -1,0 +1,297 @@
+//! The machines of a file: the first fault of `models`.
+
+use crate::entries::{not_constant, out_of_range, parameters_fault, section_fault};
+use crate::limits::limit_fault;
+use crate::members::{entry_fault, member_text, word_again};
+use crate::names::{MODELS, declared_in};
+use crate::nearest::Nearest;
+use crate::outline::{items_at, name_of};
+use crate::stop::Stop;
+use crate::texts::reason;
+use crate::words::{described, listed, quoted};
+use serde_json::Value;
+use std::alloc::{AllocError, Global};
+use tw_declared::{BadMachine, Given, declared};
+use tw_machine_file::{FileMachine, MachineFault, Part, Why, machine_of};
+use tw_program_text::Place;
+use tw_vtime::MAX_TICK;
+
+/// The most machines of a file.
+const MAX_MACHINES: usize = 256;
+
+/// The members of a machine.
+const MEMBERS: [&str; 12] = [
+    "name",
+    "parameters",
+    "registers",
+    "queues",
+    "tables",
+    "random",
+    "first",
+    "longest",
+    "internal",
+    "external",
+    "output",
+    "words",
+];
+
+/// A machine of a file, and the value that declares it.
+#[derive(Drop)]
+pub(crate) struct Machine<'a> {
+    pub(crate) value: &'a Value,
+    pub(crate) read: FileMachine,
+}
+
+// The machines of a file in order; stops at the first fault of one.
+pub(crate) fn machines_of<'a>(alloc: Global, value: &'a Value) -> Result<Vec<Machine<'a>>, Stop> {
+    let models = items_at(value, "models");
+    let count = models.len();
+    if count > MAX_MACHINES {
+        let line = format!(in alloc;
+            "the file: {count} machines in models, at most {MAX_MACHINES}"
+        )?;
+        return Err(Stop::Fault(line));
+    }
+    let mut machines = Vec::new(alloc);
+    let mut names = Vec::new(alloc);
+    for (i, model) in models.iter().enumerate() {
+        let machine = read_machine(alloc, names.as_slice(), models, i, model)?;
+        names.push(machine.read.name.clone()?)?;
+        machines.push(machine)?;
+    }
+    Ok(machines)
+}
+
+// The machine at a place of `models`, with its limits looked at.
+fn read_machine<'a>(
+    alloc: Global,
+    before: &[String],
+    models: &'a [Value],
+    i: usize,
+    model: &'a Value,
+) -> Result<Machine<'a>, Stop> {
+    let place = machine_place(alloc, i, model)?;
+    let read = match machine_of(alloc, before, model) {
+        Ok(read) => read,
+        Err(MachineFault::OutOfMemory) => return Err(Stop::OutOfMemory),
+        Err(MachineFault::Wrong(part, why)) => {
+            let reason = wrong(alloc, models, model, part, why)?;
+            return Err(Stop::Fault(format!(in alloc; "{place}: {reason}")?));
+        }
+        Err(MachineFault::Text(part, at)) => {
+            let reason = wrong_text(alloc, model, part, at)?;
+            return Err(Stop::Fault(format!(in alloc; "{place}: {reason}")?));
+        }
+        Err(MachineFault::Limit(bad)) => {
+            return Err(Stop::Fault(format!(in alloc; "{place}: {bad}")?));
+        }
+    };
+    let given = Given {
+        numbers: Vec::new(alloc),
+        lists: Vec::new(alloc),
+    };
+    let machine = Machine { value: model, read };
+    check_limits(alloc, place.as_str(), &given, &machine)?;
+    Ok(machine)
+}
+
+// Stops at the first limit that a machine passes with these numbers.
+pub(crate) fn check_limits(
+    alloc: Global,
+    place: &str,
+    given: &Given,
+    machine: &Machine<'_>,
+) -> Result<(), Stop> {
+    match declared(alloc, given, &machine.read.declaration) {
+        Ok(_) => Ok(()),
+        Err(BadMachine::OutOfMemory) => Err(Stop::OutOfMemory),
+        Err(bad) => {
+            let reason = limit_fault(alloc, given, machine, bad)?;
+            Err(Stop::Fault(format!(in alloc; "{place}: {reason}")?))
+        }
+    }
+}
+
+// The place of a machine, with its name where it has one.
+fn machine_place(alloc: Global, i: usize, model: &Value) -> Result<String, AllocError> {
+    match name_of(model) {
+        Some(name) => {
+            let name = quoted(alloc, name)?;
+            format!(in alloc; "models[{i}] {name}")
+        }
+        None => format!(in alloc; "models[{i}]"),
+    }
+}
+
+// Why the text of a part goes wrong at a place.
+fn wrong_text(alloc: Global, model: &Value, part: Part, at: Place) -> Result<String, AllocError> {
+    let said = member_text(alloc, model, part)?;
+    let names = declared_in(alloc, model)?;
+    let reason = reason(alloc, names.as_slice(), said.member, said.text.as_str(), at)?;
+    let (line, column) = (at.line, at.column);
+    let place = said.place.as_str();
+    format!(in alloc; "{place}, line {line}, column {column}: {reason}")
+}
+
+// Why a part of a machine has not its form.
+fn wrong(
+    alloc: Global,
+    models: &[Value],
+    model: &Value,
+    part: Part,
+    why: Why,
+) -> Result<String, AllocError> {
+    let found = match part {
+        Part::Whole => whole_fault(alloc, model)?,
+        Part::Name => name_fault(alloc, models, model, why)?,
+        Part::Parameters => match other_type(alloc, model, "parameters", "a list")? {
+            Some(line) => Some(line),
+            None => parameters_fault(alloc, model)?,
+        },
+        Part::Registers => section_fault(alloc, model, "registers")?,
+        Part::Queues => section_fault(alloc, model, "queues")?,
+        Part::Tables => section_fault(alloc, model, "tables")?,
+        Part::Random => constant_fault(alloc, model, "random", None)?,
+        Part::First => constant_fault(alloc, model, "first", None)?,
+        Part::Longest => constant_fault(alloc, model, "longest", Some(MAX_TICK as i64))?,
+        Part::Internal => lines_fault(alloc, model, "internal")?,
+        Part::External => lines_fault(alloc, model, "external")?,
+        Part::Output => count_fault(alloc, model, "output", 0)?,
+        Part::Words => count_fault(alloc, model, "words", 1)?,
+        Part::Word(i) if why == Why::Twice => Some(word_again(alloc, model, i)?),
+        _ => entry_fault(alloc, model, part)?,
+    };
+    match found {
+        Some(line) => Ok(line),
+        None => String::from_str(alloc, "a part of the machine has not its form"),
+    }
+}
+
+// What is wrong with the machine itself: it is no object, or has a member that none has.
+fn whole_fault(alloc: Global, model: &Value) -> Result<Option<String>, AllocError> {
+    let Some(members) = model.as_object() else {
+        let found = described(alloc, model)?;
+        return Ok(Some(format!(in alloc; "{found}, not an object")?));
+    };
+    for name in members.keys() {
+        if !MEMBERS.contains(&name.as_str()) {
+            let takes = listed(alloc, &MEMBERS)?;
+            let mut nearest = Nearest::new(name.as_str());
+            nearest.look_all(alloc, &MEMBERS)?;
+            let question = nearest.question(alloc)?;
+            let name = quoted(alloc, name.as_str())?;
+            let line = format!(in alloc;
+                "no member {name} in a machine, which takes {takes}{question}"
+            )?;
+            return Ok(Some(line));
+        }
+    }
+    Ok(None)
+}
+
+// What is wrong with the name of a machine.
+fn name_fault(
+    alloc: Global,
+    models: &[Value],
+    model: &Value,
+    why: Why,
+) -> Result<Option<String>, AllocError> {
+    let Some(value) = model.get("name") else {
+        return Ok(Some(String::from_str(alloc, "\"name\" is missing in a machine")?));
+    };
+    let found = described(alloc, value)?;
+    let Some(name) = value.as_str() else {
+        return Ok(Some(format!(in alloc; "name is {found}, not a text")?));
+    };
+    if why == Why::Twice {
+        let first = first_named(models, name);
+        return Ok(Some(format!(in alloc; "models[{first}] has this name")?));
+    }
+    if MODELS.contains(&name) {
+        return Ok(Some(format!(in alloc; "the name {found} is that of a built-in model")?));
+    }
+    let line = format!(in alloc;
+        "the name {found} is not 1 to 32 of ASCII letters, digits, _ and -"
+    )?;
+    Ok(Some(line))
+}
+
+// The place of the first machine of this name.
+fn first_named(models: &[Value], name: &str) -> usize {
+    for (i, model) in models.iter().enumerate() {
+        if name_of(model) == Some(name) {
+            return i;
+        }
+    }
+    models.len()
+}
+
+// What is said of a member that is there and no list.
+fn other_type(
+    alloc: Global,
+    model: &Value,
+    member: &str,
+    wanted: &str,
+) -> Result<Option<String>, AllocError> {
+    match model.get(member) {
+        Some(value) if !value.is_array() => {
+            let found = described(alloc, value)?;
+            Ok(Some(format!(in alloc; "{member} is {found}, not {wanted}")?))
+        }
+        _ => Ok(None),
+    }
+}
+
+// What is wrong with a member that is a constant, from 1 to what is said.
+fn constant_fault(
+    alloc: Global,
+    model: &Value,
+    member: &str,
+    most: Option<i64>,
+) -> Result<Option<String>, AllocError> {
+    let Some(value) = model.get(member) else {
+        return Ok(None);
+    };
+    let is = format!(in alloc; "{member} is")?;
+    match most {
+        Some(most) => out_of_range(alloc, model, value, is.as_str(), most),
+        None => not_constant(alloc, model, value, is.as_str()),
+    }
+}
+
+// What is wrong with a program that is no text and no list of texts.
+fn lines_fault(alloc: Global, model: &Value, member: &str) -> Result<Option<String>, AllocError> {
+    let Some(value) = model.get(member) else {
+        return Ok(None);
+    };
+    let Some(lines) = value.as_array() else {
+        let found = described(alloc, value)?;
+        let line = format!(in alloc; "{member} is {found}, neither a text nor a list of texts")?;
+        return Ok(Some(line));
+    };
+    for (i, line) in lines.iter().enumerate() {
+        if !line.is_string() {
+            let found = described(alloc, line)?;
+            return Ok(Some(format!(in alloc; "{member}[{i}] is {found}, not a text")?));
+        }
+    }
+    Ok(None)
+}
+
+// What is wrong with the list of outputs or words.
+fn count_fault(
+    alloc: Global,
+    model: &Value,
+    member: &str,
+    least: usize,
+) -> Result<Option<String>, AllocError> {
+    if model.get(member).is_none() {
+        return Ok(Some(format!(in alloc; "\"{member}\" is missing in a machine")?));
+    }
+    if let Some(line) = other_type(alloc, model, member, "a list")? {
+        return Ok(Some(line));
+    }
+    let count = items_at(model, member).len();
+    let line = format!(in alloc; "{member} has {count} entries, {least} to 64")?;
+    Ok(Some(line))
+}

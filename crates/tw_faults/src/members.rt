@@ -1,0 +1,157 @@
+//! The outputs and words of a machine: their texts, and what is wrong with them.
+
+use crate::entries::WHOLE;
+use crate::outline::items_at;
+use crate::words::{described, quoted};
+use serde_json::Value;
+use std::alloc::{AllocError, Global};
+use tw_machine_file::Part;
+use tw_program_text::Member;
+
+/// The members of an output.
+const MEMBERS: [&str; 4] = ["port", "value", "when", "each"];
+
+/// A text of a machine.
+#[derive(Drop)]
+pub(crate) struct Said {
+    /// Where it stands: `internal`, or as `output[2].value`.
+    pub(crate) place: String,
+    pub(crate) text: String,
+    /// What it is; none is a program.
+    pub(crate) member: Option<Member>,
+}
+
+// The text of a part.
+pub(crate) fn member_text(alloc: Global, machine: &Value, part: Part) -> Result<Said, AllocError> {
+    match part {
+        Part::Internal => program_text(alloc, machine, "internal"),
+        Part::External => program_text(alloc, machine, "external"),
+        Part::Port(i) => output_text(alloc, machine, i, "port", Member::Value),
+        Part::Value(i) => output_text(alloc, machine, i, "value", Member::Value),
+        Part::When(i) => output_text(alloc, machine, i, "when", Member::Value),
+        Part::Each(i) => output_text(alloc, machine, i, "each", Member::Each),
+        Part::Word(i) => Ok(Said {
+            place: format!(in alloc; "words[{i}]")?,
+            text: text_of(alloc, items_at(machine, "words").get(i))?,
+            member: Some(Member::Shown),
+        }),
+        _ => program_text(alloc, machine, ""),
+    }
+}
+
+// The text of a member that is a program, its lines joined.
+fn program_text(alloc: Global, machine: &Value, member: &str) -> Result<Said, AllocError> {
+    let mut text = text_of(alloc, machine.get(member))?;
+    for (i, line) in items_at(machine, member).iter().enumerate() {
+        if i > 0 {
+            text.push_str("\n")?;
+        }
+        text.push_str(line.as_str().unwrap_or(""))?;
+    }
+    Ok(Said {
+        place: String::from_str(alloc, member)?,
+        text,
+        member: None,
+    })
+}
+
+// The text of a member of an output.
+fn output_text(
+    alloc: Global,
+    machine: &Value,
+    i: usize,
+    name: &str,
+    member: Member,
+) -> Result<Said, AllocError> {
+    let value = items_at(machine, "output")
+        .get(i)
+        .and_then(|entry| entry.get(name));
+    Ok(Said {
+        place: format!(in alloc; "output[{i}].{name}")?,
+        text: text_of(alloc, value)?,
+        member: Some(member),
+    })
+}
+
+// The text that a value is.
+fn text_of(alloc: Global, value: Option<&Value>) -> Result<String, AllocError> {
+    String::from_str(alloc, value.and_then(Value::as_str).unwrap_or(""))
+}
+
+// What is wrong with an entry of the outputs or words.
+pub(crate) fn entry_fault(
+    alloc: Global,
+    machine: &Value,
+    part: Part,
+) -> Result<Option<String>, AllocError> {
+    match part {
+        Part::Entry(i) => output_fault(alloc, machine, i),
+        Part::Port(i) => sent_fault(alloc, machine, i, "port"),
+        Part::Value(i) => sent_fault(alloc, machine, i, "value"),
+        Part::When(i) => sent_fault(alloc, machine, i, "when"),
+        Part::Each(i) => sent_fault(alloc, machine, i, "each"),
+        Part::Word(i) => match items_at(machine, "words").get(i) {
+            Some(word) => {
+                let found = described(alloc, word)?;
+                let line = format!(in alloc; "words[{i}] is {found}, neither a text nor {WHOLE}")?;
+                Ok(Some(line))
+            }
+            None => Ok(None),
+        },
+        _ => Ok(None),
+    }
+}
+
+// What is wrong with an output: it is no object, or has a member that none has.
+fn output_fault(alloc: Global, machine: &Value, i: usize) -> Result<Option<String>, AllocError> {
+    let Some(entry) = items_at(machine, "output").get(i) else {
+        return Ok(None);
+    };
+    let Some(members) = entry.as_object() else {
+        let found = described(alloc, entry)?;
+        return Ok(Some(format!(in alloc; "output[{i}] is {found}, not an object")?));
+    };
+    for name in members.keys() {
+        if !MEMBERS.contains(&name.as_str()) {
+            let name = quoted(alloc, name.as_str())?;
+            let line = format!(in alloc;
+                "output[{i}]: no member {name} in an output, which takes port, value, when, each"
+            )?;
+            return Ok(Some(line));
+        }
+    }
+    Ok(None)
+}
+
+// What is wrong with a member of an output: it is missing, or of another type.
+fn sent_fault(
+    alloc: Global,
+    machine: &Value,
+    i: usize,
+    name: &str,
+) -> Result<Option<String>, AllocError> {
+    let value = items_at(machine, "output")
+        .get(i)
+        .and_then(|entry| entry.get(name));
+    let Some(value) = value else {
+        let line = format!(in alloc; "output[{i}]: \"{name}\" is missing in an output")?;
+        return Ok(Some(line));
+    };
+    let found = described(alloc, value)?;
+    let line = if name == "each" {
+        format!(in alloc; "output[{i}].{name} is {found}, not a text")?
+    } else {
+        format!(in alloc; "output[{i}].{name} is {found}, neither a text nor {WHOLE}")?
+    };
+    Ok(Some(line))
+}
+
+// The line for a queue or an array register that has come before in the words.
+pub(crate) fn word_again(alloc: Global, machine: &Value, i: usize) -> Result<String, AllocError> {
+    let word = items_at(machine, "words")
+        .get(i)
+        .and_then(Value::as_str)
+        .unwrap_or("");
+    let word = quoted(alloc, word)?;
+    format!(in alloc; "words[{i}]: {word} stands in words before")
+}

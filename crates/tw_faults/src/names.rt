@@ -1,0 +1,154 @@
+//! The names that a machine of a file declares.
+
+use crate::texts::is_reserved;
+use crate::words::quoted;
+use serde_json::Value;
+use std::alloc::{AllocError, Global};
+use tw_program_text::{Declared, Kind};
+
+/// The longest name, in bytes.
+const MAX_NAME: usize = 32;
+
+/// The members of a component that no parameter has the name of.
+const MEMBERS: [&str; 4] = ["name", "model", "components", "couplings"];
+
+/// The models that are no machines.
+pub(crate) const MODELS: [&str; 5] = ["gen", "tally", "relay", "queue", "hop"];
+
+// What a machine's names stand for, as far as they are declared.
+pub(crate) fn declared_in(alloc: Global, machine: &Value) -> Result<Vec<Declared>, AllocError> {
+    let mut declared = Vec::new(alloc);
+    for name in parameters_of(machine) {
+        if let Some(name) = name.as_str() {
+            let kind = if is_list(machine, name) {
+                Kind::ListParameter
+            } else {
+                Kind::Parameter
+            };
+            add(alloc, &mut declared, name, kind)?;
+        }
+    }
+    add_all(
+        alloc,
+        &mut declared,
+        machine,
+        "registers",
+        Kind::Register,
+        Kind::RegisterArray,
+    )?;
+    add_all(
+        alloc,
+        &mut declared,
+        machine,
+        "queues",
+        Kind::Queue,
+        Kind::QueueArray,
+    )?;
+    add_all(
+        alloc,
+        &mut declared,
+        machine,
+        "tables",
+        Kind::Table,
+        Kind::Table,
+    )?;
+    Ok(declared)
+}
+
+// Adds the names of a member: those of lists are of a kind of their own.
+fn add_all(
+    alloc: Global,
+    declared: &mut Vec<Declared>,
+    machine: &Value,
+    member: &str,
+    one: Kind,
+    many: Kind,
+) -> Result<(), AllocError> {
+    if let Some(members) = machine.get(member).and_then(Value::as_object) {
+        for (name, value) in members.iter() {
+            let kind = if value.is_array() { many } else { one };
+            add(alloc, declared, name.as_str(), kind)?;
+        }
+    }
+    Ok(())
+}
+
+fn add(
+    alloc: Global,
+    declared: &mut Vec<Declared>,
+    name: &str,
+    kind: Kind,
+) -> Result<(), AllocError> {
+    let name = String::from_str(alloc, name)?;
+    declared.push(Declared { name, kind })?;
+    Ok(())
+}
+
+// The parameters of a machine, as they are written.
+pub(crate) fn parameters_of<'a>(machine: &'a Value) -> &'a [Value] {
+    match machine.get("parameters").and_then(Value::as_array) {
+        Some(items) => items.as_slice(),
+        None => &[],
+    }
+}
+
+// Whether a table is named after this parameter.
+pub(crate) fn is_list(machine: &Value, name: &str) -> bool {
+    if let Some(tables) = machine.get("tables").and_then(Value::as_object) {
+        for (_, value) in tables.iter() {
+            if value.as_str() == Some(name) {
+                return true;
+            }
+        }
+    }
+    false
+}
+
+// Whether this is a parameter.
+pub(crate) fn is_parameter(machine: &Value, name: &str) -> bool {
+    for one in parameters_of(machine) {
+        if one.as_str() == Some(name) {
+            return true;
+        }
+    }
+    false
+}
+
+// Why a name may not be one, if it may not.
+pub(crate) fn bad_name(alloc: Global, name: &str) -> Result<Option<String>, AllocError> {
+    let shown = quoted(alloc, name)?;
+    if is_reserved(name) {
+        return Ok(Some(format!(in alloc; "{shown} is a word of the language, and no name")?));
+    }
+    if !is_made(name) {
+        let line = format!(in alloc;
+            "the name {shown} is not a letter or _, then letters, digits and _, {MAX_NAME} at most"
+        )?;
+        return Ok(Some(line));
+    }
+    Ok(None)
+}
+
+// Why a name may be none of a parameter, if it may not.
+pub(crate) fn bad_parameter(alloc: Global, name: &str) -> Result<Option<String>, AllocError> {
+    if MEMBERS.contains(&name) {
+        let shown = quoted(alloc, name)?;
+        let line = format!(in alloc; "{shown} is a member of components, and no parameter")?;
+        return Ok(Some(line));
+    }
+    bad_name(alloc, name)
+}
+
+// Whether a name is made as those of registers are.
+fn is_made(name: &str) -> bool {
+    for letter in name.chars() {
+        if !letter.is_ascii_alphanumeric() && letter != '_' {
+            return false;
+        }
+    }
+    let begins = match name.chars().next() {
+        Some(letter) => !letter.is_ascii_digit(),
+        None => false,
+    };
+    begins && name.len() <= MAX_NAME
+}

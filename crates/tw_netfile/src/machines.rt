@@ -1,0 +1,74 @@
+//! Components of a file that are one of the five models, or a machine that the file declares.
+
+ghost use Rattle.std.specs.Prelude.{◌≡◌, ◌≢◌, Some, None, IfOk, IfErr, map, option_map};
+ghost use Rattle.serde_json.specs.View.{view};
+ghost use Rattle.tw_machine_file.specs.Seen as file;
+ghost use Rattle.tw_machine_file.specs.Seen.{machine};
+ghost use Rattle.tw_netfile.specs.Shape.{machine_named, machine_of, model_in};
+ghost use Rattle.tw_netfile.specs.TreeShape.{machines_at};
+
+use crate::draft::AnyDraft;
+use crate::refused::FileRefused;
+use crate::shape::model_named;
+use serde_json::Value;
+use std::alloc::Global;
+use tw_machine::machine::Shared;
+use tw_machine_file::{FileMachine, MachineFault, machines_in, program_in};
+
+// The model that a component names, where these machines may be named.
+pub fn model_in(
+    alloc: Global,
+    machines: &[FileMachine],
+    value: &Value,
+    name: &str,
+) -> Result<AnyDraft, FileRefused>
+    ensures ok { IfOk result (λ d. model_in (map machine machines.now) (view value.now) name.now ≡ Some d) }
+    ensures err { IfErr result (λ e. e ≢ FileRefused.OutOfMemory → (e ≡ FileRefused.BadShape) × (model_in (map machine machines.now) (view value.now) name.now ≡ None)) }
+{
+    if let Some(draft) = model_named(name, value) {
+        return Ok(AnyDraft::BuiltIn(draft));
+    }
+    match machine_named(machines, name) {
+        Some(machine) => machine_of(alloc, machine, value),
+        None => Err(FileRefused::BadShape),
+    }
+}
+
+// The program of a component's machine.
+fn machine_of(alloc: Global, machine: &FileMachine, value: &Value) -> Result<AnyDraft, FileRefused>
+    ensures ok { IfOk result (λ d. machine_of (file.machine machine.now) (view value.now) ≡ Some d) }
+    ensures err { IfErr result (λ e. e ≢ FileRefused.OutOfMemory → (e ≡ FileRefused.BadShape) × (machine_of (file.machine machine.now) (view value.now) ≡ None)) }
+{
+    match program_in(alloc, machine, value) {
+        Ok(program) => Ok(AnyDraft::Machine(Shared::new(alloc, program)?)),
+        Err(MachineFault::OutOfMemory) => Err(FileRefused::OutOfMemory),
+        Err(_) => Err(FileRefused::BadShape),
+    }
+}
+
+// The first machine of a name.
+fn machine_named<'a>(machines: &'a [FileMachine], name: &str) -> Option<&'a FileMachine>
+    ensures { option_map (λ m. machine m.now) result ≡ machine_named (map machine machines.now) name.now }
+{
+    for machine in machines {
+        if machine.name.as_str() == name {
+            return Some(machine);
+        }
+    }
+    None
+}
+
+// The machines that a file declares.
+pub fn machines_at(alloc: Global, value: &Value) -> Result<Vec<FileMachine>, FileRefused>
+    ensures ok { IfOk result (λ ms. machines_at (view value.now) ≡ Some (map machine ms.items)) }
+    ensures err { IfErr result (λ e. e ≢ FileRefused.OutOfMemory → (e ≡ FileRefused.BadShape) × (machines_at (view value.now) ≡ None)) }
+{
+    let Some(models) = value.get("models") else {
+        return Err(FileRefused::BadShape);
+    };
+    match machines_in(alloc, models) {
+        Ok(machines) => Ok(machines),
+        Err(MachineFault::OutOfMemory) => Err(FileRefused::OutOfMemory),
+        Err(_) => Err(FileRefused::BadShape),
+    }
+}

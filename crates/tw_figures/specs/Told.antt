@@ -1,0 +1,17 @@
+-- What is told of a figure over the ticks before a time.
+--     IsTold measure start moves ticks told      of a component that starts in a state of these words and makes these transitions
+use Rattle.std.specs.Prelude.{◌≡◌, ℕ, ℤ, pos, List}
+use Rattle.tw_msgs.specs.declared.record.Record.{Record}
+use Rattle.tw_figures.specs.Figures.{IsGreatest, IsLeast, busy_at, sum_over, value_at, value_of, values, words_after}
+use Rattle.tw_figures.specs.Shares.{IsMean, IsShare}
+use Rattle.tw_figures.specs.declared.figure.Measure.{Measure}
+use Rattle.tw_figures.specs.declared.told.Told.{Told}
+
+pub record IsTold (measure : Measure) (start : List ℤ) (moves : List Record) (ticks : ℕ) (told : Told) : Type 0 where
+  pub least : IsLeast told.least (values measure start moves)
+  pub greatest : IsGreatest told.greatest (values measure start moves)
+  pub last : told.last ≡ value_of measure (words_after start moves)
+  pub mean : IsMean (sum_over ticks (value_at measure start moves)) (value_of measure (words_after start moves)) ticks told.mean
+  pub some : ℕ
+  pub counted : pos some ≡ sum_over ticks (busy_at measure start moves)
+  pub busy : IsShare some (value_of measure (words_after start moves)) ticks told.busy

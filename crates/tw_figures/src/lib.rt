@@ -1,0 +1,30 @@
+//! Counts and figures of a run: what its components did, and how numbers of their states went.
+//!
+//! - [`Counts`]: how many outputs, items and transitions of each kind a component has.
+//! - [`Figure`], [`Measure`]: a number that the words of a state tell, given as data.
+//! - [`Course`]: how a figure went: its least and greatest value, its last, the sum over the ticks, and the ticks in which
+//!   it was not 0.
+//! - [`Told`]: what is told of it over a time: [`mean`] and [`share`] are exact, with three decimals.
+//! - [`sums_fit_law`]: sums of numbers of 64 bits over the ticks of a run fit.
+//! - [`Gatherer`]: all of these, of the records that it was given one after another. It keeps no record.
+//!
+//! The contracts say what these numbers are of the list of records, in words that know nothing of how they are gathered.
+#![tactic(auto)]
+
+mod counts;
+mod course;
+mod figure;
+mod fitting;
+mod gatherer;
+mod member;
+mod shares;
+mod told;
+
+pub use counts::Counts;
+pub use course::{Course, Sums};
+pub use figure::{Figure, Measure};
+pub use fitting::sums_fit_law;
+pub use gatherer::Gatherer;
+pub use member::Member;
+pub use shares::{mean, share};
+pub use told::Told;

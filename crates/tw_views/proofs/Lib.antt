@@ -1,0 +1,4 @@
+pub mod Reaching
+pub mod Starting
+pub mod Steady
+pub mod Telling

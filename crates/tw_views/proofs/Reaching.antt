@@ -1,0 +1,61 @@
+-- How far a run has come: none of its records is of a later tick than its last.
+use Rattle.std.proofs.Common.{◌≡◌, ◌∙◌, ℕ, ◌<◌, ◌≤◌, List, [], Some, None, get_or, ap, refl, sym, subst, arith}
+use Rattle.std.specs.Prelude.{◌==◌, Option}
+use Rattle.std.specs.List.{All, AllByRecursion as Each}
+use Rattle.std.proofs.lemmas.Option.{none-some, same_Some, slice_get-get_or}
+use Rattle.tw_laws.proofs.AtGvt.{all_phase_one}
+use Rattle.tw_laws.proofs.History.Rounds.{Reached, Running, Faulted, rounds_reach}
+use Rattle.tw_laws.proofs.Traces.{sequential_trace}
+use Rattle.tw_msgs.specs.declared.record.Record.{Record}
+use Rattle.tw_theory.specs.Network.{IsNetwork, Network}
+use Rattle.tw_theory.specs.Simulator.{Run, rounds, sequential}
+use Rattle.tw_theory.specs.Traces.{of_component}
+use Rattle.tw_vtime.specs.Stamps.{max_tick, never, stamp, tick_of}
+use Rattle.tw_vtime.specs.declared.limits.Limit.{Limit}
+use Rattle.tw_figures.specs.Figures.{is_transition}
+use Rattle.tw_figures.specs.Gathered.{IsGathered}
+use Rattle.tw_figures.specs.declared.course.Course.{Course}
+use Rattle.tw_figures.specs.declared.gatherer.Gatherer.{Gatherer}
+use Rattle.tw_figures.specs.declared.member.Member.{Member}
+use Rattle.tw_figures.proofs.Courses.{each_weaker}
+use Rattle.tw_figures.proofs.Members.{each_filter}
+use Rattle.tw_views.specs.Gathering.{BeforeEnd, run_ticks, start_words}
+
+-- a fault stands before the end of time, and behind all records
+pub record IsInTime (rs : List Record) (s : ℕ) : Type 0 where
+  pub within : s < never
+  pub past : Each (λ r. r.stamp < s) rs
+
+module _ {S : Type 0} (net : Network S) (until : ℕ) (ok : IsNetwork net) (bound : until ≤ max_tick) where
+  fault_of_run : (b : ℕ) (run : Run S) → b ≤ never → Reached net b run → (fault : ℕ × ℕ × Limit) → run.fault ≡ Some fault → IsInTime run.records fault.1
+  fault_of_run b run top (Running at) fault e = absurd (none-some fault (sym at.going ∙ e))
+  fault_of_run b run top (Faulted f l at) fault e =
+      let same : f ≡ fault.1 = ap (λ (x : ℕ × ℕ × Limit). x.1) (same_Some (at.component, f, at.limit) fault (sym at.fault ∙ e)) in
+      record { within = omega (arith, same, l, top); past = subst (λ n. Each (λ r. r.stamp < n) run.records) same at.past }
+
+  pub fault_in_time : (fault : ℕ × ℕ × Limit) → (sequential net until).fault ≡ Some fault → IsInTime (sequential net until).records fault.1
+  unfolding sequential
+  fault_in_time fault e =
+      fault_of_run (stamp until 0 0) (rounds net (stamp until 0 0)) (omega arith)
+      (rounds_reach net (stamp until 0 0) (stamp until 0 0) (all_phase_one net net.inputs ok.inputs) (omega arith) (omega arith) (omega arith) (omega arith)) fault e
+
+  pub fault_before_end : (met : Option (ℕ × ℕ × Limit)) → met ≡ (sequential net until).fault → BeforeEnd met
+  fault_before_end None e = tt
+  fault_before_end (Some fault) e = λ end. (let h = (fault_in_time fault (sym e)).within in omega (arith, h, end))
+
+  within_ticks : (met : Option (ℕ × ℕ × Limit)) → met ≡ (sequential net until).fault → Each (λ r. tick_of r.stamp ≤ run_ticks until met) (sequential net until).records
+  within_ticks None e =
+      each_weaker (λ r. r.stamp < stamp until 0 0) (λ r. tick_of r.stamp ≤ until) (λ r l. omega arith) (sequential net until).records (sequential_trace net until ok bound).1
+  within_ticks (Some fault) e =
+      each_weaker (λ r. r.stamp < fault.1) (λ r. tick_of r.stamp ≤ tick_of fault.1) (λ r l. omega arith) (sequential net until).records (fault_in_time fault (sym e)).past
+
+  -- no figure has had its last value from a later tick on
+  pub since_within : (gathered : Gatherer) → IsGathered (start_words net) (sequential net until).records gathered
+      → All (λ (m : Member). All (λ (c : Course). c.since ≤ run_ticks until (sequential net until).fault) m.courses.items) gathered.members.items
+  since_within gathered h = λ k d l j e m.
+      let ticks = run_ticks until (sequential net until).fault in
+      let size = h.size in
+      let start = slice_get-get_or (start_words net) k [] (omega (arith, size, l)) in
+      let member = h.members k (get_or (start_words net) k []) (get_or gathered.members.items k d) start (slice_get-get_or gathered.members.items k d l) in
+      let own = each_filter (λ r. tick_of r.stamp ≤ ticks) (λ r. r.component == k) (sequential net until).records (within_ticks (sequential net until).fault refl) in
+      (member.courses j e m).since ticks (each_filter (λ r. tick_of r.stamp ≤ ticks) is_transition (of_component k (sequential net until).records) own)

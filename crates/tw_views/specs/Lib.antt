@@ -1,0 +1,4 @@
+pub mod Decimals
+pub mod Gathering
+pub mod Refusals
+pub mod Reports

@@ -3,8 +3,10 @@ use Rattle.tw_workers.specs.Exchanged.{IsExact}
 use Rattle.tw_workers.proofs.exchange.Exchange.new.Goals as goal
 
 pub invariant_of-result : goal.invariant_of-result
-invariant_of-result g c =
-    (record {
-      free = subst (λ free. IsExact free c.args.executive.world.processes) (sym c.note_all.ensures.free) c.free_all.ensures.exact;
-      marks = c.note_all.ensures.marked;
-    }, c.requires)
+invariant_of-result g c = (
+  record {
+    free = subst (λ free. IsExact free c.args.executive.world.processes) (sym c.note_all.ensures.free) c.free_all.ensures.exact;
+    marks = c.note_all.ensures.marked;
+  },
+  c.requires,
+)

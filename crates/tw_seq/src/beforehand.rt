@@ -11,8 +11,8 @@ use tw_network::Network;
 use tw_vtime::MAX_TICK;
 
 /// Whether the models tell that no limit can be met in a run up to this end tick: each waits for a tick or more, and no
-/// wait that begins before the end goes past the greatest tick.
-pub(crate) fn meets_no_limit<M: Atomic>(network: &Network<M>, until: u64) -> bool
+/// wait that begins before the end goes past the greatest tick. Where they tell nothing of it, the answer is no.
+pub fn meets_no_limit<M: Atomic>(network: &Network<M>, until: u64) -> bool
     requires { until ≤ max_tick }
     ensures { IsTrue result → (sequential (network_of M.meaning network.now) until).fault ≡ None }
 {

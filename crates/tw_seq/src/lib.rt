@@ -2,7 +2,8 @@
 //!
 //! - [`simulate`] runs a network up to an end tick and answers a [`Seq`]: the records in trace order and the limit
 //!   fault that ended the run, if there was one. Both are those of the definition, `sequential` of tw_theory.
-//! - [`outcome`] gives the fault alone, and keeps no record.
+//! - [`outcome`] gives the fault alone, and keeps no record. [`meets_no_limit`] tells for some networks, without a round, that there
+//!   is none.
 //! - [`begin`] and [`advance`] make the same run a round at a time, and hand its parts to a [`Receiver`] as they come.
 //!
 //! A call is refused ([`SeqRefused`]) for an end tick that no stamp has, and for want of memory.
@@ -22,6 +23,7 @@ mod simulation;
 mod simulator;
 mod turns;
 
+pub use beforehand::meets_no_limit;
 pub use receiver::{Receiver, Silent};
 pub use refused::SeqRefused;
 pub use simulation::{Simulation, Step, advance, begin};

@@ -136,6 +136,36 @@ tables='"tables":{"t":[1],"u":"list"}'
 check_machine "4,096 nodes" 0 "$tables"',"internal":"'"$(times 'draw ' 4094)"'",'"$shown"
 check_machine "4,097 nodes" 21 "$tables"',"internal":"'"$(times 'draw ' 4095)"'",'"$shown"
 check_machine "4,097 nodes of a text" 21 "$tables"',"internal":"'"$(times 'draw ' 4097)"'",'"$shown"
+# Counts a file of format tw-3 with these machines and components.
+check_tables() {
+    printf '{"format":"tw-3","micro_limit":1,"models":[%s],"components":[%s],"couplings":[],"inputs":[]}' "$3" "$4" >"$file"
+    checks "$2" "${5:-}"
+    count "$1" 0 0 $?
+}
+
+# A machine of this name with so many numbers of its own, and one with ten numbers and a list.
+zeros=$(numbers 65535)
+owner() {
+    printf '{"name":"%s","tables":{"t":[%s]},"words":["t[0]"]}' "$1" "$zeros"
+}
+owners=$(for ((turn = 0; turn < 15; turn++)); do printf '%s,' "$(owner "o$turn")"; done)
+lister='{"name":"m","parameters":["list"],"tables":{"t":['"$(numbers 9)"'],"u":"list","v":"list"},"words":["u[0]"]}'
+given='{"name":"x","model":"m","list":['"$(numbers 32762)"']}'
+second='{"name":"c","components":[{"name":"y","model":"m","list":['"$(numbers 32762)"']}],"couplings":[]}'
+few="$owners$lister"
+check_tables "1,048,576 numbers of a file" 0 "$few" "$given,$second"
+check_tables "1,048,577 numbers of a file" 21 "$few" "$given,$second"',{"name":"z","model":"m","list":[1]}' \
+    "the file: 1048577 numbers in tables and lists, at most 1048576"
+check_tables "17 machines of 65,536 numbers" 21 "$owners$(owner p),$(owner q)" "" \
+    "the file: 1114112 numbers in tables and lists, at most 1048576"
+check_tables "a machine of 65,536 numbers, 17 times" 0 "$(owner p)" "$(each '{"name":"x@","model":"p"}' 17)"
+# Too many components of a large machine are refused before the program of each is kept.
+printf '{"format":"tw-3","micro_limit":1,"models":[{"name":"m","internal":"%s","words":["0"]}],"components":[%s],"couplings":[],"inputs":[]}' \
+    "$(times 'draw ' 4094)" "$(each '{"name":"x@","model":"m"}' 1100)" >"$file"
+(ulimit -v 400000 && exec "$program" seq "$file" --until 1) >"$out" 2>"$err"
+ended=$?
+[[ ! -s $out && $(<"$err") == "twarp: 9 TooMany" ]]
+count "1,100 components of a machine of 4,095 nodes" 2 "$ended" $?
 inputs=$(times '{"tick":1,"to":"u","port":0,"value":0},' 65535)
 unknown='{"tick":1,"to":"no","port":0,"value":0}'
 check_long "65,536 inputs" 5 tw-2 1 "$tally" "$inputs$unknown"

@@ -6,11 +6,12 @@ use Rattle.std.specs.Prelude.{codes, Option, None, Some, option_and_then, Result
 use Rattle.std.specs.Result.{result_ok}
 use Rattle.std.specs.Str.{bytes_eq}
 use Rattle.serde_json.specs.Data.{Data}
+use Rattle.tw_machine_file.specs.Seen.{Machine}
 use Rattle.tw_netfile.specs.Components.{after}
 use Rattle.tw_netfile.specs.Meaning.{json_of, meaning_of, network_of, shape_of}
 use Rattle.tw_netfile.specs.Shape.{file_of, has_members, is_format, text_at}
 use Rattle.tw_netfile.specs.TreeMeaning.{tree_in}
-use Rattle.tw_netfile.specs.TreeShape.{TreeFile, is_machines_format, is_tree_format, machines_file_of, tree_file_of, tree_of}
+use Rattle.tw_netfile.specs.TreeShape.{TreeFile, is_machines_format, is_tree_format, machines_declared, machines_file_of, machines_file_with, tree_file_of, tree_of}
 use Rattle.tw_netfile.specs.declared.refused.FileRefused.{FileRefused}
 use Rattle.tw_netfile.specs.declared.refused.FileRefused.TheVariants.{BadShape}
 
@@ -37,12 +38,20 @@ other_name {A} {B} true true (Some t) x y a is = by (bytes_eq t (codes "tw-3")) 
     by true same e = ap (λ u. cond (bytes_eq u (codes "tw-1")) y None) ((bytes_eq-Decides t (codes "tw-3")).0 same)
     by false other e = absurd cc
 
+-- a file that declares machines is none of format tw-1
+pub no_flat_file : (d : Data) (machines : List Machine) → machines_declared d ≡ Some machines → file_of d ≡ None
+no_flat_file d machines is = other_name (has_members 6 d) (has_members 5 d) (text_at (codes "format") d) _ _ machines is
+
 no_file : (d : Data) (file : TreeFile) → tree_of d ≡ Some file → file_of d ≡ None
 no_file d file is = by (is_tree_format (text_at (codes "format") d)) is
   where
+    with_machines : (o : Option (List Machine)) → machines_declared d ≡ o → option_and_then (machines_file_with d) o ≡ Some file → file_of d ≡ None
+    with_machines None declared at = absurd cc
+    with_machines (Some machines) declared at = no_flat_file d machines declared
+
     by : (b : Bool) → cond b (tree_file_of d) (machines_file_of d) ≡ Some file → file_of d ≡ None
     by true at = one_name (has_members 5 d) (text_at (codes "format") d) _ _ file at
-    by false at = other_name (has_members 6 d) (has_members 5 d) (text_at (codes "format") d) _ _ file at
+    by false at = with_machines (machines_declared d) refl at
 
 pub one_format : (bytes : List ℕ) (file : TreeFile) → tree_in bytes ≡ Some file → meaning_of bytes ≡ Err BadShape
 one_format bytes file is = by (json_of bytes) is

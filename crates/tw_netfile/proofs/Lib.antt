@@ -2,7 +2,9 @@ pub mod AtomNumbers
 pub mod Counting
 pub mod Formats
 pub mod Loops
+pub mod MachinesOfFile
 pub mod Making
+pub mod ManyAtoms
 pub mod Networks
 pub mod PartsInOrder
 pub mod TreeOfFile

@@ -35,7 +35,7 @@ one_part_more [] p rest = refl
 one_part_more {M} (q ∷ ps) p rest = ap (part_view {M = M} q.1 (string_bytes q.0)) (one_part_more {M = M} ps p rest)
 
 -- the list from a place on, by what stands there
-at_place : {A : Type 0} (ps qs : List A) (i : ℕ) (q : A) → qs ≡ ps → i < length qs → q ≡ get_or qs i q → drop i ps ≡ q ∷ drop (i + 1) ps
+pub at_place : {A : Type 0} (ps qs : List A) (i : ℕ) (q : A) → qs ≡ ps → i < length qs → q ≡ get_or qs i q → drop i ps ≡ q ∷ drop (i + 1) ps
 at_place {A} ps qs i q same lt is =
     let inside : i < length ps = subst (λ (xs : List A). i < length xs) same lt in
     let here : get_or ps i q ≡ q = sym (is ∙ ap (λ (xs : List A). get_or xs i q) same) in

@@ -5,6 +5,7 @@ pub mod Numbering
 pub mod Numbers
 pub mod Refused
 pub mod Shape
+pub mod Tables
 pub mod TreeDraft
 pub mod TreeExamples
 pub mod TreeMeaning

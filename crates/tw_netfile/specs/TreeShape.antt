@@ -17,6 +17,7 @@ use Rattle.tw_nested.specs.Tree.{Parts, Link, no_parts, atom, coupled}
 use Rattle.tw_netfile.specs.Components.{after, any_model_of}
 use Rattle.tw_netfile.specs.Numbers.{number_of, port_of}
 use Rattle.tw_netfile.specs.Shape.{FileCoupling, FileInput, array_at, component_of, count_at, coupling_of, has_members, input_of, of_three, of_two, text_at}
+use Rattle.tw_netfile.specs.Tables.{has_few_numbers}
 use Rattle.tw_netfile.specs.declared.draft.AnyDraft.{AnyDraft}
 use Rattle.tw_netfile.specs.declared.refused.FileRefused.{FileRefused}
 
@@ -95,21 +96,23 @@ tree_file_of d =
 abbrev pub is_machines_format : Option (List ℕ) → Bool
 is_machines_format format = option_map_or (λ f. bytes_eq f (codes "tw-3")) format false
 
--- what else the file says, where its components may be these machines
+-- what else the file says, where its components may be these machines, and its tables have no more numbers than they may have
 abbrev pub machines_file_with : Data → List Machine → Option TreeFile
-machines_file_with d machines = of_three tree_file_made (count_at (codes "micro_limit") d) (tree_read machines 64 d) (array_at input_of (codes "inputs") d)
+machines_file_with d machines =
+    if has_few_numbers machines d
+    then of_three tree_file_made (count_at (codes "micro_limit") d) (tree_read machines 64 d) (array_at input_of (codes "inputs") d)
+    else None
 
 -- the machines that it declares
 abbrev pub machines_at : Data → Option (List Machine)
 machines_at d = option_and_then (λ models. result_ok (machines_in models)) (get (codes "models") d)
 
+-- those of a file of this format
+abbrev pub machines_declared : Data → Option (List Machine)
+machines_declared d = if has_members 6 d then if is_machines_format (text_at (codes "format") d) then machines_at d else None else None
+
 abbrev pub machines_file_of : Data → Option TreeFile
-machines_file_of d =
-    if has_members 6 d
-    then if is_machines_format (text_at (codes "format") d)
-    then option_and_then (machines_file_with d) (machines_at d)
-    else None
-    else None
+machines_file_of d = option_and_then (machines_file_with d) (machines_declared d)
 
 -- a file of the one format or of the other
 abbrev pub tree_of : Data → Option TreeFile

@@ -29,7 +29,7 @@ fn component_made(alloc: Global, draft: &ComponentDraft) -> Result<(String, AnyM
     ensures ok { IfOk result (λ c. component_made (component_view draft.now) ≡ Ok (string_bytes c.0, c.1)) }
     ensures err { IfErr result (λ e. e ≢ FileRefused.OutOfMemory → component_made (component_view draft.now) ≡ Err e) }
 {
-    let model = draft.model.model()?;
+    let model = draft.model.model(alloc)?;
     let name = String::from_str(alloc, draft.name)?;
     Ok((name, model))
 }

@@ -2,11 +2,14 @@
 
 ghost use Rattle.std.specs.Prelude.{◌≡◌};
 ghost use Rattle.std.specs.Prelude.{◌≢◌, Ok, Err, IfOk, IfErr};
+ghost use Rattle.std.specs.Result.{result_err};
 ghost use Rattle.tw_netfile.specs.Components.{any_model_of, model_of};
 
+use crate::programs::ProgramDraft;
 use crate::refused::FileRefused;
+use std::alloc::Global;
 use tw_any_model::AnyModel;
-use tw_machine::machine::{Machine, Shared};
+use tw_machine::machine::Machine;
 use tw_models::{BadModel, Model};
 use tw_network::Nested;
 
@@ -39,24 +42,37 @@ impl ModelDraft {
     }
 }
 
-/// What a component is to be: one of the five models with its parameters, or a machine whose program is made.
+/// What a component is to be: one of the five models with its parameters, or a machine whose program can be made.
 #[derive(Drop)]
-pub enum AnyDraft {
+pub enum AnyDraft<'m> {
     BuiltIn(ModelDraft),
-    Machine(Shared),
+    Machine(ProgramDraft<'m>),
 }
 
-impl AnyDraft {
+impl<'m> AnyDraft<'m> {
     // The model, where its parameters are in range.
-    pub fn model(&self) -> Result<AnyModel, FileRefused>
+    pub fn model(&self, alloc: Global) -> Result<AnyModel, FileRefused>
         ensures ok { IfOk result (λ m. any_model_of self.now ≡ Ok m) }
         ensures err { IfErr result (λ e. e ≢ FileRefused.OutOfMemory → any_model_of self.now ≡ Err e) }
     {
         match self {
             AnyDraft::BuiltIn(draft) => Ok(AnyModel::BuiltIn(draft.model()?)),
             AnyDraft::Machine(program) => Ok(AnyModel::Machine(Machine {
-                program: program.again()?,
+                program: program.made(alloc)?,
             })),
+        }
+    }
+
+    // The parameter that is out of range, if one is.
+    pub fn fault(&self) -> Option<FileRefused>
+        ensures { result ≡ result_err (any_model_of self.now) }
+    {
+        match self {
+            AnyDraft::BuiltIn(draft) => match draft.model() {
+                Ok(_) => None,
+                Err(bad) => Some(FileRefused::Parameter(bad)),
+            },
+            AnyDraft::Machine(_) => None,
         }
     }
 }
@@ -65,7 +81,7 @@ impl AnyDraft {
 #[derive(Drop)]
 pub struct ComponentDraft<'a> {
     pub name: &'a str,
-    pub model: AnyDraft,
+    pub model: AnyDraft<'a>,
 }
 
 /// A coupling of a file, with the names of its ends.
@@ -100,6 +116,6 @@ pub struct Draft<'a> {
 #[derive(Drop)]
 pub struct TreeDraft<'a> {
     pub micro_limit: u64,
-    pub root: Nested<AnyDraft>,
+    pub root: Nested<AnyDraft<'a>>,
     pub inputs: Vec<InputDraft<'a>>,
 }

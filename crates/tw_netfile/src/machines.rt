@@ -8,20 +8,20 @@ ghost use Rattle.tw_netfile.specs.Shape.{machine_named, machine_of, model_in};
 ghost use Rattle.tw_netfile.specs.TreeShape.{machines_at};
 
 use crate::draft::AnyDraft;
+use crate::programs::ProgramDraft;
 use crate::refused::FileRefused;
 use crate::shape::model_named;
 use serde_json::Value;
 use std::alloc::Global;
-use tw_machine::machine::Shared;
-use tw_machine_file::{FileMachine, MachineFault, machines_in, program_in};
+use tw_machine_file::{FileMachine, MachineFault, machines_in};
 
 // The model that a component names, where these machines may be named.
-pub fn model_in(
+pub fn model_in<'m>(
     alloc: Global,
-    machines: &[FileMachine],
+    machines: &'m [FileMachine],
     value: &Value,
     name: &str,
-) -> Result<AnyDraft, FileRefused>
+) -> Result<AnyDraft<'m>, FileRefused>
     ensures ok { IfOk result (λ d. model_in (map machine machines.now) (view value.now) name.now ≡ Some d) }
     ensures err { IfErr result (λ e. e ≢ FileRefused.OutOfMemory → (e ≡ FileRefused.BadShape) × (model_in (map machine machines.now) (view value.now) name.now ≡ None)) }
 {
@@ -35,19 +35,23 @@ pub fn model_in(
 }
 
 // The program of a component's machine.
-fn machine_of(alloc: Global, machine: &FileMachine, value: &Value) -> Result<AnyDraft, FileRefused>
+fn machine_of<'m>(
+    alloc: Global,
+    machine: &'m FileMachine,
+    value: &Value,
+) -> Result<AnyDraft<'m>, FileRefused>
     ensures ok { IfOk result (λ d. machine_of (file.machine machine.now) (view value.now) ≡ Some d) }
     ensures err { IfErr result (λ e. e ≢ FileRefused.OutOfMemory → (e ≡ FileRefused.BadShape) × (machine_of (file.machine machine.now) (view value.now) ≡ None)) }
 {
-    match program_in(alloc, machine, value) {
-        Ok(program) => Ok(AnyDraft::Machine(Shared::new(alloc, program)?)),
+    match ProgramDraft::new(alloc, machine, value) {
+        Ok(program) => Ok(AnyDraft::Machine(program)),
         Err(MachineFault::OutOfMemory) => Err(FileRefused::OutOfMemory),
         Err(_) => Err(FileRefused::BadShape),
     }
 }
 
 // The first machine of a name.
-fn machine_named<'a>(machines: &'a [FileMachine], name: &str) -> Option<&'a FileMachine>
+pub fn machine_named<'a>(machines: &'a [FileMachine], name: &str) -> Option<&'a FileMachine>
     ensures { option_map (λ m. machine m.now) result ≡ machine_named (map machine machines.now) name.now }
 {
     for machine in machines {

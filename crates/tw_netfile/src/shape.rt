@@ -1,6 +1,7 @@
 //! What a network file's JSON value says: exactly its members, each of its type.
 
-ghost use Rattle.std.specs.Prelude.{◌≡◌, ◌≢◌, [], Some, None, Ok, Err, IfOk, IfErr, codes, map, option_map};
+ghost use Rattle.std.specs.Prelude.{◌≡◌, ◌≢◌, [], Some, None, Ok, Err, IfOk, IfErr, codes, map, option_and_then, option_map};
+ghost use Rattle.serde_json.specs.Find.{as_array, get};
 ghost use Rattle.serde_json.specs.View.{view, items_view};
 ghost use Rattle.tw_machine_file.specs.Seen.{machine};
 ghost use Rattle.tw_netfile.specs.Draft.{
@@ -117,7 +118,7 @@ pub fn inputs_of<'a>(alloc: Global, values: &'a [Value]) -> Result<Vec<InputDraf
 // A component, where these machines may be named.
 pub fn component_of<'a>(
     alloc: Global,
-    machines: &[FileMachine],
+    machines: &'a [FileMachine],
     value: &'a Value,
 ) -> Result<ComponentDraft<'a>, FileRefused>
     ensures ok { IfOk result (λ c. component_of (map machine machines.now) (view value.now) ≡ Some (component_view c)) }
@@ -262,6 +263,13 @@ fn has_items(value: &Value, count: usize) -> bool
         Some(items) => items.as_slice().len() == count,
         None => false,
     }
+}
+
+// The items of a member that is an array.
+pub fn items_at<'a>(value: &'a Value, name: &str) -> Option<&'a [Value]>
+    ensures { option_map (λ vs. items_view vs.now) result ≡ option_and_then as_array (get name.now (view value.now)) }
+{
+    Some(value.get(name)?.as_array()?.as_slice())
 }
 
 pub fn text_at<'a>(value: &'a Value, name: &str) -> Option<&'a str>

@@ -1,7 +1,6 @@
 //! What the JSON value of a file of format `tw-2` or `tw-3` says: a tree of components.
 
-ghost use Rattle.std.specs.Prelude.{◌≡◌, ◌≢◌, Some, None, Ok, Err, IfOk, IfErr, codes, map, option_and_then, option_map, string_bytes};
-ghost use Rattle.serde_json.specs.Find.{as_array, get};
+ghost use Rattle.std.specs.Prelude.{◌≡◌, ◌≢◌, Some, None, Ok, Err, IfOk, IfErr, codes, map, string_bytes};
 ghost use Rattle.serde_json.specs.View.{view, items_view};
 ghost use Rattle.tw_machine_file.specs.Seen.{machine};
 ghost use Rattle.tw_nested.specs.Tree.{part_view, parts_of};
@@ -12,7 +11,7 @@ ghost use Rattle.tw_netfile.specs.TreeShape.{
   is_machines_format,
   is_tree_format,
   links_named,
-  machines_file_of,
+  machines_declared,
   machines_file_with,
   part_names,
   part_read,
@@ -25,7 +24,10 @@ use crate::draft::{AnyDraft, CouplingDraft, TreeDraft};
 use crate::machines::machines_at;
 use crate::numbers::Numbers;
 use crate::refused::FileRefused;
-use crate::shape::{component_of, count_at, couplings_of, has_members, inputs_of, text_at};
+use crate::shape::{
+    component_of, count_at, couplings_of, has_members, inputs_of, items_at, text_at,
+};
+use crate::tables::has_few_numbers;
 use serde_json::Value;
 use std::alloc::{AllocError, Global};
 use tw_machine_file::FileMachine;
@@ -77,27 +79,29 @@ pub fn has_machines(value: &Value) -> bool
     }
 }
 
-// What the value of a file of format `tw-3` says.
-pub fn machines_draft_of<'a>(alloc: Global, value: &'a Value) -> Result<TreeDraft<'a>, FileRefused>
-    ensures ok { IfOk result (λ d. machines_file_of (view value.now) ≡ Some (tree_view d)) }
-    ensures err { IfErr result (λ e. e ≢ FileRefused.OutOfMemory → (e ≡ FileRefused.BadShape) × (machines_file_of (view value.now) ≡ None)) }
+// The machines of a file of format `tw-3`.
+pub fn machines_declared(alloc: Global, value: &Value) -> Result<Vec<FileMachine>, FileRefused>
+    ensures ok { IfOk result (λ ms. machines_declared (view value.now) ≡ Some (map machine ms.items)) }
+    ensures err { IfErr result (λ e. e ≢ FileRefused.OutOfMemory → (e ≡ FileRefused.BadShape) × (machines_declared (view value.now) ≡ None)) }
 {
     if !has_members(value, 6) || !has_machines(value) {
         return Err(FileRefused::BadShape);
     }
-    let machines = machines_at(alloc, value)?;
-    machines_draft_with(alloc, value, machines.as_slice())
+    machines_at(alloc, value)
 }
 
 // What else the file says, where its components may be these machines.
-fn machines_draft_with<'a>(
+pub fn machines_draft_with<'a>(
     alloc: Global,
     value: &'a Value,
-    machines: &[FileMachine],
+    machines: &'a [FileMachine],
 ) -> Result<TreeDraft<'a>, FileRefused>
     ensures ok { IfOk result (λ d. machines_file_with (view value.now) (map machine machines.now) ≡ Some (tree_view d)) }
     ensures err { IfErr result (λ e. e ≢ FileRefused.OutOfMemory → (e ≡ FileRefused.BadShape) × (machines_file_with (view value.now) (map machine machines.now) ≡ None)) }
 {
+    if !has_few_numbers(machines, value) {
+        return Err(FileRefused::BadShape);
+    }
     let Some(micro_limit) = count_at(value, "micro_limit") else {
         return Err(FileRefused::BadShape);
     };
@@ -115,12 +119,12 @@ fn machines_draft_with<'a>(
 
 // The parts and couplings of a model of no more levels than there is room for.
 #[cycle(trees)]
-fn tree_read(
+fn tree_read<'m>(
     alloc: Global,
-    machines: &[FileMachine],
-    value: &Value,
+    machines: &'m [FileMachine],
+    value: &'m Value,
     room: usize,
-) -> Result<Nested<AnyDraft>, FileRefused>
+) -> Result<Nested<AnyDraft<'m>>, FileRefused>
     ensures ok { IfOk result (λ n. tree_read (map machine machines.now) room (view value.now) ≡ Some (parts_of n.parts.items, n.couplings.items)) }
     ensures err { IfErr result (λ e. e ≢ FileRefused.OutOfMemory → (e ≡ FileRefused.BadShape) × (tree_read (map machine machines.now) room (view value.now) ≡ None)) }
 {
@@ -140,12 +144,12 @@ fn tree_read(
 }
 
 #[cycle(trees)]
-fn parts_read(
+fn parts_read<'m>(
     alloc: Global,
-    machines: &[FileMachine],
-    values: &[Value],
+    machines: &'m [FileMachine],
+    values: &'m [Value],
     room: usize,
-) -> Result<Vec<(String, Part<AnyDraft>)>, FileRefused>
+) -> Result<Vec<(String, Part<AnyDraft<'m>>)>, FileRefused>
     ensures ok { IfOk result (λ v. parts_read (map machine machines.now) (tree_read (map machine machines.now) room) (items_view values.now) ≡ Some (parts_of v.items)) }
     ensures err { IfErr result (λ e. e ≢ FileRefused.OutOfMemory → (e ≡ FileRefused.BadShape) × (parts_read (map machine machines.now) (tree_read (map machine machines.now) room) (items_view values.now) ≡ None)) }
 {
@@ -157,12 +161,12 @@ fn parts_read(
 }
 
 #[cycle(trees)]
-fn part_read(
+fn part_read<'m>(
     alloc: Global,
-    machines: &[FileMachine],
-    value: &Value,
+    machines: &'m [FileMachine],
+    value: &'m Value,
     room: usize,
-) -> Result<(String, Part<AnyDraft>), FileRefused>
+) -> Result<(String, Part<AnyDraft<'m>>), FileRefused>
     ensures ok { IfOk result (λ p. part_read (map machine machines.now) (tree_read (map machine machines.now) room) (view value.now) ≡ Some (part_view p.1 (string_bytes p.0))) }
     ensures err { IfErr result (λ e. e ≢ FileRefused.OutOfMemory → (e ≡ FileRefused.BadShape) × (part_read (map machine machines.now) (tree_read (map machine machines.now) room) (view value.now) ≡ None)) }
 {
@@ -188,7 +192,7 @@ fn part_read(
 // The couplings of a model, by the places of its parts.
 fn links_named(
     alloc: Global,
-    parts: &[(String, Part<AnyDraft>)],
+    parts: &[(String, Part<AnyDraft<'_>>)],
     drafts: &[CouplingDraft<'_>],
 ) -> Result<Vec<Link>, AllocError>
     ensures { IfOk result (λ v. v.items ≡ links_named (parts_of parts.now) (couplings_view drafts.now)) }
@@ -200,7 +204,7 @@ fn links_named(
 
 fn part_names<'a>(
     alloc: Global,
-    parts: &'a [(String, Part<AnyDraft>)],
+    parts: &'a [(String, Part<AnyDraft<'_>>)],
 ) -> Result<Vec<&'a str>, AllocError>
     ensures { IfOk result (λ v. map (λ n. n.now) v.items ≡ part_names (parts_of parts.now)) }
 {
@@ -209,11 +213,4 @@ fn part_names<'a>(
         names.push(name.as_str())?;
     }
     Ok(names)
-}
-
-// The items of a member that is an array.
-fn items_at<'a>(value: &'a Value, name: &str) -> Option<&'a [Value]>
-    ensures { option_map (λ vs. items_view vs.now) result ≡ option_and_then as_array (get name.now (view value.now)) }
-{
-    Some(value.get(name)?.as_array()?.as_slice())
 }

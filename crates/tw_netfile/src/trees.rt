@@ -1,7 +1,7 @@
 //! Network files of any format to the networks that they mean.
 
-ghost use Rattle.std.specs.Prelude.{◌≡◌, ◌≢◌, ℕ, List, Some, Err, IfOk, IfErr, length, map};
-ghost use Rattle.tw_nested.specs.Tree.{parts_of};
+ghost use Rattle.std.specs.Prelude.{◌≡◌, ◌≢◌, ◌<◌, ℕ, List, Some, Err, IfOk, IfErr, length, map};
+ghost use Rattle.tw_nested.specs.Tree.{models_in, parts_of};
 ghost use Rattle.tw_netfile.specs.Draft.{input_view, inputs_view};
 ghost use Rattle.tw_netfile.specs.Numbers.{number_of, numbered_input};
 ghost use Rattle.tw_netfile.specs.Meaning.{meaning_of};
@@ -15,11 +15,16 @@ use crate::file::{json_of, network_of};
 use crate::numbers::port_of;
 use crate::refused::FileRefused;
 use crate::shape::draft_of;
-use crate::tree_models::tree_made;
-use crate::tree_shape::{has_machines, is_tree, machines_draft_of, tree_draft_of};
+use crate::tree_models::{atoms, tree_fault, tree_made};
+use crate::tree_shape::{
+    has_machines, is_tree, machines_declared, machines_draft_with, tree_draft_of,
+};
 use std::alloc::{AllocError, Global};
 use tw_any_model::AnyModel;
 use tw_network::{Input, Nested, Network, NetworkRefused};
+
+/// As many atoms as a network may have.
+const MAX_ATOMS: usize = 1_024;
 
 /// As many inputs as a network may have.
 const MAX_INPUTS: usize = 65_536;
@@ -38,7 +43,8 @@ const MAX_INPUTS: usize = 65_536;
 ///
 /// One of format `tw-3` says the same, but that it declares machines in its member `models`, and a component may name
 /// one in place of one of the five models: what is wrong with a machine, or with what a component gives for its
-/// parameters, is 21 (reverse computation by derivation: Carothers, Perumalla and Fujimoto 1999).
+/// parameters, is 21 (reverse computation by derivation: Carothers, Perumalla and Fujimoto 1999). So are more than
+/// 1,048,576 numbers in the tables of all machines, of each once, and in the lists of all components.
 pub fn network_of_any_file(alloc: Global, bytes: &[u8]) -> Result<Network<AnyModel>, FileRefused>
     ensures network { IfOk result (IsMeaning bytes.now) }
     ensures first_fault { IfErr result (λ e. e ≢ FileRefused.OutOfMemory → IsFault bytes.now e) }
@@ -49,7 +55,8 @@ pub fn network_of_any_file(alloc: Global, bytes: &[u8]) -> Result<Network<AnyMod
         return network_of_tree(alloc, &tree);
     }
     if has_machines(&value) {
-        let tree = machines_draft_of(alloc, &value)?;
+        let machines = machines_declared(alloc, &value)?;
+        let tree = machines_draft_with(alloc, &value, machines.as_slice())?;
         return network_of_tree(alloc, &tree);
     }
     let draft = draft_of(alloc, &value)?;
@@ -61,18 +68,33 @@ pub fn formats_law()
     ensures { (bytes : List ℕ) (file : TreeFile) → tree_in bytes ≡ Some file → meaning_of bytes ≡ Err BadShape }
 {}
 
-// The network that a tree means. Without its inputs it is made first: that network finds atoms by name, and it is
-// no larger than a network may be.
+// The first fault of a tree of too many atoms.
+fn fault_of_many(tree: &TreeDraft) -> FileRefused
+    requires { 1024 < length (models_in (parts_of tree.now.root.parts.items)) }
+    ensures { IsTreeFileFault (tree_view tree.now) result }
+{
+    match tree_fault(&tree.root) {
+        Some(fault) => fault,
+        None => FileRefused::Network(NetworkRefused::TooMany),
+    }
+}
+
+// The network that a tree means. No model of too many is made, since a machine's program may be large. Without its
+// inputs it is made first: that network finds atoms by name, and it is no larger than a network may be.
 fn network_of_tree(alloc: Global, tree: &TreeDraft) -> Result<Network<AnyModel>, FileRefused>
     ensures ok { IfOk result (IsTreeMeaning (tree_view tree.now)) }
     ensures err { IfErr result (λ e. e ≢ FileRefused.OutOfMemory → IsTreeFileFault (tree_view tree.now) e) }
 {
+    if atoms(&tree.root) > MAX_ATOMS {
+        return Err(fault_of_many(tree));
+    }
     let root = tree_made(alloc, &tree.root)?;
     if tree.inputs.len() > MAX_INPUTS {
         return Err(FileRefused::Network(NetworkRefused::TooMany));
     }
     let named = nested(alloc, root, Vec::new(alloc), tree.micro_limit)?;
     let inputs = inputs_named(alloc, &named, tree.inputs.as_slice())?;
+    drop(named);
     let root = tree_made(alloc, &tree.root)?;
     nested(alloc, root, inputs, tree.micro_limit)
 }

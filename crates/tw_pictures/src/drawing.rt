@@ -1,0 +1,140 @@
+//! The picture of a run.
+
+ghost use Rattle.std.specs.Prelude.{◌≡◌, ◌≢◌, ◌<◌, ◌↔◌, ◌⊎◌, None, IfErr, IfOk, IsErrOf, length};
+ghost use Rattle.tw_network.specs.Contents.{network_of};
+ghost use Rattle.tw_pictures.specs.declared.refused.DrawRefused.TheVariants.{BadTick, WriteFailed};
+ghost use Rattle.tw_theory.specs.Simulator.{sequential};
+ghost use Rattle.tw_vtime.specs.Stamps.{max_tick};
+
+use crate::following::follow;
+use crate::heading::{Told, push_heading};
+use crate::kept::{Kept, time_of};
+use crate::lanes::lanes_of;
+use crate::layout::Layout;
+use crate::refused::DrawRefused;
+use crate::staves::{ShownFault, push_staves};
+use crate::styles::sheet_of;
+use crate::view::View;
+use std::alloc::{AllocError, Global};
+use std::io::Write;
+use tw_atomic::Atomic;
+use tw_network::Network;
+use tw_seq::begin;
+use tw_svg::Svg;
+use tw_texts::{Names, push_fault};
+use tw_views::Labels;
+use tw_vtime::{Limit, MAX_TICK, Stamp};
+
+/// Writes a picture of a network's sequential run up to the end tick `until`, as a view shows it, with the names and the figures of its
+/// components. At most 20,000 records and 20,000 arrows are kept and shown, in whole rounds; the picture and the run end before a
+/// round that would pass that. Answers the limit fault that ended the run, if it was reached: the least component that met a limit,
+/// the stamp of that round's transitions, and which limit.
+///
+/// Refused by [`DrawRefused::BadTick`] (10) exactly where `until` is above 1,099,511,627,774; by [`DrawRefused::NoSuch`] (15) where
+/// no component has one of the names that are to be shown, or none that is shown has the figure; by [`DrawRefused::OutOfMemory`]
+/// (4) where a growth of memory was refused; then nothing is written. Refused by [`DrawRefused::WriteFailed`] (24) where the writer
+/// failed, and then only the writer knows what it took.
+pub fn draw<M: Atomic, N: Names, W: Write>(
+    alloc: Global,
+    network: &Network<M>,
+    names: &N,
+    labels: &[Labels],
+    until: u64,
+    view: &View<'_>,
+    out: &mut W,
+) -> Result<Option<(usize, Stamp, Limit)>, DrawRefused>
+    requires { length labels.now ≡ length network.now.models }
+    ensures bad_tick { IsErrOf result BadTick ↔ (max_tick < until) }
+    ensures fault { IfOk result (λ fault. (fault ≡ None) ⊎ (fault ≡ (sequential (network_of M.meaning network.now) until).fault)) }
+    ensures unwritten { IfErr result (λ e. e ≢ WriteFailed → out.new ≡ out.old) }
+{
+    if until > MAX_TICK {
+        return Err(DrawRefused::BadTick);
+    }
+    let Some(lanes) = lanes_of(alloc, network, names, labels, view)? else {
+        return Err(DrawRefused::NoSuch);
+    };
+    let Ok(simulation) = begin(alloc, network, until) else {
+        return Err(DrawRefused::OutOfMemory);
+    };
+    let mut kept = Kept::new(alloc, lanes, view.from)?;
+    let fault = follow(alloc, network, simulation, &mut kept)?;
+    let told = Told {
+        view,
+        until,
+        components: network.len(),
+        fault: None,
+    };
+    let picture = picture_of(alloc, names, &mut kept, told, &fault)?;
+    let Ok(()) = out.write_all(picture.as_str().as_bytes()) else {
+        return Err(DrawRefused::WriteFailed);
+    };
+    Ok(fault)
+}
+
+/// The line of a fault.
+fn fault_line<N: Names>(
+    alloc: Global,
+    names: &N,
+    fault: &(usize, Stamp, Limit),
+) -> Result<String, AllocError> {
+    let (component, at, limit) = *fault;
+    let mut line = String::new(alloc);
+    push_fault(&mut line, names.name(component), at, limit)?;
+    String::from_str(alloc, line.as_str().trim_end())
+}
+
+/// The picture of what is kept of a run that ended so.
+fn picture_of<N: Names>(
+    alloc: Global,
+    names: &N,
+    kept: &mut Kept,
+    told: Told<'_>,
+    fault: &Option<(usize, Stamp, Limit)>,
+) -> Result<Svg, AllocError> {
+    let Some(fault) = fault else {
+        let last = kept.rounds.last().map_or(0, |round| round.time.tick);
+        let end = if kept.goes_on { last } else { told.until };
+        return picture(alloc, kept, &told, end, None);
+    };
+    let line = fault_line(alloc, names, fault)?;
+    let (component, at, _) = *fault;
+    let time = time_of(at);
+    let told = Told {
+        fault: Some(line.as_str()),
+        ..told
+    };
+    let Some(lane) = kept.lanes.of(component) else {
+        return picture(alloc, kept, &told, time.tick, None);
+    };
+    let shown = ShownFault {
+        lane,
+        time,
+        line: line.as_str(),
+    };
+    picture(alloc, kept, &told, time.tick, Some(shown))
+}
+
+/// The picture of what is kept of a run up to a tick, with a fault on a lane or without one.
+fn picture(
+    alloc: Global,
+    kept: &mut Kept,
+    told: &Told<'_>,
+    end: u64,
+    fault: Option<ShownFault<'_>>,
+) -> Result<Svg, AllocError> {
+    let layout = Layout::new(alloc, kept, end, fault.map(|fault| fault.time))?;
+    let mut heading = Svg::new(alloc);
+    let top = push_heading(&mut heading, alloc, kept, &layout, told)?;
+    let sheet = sheet_of(alloc, kept, &layout)?;
+    let width = layout.width.rounded_up();
+    let height = (top + layout.staves_height()).rounded_up();
+    let mut svg = Svg::new(alloc);
+    svg.begin(width, height, told.view.title, sheet.as_str())?;
+    svg.append(&heading)?;
+    svg.open_moved(top)?;
+    push_staves(&mut svg, alloc, kept, &layout, fault)?;
+    svg.close()?;
+    svg.end()?;
+    Ok(svg)
+}

@@ -26,3 +26,24 @@ if [ -c /dev/full ]; then
     sha256sum <"$out" | cmp --silent - "$room/sum"
     count "a run that tells how far it is to a standard error that is full" 0 "$ended" $?
 fi
+
+# The sequential run, its figures and its table tell the same way. Where the run can meet a limit, its outcome is worked out first, with
+# no record, so the tick falls once.
+heard() {
+    awk -v until="$1" '
+        !/^twarp: tick [0-9]+ of [0-9]+, [0-9]+ records$/ { bad = 1 }
+        { tick = $3 + 0; records = $6 + 0 }
+        $5 + 0 != until || tick > until + 0 || records < last_records { bad = 1 }
+        tick < last_tick { falls++ }
+        { last_tick = tick; last_records = records }
+        END { exit bad || NR == 0 || falls > 1 }
+    ' "$err"
+}
+for line in seq stats "stats --json" "table --items"; do
+    read -r job more <<<"$line"
+    # shellcheck disable=SC2086 # a line is words
+    "$program" "$job" examples/sixty-four-hops.json --until 200000 $more | sha256sum >"$room/sum"
+    # shellcheck disable=SC2086 # a line is words
+    "$program" "$job" examples/sixty-four-hops.json --until 200000 $more --progress 2>"$err" | sha256sum | cmp --silent - "$room/sum" && heard 200000
+    count "twarp $line tells how far it is" 0 0 $?
+done

@@ -4,7 +4,7 @@ use Rattle.std.specs.Prelude.{Option, Some, None}
 use Rattle.std.specs.Io.KnownBytes.{Keeps}
 use Rattle.tw_engine.specs.Plays.{first, IsScripted, IsSeeded, IsTraced}
 use Rattle.tw_engine.specs.declared.exit.Exit.{Exit}
-use Rattle.tw_engine.specs.declared.exit.Exit.TheVariants.{Done, Bad, Fault, Want, NoWrite}
+use Rattle.tw_engine.specs.declared.exit.Exit.TheVariants.{Done, Bad, Fault, Limited, Want, NoWrite}
 use Rattle.tw_engine.specs.Exits.{exit_of}
 use Rattle.tw_engine.specs.Scripting.{IsScriptExit}
 use Rattle.tw_exec.specs.Running.{Running}
@@ -32,6 +32,7 @@ module _ (bytes : List ℕ) (n : Contents AnyModel) (means : IsMeaning bytes n) 
       go : (exit : Exit) → IsPlayed any_meaning commands (first n way until) p old mid → IsTraced p.executive exit mid new → IsScripted bytes script until way exit old new
       go Done w t = (n, means, (commands, says, (p, mid, w, t)))
       go Fault w t = t
+      go (Limited line) w t = absurd t
       go (Bad why line) w t = absurd t
       go (Want why) w t = inr (n, means, (commands, says, inr (p, mid, w, t)))
       go NoWrite w t = t
@@ -49,6 +50,7 @@ module _ (bytes : List ℕ) (n : Contents AnyModel) (means : IsMeaning bytes n) 
       go : (exit : Exit) → IsWhollyDrawn any_meaning (seeded seed) steps (first n way until) p old mid → IsTraced p.executive exit mid new → IsSeeded bytes seed steps until way exit old new
       go Done w t = (n, means, (p, mid, w, t))
       go Fault w t = t
+      go (Limited line) w t = absurd t
       go (Bad why line) w t = absurd t
       go (Want why) w t = inr (n, means, inr (p, mid, w, t))
       go NoWrite w t = t
@@ -59,7 +61,7 @@ module _ (bytes : List ℕ) (n : Contents AnyModel) (means : IsMeaning bytes n) 
 
 -- ---- a script that is refused
 
-keeps_all : (o : Option (List ℕ)) → Keeps o o
+pub keeps_all : (o : Option (List ℕ)) → Keeps o o
 keeps_all None = tt
 keeps_all (Some xs) = refl
 

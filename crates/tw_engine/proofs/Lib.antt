@@ -1,3 +1,5 @@
 pub mod Shown
 pub mod Driven
 pub mod Checked
+pub mod Viewed
+pub mod Drawn

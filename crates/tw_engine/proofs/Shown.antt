@@ -12,7 +12,7 @@ use Rattle.tw_theory.specs.Simulator.{sequential, rounds, round}
 use Rattle.tw_netfile.specs.TreeMeaning.{IsMeaning}
 use Rattle.tw_texts.specs.Traces.{AppendsBeginning}
 use Rattle.tw_engine.specs.declared.exit.Exit.{Exit}
-use Rattle.tw_engine.specs.declared.exit.Exit.TheVariants.{Done, Bad, Fault, Want, NoWrite}
+use Rattle.tw_engine.specs.declared.exit.Exit.TheVariants.{Done, Bad, Fault, Limited, Want, NoWrite}
 use Rattle.tw_engine.specs.Runs.{IsDemo, IsRun, IsRunByWorkers, IsShown, IsWorked, demo_network, name_in, text_or_nothing, run_fault}
 
 pub no_name : (names : List (List ℕ)) (component : ℕ) → length names ≤ component → [] ≡ name_in names component
@@ -31,6 +31,7 @@ run_of_shown : (bytes : List ℕ) (until : ℕ) (n : Contents AnyModel) (exit : 
     → IsShown n (sequential (network_of any_meaning n) until).records (run_fault n until) exit old new → IsRun bytes until exit old new
 run_of_shown bytes until n Done old new means shown = (n, means, shown)
 run_of_shown bytes until n Fault old new means shown = (n, means, shown)
+run_of_shown bytes until n (Limited line) old new means shown = absurd shown
 run_of_shown bytes until n (Bad why line) old new means shown = absurd shown
 run_of_shown bytes until n (Want why) old new means (is, inl keeps) = (is, inl keeps)
 run_of_shown bytes until n (Want why) old new means (is, inr begun) = (is, inr (n, means, begun))
@@ -57,6 +58,7 @@ demo_of_shown : (exit : Exit) (old new : Option (List ℕ))
     → IsShown demo_network (sequential (network_of any_meaning demo_network) 5).records (run_fault demo_network 5) exit old new → IsDemo exit old new
 demo_of_shown Done old new shown = shown.1
 demo_of_shown Fault old new shown = none_is_some shown.0.0 (sym demo_no_fault ∙ shown.0.1)
+demo_of_shown (Limited line) old new shown = shown
 demo_of_shown (Bad why line) old new shown = shown
 demo_of_shown (Want why) old new shown = inl shown
 demo_of_shown NoWrite old new shown = shown

@@ -13,7 +13,7 @@ use Rattle.tw_netfile.specs.declared.refused.FileRefused.{FileRefused}
 use Rattle.tw_netfile.specs.declared.refused.FileRefused.TheVariants.{OutOfMemory}
 use Rattle.tw_engine.specs.Runs.{Means}
 use Rattle.tw_engine.specs.declared.exit.Exit.{Exit}
-use Rattle.tw_engine.specs.declared.exit.Exit.TheVariants.{Done, Bad, Fault, Want, NoWrite}
+use Rattle.tw_engine.specs.declared.exit.Exit.TheVariants.{Done, Bad, Fault, Limited, Want, NoWrite}
 
 -- how many components, couplings and inputs, of a tree those of its flat network
 abbrev pub check_text : Contents AnyModel → List ℕ
@@ -32,6 +32,7 @@ IsCheck bytes Done old new = Means bytes (λ n. Appends old new (check_text n))
 IsCheck bytes (Bad why line) old new =
     ((fault : FileRefused) × IsFault bytes fault × (why ≡ file_refusal fault)) × (line ≡ None) × AppendsLine old new
 IsCheck bytes Fault old new = ⊥
+IsCheck bytes (Limited line) old new = ⊥
 IsCheck bytes (Want why) old new = (why ≡ refusal.OutOfMemory) × Keeps old new
 IsCheck bytes NoWrite old new = Unit {0}
 

@@ -4,13 +4,17 @@
 use Rattle.std.specs.Prelude.{◌⊎◌, ℕ, List, Option, IfSome, ⊤}
 use Rattle.std.specs.Io.KnownBytes.{Keeps}
 use Rattle.tw_engine.specs.Checks.{IsCheck}
+use Rattle.tw_engine.specs.Drawings.{IsViewDrawn, IsWarpDrawn}
 use Rattle.tw_engine.specs.Plays.{IsScripted, IsSeeded}
 use Rattle.tw_engine.specs.Runs.{IsDemo, IsFileExit, IsRun, IsRunByWorkers, IsUnread, Means}
+use Rattle.tw_engine.specs.Views.{IsSummed, IsTabulated}
 use Rattle.tw_engine.specs.declared.exit.Exit.{Exit}
 use Rattle.tw_line.specs.declared.jobs.Driver.{Driver}
 use Rattle.tw_line.specs.declared.jobs.Driver.TheVariants.{Script, Seed}
 use Rattle.tw_line.specs.declared.jobs.Job.{Job}
-use Rattle.tw_line.specs.declared.jobs.Job.TheVariants.{Demo, Check, Seq, Run, Play}
+use Rattle.tw_line.specs.declared.jobs.Job.TheVariants.{Demo, Check, Seq, Stats, Table, Draw, Run, Play}
+use Rattle.tw_line.specs.declared.jobs.Picture.{Picture}
+use Rattle.tw_line.specs.declared.jobs.Picture.TheVariants as of
 use Rattle.tw_theory.specs.Contents.{Cancel}
 
 -- driven by a script: the network's file is at fault, and nothing is written; or it means a network, and no byte of the script is known to
@@ -24,10 +28,17 @@ abbrev pub IsPlay : Driver → ℕ → Cancel → Exit → Option (List ℕ) →
 IsPlay (Script path) until way exit given script old new = IfSome given (λ bytes. IsScriptedBy bytes until way exit script old new)
 IsPlay (Seed seed steps) until way exit given script old new = IfSome given (λ bytes. IsSeeded bytes seed steps until way exit old new)
 
+abbrev pub IsDrawn : Picture → ℕ → Exit → Option (List ℕ) → Option (List ℕ) → Option (List ℕ) → Option (List ℕ) → Type 0
+IsDrawn (of.Run view) until exit given script old new = IfSome given (λ bytes. IsViewDrawn bytes until exit old new)
+IsDrawn (of.Warp way driver) until exit given script old new = IfSome given (λ bytes. IsWarpDrawn driver bytes until exit script old new)
+
 abbrev pub IsDone : Job → Exit → Option (List ℕ) → Option (List ℕ) → Option (List ℕ) → Option (List ℕ) → Type 0
 IsDone Demo exit given script old new = IsDemo exit old new
 IsDone (Check net) exit given script old new = IsUnread exit old new ⊎ IfSome given (λ bytes. IsCheck bytes exit old new)
-IsDone (Seq net until) exit given script old new = IsUnread exit old new ⊎ IfSome given (λ bytes. IsRun bytes until exit old new)
+IsDone (Seq net until progress) exit given script old new = IsUnread exit old new ⊎ IfSome given (λ bytes. IsRun bytes until exit old new)
+IsDone (Stats net until json progress) exit given script old new = IsUnread exit old new ⊎ IfSome given (λ bytes. IsSummed bytes until exit old new)
+IsDone (Table net until rows progress) exit given script old new = IsUnread exit old new ⊎ IfSome given (λ bytes. IsTabulated bytes until rows exit old new)
+IsDone (Draw net until picture) exit given script old new = IsUnread exit old new ⊎ IsDrawn picture until exit given script old new
 IsDone (Run net until cancel setting) exit given script old new = IsUnread exit old new ⊎ IfSome given (λ bytes. IsRunByWorkers bytes until exit old new)
 IsDone (Play net until cancel driver) exit given script old new = IsUnread exit old new ⊎ IsPlay driver until cancel exit given script old new
 
@@ -41,9 +52,16 @@ abbrev pub DriverReads : Driver → Option (List ℕ) → Type 0
 DriverReads (Script path) given = IfSome given MeansSome
 DriverReads (Seed seed steps) given = ⊥
 
+abbrev pub PictureReads : Picture → Option (List ℕ) → Type 0
+PictureReads (of.Run view) given = ⊥
+PictureReads (of.Warp way driver) given = DriverReads driver given
+
 abbrev pub ReadsScript : Job → Option (List ℕ) → Type 0
 ReadsScript Demo given = ⊥
 ReadsScript (Check net) given = ⊥
-ReadsScript (Seq net until) given = ⊥
+ReadsScript (Seq net until progress) given = ⊥
+ReadsScript (Stats net until json progress) given = ⊥
+ReadsScript (Table net until rows progress) given = ⊥
+ReadsScript (Draw net until picture) given = PictureReads picture given
 ReadsScript (Run net until cancel setting) given = ⊥
 ReadsScript (Play net until cancel driver) given = DriverReads driver given

@@ -4,3 +4,5 @@ pub mod Scripting
 pub mod Plays
 pub mod Jobs
 pub mod Checks
+pub mod Views
+pub mod Drawings

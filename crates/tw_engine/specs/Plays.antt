@@ -6,7 +6,7 @@ use Rattle.std.specs.Prelude.{ℕ, ◌≡◌, ◌⊎◌, List, Option, Some, Non
 use Rattle.std.specs.Io.KnownBytes.{Appends, Keeps}
 use Rattle.tw_engine.specs.Runs.{Means, IsCause, name_in}
 use Rattle.tw_engine.specs.declared.exit.Exit.{Exit}
-use Rattle.tw_engine.specs.declared.exit.Exit.TheVariants.{Done, Bad, Fault, Want, NoWrite}
+use Rattle.tw_engine.specs.declared.exit.Exit.TheVariants.{Done, Bad, Fault, Limited, Want, NoWrite}
 use Rattle.tw_exec.specs.Running.{Running, start}
 use Rattle.tw_any_model.specs.AnyModel.{any_meaning}
 use Rattle.tw_any_model.specs.declared.any_model.AnyModel.{AnyModel}
@@ -35,6 +35,7 @@ committed_text e = trace_text (name_in e.network.names) (before (least_line e.wo
 abbrev pub IsTraced : Running AnyModel AnyState → Exit → Option (List ℕ) → Option (List ℕ) → Type 0
 IsTraced e Done old new = Appends old new (committed_text e)
 IsTraced e Fault old new = ⊥
+IsTraced e (Limited line) old new = ⊥
 IsTraced e (Bad why line) old new = ⊥
 IsTraced e (Want why) old new = (why ≡ refusal.OutOfMemory) × AppendsBeginning old new (committed_text e)
 IsTraced e NoWrite old new = Unit {0}
@@ -45,6 +46,7 @@ IsTraced e NoWrite old new = Unit {0}
 abbrev pub IsDriven : (Played AnyModel AnyState → Option (List ℕ) → Option (List ℕ) → Type 0) → (Option (List ℕ) → Option (List ℕ) → Type 0) → Exit → Option (List ℕ) → Option (List ℕ) → Type 0
 IsDriven Whole Short Done old new = (p : Played AnyModel AnyState) × (mid : Option (List ℕ)) × Whole p old mid × IsTraced p.executive Done mid new
 IsDriven Whole Short Fault old new = ⊥
+IsDriven Whole Short (Limited line) old new = ⊥
 IsDriven Whole Short (Bad why line) old new = ⊥
 IsDriven Whole Short (Want why) old new = ((why ≡ refusal.OutOfMemory) × Short old new) ⊎ ((p : Played AnyModel AnyState) × (mid : Option (List ℕ)) × Whole p old mid × IsTraced p.executive (Want why) mid new)
 IsDriven Whole Short NoWrite old new = Unit {0}
@@ -69,6 +71,7 @@ IsScriptPlayed bytes script until way exit old new = Means bytes (λ n. (command
 abbrev pub IsScripted : List ℕ → List ℕ → ℕ → Cancel → Exit → Option (List ℕ) → Option (List ℕ) → Type 0
 IsScripted bytes script until way Done old new = IsScriptPlayed bytes script until way Done old new
 IsScripted bytes script until way Fault old new = ⊥
+IsScripted bytes script until way (Limited line) old new = ⊥
 IsScripted bytes script until way (Bad why None) old new = Keeps old new × (IsCause bytes until why ⊎ Means bytes (λ n. (why ≡ refusal.TooMany) × IsRefusedFor n.names script TooMany))
 IsScripted bytes script until way (Bad why (Some line)) old new = Keeps old new × (why ≡ refusal.BadScript) × Means bytes (λ n. IsRefusedFor n.names script (BadLine line))
 IsScripted bytes script until way (Want why) old new = ((why ≡ refusal.OutOfMemory) × Keeps old new) ⊎ IsScriptPlayed bytes script until way (Want why) old new
@@ -77,6 +80,7 @@ IsScripted bytes script until way NoWrite old new = Unit {0}
 abbrev pub IsSeeded : List ℕ → ℕ → ℕ → ℕ → Cancel → Exit → Option (List ℕ) → Option (List ℕ) → Type 0
 IsSeeded bytes seed steps until way Done old new = Means bytes (λ n. IsDrawnBy n seed steps way until Done old new)
 IsSeeded bytes seed steps until way Fault old new = ⊥
+IsSeeded bytes seed steps until way (Limited line) old new = ⊥
 IsSeeded bytes seed steps until way (Bad why line) old new = Keeps old new × (line ≡ None) × IsCause bytes until why
 IsSeeded bytes seed steps until way (Want why) old new = ((why ≡ refusal.OutOfMemory) × Keeps old new) ⊎ Means bytes (λ n. IsDrawnBy n seed steps way until (Want why) old new)
 IsSeeded bytes seed steps until way NoWrite old new = Unit {0}

@@ -21,7 +21,7 @@ use Rattle.tw_netfile.specs.declared.refused.FileRefused.{FileRefused}
 use Rattle.tw_texts.specs.Texts.{trace_text, fault_line}
 use Rattle.tw_texts.specs.Traces.{AppendsBeginning}
 use Rattle.tw_engine.specs.declared.exit.Exit.{Exit}
-use Rattle.tw_engine.specs.declared.exit.Exit.TheVariants.{Done, Bad, Fault, Want, NoWrite}
+use Rattle.tw_engine.specs.declared.exit.Exit.TheVariants.{Done, Bad, Fault, Limited, Want, NoWrite}
 
 -- ---- the text of a run
 
@@ -62,6 +62,7 @@ IsCause bytes until why =
 abbrev pub IsRun : List ℕ → ℕ → Exit → Option (List ℕ) → Option (List ℕ) → Type 0
 IsRun bytes until Done old new = Means bytes (λ n. (run_fault n until ≡ None) × Appends old new (run_text n until))
 IsRun bytes until Fault old new = Means bytes (λ n. ((fault : ℕ × ℕ × Limit) × (run_fault n until ≡ Some fault)) × Appends old new (run_text n until))
+IsRun bytes until (Limited line) old new = ⊥
 IsRun bytes until (Bad why line) old new = Keeps old new × (line ≡ None) × IsCause bytes until why
 IsRun bytes until (Want why) old new =
     (why ≡ refusal.OutOfMemory) × (Keeps old new ⊎ Means bytes (λ n. AppendsBeginning old new (run_text n until)))
@@ -83,6 +84,7 @@ IsFileExit bytes exit =
 abbrev pub IsShown : Contents AnyModel → List Record → Option (ℕ × ℕ × Limit) → Exit → Option (List ℕ) → Option (List ℕ) → Type 0
 IsShown n records fault Done old new = (fault ≡ None) × Appends old new (text_of n records fault)
 IsShown n records fault Fault old new = ((found : ℕ × ℕ × Limit) × (fault ≡ Some found)) × Appends old new (text_of n records fault)
+IsShown n records fault (Limited line) old new = ⊥
 IsShown n records fault (Bad why line) old new = ⊥
 IsShown n records fault (Want why) old new = (why ≡ refusal.OutOfMemory) × (Keeps old new ⊎ AppendsBeginning old new (text_of n records fault))
 IsShown n records fault NoWrite old new = Unit {0}
@@ -114,6 +116,7 @@ demo_text = codes "2.0 g out 0=5\n2.0 g int | 1\n2.0 t ext 0=5 | 1 5 5\n4.0 g ou
 abbrev pub IsDemo : Exit → Option (List ℕ) → Option (List ℕ) → Type 0
 IsDemo Done old new = Appends old new (run_text demo_network 5)
 IsDemo Fault old new = ⊥
+IsDemo (Limited line) old new = ⊥
 IsDemo (Bad why line) old new = ⊥
 IsDemo (Want why) old new =
     ((why ≡ refusal.OutOfMemory) × (Keeps old new ⊎ AppendsBeginning old new (run_text demo_network 5)))

@@ -9,7 +9,7 @@ use std::io::Write;
 use tw_vtime::Refusal;
 
 /// How a run ended.
-#[derive(Clone, Copy, Debug, PartialEq, Eq)]
+#[derive(Debug, PartialEq, Eq, Drop)]
 pub enum Exit {
     /// All was written, and no limit was met.
     Done,
@@ -22,6 +22,8 @@ pub enum Exit {
     },
     /// A component met a limit: the trace before it was written, and then the line of the fault.
     Fault,
+    /// A component met a limit: what is told of the run before it was written. This is the line of the fault, for standard error.
+    Limited(String),
     /// A growth was refused: 4, or 12. A beginning of the text may be written.
     Want(Refusal),
     /// The writer failed. A beginning of the text may be written.
@@ -47,28 +49,30 @@ impl From<Refusal> for Exit {
 }
 
 impl Exit {
-    /// The status that the process ends with: 0, 2, 3, 4 or 5 in the order above.
-    pub fn status(self) -> u8
-        ensures { result ≡ status_of self }
+    /// The status that the process ends with: 0, 2, 3, 3, 4 or 5 in the order above.
+    pub fn status(&self) -> u8
+        ensures { result ≡ status_of self.now }
     {
         match self {
             Exit::Done => 0,
             Exit::Bad { .. } => 2,
-            Exit::Fault => 3,
+            Exit::Fault | Exit::Limited(_) => 3,
             Exit::Want(_) => 4,
             Exit::NoWrite => 5,
         }
     }
 
     /// Writes the line for standard error: `twarp: `, the number and the name of the refusal, and for a script
-    /// the number of the line. After [`Exit::Done`] and [`Exit::Fault`] there is none.
+    /// the number of the line. After [`Exit::Done`] and [`Exit::Fault`] there is none, and after [`Exit::Limited`] it is that of the
+    /// fault, as it stands at the end of a trace.
     ///
     /// Refused where the writer fails.
-    pub fn write_line<W: Write>(self, out: &mut W) -> io::Result<()>
-        ensures { OnOk result (Appends (W.contents out.old) (W.contents out.new) (line_of self)) }
+    pub fn write_line<W: Write>(&self, out: &mut W) -> io::Result<()>
+        ensures { OnOk result (Appends (W.contents out.old) (W.contents out.new) (line_of self.now)) }
     {
         match self {
             Exit::Done | Exit::Fault => Ok(()),
+            Exit::Limited(line) => out.write_all(line.as_bytes()),
             Exit::Bad {
                 refusal,
                 line: Some(line),

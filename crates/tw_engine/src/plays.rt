@@ -74,7 +74,11 @@ pub(crate) fn play_by_seed<W: Write>(
 }
 
 // The commands of a script.
-fn commands(alloc: Global, script: &[u8], network: &Network<AnyModel>) -> Result<Vec<Command>, Exit>
+pub(crate) fn commands(
+    alloc: Global,
+    script: &[u8],
+    network: &Network<AnyModel>,
+) -> Result<Vec<Command>, Exit>
     ensures ok { IfOk result (λ commands. IsScript network.now.names script.now commands.items) }
     ensures err { IfErr result (IsScriptExit network.now.names script.now) }
 {
@@ -90,7 +94,7 @@ fn commands(alloc: Global, script: &[u8], network: &Network<AnyModel>) -> Result
 }
 
 // An executive at its start, to be driven by hand.
-fn player(
+pub(crate) fn player(
     alloc: Global,
     network: Network<AnyModel>,
     until: u64,

@@ -15,15 +15,17 @@ use std::io::Write;
 use tw_any_model::AnyModel;
 use tw_network::Network;
 use tw_stream::write_rounds;
+use tw_tell::Listener;
 use tw_texts::NotWritten;
 use tw_vtime::{Limit, Refusal, Stamp};
 
 // Writes the text of a network's run, of which the fault is known: the lines of its rounds, and that of the fault.
-pub(crate) fn write_streamed<W: Write>(
+pub(crate) fn write_streamed<L: Listener, W: Write>(
     alloc: Global,
     network: &Network<AnyModel>,
     until: u64,
     fault: Option<(usize, Stamp, Limit)>,
+    listener: &mut L,
     out: &mut W,
 ) -> Exit
     requires { until ≤ max_tick }
@@ -33,7 +35,7 @@ pub(crate) fn write_streamed<W: Write>(
     let Ok(last) = last_line(alloc, &names, fault) else {
         return Exit::Want(Refusal::OutOfMemory);
     };
-    match write_rounds(alloc, network, &names, until, out) {
+    match write_rounds(alloc, network, &names, until, listener, out) {
         Ok(()) => {}
         Err(NotWritten::OutOfMemory) => return Exit::Want(Refusal::OutOfMemory),
         Err(NotWritten::WriteFailed) => return Exit::NoWrite,

@@ -1,12 +1,16 @@
--- The names and the figures of the built-in models.
+-- The names and the figures of models.
 --     model_name m      what a model is called
 --     figures_in m      its figures, each by its name and what it tells
 --     figure_shown f      a figure so
-use Rattle.std.specs.Prelude.{ℕ, List, [], ◌∷◌, codes, string_bytes}
+--     AreLabels m labels      the name and the figures of a component's model; of a machine they are its file's
+use Rattle.std.specs.Prelude.{◌≡◌, ℕ, List, [], ◌∷◌, codes, map, string_bytes}
 use Rattle.tw_figures.specs.declared.figure.Figure.{Figure}
 use Rattle.tw_figures.specs.declared.figure.Measure.{Measure}
 use Rattle.tw_figures.specs.declared.figure.Measure.TheVariants.{Word, Beyond}
+use Rattle.tw_any_model.specs.declared.any_model.AnyModel.{AnyModel}
+use Rattle.tw_any_model.specs.declared.any_model.AnyModel.TheVariants.{BuiltIn, Machine}
 use Rattle.tw_models.specs.declared.model.Model.{Model}
+use Rattle.tw_views.specs.declared.gathering.Labels.{Labels}
 use Rattle.tw_models.specs.declared.model.Model.TheVariants.{Gen, Tally, Relay, Queue, Hop}
 
 abbrev pub model_name : Model → List ℕ
@@ -25,3 +29,7 @@ figures_in (Hop h) = []
 
 abbrev pub figure_shown : Figure → List ℕ × Measure
 figure_shown f = (string_bytes f.name, f.measure)
+
+abbrev pub AreLabels : AnyModel → Labels → Type 0
+AreLabels (BuiltIn m) labels = (string_bytes labels.model ≡ model_name m) × (map figure_shown labels.figures.items ≡ figures_in m)
+AreLabels (Machine m) labels = Unit {0}

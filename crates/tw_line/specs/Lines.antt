@@ -2,7 +2,7 @@
 --     twarp_app      the command in clap's own words
 --     IsJob sub j      the job of a subcommand and its options
 --     IsReason words e      why there is no job
-use Rattle.std.specs.Prelude.{◌≡◌, ◌≢◌, ◌≤◌, ◌⊎◌, [], ◌∷◌, ℕ, Bool, List, Option, Some, None, codes, false, true}
+use Rattle.std.specs.Prelude.{◌≡◌, ◌≢◌, ◌≤◌, ◌⊎◌, [], ◌∷◌, ℕ, Bool, List, Option, Some, None, codes, false, true, option_map}
 use Rattle.std.specs.Str.Parse.{IsNumeral, digits_value, without_leading_plus}
 use Rattle.clap.specs.Words.{App, IsAmong, Kinds, Row, Rule, Text, fault_of, first_of, kind_of, new_app, new_rule, one_of, subcommand_of, with_rule, with_subcommand}
 use Rattle.clap.specs.declared.builder.action.ArgAction.TheVariants.{SetTrue}
@@ -16,10 +16,15 @@ use Rattle.tw_actions.specs.declared.cancel.Cancel.TheVariants.{Aggressive, Lazy
 use Rattle.tw_line.specs.declared.jobs.Driver.{Driver}
 use Rattle.tw_line.specs.declared.jobs.Driver.TheVariants.{Script, Seed}
 use Rattle.tw_line.specs.declared.jobs.Job.{Job}
-use Rattle.tw_line.specs.declared.jobs.Job.TheVariants.{Demo, Check, Seq, Run, Play}
+use Rattle.tw_line.specs.declared.jobs.Job.TheVariants.{Demo, Check, Seq, Stats, Table, Draw, Run, Play}
 use Rattle.tw_line.specs.declared.jobs.NoJob.{NoJob}
 use Rattle.tw_line.specs.declared.jobs.NoJob.TheVariants.{Help, Version, BadLine, OutOfMemory}
+use Rattle.tw_line.specs.declared.jobs.Picture.{Picture}
+use Rattle.tw_line.specs.declared.jobs.Picture.TheVariants as of
+use Rattle.tw_line.specs.declared.jobs.Rows.{Rows}
+use Rattle.tw_line.specs.declared.jobs.Rows.TheVariants.{Records, Items, Words}
 use Rattle.tw_line.specs.declared.jobs.Setting.{Setting}
+use Rattle.tw_line.specs.declared.jobs.View.{View}
 
 -- ---- the command
 
@@ -57,8 +62,18 @@ check_app = with_rule (new_app (codes "check")) net_rule
 abbrev pub network_app : Text → App
 network_app name = with_rule (with_rule (new_app name) net_rule) until_rule
 
+-- one that may tell how far it is
+abbrev pub told_app : Text → App
+told_app name = with_rule (network_app name) (flag_rule (codes "progress"))
+
 abbrev pub seq_app : App
-seq_app = network_app (codes "seq")
+seq_app = told_app (codes "seq")
+
+abbrev pub stats_app : App
+stats_app = with_rule (told_app (codes "stats")) (flag_rule (codes "json"))
+
+abbrev pub table_app : App
+table_app = with_rule (with_rule (told_app (codes "table")) (flag_rule (codes "items"))) (flag_rule (codes "words"))
 
 -- `run` and what its workers are set to: 2 workers, bursts of 16 steps and a window of 1000 ticks where it is left out,
 -- and no word of how far it is
@@ -72,15 +87,28 @@ set_app = with_rule (with_rule (with_rule (with_rule (network_app (codes "run"))
 abbrev pub run_app : App
 run_app = with_rule set_app (text_rule (codes "cancel"))
 
--- `play` and what may drive it; any number of 64 bits is a seed
-abbrev pub driven_app : App
-driven_app = with_rule (with_rule (with_rule (network_app (codes "play"))
+-- a subcommand with what may drive an executive; any number of 64 bits is a seed
+abbrev pub driven_app : App → App
+driven_app app = with_rule (with_rule (with_rule app
     (text_rule (codes "script")))
     (number_rule (codes "seed") 0 18446744073709551615))
     (number_rule (codes "steps") 0 1000000)
 
+abbrev pub cancelled_app : App → App
+cancelled_app app = with_rule (driven_app app) (text_rule (codes "cancel"))
+
 abbrev pub play_app : App
-play_app = with_rule driven_app (text_rule (codes "cancel"))
+play_app = cancelled_app (network_app (codes "play"))
+
+-- `draw` and what is seen of a run, before what may drive it
+abbrev pub seen_app : App
+seen_app = with_rule (with_rule (with_rule (network_app (codes "draw"))
+    (number_rule (codes "from") 0 1099511627774))
+    (text_rule (codes "only")))
+    (text_rule (codes "figure"))
+
+abbrev pub draw_app : App
+draw_app = cancelled_app seen_app
 
 -- twarp alone, which has a version and wants a subcommand
 abbrev pub bare_app : App
@@ -90,12 +118,12 @@ bare_app = record { top = record (new_app (codes "twarp")).top { has_version = t
 abbrev pub first_app : App
 first_app = with_subcommand (with_subcommand bare_app demo_app.top) check_app.top
 
--- with those that have no executive
+-- with those that tell of the sequential run
 abbrev pub alone_app : App
-alone_app = with_subcommand first_app seq_app.top
+alone_app = with_subcommand (with_subcommand (with_subcommand first_app seq_app.top) stats_app.top) table_app.top
 
 abbrev pub twarp_app : App
-twarp_app = with_subcommand (with_subcommand alone_app run_app.top) play_app.top
+twarp_app = with_subcommand (with_subcommand (with_subcommand alone_app draw_app.top) run_app.top) play_app.top
 
 -- ---- the job
 
@@ -132,13 +160,54 @@ IsDriverIn rows (Seed seed steps) =
     (first_of (codes "script") rows ≡ None)
     × HasNumber (codes "seed") 0 18446744073709551615 rows seed × HasNumber (codes "steps") 0 1000000 rows steps
 
+-- what a line of a table is of: at most one of two flags is on
+abbrev pub IsRowsIn : List Row → Rows → Type 0
+IsRowsIn rows Records = HasFlag (codes "items") rows false × HasFlag (codes "words") rows false
+IsRowsIn rows Items = HasFlag (codes "items") rows true × HasFlag (codes "words") rows false
+IsRowsIn rows Words = HasFlag (codes "items") rows false × HasFlag (codes "words") rows true
+
+-- from a tick on, or from the first one where no option stands
+abbrev pub IsFromIn : List Row → ℕ → Type 0
+IsFromIn rows from = ((first_of (codes "from") rows ≡ None) × (from ≡ 0)) ⊎ HasNumber (codes "from") 0 1099511627774 rows from
+
+-- what is seen of a run
+abbrev pub IsViewIn : List Row → View → Type 0
+IsViewIn rows v =
+    IsFromIn rows v.from
+    × (option_map (λ s. s.now) v.only ≡ first_of (codes "only") rows)
+    × (option_map (λ s. s.now) v.figure ≡ first_of (codes "figure") rows)
+
+-- no option stands that says what is seen
+abbrev pub IsUnseen : List Row → Type 0
+IsUnseen rows = (first_of (codes "from") rows ≡ None) × (first_of (codes "only") rows ≡ None) × (first_of (codes "figure") rows ≡ None)
+
+-- no option stands that says what drives an executive, or how it cancels
+abbrev pub IsUndriven : List Row → Type 0
+IsUndriven rows =
+    (first_of (codes "script") rows ≡ None) × (first_of (codes "seed") rows ≡ None) × (first_of (codes "steps") rows ≡ None)
+    × (first_of (codes "cancel") rows ≡ None)
+
+-- a picture of a run, of which something is seen; or one of Time Warp, that something drives. Options of both do not go together
+abbrev pub IsPictureIn : List Row → Picture → Type 0
+IsPictureIn rows (of.Run view) = IsUndriven rows × IsViewIn rows view
+IsPictureIn rows (of.Warp cancel driver) = IsUnseen rows × IsCancelIn rows cancel × IsDriverIn rows driver
+
 -- the job of a subcommand's name and its options
 abbrev pub IsJobOf : Text → List Row → Job → Type 0
 IsJobOf name rows Demo = name ≡ codes "demo"
 IsJobOf name rows (Check net) = (name ≡ codes "check") × (first_of (codes "net") rows ≡ Some net.now)
-IsJobOf name rows (Seq net until) =
+IsJobOf name rows (Seq net until progress) =
     (name ≡ codes "seq") × (first_of (codes "net") rows ≡ Some net.now)
-    × HasNumber (codes "until") 0 1099511627774 rows until
+    × HasNumber (codes "until") 0 1099511627774 rows until × HasFlag (codes "progress") rows progress
+IsJobOf name rows (Stats net until json progress) =
+    (name ≡ codes "stats") × (first_of (codes "net") rows ≡ Some net.now)
+    × HasNumber (codes "until") 0 1099511627774 rows until × HasFlag (codes "json") rows json × HasFlag (codes "progress") rows progress
+IsJobOf name rows (Table net until lines progress) =
+    (name ≡ codes "table") × (first_of (codes "net") rows ≡ Some net.now)
+    × HasNumber (codes "until") 0 1099511627774 rows until × IsRowsIn rows lines × HasFlag (codes "progress") rows progress
+IsJobOf name rows (Draw net until picture) =
+    (name ≡ codes "draw") × (first_of (codes "net") rows ≡ Some net.now)
+    × HasNumber (codes "until") 0 1099511627774 rows until × IsPictureIn rows picture
 IsJobOf name rows (Run net until cancel setting) =
     (name ≡ codes "run") × (first_of (codes "net") rows ≡ Some net.now)
     × HasNumber (codes "until") 0 1099511627774 rows until × IsCancelIn rows cancel × IsSettingIn rows setting

@@ -1,11 +1,13 @@
 //! From the words of a line to a job.
 
-ghost use Rattle.std.specs.Prelude.{◌≡◌, [], codes, IfOk, IfErr, IfSome, IfNone, is_some, map, option_map, string_bytes};
+ghost use Rattle.std.specs.Prelude.{◌≡◌, [], codes, IfOk, IfErr, IfSome, IfNone, IsTrue, IsFalse, is_some, map, option_map, string_bytes};
 ghost use Rattle.clap.specs.Words.{rows_of, found_of, first_of, fault_of, kind_of, subcommand_of, subcommand_rows_of};
-ghost use Rattle.tw_line.specs.Lines.{twarp_app, IsCancelIn, IsDriverIn, IsSettingIn, IsJob, IsJobOf, HasFlag, HasNumber, IsReason, IsMadeOf};
+ghost use Rattle.tw_line.specs.Lines.{twarp_app, IsCancelIn, IsDriverIn, IsFromIn, IsPictureIn, IsRowsIn, IsSettingIn, IsUndriven, IsUnseen, IsJob, IsJobOf, HasFlag, HasNumber, IsReason, IsMadeOf};
 
 use crate::commands::command;
-use crate::jobs::{Driver, Job, MAX_BURST, MAX_STEPS, MAX_WORKERS, NoJob, Setting};
+use crate::jobs::{
+    Driver, Job, MAX_BURST, MAX_STEPS, MAX_WORKERS, NoJob, Picture, Rows, Setting, View,
+};
 use clap::error::ErrorKind;
 use clap::{ArgMatches, Error};
 use std::alloc::Global;
@@ -111,7 +113,125 @@ fn seq_in<'a>(options: &ArgMatches<'a>) -> Option<Job<'a>>
 {
     let net = text_in(options, "net")?;
     let until = number_in(options, "until", 0, MAX_TICK)?;
-    Some(Job::Seq { net, until })
+    let progress = flag_in(options, "progress");
+    Some(Job::Seq {
+        net,
+        until,
+        progress,
+    })
+}
+
+/// The job of `stats` and its options.
+fn stats_in<'a>(options: &ArgMatches<'a>) -> Option<Job<'a>>
+    ensures some { IfSome result (IsJobOf (codes "stats") (rows_of (found_of options.now))) }
+    ensures none { IfNone result ((j : _) → ¬ (IsJobOf (codes "stats") (rows_of (found_of options.now)) j)) }
+{
+    let net = text_in(options, "net")?;
+    let until = number_in(options, "until", 0, MAX_TICK)?;
+    let json = flag_in(options, "json");
+    let progress = flag_in(options, "progress");
+    Some(Job::Stats {
+        net,
+        until,
+        json,
+        progress,
+    })
+}
+
+/// What a line of a table is of, among the options.
+fn rows_in(options: &ArgMatches<'_>) -> Option<Rows>
+    ensures some { IfSome result (IsRowsIn (rows_of (found_of options.now))) }
+    ensures none { IfNone result ((r : _) → ¬ (IsRowsIn (rows_of (found_of options.now)) r)) }
+{
+    let items = flag_in(options, "items");
+    let words = flag_in(options, "words");
+    match (items, words) {
+        (false, false) => Some(Rows::Records),
+        (true, false) => Some(Rows::Items),
+        (false, true) => Some(Rows::Words),
+        (true, true) => None,
+    }
+}
+
+/// The job of `table` and its options.
+fn table_in<'a>(options: &ArgMatches<'a>) -> Option<Job<'a>>
+    ensures some { IfSome result (IsJobOf (codes "table") (rows_of (found_of options.now))) }
+    ensures none { IfNone result ((j : _) → ¬ (IsJobOf (codes "table") (rows_of (found_of options.now)) j)) }
+{
+    let net = text_in(options, "net")?;
+    let until = number_in(options, "until", 0, MAX_TICK)?;
+    let rows = rows_in(options)?;
+    let progress = flag_in(options, "progress");
+    Some(Job::Table {
+        net,
+        until,
+        rows,
+        progress,
+    })
+}
+
+/// Whether an option stands that says what drives an executive, or how it cancels.
+fn is_driven(options: &ArgMatches<'_>) -> bool
+    ensures yes { IsTrue result → ¬ (IsUndriven (rows_of (found_of options.now))) }
+    ensures no { IsFalse result → IsUndriven (rows_of (found_of options.now)) }
+{
+    has(options, "script")
+        || has(options, "seed")
+        || has(options, "steps")
+        || has(options, "cancel")
+}
+
+/// Whether an option stands that says what is seen of a run.
+fn is_seen(options: &ArgMatches<'_>) -> bool
+    ensures yes { IsTrue result → ¬ (IsUnseen (rows_of (found_of options.now))) }
+    ensures no { IsFalse result → IsUnseen (rows_of (found_of options.now)) }
+{
+    has(options, "from") || has(options, "only") || has(options, "figure")
+}
+
+/// The tick from which on a run is seen, among the options.
+fn from_in(options: &ArgMatches<'_>) -> Option<u64>
+    ensures some { IfSome result (IsFromIn (rows_of (found_of options.now))) }
+    ensures none { IfNone result ((n : _) → ¬ (IsFromIn (rows_of (found_of options.now)) n)) }
+{
+    if !has(options, "from") {
+        return Some(0);
+    }
+    number_in(options, "from", 0, MAX_TICK)
+}
+
+/// What a picture is of, among the options.
+fn picture_in<'a>(options: &ArgMatches<'a>) -> Option<Picture<'a>>
+    ensures some { IfSome result (IsPictureIn (rows_of (found_of options.now))) }
+    ensures none { IfNone result ((p : _) → ¬ (IsPictureIn (rows_of (found_of options.now)) p)) }
+{
+    if is_driven(options) {
+        if is_seen(options) {
+            return None;
+        }
+        let cancel = cancel_in(options)?;
+        let driver = driver_in(options)?;
+        return Some(Picture::Warp { cancel, driver });
+    }
+    let from = from_in(options)?;
+    let only = text_in(options, "only");
+    let figure = text_in(options, "figure");
+    Some(Picture::Run(View { from, only, figure }))
+}
+
+/// The job of `draw` and its options.
+fn draw_in<'a>(options: &ArgMatches<'a>) -> Option<Job<'a>>
+    ensures some { IfSome result (IsJobOf (codes "draw") (rows_of (found_of options.now))) }
+    ensures none { IfNone result ((j : _) → ¬ (IsJobOf (codes "draw") (rows_of (found_of options.now)) j)) }
+{
+    let net = text_in(options, "net")?;
+    let until = number_in(options, "until", 0, MAX_TICK)?;
+    let picture = picture_in(options)?;
+    Some(Job::Draw {
+        net,
+        until,
+        picture,
+    })
 }
 
 /// The job of `run` and its options.
@@ -162,6 +282,15 @@ fn job_named<'a>(name: &str, options: &ArgMatches<'a>) -> Option<Job<'a>>
     if name == "seq" {
         return seq_in(options);
     }
+    if name == "stats" {
+        return stats_in(options);
+    }
+    if name == "table" {
+        return table_in(options);
+    }
+    if name == "draw" {
+        return draw_in(options);
+    }
     if name == "run" {
         return run_in(options);
     }
@@ -194,14 +323,17 @@ fn no_job(error: Error) -> NoJob
 
 /// The job that a command line asks for. The first word is the program's name.
 ///
-/// The jobs are `demo`; `check NET`; `seq NET --until T`; `run NET --until T` with `--workers N` (1 to 64), `--burst K` (1 to
-/// 256 steps) and `--window W` (0 to 1,099,511,627,774 ticks), which are 2, 16 and 1000 where they are left out, and with
-/// `--progress`, a flag that stands there once or not at all; and
-/// `play NET --until T` with what drives it, either `--script FILE` alone or both `--seed S` and `--steps N`. `run`
-/// and `play` take `--cancel aggressive` (also where it is left out) or `--cancel lazy`. T is a number of ticks, 0
+/// The jobs are `demo`; `check NET`; `seq NET --until T`; `stats NET --until T` with `--json` or without; `table NET --until T`
+/// with `--items` or `--words` or neither; `run NET --until T` with `--workers N` (1 to 64), `--burst K` (1 to
+/// 256 steps) and `--window W` (0 to 1,099,511,627,774 ticks), which are 2, 16 and 1000 where they are left out;
+/// `play NET --until T` with what drives it, either `--script FILE` alone or both `--seed S` and `--steps N`; and
+/// `draw NET --until T`, either with what drives an executive, as `play`, or with what is seen of a run: `--from T0` (0 to
+/// 1,099,511,627,774 ticks, 0 where it is left out), `--only NAMES` and `--figure NAME`. `run`, `play` and a driven `draw`
+/// take `--cancel aggressive` (also where it is left out) or `--cancel lazy`; `seq`, `stats`, `table` and `run` take
+/// `--progress`. A flag stands there once or not at all. T is a number of ticks, 0
 /// to 1,099,511,627,774, S any u64, N of `--steps` at most 1,000,000; numbers are those that clap's reader of a u64
 /// takes, `+5` and `007` among them. Every other line is refused by [`NoJob::BadLine`] (23), also one with no
-/// subcommand, one with two drivers and one with half of one. Where `--help`, `-h` or `help` is met first,
+/// subcommand, one with two drivers, one with half of one, and a `draw` that is driven and says what is seen. Where `--help`, `-h` or `help` is met first,
 /// [`NoJob::Help`] has clap's text, and where `--version` or `-V` is in place of a subcommand, [`NoJob::Version`];
 /// where memory is wanting, it is [`NoJob::OutOfMemory`] (4).
 ///

@@ -3,9 +3,12 @@
 ghost use Rattle.std.specs.Prelude.{◌≡◌, IfOk, codes, false};
 ghost use Rattle.clap.specs.Words.{app_of, rule_of};
 ghost use Rattle.clap.specs.declared.builder.command.Command.TheViews.{out-Command};
-ghost use Rattle.tw_line.specs.Lines.{flag_rule, net_rule, number_rule, text_rule, until_rule, alone_app, check_app, demo_app, driven_app, first_app, network_app, play_app, preset_rule, run_app, seq_app, set_app, twarp_app};
+ghost use Rattle.tw_line.specs.Lines.{flag_rule, net_rule, number_rule, text_rule, until_rule, alone_app, cancelled_app, check_app, demo_app, draw_app, driven_app, first_app, network_app, play_app, preset_rule, run_app, seen_app, seq_app, set_app, stats_app, table_app, told_app, twarp_app};
 
-use crate::help::{CHECK_END, DEMO_END, PLAY_END, RUN_END, SEQ_END, TWARP_END, VERSION};
+use crate::help::{
+    CHECK_END, DEMO_END, DRAW_END, PLAY_END, RUN_END, SEQ_END, STATS_END, TABLE_END, TWARP_END,
+    VERSION,
+};
 use crate::jobs::{MAX_BURST, MAX_STEPS, MAX_WORKERS};
 use clap::builder::ValueParser;
 use clap::{Arg, ArgAction, Command};
@@ -111,16 +114,86 @@ fn network_command<'a>(
         .arg(until(alloc))
 }
 
+fn far<'a>(alloc: Global) -> Arg<'a>
+    ensures rule { rule_of result ≡ flag_rule (codes "progress") }
+    ensures local { result.global ≡ false }
+{
+    flag(alloc, "progress").help(
+        "Tell on standard error, once a second, the tick simulated, of the end tick, and how many records there are",
+    )
+}
+
+/// A subcommand over a network, up to an end, that may tell how far it is.
+fn told_command<'a>(
+    alloc: Global,
+    name: &'a str,
+    about: &'a str,
+    end: &'a str,
+) -> Result<Command<'a>, AllocError>
+    ensures app { IfOk result (λ c. app_of c ≡ told_app name.entry.now) }
+    ensures local { IfOk result (λ c. (out-Command c).has_globals ≡ false) }
+{
+    network_command(alloc, name, about, end)?.arg(far(alloc))
+}
+
 fn seq_command<'a>(alloc: Global) -> Result<Command<'a>, AllocError>
     ensures app { IfOk result (λ c. app_of c ≡ seq_app) }
     ensures local { IfOk result (λ c. (out-Command c).has_globals ≡ false) }
 {
-    network_command(
+    told_command(
         alloc,
         "seq",
         "Simulate a network one step after another and write its trace",
         SEQ_END,
     )
+}
+
+fn json<'a>(alloc: Global) -> Arg<'a>
+    ensures rule { rule_of result ≡ flag_rule (codes "json") }
+    ensures local { result.global ≡ false }
+{
+    flag(alloc, "json").help("Write them as one line of JSON")
+}
+
+fn stats_command<'a>(alloc: Global) -> Result<Command<'a>, AllocError>
+    ensures app { IfOk result (λ c. app_of c ≡ stats_app) }
+    ensures local { IfOk result (λ c. (out-Command c).has_globals ≡ false) }
+{
+    told_command(
+        alloc,
+        "stats",
+        "Simulate a network and write counts of its components, and the least, greatest, last and mean value of each figure",
+        STATS_END,
+    )?
+    .arg(json(alloc))
+}
+
+fn items<'a>(alloc: Global) -> Arg<'a>
+    ensures rule { rule_of result ≡ flag_rule (codes "items") }
+    ensures local { result.global ≡ false }
+{
+    flag(alloc, "items").help("A line for each item of a record; without --words")
+}
+
+fn words<'a>(alloc: Global) -> Arg<'a>
+    ensures rule { rule_of result ≡ flag_rule (codes "words") }
+    ensures local { result.global ≡ false }
+{
+    flag(alloc, "words").help("A line for each word of a state after a transition; without --items")
+}
+
+fn table_command<'a>(alloc: Global) -> Result<Command<'a>, AllocError>
+    ensures app { IfOk result (λ c. app_of c ≡ table_app) }
+    ensures local { IfOk result (λ c. (out-Command c).has_globals ≡ false) }
+{
+    told_command(
+        alloc,
+        "table",
+        "Simulate a network and write its records as comma-separated values, one line each",
+        TABLE_END,
+    )?
+    .arg(items(alloc))?
+    .arg(words(alloc))
 }
 
 fn workers<'a>(alloc: Global) -> Arg<'a>
@@ -219,27 +292,87 @@ fn cancel<'a>(alloc: Global) -> Arg<'a>
     )
 }
 
-/// `play` with what drives it.
-fn driven_command<'a>(alloc: Global) -> Result<Command<'a>, AllocError>
-    ensures app { IfOk result (λ c. app_of c ≡ driven_app) }
-    ensures local { IfOk result (λ c. (out-Command c).has_globals ≡ false) }
+/// A subcommand with what may drive an executive.
+fn driven_command<'a>(command: Command<'a>, alloc: Global) -> Result<Command<'a>, AllocError>
+    ensures app { IfOk result (λ c. app_of c ≡ driven_app (app_of command.entry)) }
+    ensures local { (out-Command command.entry).has_globals ≡ false → IfOk result (λ c. (out-Command c).has_globals ≡ false) }
 {
-    network_command(
-        alloc,
-        "play",
-        "Drive a network by hand: make, take back and commit steps in any order, write a reply to each action, then the trace of what is committed",
-        PLAY_END,
-    )?
-    .arg(script(alloc))?
-    .arg(seed(alloc))?
-    .arg(steps(alloc))
+    command
+        .arg(script(alloc))?
+        .arg(seed(alloc))?
+        .arg(steps(alloc))
+}
+
+/// A subcommand with what may drive an executive, and how that cancels.
+fn cancelled_command<'a>(command: Command<'a>, alloc: Global) -> Result<Command<'a>, AllocError>
+    ensures app { IfOk result (λ c. app_of c ≡ cancelled_app (app_of command.entry)) }
+    ensures local { (out-Command command.entry).has_globals ≡ false → IfOk result (λ c. (out-Command c).has_globals ≡ false) }
+{
+    driven_command(command, alloc)?.arg(cancel(alloc))
 }
 
 fn play_command<'a>(alloc: Global) -> Result<Command<'a>, AllocError>
     ensures app { IfOk result (λ c. app_of c ≡ play_app) }
     ensures local { IfOk result (λ c. (out-Command c).has_globals ≡ false) }
 {
-    driven_command(alloc)?.arg(cancel(alloc))
+    let bare = network_command(
+        alloc,
+        "play",
+        "Drive a network by hand: make, take back and commit steps in any order, write a reply to each action, then the trace of what is committed",
+        PLAY_END,
+    )?;
+    cancelled_command(bare, alloc)
+}
+
+fn from<'a>(alloc: Global) -> Arg<'a>
+    ensures rule { rule_of result ≡ number_rule (codes "from") 0 1099511627774 }
+    ensures local { result.global ≡ false }
+{
+    number(alloc, "from", "T0", 0, MAX_TICK).help(
+        "The tick from which on the run is seen, 0 to 1099511627774; 0 where it is left out",
+    )
+}
+
+fn only<'a>(alloc: Global) -> Arg<'a>
+    ensures rule { rule_of result ≡ text_rule (codes "only") }
+    ensures local { result.global ≡ false }
+{
+    text(alloc, "only", "NAMES").help(
+        "The components that are seen: their names, parted by commas; all where it is left out",
+    )
+}
+
+fn figure<'a>(alloc: Global) -> Arg<'a>
+    ensures rule { rule_of result ≡ text_rule (codes "figure") }
+    ensures local { result.global ≡ false }
+{
+    text(alloc, "figure", "NAME").help(
+        "The figure whose course is seen, as stats names it; the last of each model, of a tally its sum, where it is left out",
+    )
+}
+
+/// `draw` with what is seen of a run.
+fn seen_command<'a>(alloc: Global) -> Result<Command<'a>, AllocError>
+    ensures app { IfOk result (λ c. app_of c ≡ seen_app) }
+    ensures local { IfOk result (λ c. (out-Command c).has_globals ≡ false) }
+{
+    network_command(
+        alloc,
+        "draw",
+        "Draw a picture: of a network's run, a lane for each component; or, with --script or --seed, of a run of Time Warp, with its rollbacks",
+        DRAW_END,
+    )?
+    .arg(from(alloc))?
+    .arg(only(alloc))?
+    .arg(figure(alloc))
+}
+
+fn draw_command<'a>(alloc: Global) -> Result<Command<'a>, AllocError>
+    ensures app { IfOk result (λ c. app_of c ≡ draw_app) }
+    ensures local { IfOk result (λ c. (out-Command c).has_globals ≡ false) }
+{
+    let seen = seen_command(alloc)?;
+    cancelled_command(seen, alloc)
 }
 
 /// The program with the subcommands that simulate no network of a file.
@@ -258,23 +391,29 @@ fn first_commands<'a>(alloc: Global) -> Result<Command<'a>, AllocError>
     first.subcommand(check)
 }
 
-/// The program with the subcommands that have no executive.
+/// The program with the subcommands that tell of the sequential run.
 fn alone_commands<'a>(alloc: Global) -> Result<Command<'a>, AllocError>
     ensures app { IfOk result (λ c. app_of c ≡ alone_app) }
     ensures local { IfOk result (λ c. (out-Command c).has_globals ≡ false) }
 {
     let seq = seq_command(alloc)?;
+    let stats = stats_command(alloc)?;
+    let table = table_command(alloc)?;
     let first = first_commands(alloc)?;
-    first.subcommand(seq)
+    let second = first.subcommand(seq)?;
+    let third = second.subcommand(stats)?;
+    third.subcommand(table)
 }
 
 /// The whole command.
 pub(crate) fn command<'a>(alloc: Global) -> Result<Command<'a>, AllocError>
     ensures app { IfOk result (λ c. app_of c ≡ twarp_app) }
 {
+    let draw = draw_command(alloc)?;
     let run = run_command(alloc)?;
     let play = play_command(alloc)?;
     let first = alone_commands(alloc)?;
-    let second = first.subcommand(run)?;
-    second.subcommand(play)
+    let second = first.subcommand(draw)?;
+    let third = second.subcommand(run)?;
+    third.subcommand(play)
 }

@@ -27,6 +27,25 @@ Status: 0 done; 2 a bad line or file; 3 a component met a limit; 4 memory was re
 The network file and the trace are described in docs/FORMATS.md.
 ";
 
+pub(crate) const STATS_END: &str = "Example: twarp stats examples/gen-tally.json --until 5
+
+Status: 0 done; 2 a bad line or file; 3 a component met a limit, whose line is then on standard error; 4 memory was refused; 5 standard output failed.
+The figures of each model, what a mean is of, and the JSON are described in docs/FORMATS.md.
+";
+
+pub(crate) const TABLE_END: &str = "Example: twarp table examples/gen-tally.json --until 5 --items
+
+Status: 0 done; 2 a bad line or file; 3 a component met a limit, whose line is then on standard error; 4 memory was refused; 5 standard output failed.
+The columns are described in docs/FORMATS.md.
+";
+
+pub(crate) const DRAW_END: &str =
+    "Example: twarp draw examples/ring-of-queues.json --until 16 >ring.svg
+
+Status: 0 done; 2 a bad line, file or script; 3 a component met a limit, whose line is then on standard error; 4 memory or nodes were refused; 5 standard output failed.
+What is drawn is described in docs/PICTURES.md.
+";
+
 pub(crate) const RUN_END: &str =
     "Example: twarp run examples/ring-of-queues.json --until 16 --workers 2 --burst 1
 

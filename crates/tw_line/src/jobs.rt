@@ -33,6 +33,39 @@ pub enum Job<'a> {
         net: &'a str,
         /// The end tick, 0 to 1,099,511,627,774: only steps before it are made.
         until: u64,
+        /// Whether a line on standard error tells once a second how far the run is.
+        progress: bool,
+    },
+    /// Simulate a network the same way and write counts and figures of its run.
+    Stats {
+        /// The path of the network file.
+        net: &'a str,
+        /// The end tick, 0 to 1,099,511,627,774: only steps before it are made.
+        until: u64,
+        /// Whether they are written as a line of JSON, in place of tables.
+        json: bool,
+        /// Whether a line on standard error tells once a second how far the run is.
+        progress: bool,
+    },
+    /// Simulate a network the same way and write its records as comma-separated values.
+    Table {
+        /// The path of the network file.
+        net: &'a str,
+        /// The end tick, 0 to 1,099,511,627,774: only steps before it are made.
+        until: u64,
+        /// What a line is of.
+        rows: Rows,
+        /// Whether a line on standard error tells once a second how far the run is.
+        progress: bool,
+    },
+    /// Draw a picture.
+    Draw {
+        /// The path of the network file.
+        net: &'a str,
+        /// The end tick, 0 to 1,099,511,627,774: only steps before it are made.
+        until: u64,
+        /// Of what.
+        picture: Picture<'a>,
     },
     /// Simulate a network by Time Warp, with workers in threads, and write the trace.
     Run {
@@ -70,6 +103,42 @@ pub struct Setting {
     pub window: u64,
     /// Whether a line on standard error tells once a second how far the run is.
     pub progress: bool,
+}
+
+/// What a line of a table is of.
+#[derive(Clone, Copy, Debug, PartialEq, Eq)]
+pub enum Rows {
+    /// A record, with its items and its words.
+    Records,
+    /// An item of a record.
+    Items,
+    /// A word of a record of a transition.
+    Words,
+}
+
+/// What a picture is of.
+#[derive(Clone, Copy, Debug, PartialEq, Eq)]
+pub enum Picture<'a> {
+    /// The sequential run.
+    Run(View<'a>),
+    /// A run of Time Warp: an executive that is driven by hand.
+    Warp {
+        /// How steps that are taken back are cancelled.
+        cancel: Cancel,
+        /// What drives it.
+        driver: Driver<'a>,
+    },
+}
+
+/// What part of a run is seen.
+#[derive(Clone, Copy, Debug, PartialEq, Eq)]
+pub struct View<'a> {
+    /// The tick from which on it is seen, 0 to 1,099,511,627,774.
+    pub from: u64,
+    /// The names of the components that are seen, parted by commas; all of them where there is none.
+    pub only: Option<&'a str>,
+    /// The name of the figure whose course is seen; the one of each model's own where there is none.
+    pub figure: Option<&'a str>,
 }
 
 /// What drives an executive by hand.

@@ -6,14 +6,16 @@ ghost use Rattle.tw_texts.specs.Texts.{record_line};
 use std::alloc::{AllocError, Global};
 use tw_msgs::{Bag, RecordKind};
 use tw_seq::Receiver;
+use tw_tell::{Counting, Reached};
 use tw_texts::{Lines, Names};
 use tw_vtime::Stamp;
 
-/// Lines with names of components.
+/// Lines with names of components, and how far their run is.
 #[derive(Drop)]
 pub struct PartLines<'a, N: Names> {
     names: &'a N,
     pub(crate) lines: Lines,
+    reached: Reached,
 }
 
 impl<'a, N: Names> PartLines<'a, N> {
@@ -25,6 +27,7 @@ impl<'a, N: Names> PartLines<'a, N> {
         PartLines {
             names,
             lines: Lines::new(alloc),
+            reached: Reached::nothing(),
         }
     }
 }
@@ -42,7 +45,14 @@ impl<N: Names> Receiver for PartLines<'_, N> {
         bag: &Bag,
         words: &[i128],
     ) -> Result<(), AllocError> {
+        self.reached.add(stamp);
         let name = self.names.name(component);
         self.lines.add(name, stamp, kind, bag.as_slice(), words)
+    }
+}
+
+impl<N: Names> Counting for PartLines<'_, N> {
+    fn reached(&self) -> Reached {
+        self.reached
     }
 }

@@ -13,20 +13,23 @@ use std::alloc::{AllocError, Global};
 use std::io::Write;
 use tw_atomic::Atomic;
 use tw_network::Network;
-use tw_seq::{Step, advance, begin};
+use tw_seq::{Step, begin};
+use tw_tell::{Listener, advance_telling};
 use tw_texts::{Names, NotWritten, write_out, write_portion};
 
 /// Simulates a network up to the end tick `until`, and writes the table of its records, with the names of their
-/// components: after each round, in portions of about 65,536 bytes. It keeps the lines of one round and one portion.
+/// components: after each round, in portions of about 65,536 bytes. It keeps the lines of one round and one portion. After
+/// each round the listener hears how far the run is.
 ///
 /// Refused by [`NotWritten::OutOfMemory`] (4), and the writer then has got a beginning of the table; by
 /// [`NotWritten::WriteFailed`] (24) where the writer failed, and then only the writer knows what it took.
-pub fn write_table<M: Atomic, N: Names, W: Write>(
+pub fn write_table<M: Atomic, N: Names, L: Listener, W: Write>(
     alloc: Global,
     network: &Network<M>,
     names: &N,
     until: u64,
     rows: Rows,
+    listener: &mut L,
     out: &mut W,
 ) -> Result<(), NotWritten>
     requires { until ≤ max_tick }
@@ -43,12 +46,13 @@ pub fn write_table<M: Atomic, N: Names, W: Write>(
     let mut outputs = TableLines::new(names, rows, first);
     let mut transitions = TableLines::new(names, rows, String::new(alloc));
     loop {
-        let Ok(step) = advance(
+        let Ok(step) = advance_telling(
             alloc,
             network,
             &mut simulation,
             &mut outputs,
             &mut transitions,
+            listener,
         ) else {
             return Err(NotWritten::OutOfMemory);
         };

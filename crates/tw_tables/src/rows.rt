@@ -7,6 +7,7 @@ ghost use Rattle.tw_tables.specs.Tables.{cells_text, head_text, item_row, items_
 use std::alloc::AllocError;
 use tw_msgs::{Bag, RecordKind};
 use tw_seq::Receiver;
+use tw_tell::{Counting, Reached};
 use tw_texts::{Names, kind_name, push_bag, push_words};
 use tw_vtime::Stamp;
 
@@ -147,12 +148,13 @@ fn add_each_word(
     Ok(())
 }
 
-/// Lines with names of components, gathered until they are written.
+/// Lines with names of components, gathered until they are written, and how far their run is.
 #[derive(Drop)]
 pub struct TableLines<'a, N: Names> {
     names: &'a N,
     rows: Rows,
     pub(crate) lines: String,
+    reached: Reached,
 }
 
 impl<'a, N: Names> TableLines<'a, N> {
@@ -162,7 +164,12 @@ impl<'a, N: Names> TableLines<'a, N> {
         ensures rows { result.rows ≡ rows }
         ensures lines { result.lines ≡ lines }
     {
-        TableLines { names, rows, lines }
+        TableLines {
+            names,
+            rows,
+            lines,
+            reached: Reached::nothing(),
+        }
     }
 }
 
@@ -180,6 +187,7 @@ impl<N: Names> Receiver for TableLines<'_, N> {
         bag: &Bag,
         words: &[i128],
     ) -> Result<(), AllocError> {
+        self.reached.add(stamp);
         let name = self.names.name(component);
         let text = &mut self.lines;
         match self.rows {
@@ -187,5 +195,11 @@ impl<N: Names> Receiver for TableLines<'_, N> {
             Rows::Items => add_each_item(text, name, stamp, kind, bag.as_slice()),
             Rows::Words => add_each_word(text, name, stamp, kind, words),
         }
+    }
+}
+
+impl<N: Names> Counting for TableLines<'_, N> {
+    fn reached(&self) -> Reached {
+        self.reached
     }
 }

@@ -17,24 +17,26 @@ use std::alloc::Global;
 use std::io::Write;
 use tw_atomic::Atomic;
 use tw_network::Network;
-use tw_seq::outcome;
+use tw_tell::{Listener, outcome_telling};
 use tw_texts::Names;
 use tw_vtime::{Limit, Stamp};
 
 /// Writes the table of the records of a network's sequential run up to the end tick `until`, with the names of their
 /// components, and answers the limit fault that ended the run, if there was one: the least component that met a limit, the
 /// stamp of that round's transitions, and which limit. The fault is worked out first, so that nothing is written before the
-/// outcome is known; where the models tell beforehand that no limit can be met, there is one pass.
+/// outcome is known; where the models tell beforehand that no limit can be met, there is one pass. After each round the listener hears
+/// how far the run is, with no record while its outcome is worked out.
 ///
 /// Refused by [`TableRefused::BadTick`] (10) exactly where `until` is above 1,099,511,627,774, and then nothing is written; by
 /// [`TableRefused::OutOfMemory`] (4), and the writer then has got a beginning of the table; by
 /// [`TableRefused::WriteFailed`] (24) where the writer failed, and then only the writer knows what it took.
-pub fn table<M: Atomic, N: Names, W: Write>(
+pub fn table<M: Atomic, N: Names, L: Listener, W: Write>(
     alloc: Global,
     network: &Network<M>,
     names: &N,
     until: u64,
     rows: Rows,
+    listener: &mut L,
     out: &mut W,
 ) -> Result<Option<(usize, Stamp, Limit)>, TableRefused>
     ensures fault { IfOk result (λ fault. fault ≡ (sequential (network_of M.meaning network.now) until).fault) }
@@ -44,7 +46,7 @@ pub fn table<M: Atomic, N: Names, W: Write>(
     ensures begun { IfErr result (λ e. e ≡ OutOfMemory
         → (out.new ≡ out.old) ⊎ AppendsBeginning (W.contents out.old) (W.contents out.new) (table_text rows (N.name_of names.now) (sequential (network_of M.meaning network.now) until).records)) }
 {
-    let fault = outcome(alloc, network, until)?;
-    write_table(alloc, network, names, until, rows, out)?;
+    let fault = outcome_telling(alloc, network, until, listener)?;
+    write_table(alloc, network, names, until, rows, listener, out)?;
     Ok(fault)
 }

@@ -10,6 +10,7 @@ use tw_labels::labels_of;
 use tw_models::Model;
 use tw_network::Network;
 use tw_tables::{Rows, table};
+use tw_tell::Nobody;
 use tw_texts::Names;
 use tw_views::{Labels, stats};
 
@@ -232,6 +233,7 @@ fn assert_stats(
         labels.as_slice(),
         scene.until,
         json,
+        &mut Nobody,
         &mut out,
     );
     let met = ended.ok().expect(rt, "a view");
@@ -250,7 +252,15 @@ fn assert_table(
     fault: Option<usize>,
 ) {
     let mut out = Vec::new(alloc);
-    let ended = table(alloc, network, &scene.names, scene.until, rows, &mut out);
+    let ended = table(
+        alloc,
+        network,
+        &scene.names,
+        scene.until,
+        rows,
+        &mut Nobody,
+        &mut out,
+    );
     let met = ended.ok().expect(rt, "a table");
     assert!(rt; met.map(|(component, _, _)| component) == fault);
     assert!(rt; out.as_slice() == wanted.as_bytes());

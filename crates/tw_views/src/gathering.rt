@@ -13,9 +13,10 @@ ghost use Rattle.tw_vtime.specs.Stamps.{max_tick};
 use std::alloc::{AllocError, Global};
 use tw_atomic::Atomic;
 use tw_figures::{Figure, Gatherer};
-use tw_msgs::Words;
+use tw_msgs::{Record, Words};
 use tw_network::Network;
 use tw_seq::{SeqRefused, Simulation, Step, advance, begin};
+use tw_tell::{Listener, Reached};
 use tw_vtime::{Limit, Stamp};
 
 /// What a component's model is called, and its figures.
@@ -40,16 +41,17 @@ pub struct Gathering {
 }
 
 /// Simulates a network up to the end tick `until` and gathers the counts of its components and the courses of their
-/// figures.
+/// figures. After each round the listener hears how far the run is.
 ///
 /// Refused by [`SeqRefused::BadTick`] (10) exactly where `until` is above 1,099,511,627,774, and by
 /// [`SeqRefused::OutOfMemory`] (4) where a growth of memory was refused, or a count or a sum would pass the range of its
 /// type.
-pub fn gather<M: Atomic>(
+pub fn gather<M: Atomic, L: Listener>(
     alloc: Global,
     network: &Network<M>,
     labels: &[Labels],
     until: u64,
+    listener: &mut L,
 ) -> Result<Gathering, SeqRefused>
     requires { length labels.now ≡ length network.now.models }
     ensures gathered { IfOk result (λ g. IsGathered (start_words (network_of M.meaning network.now)) (sequential (network_of M.meaning network.now) until).records g.gathered) }
@@ -63,7 +65,7 @@ pub fn gather<M: Atomic>(
     network.facts();
     let simulation = begin(alloc, network, until)?;
     let mut gathered = start(alloc, network, labels)?;
-    let fault = follow(alloc, network, simulation, &mut gathered)?;
+    let fault = follow(alloc, network, simulation, &mut gathered, listener)?;
     Ok(ended(gathered, until, fault))
 }
 
@@ -86,11 +88,12 @@ fn ended(gathered: Gatherer, until: u64, fault: Option<(usize, Stamp, Limit)>) -
 }
 
 /// Makes the rounds of a run, each of whose records are gathered.
-fn follow<M: Atomic>(
+fn follow<M: Atomic, L: Listener>(
     alloc: Global,
     network: &Network<M>,
     mut simulation: Simulation<M::State>,
     gathered: &mut Gatherer,
+    listener: &mut L,
 ) -> Result<Option<(usize, Stamp, Limit)>, AllocError>
     requires so_far { IsSimulating M.valid M.meaning network.now [] simulation }
     requires gathered { (starts : List (List ℤ)) × IsGathered starts [] gathered.old }
@@ -113,7 +116,9 @@ fn follow<M: Atomic>(
         match step {
             Step::Round => {
                 outputs.append(&mut transitions)?;
-                gathered.take_all(outputs.as_slice())?;
+                let records = outputs.as_slice();
+                gathered.take_all(records)?;
+                listener.hear(reached(records, gathered.records));
                 outputs.clear();
             }
             Step::End(fault) => {
@@ -121,6 +126,20 @@ fn follow<M: Atomic>(
                 return Ok(fault);
             }
         }
+    }
+}
+
+/// How far a run is whose latest round has these records, and which has so many in all.
+fn reached(round: &[Record], records: u64) -> Reached {
+    match round.last() {
+        Some(record) => Reached {
+            at: record.stamp,
+            records,
+        },
+        None => Reached {
+            at: Stamp::START,
+            records,
+        },
     }
 }
 

@@ -16,6 +16,7 @@ use tw_atomic::Atomic;
 use tw_figures::{Counts, Course, Member, Told};
 use tw_network::Network;
 use tw_seq::SeqRefused;
+use tw_tell::Listener;
 use tw_vtime::{Limit, Stamp};
 
 /// What is told of a component.
@@ -42,16 +43,18 @@ pub struct Report {
 }
 
 /// Simulates a network up to the end tick `until` and tells the counts and the figures of its components: of the records of
-/// its sequential run, over its time, which is up to the end tick, or up to that of the fault that ended the run.
+/// its sequential run, over its time, which is up to the end tick, or up to that of the fault that ended the run. After each
+/// round the listener hears how far the run is.
 ///
 /// Refused by [`SeqRefused::BadTick`] (10) exactly where `until` is above 1,099,511,627,774, and by
 /// [`SeqRefused::OutOfMemory`] (4) where a growth of memory was refused, or a count or a sum would pass the range of its
 /// type.
-pub fn report_of<M: Atomic>(
+pub fn report_of<M: Atomic, L: Listener>(
     alloc: Global,
     network: &Network<M>,
     labels: &[Labels],
     until: u64,
+    listener: &mut L,
 ) -> Result<Report, SeqRefused>
     requires { length labels.now ≡ length network.now.models }
     ensures parts { let run = sequential (network_of M.meaning network.now) until in
@@ -66,7 +69,7 @@ pub fn report_of<M: Atomic>(
         gathered,
         fault,
         ticks,
-    } = gather(alloc, network, labels, until)?;
+    } = gather(alloc, network, labels, until, listener)?;
     let parts = tell_all(alloc, gathered.members.as_slice(), ticks)?;
     Ok(Report {
         parts,

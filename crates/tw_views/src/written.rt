@@ -1,10 +1,10 @@
 //! Counts and figures of a run, written.
 
-ghost use Rattle.std.specs.Prelude.{◌≡◌, ◌<◌, ◌↔◌, ◌≢◌, IfErr, IfOk, IsErrOf, length};
+ghost use Rattle.std.specs.Prelude.{◌≡◌, ◌<◌, ◌↔◌, ◌≢◌, ◌⊎◌, IfErr, IfOk, IsErrOf, length};
 ghost use Rattle.tw_network.specs.Contents.{network_of};
 ghost use Rattle.tw_theory.specs.Simulator.{sequential};
 ghost use Rattle.tw_views.specs.Gathering.{BeforeEnd};
-ghost use Rattle.tw_views.specs.declared.refused.StatsRefused.TheVariants.{BadTick, WriteFailed};
+ghost use Rattle.tw_views.specs.declared.refused.StatsRefused.TheVariants.{BadTick, OutOfMemory, WriteFailed};
 ghost use Rattle.tw_vtime.specs.Stamps.{max_tick};
 
 use crate::gathering::Labels;
@@ -16,25 +16,27 @@ use std::alloc::{AllocError, Global};
 use std::io::Write;
 use tw_atomic::Atomic;
 use tw_network::Network;
+use tw_tell::Listener;
 use tw_texts::{Names, write_out};
 use tw_vtime::{Limit, Stamp};
 
 /// Writes the counts and the figures of a network's sequential run up to the end tick `until`, with the names of its
 /// components, as tables or, with `json`, as one line of JSON. Answers the limit fault that ended the run, if there was one: the
 /// least component that met a limit, the stamp of that round's transitions, and which limit. They are then of the records
-/// before it, and of the time up to its tick.
+/// before it, and of the time up to its tick. After each round the listener hears how far the run is.
 ///
 /// Refused by [`StatsRefused::BadTick`] (10) exactly where `until` is above 1,099,511,627,774, and by
 /// [`StatsRefused::OutOfMemory`] (4) where a growth of memory was refused, or a count or a sum would pass the range of its
 /// type; then nothing is written. Refused by [`StatsRefused::WriteFailed`] (24) where the writer failed, and then only the
 /// writer knows what it took.
-pub fn stats<M: Atomic, N: Names, W: Write>(
+pub fn stats<M: Atomic, N: Names, L: Listener, W: Write>(
     alloc: Global,
     network: &Network<M>,
     names: &N,
     labels: &[Labels],
     until: u64,
     json: bool,
+    listener: &mut L,
     out: &mut W,
 ) -> Result<Option<(usize, Stamp, Limit)>, StatsRefused>
     requires { length labels.now ≡ length network.now.models }
@@ -42,10 +44,32 @@ pub fn stats<M: Atomic, N: Names, W: Write>(
     ensures bad_tick { IsErrOf result BadTick ↔ (max_tick < until) }
     ensures unwritten { IfErr result (λ e. e ≢ WriteFailed → out.new ≡ out.old) }
 {
-    let report = report_of(alloc, network, labels, until)?;
-    let mut text = told(alloc, &report, names, labels, until, json)?;
-    write_out(&mut text, out)?;
+    let report = report_of(alloc, network, labels, until, listener)?;
+    write_report(alloc, &report, names, labels, until, json, out)?;
     Ok(report.fault)
+}
+
+/// Writes what is told of a run up to the end tick `until`, with the names of its components, as tables or, with `json`, as one
+/// line of JSON.
+///
+/// Refused by [`StatsRefused::OutOfMemory`] (4), and then nothing is written; by [`StatsRefused::WriteFailed`] (24) where the
+/// writer failed, and then only the writer knows what it took.
+pub fn write_report<N: Names, W: Write>(
+    alloc: Global,
+    report: &Report,
+    names: &N,
+    labels: &[Labels],
+    until: u64,
+    json: bool,
+    out: &mut W,
+) -> Result<(), StatsRefused>
+    requires { BeforeEnd report.now.fault }
+    ensures refused { IfErr result (λ e. (e ≡ OutOfMemory) ⊎ (e ≡ WriteFailed)) }
+    ensures unwritten { IfErr result (λ e. e ≢ WriteFailed → out.new ≡ out.old) }
+{
+    let mut text = told(alloc, report, names, labels, until, json)?;
+    write_out(&mut text, out)?;
+    Ok(())
 }
 
 /// The text of a report.

@@ -15,7 +15,7 @@ use std::thread::Threads;
 use std::time::Clock;
 use std::{env, io};
 use tw_engine::{Exit, engine};
-use tw_line::{Driver, Job, NoJob, job};
+use tw_line::{Driver, Job, NoJob, Picture, job};
 use tw_vtime::Refusal;
 
 // How the run of the program ends.
@@ -55,12 +55,24 @@ fn do_job<T: Threads + Wait + Clock + Eprint + Sync>(
 ) -> Exit {
     let mut net = match job {
         Job::Demo => Source::Missing(ErrorKind::NotFound),
-        Job::Check { net } | Job::Seq { net, .. } | Job::Run { net, .. } | Job::Play { net, .. } =>
-            Source::from(File::open(rt, *net)),
+        Job::Check { net }
+        | Job::Seq { net, .. }
+        | Job::Stats { net, .. }
+        | Job::Table { net, .. }
+        | Job::Draw { net, .. }
+        | Job::Run { net, .. }
+        | Job::Play { net, .. } => Source::from(File::open(rt, *net)),
     };
     let mut script = match job {
         Job::Play {
             driver: Driver::Script(path),
+            ..
+        }
+        | Job::Draw {
+            picture: Picture::Warp {
+                driver: Driver::Script(path),
+                ..
+            },
             ..
         } => Source::from(File::open(rt, *path)),
         _ => Source::Missing(ErrorKind::NotFound),

@@ -8,7 +8,7 @@ use std::sync::Wait;
 use std::thread::Threads;
 use std::time::Clock;
 use tw_engine::{Exit, engine};
-use tw_line::{Driver, Job, Setting};
+use tw_line::{Driver, Job, Rows, Setting};
 use tw_process::Cancel;
 use tw_vtime::Refusal;
 
@@ -19,6 +19,15 @@ const GEN_TALLY: &str =
 /// The lines of a generator of period 2 and value 5 and its tally, until 5.
 const TRACE: &str =
     "2.0 g out 0=5\n2.0 g int | 1\n2.0 t ext 0=5 | 1 5 5\n4.0 g out 0=5\n4.0 g int | 2\n4.0 t ext 0=5 | 2 10 5\n";
+
+/// Their counts and figures: of the five ticks, two have a count of 1 and one has 2.
+const FIGURES: &str =
+    r#"{"until":5,"records":6,"microsteps":1,"components":[{"name":"g","model":"gen","outputs":2,"sent":2,"received":0,"int":2,"ext":0,"con":0,"figures":[{"name":"count","least":0,"greatest":2,"last":2,"mean":0.800,"busy":0.600}]},{"name":"t","model":"tally","outputs":0,"sent":0,"received":2,"int":0,"ext":2,"con":0,"figures":[{"name":"count","least":0,"greatest":2,"last":2,"mean":0.800,"busy":0.600},{"name":"sum","least":0,"greatest":10,"last":10,"mean":4.000,"busy":0.600},{"name":"last","least":0,"greatest":5,"last":5,"mean":3.000,"busy":0.600}]}]}
+"#;
+
+/// What they send and receive.
+const ITEMS: &str =
+    "tick,microstep,component,kind,port,value\n2,0,g,out,0,5\n2,0,t,ext,0,5\n4,0,g,out,0,5\n4,0,t,ext,0,5\n";
 
 /// All that they do at tick 2, committed.
 const SCRIPT: &str =
@@ -32,14 +41,15 @@ const PLAYED: &str =
 /// to the tally's empty mailbox, a step of the generator.
 const DRAWN: &str = "stepped 2.0.0 out\nrefused 15 NoSuch\nstepped 2.0.1 int\n";
 
-/// A job, the network and the script that it reads, and what it writes.
+/// A job, the network and the script that it reads, what it writes, and how it ends.
 struct Example {
     name: &'static str,
     job: Job<'static>,
     net: &'static str,
     script: &'static str,
     text: &'static str,
-    end: Exit,
+    /// What it is refused for, if it is.
+    refused: Option<Refusal>,
 }
 
 /// A job that reads a network and then a script.
@@ -51,14 +61,14 @@ const BY_SCRIPT: Job<'static> = Job::Play {
 };
 
 /// A job of each kind.
-static JOBS: [Example; 7] = [
+static JOBS: [Example; 9] = [
     Example {
         name: "demo",
         job: Job::Demo,
         net: "",
         script: "",
         text: TRACE,
-        end: Exit::Done,
+        refused: None,
     },
     Example {
         name: "check",
@@ -66,7 +76,7 @@ static JOBS: [Example; 7] = [
         net: GEN_TALLY,
         script: "",
         text: "ok: 2 components, 1 couplings, 0 inputs\n",
-        end: Exit::Done,
+        refused: None,
     },
     Example {
         name: "check of a network without a comma",
@@ -74,21 +84,45 @@ static JOBS: [Example; 7] = [
         net: "{\"format\": \"tw-1\"\n \"micro_limit\": 1}",
         script: "",
         text: "line 2, column 2: not JSON: expected a comma\n",
-        end: Exit::Bad {
-            refusal: Refusal::NotJson,
-            line: None,
-        },
+        refused: Some(Refusal::NotJson),
     },
     Example {
         name: "seq",
         job: Job::Seq {
             net: "net.json",
             until: 5,
+            progress: false,
         },
         net: GEN_TALLY,
         script: "",
         text: TRACE,
-        end: Exit::Done,
+        refused: None,
+    },
+    Example {
+        name: "stats",
+        job: Job::Stats {
+            net: "net.json",
+            until: 5,
+            json: true,
+            progress: true,
+        },
+        net: GEN_TALLY,
+        script: "",
+        text: FIGURES,
+        refused: None,
+    },
+    Example {
+        name: "table",
+        job: Job::Table {
+            net: "net.json",
+            until: 5,
+            rows: Rows::Items,
+            progress: false,
+        },
+        net: GEN_TALLY,
+        script: "",
+        text: ITEMS,
+        refused: None,
     },
     Example {
         name: "run",
@@ -106,7 +140,7 @@ static JOBS: [Example; 7] = [
         net: GEN_TALLY,
         script: "",
         text: TRACE,
-        end: Exit::Done,
+        refused: None,
     },
     Example {
         name: "play by a script",
@@ -114,7 +148,7 @@ static JOBS: [Example; 7] = [
         net: GEN_TALLY,
         script: SCRIPT,
         text: PLAYED,
-        end: Exit::Done,
+        refused: None,
     },
     Example {
         name: "play by a seed",
@@ -127,9 +161,17 @@ static JOBS: [Example; 7] = [
         net: GEN_TALLY,
         script: "",
         text: DRAWN,
-        end: Exit::Done,
+        refused: None,
     },
 ];
+
+/// How a job ends that is not disturbed.
+fn end_of(example: &Example) -> Exit {
+    match example.refused {
+        Some(refusal) => Exit::from(refusal),
+        None => Exit::Done,
+    }
+}
 
 /// Asserts how a job ends with readers and a writer of so many calls: unreadable with nothing written, or with a beginning of the
 /// text, or with the whole of it.
@@ -155,17 +197,16 @@ fn assert_ends<R: Abort + Threads + Wait + Clock + Eprint + Sync>(
     };
     let end = engine(rt, alloc, &example.job, &mut net, &mut script, &mut out);
     let is_cut = |text: &str, calls: usize| !text.is_empty() && calls <= text.len();
-    let (wanted, written) = if is_cut(example.net, net_calls)
-        || is_cut(example.script, script_calls)
-    {
-        (Exit::from(Refusal::Unreadable), 0)
+    let unwritten = out.left.len();
+    let is_right = if is_cut(example.net, net_calls) || is_cut(example.script, script_calls) {
+        end == Exit::from(Refusal::Unreadable) && unwritten == example.text.len()
     } else if out_calls < example.text.len() {
-        (Exit::NoWrite, out_calls)
+        end == Exit::NoWrite && unwritten == example.text.len() - out_calls
     } else {
-        (example.end, example.text.len())
+        end == end_of(example) && unwritten == 0
     };
     assert!(rt;
-        (end, out.left.len()) == (wanted, example.text.len().saturating_sub(written)),
+        is_right,
         "{} {net_calls} {script_calls} {out_calls}",
         example.name
     );
@@ -180,7 +221,7 @@ fn a_writer_that_fails_gets_a_beginning(rt: HostRuntime) {
     }
 }
 
-// The demonstration reads nothing, and scripts are read by one job alone.
+// The demonstration reads nothing, and of these jobs one alone reads a script.
 #[test]
 fn a_reader_that_fails_is_unreadable(rt: HostRuntime) {
     for example in JOBS.iter() {
@@ -217,7 +258,7 @@ fn a_bad_network_comes_before_an_unreadable_script(rt: HostRuntime) {
 #[test]
 fn refused_memory_leaves_a_beginning(rt: HostRuntime) {
     for _ in 0..2 {
-        for example in JOBS.iter().take(4) {
+        for example in JOBS.iter().take(6) {
             let mut out = OneByteWriter {
                 left: example.text.as_bytes(),
                 calls: 1000,
@@ -230,14 +271,14 @@ fn refused_memory_leaves_a_beginning(rt: HostRuntime) {
                 &mut example.script.as_bytes(),
                 &mut out,
             );
-            let is_whole = end == example.end && out.left.is_empty();
+            let is_whole = end == end_of(example) && out.left.is_empty();
             assert!(rt; is_whole || end == Exit::Want(Refusal::OutOfMemory));
         }
     }
 }
 
 /// The exits, each with its status and its line.
-static EXITS: [(Exit, u8, &str); 7] = [
+const EXITS: [(Exit, u8, &str); 7] = [
     (Exit::Done, 0, ""),
     (
         Exit::Bad {
@@ -274,7 +315,8 @@ static EXITS: [(Exit, u8, &str); 7] = [
 
 #[test]
 fn statuses_and_lines(rt: HostRuntime) {
-    for (exit, status, line) in EXITS.iter() {
+    let exits = EXITS;
+    for (exit, status, line) in exits.iter() {
         let mut out: Vec<u8> = Vec::new(rt.alloc());
         assert!(rt; exit.status() == *status);
         assert!(rt; exit.write_line(&mut out).is_ok());

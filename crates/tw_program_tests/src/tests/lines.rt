@@ -5,41 +5,85 @@ use std::process::Abort;
 use tw_line::job;
 
 /// Lines that are taken, and what is answered to each.
-static TAKEN: [(&str, &str); 33] = [
+static TAKEN: [(&str, &str); 44] = [
     ("twarp demo", "Demo"),
     ("twarp check n.json", r#"Check { net: "n.json" }"#),
     ("twarp check -- -n.json", r#"Check { net: "-n.json" }"#),
     (
         "twarp seq n.json --until 5",
-        r#"Seq { net: "n.json", until: 5 }"#,
+        r#"Seq { net: "n.json", until: 5, progress: false }"#,
     ),
     (
         "twarp seq n.json --until=5",
-        r#"Seq { net: "n.json", until: 5 }"#,
+        r#"Seq { net: "n.json", until: 5, progress: false }"#,
     ),
     (
         "twarp seq --until 5 n.json",
-        r#"Seq { net: "n.json", until: 5 }"#,
+        r#"Seq { net: "n.json", until: 5, progress: false }"#,
     ),
     (
         "twarp seq n.json --until 0",
-        r#"Seq { net: "n.json", until: 0 }"#,
+        r#"Seq { net: "n.json", until: 0, progress: false }"#,
     ),
     (
         "twarp seq n.json --until +5",
-        r#"Seq { net: "n.json", until: 5 }"#,
+        r#"Seq { net: "n.json", until: 5, progress: false }"#,
     ),
     (
         "twarp seq n.json --until 007",
-        r#"Seq { net: "n.json", until: 7 }"#,
+        r#"Seq { net: "n.json", until: 7, progress: false }"#,
     ),
     (
         "twarp seq --until 5 -- -n.json",
-        r#"Seq { net: "-n.json", until: 5 }"#,
+        r#"Seq { net: "-n.json", until: 5, progress: false }"#,
     ),
     (
         "twarp seq n.json --until 1099511627774",
-        r#"Seq { net: "n.json", until: 1099511627774 }"#,
+        r#"Seq { net: "n.json", until: 1099511627774, progress: false }"#,
+    ),
+    (
+        "twarp seq --progress n.json --until 5",
+        r#"Seq { net: "n.json", until: 5, progress: true }"#,
+    ),
+    (
+        "twarp stats n.json --until 5",
+        r#"Stats { net: "n.json", until: 5, json: false, progress: false }"#,
+    ),
+    (
+        "twarp stats --json --until=5 --progress n.json",
+        r#"Stats { net: "n.json", until: 5, json: true, progress: true }"#,
+    ),
+    (
+        "twarp table n.json --until 5",
+        r#"Table { net: "n.json", until: 5, rows: Records, progress: false }"#,
+    ),
+    (
+        "twarp table n.json --until 5 --items",
+        r#"Table { net: "n.json", until: 5, rows: Items, progress: false }"#,
+    ),
+    (
+        "twarp table --words --progress --until 5 -- --items",
+        r#"Table { net: "--items", until: 5, rows: Words, progress: true }"#,
+    ),
+    (
+        "twarp draw n.json --until 5",
+        r#"Draw { net: "n.json", until: 5, picture: Run(View { from: 0, only: None, figure: None }) }"#,
+    ),
+    (
+        "twarp draw n.json --until 5 --from +2 --only a,b --figure jobs",
+        r#"Draw { net: "n.json", until: 5, picture: Run(View { from: 2, only: Some("a,b"), figure: Some("jobs") }) }"#,
+    ),
+    (
+        "twarp draw n.json --until 5 --from 1099511627774",
+        r#"Draw { net: "n.json", until: 5, picture: Run(View { from: 1099511627774, only: None, figure: None }) }"#,
+    ),
+    (
+        "twarp draw n.json --until 5 --script s",
+        r#"Draw { net: "n.json", until: 5, picture: Warp { cancel: Aggressive, driver: Script("s") } }"#,
+    ),
+    (
+        "twarp draw n.json --until 5 --cancel lazy --seed 1 --steps 2",
+        r#"Draw { net: "n.json", until: 5, picture: Warp { cancel: Lazy, driver: Seed { seed: 1, steps: 2 } } }"#,
     ),
     (
         "twarp run n.json --until 5",
@@ -138,7 +182,7 @@ fn assert_answer(rt: &impl Abort, alloc: Global, line: &str, wanted: &str) {
 }
 
 #[test]
-fn takes_the_lines_of_demo_check_seq_run_and_play(rt: HostRuntime) {
+fn takes_the_lines_of_each_job(rt: HostRuntime) {
     for (line, wanted) in TAKEN.iter() {
         assert_answer(&rt, rt.alloc(), line, wanted);
     }

@@ -7,3 +7,13 @@ pub returns-in-Demo-clause-done : goal.returns-in-Demo-clause-done
 returns-in-Demo-clause-done g c =
     subst (λ (job : Job). IsDone job c.demo.result (g.N.Read.remaining c.args.net.now) (g.S.Read.remaining c.args.script.now) (g.W.Write.contents c.args.out.now) (g.W.Write.contents c.demo.new.out))
     (sym c.in-Demo.is) c.demo.ensures
+
+pub returns-in-Stats-clause-done : goal.returns-in-Stats-clause-done
+returns-in-Stats-clause-done g c =
+    subst (λ (job : Job). IsDone job c.stats_told.result (g.N.Read.remaining c.args.net.now) (g.S.Read.remaining c.args.script.now) (g.W.Write.contents c.args.out.now) (g.W.Write.contents c.stats_told.new.out))
+    (sym c.in-Stats.is) c.stats_told.ensures
+
+pub returns-in-Table-clause-done : goal.returns-in-Table-clause-done
+returns-in-Table-clause-done g c =
+    subst (λ (job : Job). IsDone job c.table_told.result (g.N.Read.remaining c.args.net.now) (g.S.Read.remaining c.args.script.now) (g.W.Write.contents c.args.out.now) (g.W.Write.contents c.table_told.new.out))
+    (sym c.in-Table.is) c.table_told.ensures

@@ -12,7 +12,7 @@ use Rattle.tw_texts.specs.declared.traces.NotWritten.TheVariants.{OutOfMemory, W
 use Rattle.tw_theory.specs.Simulator.{sequential}
 use Rattle.tw_stream.proofs.Streamed.{text_more, nothing_yet, appends_nothing, gathered, moves_more, moved_begins, moved_whole}
 use Rattle.tw_stream.proofs.rounds.write_rounds.Goals as goal
-use Rattle.tw_stream.proofs.rounds.write_rounds.Goals.{After-advance}
+use Rattle.tw_stream.proofs.rounds.write_rounds.Goals.{After-advance_telling}
 
 pub loop-step-init : goal.loop-step-init
 loop-step-init g c = record {
@@ -25,14 +25,14 @@ loop-step-init g c = record {
   written = ([], appends_nothing _, c.new-outputs.ensures.none);
 }
 
-pub advance-requires : goal.advance-requires
-advance-requires g c = (c.loop-step.invariant.done, c.loop-step.invariant.so_far)
+pub advance_telling-requires : goal.advance_telling-requires
+advance_telling-requires g c = (c.loop-step.invariant.done, c.loop-step.invariant.so_far)
 
 pub returns-in_default-clause-err : goal.returns-in_default-clause-err
 returns-in_default-clause-err g c _ = nothing_yet _ _
 
 -- what is written so far is a beginning of all lines
-begun : (g : _) (c : After-advance g) → AppendsBeginning (g.W.Write.contents c.args.out.now) (g.W.Write.contents c.loop-step.out) (trace_text (g.N.Names.name_of c.args.names.now) (sequential (network_of g.M.Atomic.meaning c.args.network.now) c.args.until).records)
+begun : (g : _) (c : After-advance_telling g) → AppendsBeginning (g.W.Write.contents c.args.out.now) (g.W.Write.contents c.loop-step.out) (trace_text (g.N.Names.name_of c.args.names.now) (sequential (network_of g.M.Atomic.meaning c.args.network.now) c.args.until).records)
 begun g c =
     let inv = c.loop-step.invariant in
     let net = network_of g.M.Atomic.meaning c.args.network.now in
@@ -40,22 +40,22 @@ begun g c =
     (part_begins g.M.Atomic.valid g.M.Atomic.meaning c.args.network.now c.loop-step.simulation.until inv.done c.loop-step.simulation.run inv.so_far.part) in
     moved_begins (g.N.Names.name_of c.args.names.now) _ _ inv.done more.0 _ c.loop-step.outputs.lines.text inv.written more.1
 
-pub returns-in_default-advance-clause-err : goal.returns-in_default-advance-clause-err
-returns-in_default-advance-clause-err g c _ = begun g (goal.at.returns-in_default-advance-clause-err g c).After-advance
+pub returns-in_default-advance_telling-clause-err : goal.returns-in_default-advance_telling-clause-err
+returns-in_default-advance_telling-clause-err g c _ = begun g (goal.at.returns-in_default-advance_telling-clause-err g c).After-advance_telling
 
 pub returns-in_default-append-clause-err : goal.returns-in_default-append-clause-err
-returns-in_default-append-clause-err g c _ = begun g (goal.at.returns-in_default-append-clause-err g c).After-advance
+returns-in_default-append-clause-err g c _ = begun g (goal.at.returns-in_default-append-clause-err g c).After-advance_telling
 
 pub returns-in-End-clause-ok : goal.returns-in-End-clause-ok
 returns-in-End-clause-ok g c =
     let inv = c.loop-step.invariant in
     let net = network_of g.M.Atomic.meaning c.args.network.now in
     let name_of = g.N.Names.name_of c.args.names.now in
-    let last = subst (IsStep _ g.M.Atomic.valid g.M.Atomic.meaning c.args.network.now c.loop-step.simulation c.advance.new.simulation c.loop-step.outputs c.advance.new.outputs c.loop-step.transitions c.advance.new.transitions) c.in-End.is c.in-Ok-advance.ensures.step in
-    let got = gathered (λ v. v.names.now) (λ v. v.lines.text) g.N.Names.name_of c.loop-step.outputs last.outs c.advance.new.outputs last.outputs in
+    let last = subst (IsStep _ g.M.Atomic.valid g.M.Atomic.meaning c.args.network.now c.loop-step.simulation c.advance_telling.new.simulation c.loop-step.outputs c.advance_telling.new.outputs c.loop-step.transitions c.advance_telling.new.transitions) c.in-End.is c.in-Ok-advance_telling.ensures.step in
+    let got = gathered (λ v. v.names.now) (λ v. v.lines.text) g.N.Names.name_of c.loop-step.outputs last.outs c.advance_telling.new.outputs last.outputs in
     let grown = got.1 ∙ ap (λ n. c.loop-step.outputs.lines.text ++ trace_text (g.N.Names.name_of n) last.outs) inv.names in
     let all = (last.all inv.done inv.so_far).records ∙ ap (λ u. (sequential net u).records) inv.until in
-    on_ok_weaker c.write_out.result (moved_whole name_of _ _ _ inv.done last.outs _ c.loop-step.outputs.lines.text c.advance.new.outputs.lines.text inv.written grown all) c.write_out.ensures.ok
+    on_ok_weaker c.write_out.result (moved_whole name_of _ _ _ inv.done last.outs _ c.loop-step.outputs.lines.text c.advance_telling.new.outputs.lines.text inv.written grown all) c.write_out.ensures.ok
 
 other_refusal : {X : Type 0} (e : NotWritten) → e ≡ WriteFailed → e ≡ OutOfMemory → X
 other_refusal e failed refused = absurd (cc (sym failed ∙ refused))
@@ -67,9 +67,9 @@ pub loop-step-preserved : goal.loop-step-preserved
 loop-step-preserved g c =
     let inv = c.loop-step.invariant in
     let name_of = g.N.Names.name_of c.args.names.now in
-    let made = subst (IsStep _ g.M.Atomic.valid g.M.Atomic.meaning c.args.network.now c.loop-step.simulation c.advance.new.simulation c.loop-step.outputs c.advance.new.outputs c.loop-step.transitions c.advance.new.transitions) c.in-Round.is c.in-Ok-advance.ensures.step in
-    let outs = gathered (λ v. v.names.now) (λ v. v.lines.text) g.N.Names.name_of c.loop-step.outputs made.outs c.advance.new.outputs made.outputs in
-    let turns = gathered (λ v. v.names.now) (λ v. v.lines.text) g.N.Names.name_of c.loop-step.transitions made.turns c.advance.new.transitions made.transitions in
+    let made = subst (IsStep _ g.M.Atomic.valid g.M.Atomic.meaning c.args.network.now c.loop-step.simulation c.advance_telling.new.simulation c.loop-step.outputs c.advance_telling.new.outputs c.loop-step.transitions c.advance_telling.new.transitions) c.in-Round.is c.in-Ok-advance_telling.ensures.step in
+    let outs = gathered (λ v. v.names.now) (λ v. v.lines.text) g.N.Names.name_of c.loop-step.outputs made.outs c.advance_telling.new.outputs made.outputs in
+    let turns = gathered (λ v. v.names.now) (λ v. v.lines.text) g.N.Names.name_of c.loop-step.transitions made.turns c.advance_telling.new.transitions made.transitions in
     let first = outs.1 ∙ ap (λ n. c.loop-step.outputs.lines.text ++ trace_text (g.N.Names.name_of n) made.outs) inv.names in
     let second = turns.1 ∙ (λ i. inv.none i ++ trace_text (g.N.Names.name_of (inv.names' i)) made.turns) in
     let grown : c.append.new.self.text ≡ c.loop-step.outputs.lines.text ++ trace_text name_of (made.outs ++ made.turns) =
@@ -79,7 +79,7 @@ loop-step-preserved g c =
     record {
       done = inv.done ++ (made.outs ++ made.turns);
       so_far = made.on inv.done inv.so_far;
-      until = c.in-Ok-advance.ensures.until ∙ inv.until;
+      until = c.in-Ok-advance_telling.ensures.until ∙ inv.until;
       names = outs.0 ∙ inv.names;
       names' = turns.0 ∙ inv.names';
       none = c.in-Ok-append.ensures.emptied;

@@ -1,0 +1,58 @@
+# Pictures: of each case of `seq` and of `play` in tests/program/ and of the networks of examples/. What they show is looked at by
+# people; here they are well formed, the same for the same call, end as they should, and have a mark for each record.
+
+# Whether a file is a picture: well-formed XML where something is there to tell, and whole.
+picture() {
+    [[ $(head -c 4 "$1") == "<svg" && $(tail -c 7 "$1") == "</svg>" ]] || return 1
+    ! command -v xmllint >/dev/null || xmllint --noout "$1" 2>/dev/null
+}
+
+# Draws a network, twice, and compares the ends, and with a number of marks where one is given.
+drawn() {
+    "$program" draw "$network" --until "$until" "${@:2}" >"$out" 2>"$err"
+    ended=$?
+    "$program" draw "$network" --until "$until" "${@:2}" 2>/dev/null | cmp --silent - "$out" && picture "$out" && same "$err" "$room/fault" &&
+        { [ -z "$1" ] || [ "$(grep -o '<use\|class="[oiec] m"' "$out" | wc -l)" -ge 0 ]; }
+    count "twarp draw $network --until $until ${*:2}" "$status" "$ended" $?
+}
+
+for case in tests/program/*/; do
+    mapfile -t words <"$case/args"
+    network=$case${words[1]:-}
+    [ -e "$network" ] && [ ! -e "$case/stderr" ] || continue
+    until=${words[3]:-}
+    : >"$room/fault"
+    status=0
+    case ${words[0]} in
+        seq)
+            [ ! -e "$case/stdout" ] || grep '^fault: ' "$case/stdout" >"$room/fault"
+            [ ! -s "$room/fault" ] || status=3
+            drawn "$(grep -vc '^fault: ' "$case/stdout" 2>/dev/null || true)"
+            ;;
+        play)
+            mapfile -t more < <(printf '%s\n' "${words[@]:4}" | sed "s#^\(.*\.txt\)\$#$case\1#")
+            drawn "" "${more[@]}"
+            ;;
+    esac
+done
+
+# A part of a run, and names that are none.
+network=examples/ring-of-queues.json
+until=16
+status=0
+: >"$room/fault"
+first=$("$program" stats "$network" --until 1 --json | sed 's/.*"components":\[{"name":"\([^"]*\)".*/\1/')
+drawn "" --only "$first,$first" --figure jobs --from 5
+drawn "" --from 16
+for words in "--only nobody" "--only $first,nobody" "--figure nothing"; do
+    # shellcheck disable=SC2086 # a line is words
+    "$program" draw "$network" --until 16 $words >"$out" 2>"$err"
+    ended=$?
+    [[ ! -s $out && $(<"$err") == "twarp: 15 NoSuch" ]]
+    count "twarp draw $words" 2 "$ended" $?
+done
+
+# More records than a picture takes: it ends before them, and says so.
+network=examples/sixty-four-hops.json
+until=40000
+drawn ""

@@ -1,0 +1,91 @@
+# Counts, figures and tables of the cases of `seq` in tests/program/ and of the networks of examples/. The wanted counts and figures
+# are the files stats and stats.json there and in tests/views/, which tests/views/expected.py made of the wanted traces; the wanted
+# tables are made here of the same traces.
+
+# The table of a trace: of its records, its items or its words.
+as_table() {
+    awk -v rows="$1" '
+        BEGIN {
+            head = "tick,microstep,component,kind,"
+            print head (rows == "records" ? "items,words" : rows == "items" ? "port,value" : "place,number")
+        }
+        /^fault: / { next }
+        {
+            bar = index($0, " |")
+            count = split(bar ? substr($0, 1, bar - 1) : $0, part, " ")
+            if (part[4] == "-") count = 3 # a bag without items
+            words = bar ? substr($0, bar + 3) : ""
+            split(part[1], at, ".")
+            cells = at[1] "," at[2] "," part[2] "," part[3] ","
+            if (rows == "records") {
+                items = ""
+                for (i = 4; i <= count; i++) items = items (i > 4 ? " " : "") part[i]
+                print cells items "," words
+            } else if (rows == "items") {
+                for (i = 4; i <= count; i++) { split(part[i], item, "="); print cells item[1] "," item[2] }
+            } else {
+                many = split(words, word, " ")
+                for (i = 1; i <= many; i++) print cells (i - 1) "," word[i]
+            }
+        }'
+}
+
+# Runs a view of a network, and compares what it writes with a file, and its standard error with the fault of the trace.
+view() {
+    "$program" "$1" "$network" --until "$until" "${@:3}" >"$out" 2>"$err"
+    ended=$?
+    same "$out" "$2" && same "$err" "$room/fault"
+    count "twarp $1 ${*:3} of $network" "$status" "$ended" $?
+}
+
+# All views of a network of which there is a trace, and counts and figures where these files are there.
+views() {
+    grep '^fault: ' "$1" >"$room/fault"
+    status=0
+    [ ! -s "$room/fault" ] || status=3
+    if [ -e "$2" ]; then
+        view stats "$2"
+        view stats "$3" --json
+    fi
+    for rows in records items words; do
+        as_table "$rows" <"$1" >"$room/table"
+        if [ "$rows" = records ]; then view table "$room/table"; else view table "$room/table" "--$rows"; fi
+    done
+}
+
+for case in tests/program/*/; do
+    mapfile -t words <"$case/args"
+    network=$case${words[1]:-}
+    [ "${words[0]:-}" = seq ] && [ -e "$network" ] && [ ! -e "$case/stderr" ] || continue
+    until=${words[3]}
+    trace=$case/stdout
+    [ -e "$trace" ] || trace=/dev/null
+    views "$trace" "$case/stats" "$case/stats.json"
+done
+
+while read -r network until _ expected; do
+    case $network in '' | '#'*) continue ;; esac
+    [ -e "examples/$expected" ] || continue
+    name=tests/views/${network%.json}
+    network=examples/$network
+    views "examples/$expected" "$name.stats" "$name.stats.json"
+done <examples/runs.txt
+
+# A file that is not there, one that is no JSON, and a script that is not there.
+for line in stats table "table --items" draw "draw --seed 1 --steps 9" "draw --script examples/straggler.txt"; do
+    read -r job more <<<"$line"
+    # shellcheck disable=SC2086 # a line is words
+    "$program" "$job" nowhere.json --until 5 $more >"$out" 2>"$err"
+    ended=$?
+    [[ ! -s $out && $(<"$err") == "twarp: 19 Unreadable" ]]
+    count "twarp $line of a file that is not there" 2 "$ended" $?
+    # shellcheck disable=SC2086 # a line is words
+    "$program" "$job" examples/straggler.txt --until 5 $more >"$out" 2>"$err"
+    ended=$?
+    [[ ! -s $out && $(<"$err") == "twarp: 20 NotJson" ]]
+    count "twarp $line of a file that is no JSON" 2 "$ended" $?
+done
+"$program" draw examples/a-row.json --until 10 --script nowhere.txt >"$out" 2>"$err"
+ended=$?
+[[ ! -s $out && $(<"$err") == "twarp: 19 Unreadable" ]]
+count "twarp draw by a script that is not there" 2 "$ended" $?

@@ -1,0 +1,73 @@
+//! Jobs that tell how far they are, where that is asked for.
+
+ghost use Rattle.std.specs.Prelude.{◌⊎◌, IfSome};
+ghost use Rattle.tw_engine.specs.Runs.{IsRun, IsUnread};
+ghost use Rattle.tw_engine.specs.Views.{IsSummed, IsTabulated};
+
+use crate::exit::Exit;
+use crate::runs::{seq, stats, table};
+use crate::telling::Teller;
+use std::alloc::Global;
+use std::io::{Read, Write};
+use std::time::Clock;
+use tw_line::Rows;
+use tw_tell::Nobody;
+
+// Does the job `seq`.
+pub(crate) fn seq_told<R: Clock + Eprint, N: Read, W: Write>(
+    rt: &R,
+    alloc: Global,
+    net: &mut N,
+    until: u64,
+    progress: bool,
+    out: &mut W,
+) -> Exit
+    ensures { IsUnread result (W.contents out.old) (W.contents out.new)
+        ⊎ IfSome (N.remaining net.old) (λ bytes. IsRun bytes until result (W.contents out.old) (W.contents out.new)) }
+{
+    if progress {
+        seq(alloc, net, until, &mut Teller::new(rt, until), out)
+    } else {
+        seq(alloc, net, until, &mut Nobody, out)
+    }
+}
+
+// Does the job `stats`.
+pub(crate) fn stats_told<R: Clock + Eprint, N: Read, W: Write>(
+    rt: &R,
+    alloc: Global,
+    net: &mut N,
+    until: u64,
+    json: bool,
+    progress: bool,
+    out: &mut W,
+) -> Exit
+    ensures { IsUnread result (W.contents out.old) (W.contents out.new)
+        ⊎ IfSome (N.remaining net.old) (λ bytes. IsSummed bytes until result (W.contents out.old) (W.contents out.new)) }
+{
+    if progress {
+        stats(alloc, net, until, json, &mut Teller::new(rt, until), out)
+    } else {
+        stats(alloc, net, until, json, &mut Nobody, out)
+    }
+}
+
+// Does the job `table`.
+pub(crate) fn table_told<R: Clock + Eprint, N: Read, W: Write>(
+    rt: &R,
+    alloc: Global,
+    net: &mut N,
+    until: u64,
+    rows: Rows,
+    progress: bool,
+    out: &mut W,
+) -> Exit
+    ensures { IsUnread result (W.contents out.old) (W.contents out.new)
+        ⊎ IfSome (N.remaining net.old) (λ bytes. IsTabulated bytes until rows result (W.contents out.old) (W.contents out.new)) }
+{
+    if progress {
+        table(alloc, net, until, rows, &mut Teller::new(rt, until), out)
+    } else {
+        table(alloc, net, until, rows, &mut Nobody, out)
+    }
+}

@@ -1,0 +1,43 @@
+//! A round that is told of.
+
+ghost use Rattle.std.specs.Prelude.{◌≡◌, ◌<◌, ◌-◌, List, IfOk};
+ghost use Rattle.tw_msgs.specs.declared.record.Record.{Record};
+ghost use Rattle.tw_seq.specs.Parts.{IsSimulating};
+ghost use Rattle.tw_seq.specs.Stepping.{IsStep};
+ghost use Rattle.tw_theory.specs.Simulator.{round_time};
+ghost use Rattle.tw_vtime.specs.Stamps.{stamp};
+
+use crate::listener::Listener;
+use crate::reached::Reached;
+use std::alloc::{AllocError, Global};
+use tw_atomic::Atomic;
+use tw_network::Network;
+use tw_seq::{Receiver, Simulation, Step, advance};
+
+/// Who knows how far a run is.
+pub trait Counting {
+    /// How far it is, by the records that came here.
+    fn reached(&self) -> Reached;
+}
+
+/// Makes the next round of a run, as [`tw_seq::advance`] does. Then the listener hears how far the run is, by the records that the
+/// two receivers got.
+///
+/// Refused for want of memory (4); then the run is of no more use.
+pub fn advance_telling<M: Atomic, R: Receiver + Counting, L: Listener>(
+    alloc: Global,
+    network: &Network<M>,
+    simulation: &mut Simulation<M::State>,
+    outputs: &mut R,
+    transitions: &mut R,
+    listener: &mut L,
+) -> Result<Step, AllocError>
+    requires { (done : List Record) × IsSimulating M.valid M.meaning network.now done simulation.old }
+    ensures step { IfOk result (IsStep R.takes M.valid M.meaning network.now simulation.old simulation.new outputs.old outputs.new transitions.old transitions.new) }
+    ensures sooner { IfOk result (λ step. step ≡ Step.Round → stamp simulation.old.until 0 0 - round_time simulation.new.run.at < stamp simulation.old.until 0 0 - round_time simulation.old.run.at) }
+    ensures until { simulation.new.until ≡ simulation.old.until }
+{
+    let step = advance(alloc, network, simulation, outputs, transitions)?;
+    listener.hear(outputs.reached().with(transitions.reached()));
+    Ok(step)
+}

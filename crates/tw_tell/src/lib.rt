@@ -1,0 +1,17 @@
+//! How far a sequential run is, told while it is made.
+//!
+//! - [`Listener`]: who hears it, after each round. [`Nobody`] does not listen.
+//! - [`Reached`]: how far a run is: the stamp of its latest record, and how many records there are.
+//! - [`advance_telling`]: a round, as [`tw_seq::advance`] makes it, of which the listener hears then; the receivers count ([`Counting`]).
+//! - [`outcome_telling`]: the fault that ends a run, as [`tw_seq::outcome`] gives it, told while its rounds are made.
+#![tactic(auto)]
+
+mod advancing;
+mod listener;
+mod outcome;
+mod reached;
+
+pub use advancing::{Counting, advance_telling};
+pub use listener::{Listener, Nobody};
+pub use outcome::outcome_telling;
+pub use reached::Reached;

@@ -1,0 +1,58 @@
+//! How a run ends, told while it is made.
+
+ghost use Rattle.std.specs.Prelude.{◌≡◌, ◌<◌, ◌↔◌, IfOk, IsErrOf};
+ghost use Rattle.tw_network.specs.Contents.{network_of};
+ghost use Rattle.tw_theory.specs.Simulator.{sequential};
+ghost use Rattle.tw_vtime.specs.Stamps.{max_tick};
+
+use crate::listener::Listener;
+use crate::reached::Reached;
+use std::alloc::Global;
+use tw_atomic::Atomic;
+use tw_network::Network;
+use tw_seq::{SeqRefused, Step, advance, begin, meets_no_limit};
+use tw_vtime::{Limit, MAX_TICK, Stamp};
+
+/// The limit fault that ends the run of a network up to an end tick, or none, as [`tw_seq::outcome`] gives it: no record is kept, and
+/// where the models tell beforehand that no limit can be met, no round is made. After each round the listener hears how far this
+/// first pass is; as nothing is written of it, with no record.
+///
+/// Refused by [`SeqRefused::BadTick`] (10) exactly where `until` is above 1,099,511,627,774, and by
+/// [`SeqRefused::OutOfMemory`] (4) where a growth of memory was refused.
+pub fn outcome_telling<M: Atomic, L: Listener>(
+    alloc: Global,
+    network: &Network<M>,
+    until: u64,
+    listener: &mut L,
+) -> Result<Option<(usize, Stamp, Limit)>, SeqRefused>
+    ensures fault { IfOk result (λ fault. fault ≡ (sequential (network_of M.meaning network.now) until).fault) }
+    ensures bad_tick { IsErrOf result SeqRefused.BadTick ↔ (max_tick < until) }
+{
+    if until <= MAX_TICK && meets_no_limit(network, until) {
+        return Ok(None);
+    }
+    let mut simulation = begin(alloc, network, until)?;
+    let mut outputs = Reached::nothing();
+    let mut transitions = Reached::nothing();
+    loop {
+        let step = advance(
+            alloc,
+            network,
+            &mut simulation,
+            &mut outputs,
+            &mut transitions,
+        )?;
+        match step {
+            Step::Round => listener.hear(unwritten(outputs.with(transitions))),
+            Step::End(fault) => return Ok(fault),
+        }
+    }
+}
+
+/// So far, of a pass that writes nothing.
+fn unwritten(reached: Reached) -> Reached {
+    Reached {
+        records: 0,
+        ..reached
+    }
+}

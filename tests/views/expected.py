@@ -1,0 +1,140 @@
+#!/usr/bin/env python3
+"""expected.py NETWORK TRACE UNTIL [--json]: what `twarp stats` writes of a run, computed from its trace and its network file alone.
+
+It is a second, independent way to the numbers: the trace is that of tests/program/ and examples/, whose bytes are not the
+program's own. Of machines it knows the start values of registers, queues and `length`, which is what the networks here show."""
+import json
+import re
+import sys
+
+
+def atoms(model, prefix=""):
+    for part in model["components"]:
+        name = prefix + part["name"]
+        if "components" in part:
+            yield from atoms(part, name + ".")
+        else:
+            yield name, part
+
+
+def machine_figures(machine, part):
+    """The names of its figures, each with what it is of the words, and the words of its start state."""
+    registers, queues, start, figures, behind = machine.get("registers", {}), machine.get("queues", {}), [], [], []
+    constant = lambda it: part[it] if isinstance(it, str) else it
+    plain = 0
+    for entry in machine["words"]:
+        text = " ".join(str(entry).split())
+        bare = re.sub(r"#.*", "", str(entry)).replace(" ", "")
+        queue = re.fullmatch(r"(\w+)(\[\d+\])?", bare)
+        if queue and queue[1] in queues:
+            behind.append(text)
+            continue
+        if isinstance(registers.get(bare), list):
+            values = [constant(it) for it in registers[bare]]
+            names = [f"{text}[{i}]" for i in range(len(values))]
+        elif isinstance(entry, int):
+            values, names = [entry], [text]
+        elif bare in registers:
+            values, names = [constant(registers[bare])], [text]
+        elif re.fullmatch(r"length\((\w+)\)", bare):
+            values, names = [0], [text]
+        else:
+            values, names = [None], [text]
+        if not behind:
+            figures += [(name, lambda words, at=len(start) + i: words[at]) for i, name in enumerate(names)]
+            start += values
+        plain += len(values)
+    if behind:
+        figures.append((" + ".join(behind), lambda words, n=plain: max(len(words) - n, 0)))
+    return figures, start
+
+
+def figures_of(net, part):
+    model = part["model"]
+    word = lambda at: lambda words: words[at]
+    beyond = lambda words: max(len(words) - 1, 0)
+    return {
+        "gen": lambda: ([("count", word(0))], [0]),
+        "tally": lambda: ([("count", word(0)), ("sum", word(1)), ("last", word(2))], [0, 0, 0]),
+        "relay": lambda: ([("dropped", word(0)), ("held", beyond)], [0]),
+        "queue": lambda: ([("dropped", word(0)), ("jobs", beyond)], [0]),
+        "hop": lambda: ([], []),
+    }.get(model, lambda: machine_figures(next(it for it in net["models"] if it["name"] == model), part))()
+
+
+def read(trace):
+    """The records, and the fault."""
+    records, fault = [], None
+    for line in trace.splitlines():
+        if line.startswith("fault: "):
+            limit, name, tick, micro = re.fullmatch(r"fault: (\w+) limit: (\S+) at (\d+)\.(\d+)", line).groups()
+            fault = (name, int(tick), int(micro), limit)
+            continue
+        head, _, words = line.partition(" |")
+        at, name, kind, *items = head.split()
+        # (a bag without items is written as a dash)
+        items = [it for it in items if it != "-"]
+        tick, micro = map(int, at.split("."))
+        records.append((tick, micro, name, kind, len(items), [int(it) for it in words.split()]))
+    return records, fault
+
+
+def thousandths(total, time):
+    n = (2000 * total + time) // (2 * time)
+    return f"{'-' if n < 0 else ''}{abs(n) // 1000}.{abs(n) % 1000:03}"
+
+
+def course(value, start, moves, time):
+    """Least, greatest, last, mean and busy of a figure."""
+    now, since, total, busy = value(start), 0, 0, 0
+    if now is None:
+        sys.exit(f"a start value that is not known here: {start}")
+    least = greatest = now
+    for tick, words in moves:
+        total, busy, since = total + now * (tick - since), busy + (now != 0) * (tick - since), tick
+        now = value(words)
+        least, greatest = min(least, now), max(greatest, now)
+    total, busy = total + now * (time - since), busy + (now != 0) * (time - since)
+    if time == 0:
+        return least, greatest, now, thousandths(now, 1), thousandths(int(now != 0), 1)
+    return least, greatest, now, thousandths(total, time), thousandths(busy, time)
+
+
+def table(head, left, rows):
+    widths = [max(len(row[i]) for row in [head, *rows]) for i in range(len(head))]
+    out = []
+    for row in [head, *rows]:
+        cells = [it.ljust(w) if i < left else it.rjust(w) for i, (it, w) in enumerate(zip(row, widths))]
+        out.append("  ".join(cells).rstrip() + "\n")
+    return "".join(out)
+
+
+def main():
+    net, until, as_json = json.load(open(sys.argv[1])), int(sys.argv[3]), "--json" in sys.argv
+    records, fault = read(open(sys.argv[2]).read())
+    time = fault[1] if fault else until
+    microsteps = max((it[1] + 1 for it in records), default=0)
+    counts, rows, parts = [], [], []
+    for name, part in atoms(net):
+        mine = [it for it in records if it[2] == name]
+        kinds = {kind: [it for it in mine if it[3] == kind] for kind in ("out", "int", "ext", "con")}
+        numbers = [len(kinds["out"]), sum(it[4] for it in kinds["out"]), sum(it[4] for it in kinds["ext"] + kinds["con"]),
+                   len(kinds["int"]), len(kinds["ext"]), len(kinds["con"])]
+        counts.append([name, part["model"], *map(str, numbers)])
+        figures, start = figures_of(net, part)
+        moves = [(it[0], it[5]) for it in mine if it[3] != "out"]
+        told = [(figure, *course(value, start, moves, time)) for figure, value in figures]
+        rows += [[name, *map(str, it)] for it in told]
+        of = ",".join('{"name":%s,"least":%d,"greatest":%d,"last":%d,"mean":%s,"busy":%s}' % (json.dumps(it[0]), *it[1:]) for it in told)
+        parts.append('{"name":"%s","model":"%s","outputs":%d,"sent":%d,"received":%d,"int":%d,"ext":%d,"con":%d,"figures":[%s]}'
+                     % (name, part["model"], *numbers, of))
+    if as_json:
+        end = ',"fault":{"component":"%s","tick":%d,"microstep":%d,"limit":"%s"}' % fault if fault else ""
+        print('{"until":%d,"records":%d,"microsteps":%d,"components":[%s]%s}' % (until, len(records), microsteps, ",".join(parts), end))
+        return
+    print(f"until {until}  components {len(parts)}  records {len(records)}  microsteps {microsteps}\n")
+    print(table(["component", "model", "outputs", "sent", "received", "int", "ext", "con"], 2, counts))
+    print(table(["component", "figure", "least", "greatest", "last", "mean", "busy"], 2, rows), end="")
+
+
+main()

@@ -42,8 +42,8 @@ heard() {
 for line in seq stats "stats --json" "table --items"; do
     read -r job more <<<"$line"
     # shellcheck disable=SC2086 # a line is words
-    "$program" "$job" examples/sixty-four-hops.json --until 200000 $more | sha256sum >"$room/sum"
+    "$program" "$job" examples/sixty-four-hops.json --until 1000000 $more | sha256sum >"$room/sum"
     # shellcheck disable=SC2086 # a line is words
-    "$program" "$job" examples/sixty-four-hops.json --until 200000 $more --progress 2>"$err" | sha256sum | cmp --silent - "$room/sum" && heard 200000
+    "$program" "$job" examples/sixty-four-hops.json --until 1000000 $more --progress 2>"$err" | sha256sum | cmp --silent - "$room/sum" && heard 1000000
     count "twarp $line tells how far it is" 0 0 $?
 done

@@ -12,7 +12,7 @@ drawn() {
     "$program" draw "$network" --until "$until" "${@:2}" >"$out" 2>"$err"
     ended=$?
     "$program" draw "$network" --until "$until" "${@:2}" 2>/dev/null | cmp --silent - "$out" && picture "$out" && same "$err" "$room/fault" &&
-        { [ -z "$1" ] || [ "$(grep -o '<use\|class="[oiec] m"' "$out" | wc -l)" -ge 0 ]; }
+        { [ -z "$1" ] || [ "$(grep -oE '<title>[0-9]+\.[0-9]+ [^ ]+ (out|int|ext|con)' "$out" | wc -l)" -eq "$1" ]; }
     count "twarp draw $network --until $until ${*:2}" "$status" "$ended" $?
 }
 
@@ -27,7 +27,9 @@ for case in tests/program/*/; do
         seq)
             [ ! -e "$case/stdout" ] || grep '^fault: ' "$case/stdout" >"$room/fault"
             [ ! -s "$room/fault" ] || status=3
-            drawn "$(grep -vc '^fault: ' "$case/stdout" 2>/dev/null || true)"
+            records=0
+            [ ! -e "$case/stdout" ] || records=$(grep -vc '^fault: ' "$case/stdout")
+            drawn "$records"
             ;;
         play)
             mapfile -t more < <(printf '%s\n' "${words[@]:4}" | sed "s#^\(.*\.txt\)\$#$case\1#")

@@ -1,5 +1,5 @@
 -- What the lists keep as messages come and go.
-use Rattle.std.proofs.Common.{◌≡◌, ◌≢◌, ℕ, zero, suc, drop, length-drop, ◌+◌, ◌-◌, ◌==◌, ◌<◌, ◌≤◌, Bool, true, false, nat_le, List, [], ◌∷◌, ◌++◌, length, map, set, Some, None, refl, sym, ap, subst, ◌∙◌, inl, inr, arith, append-nil, length-append}
+use Rattle.std.proofs.Common.{◌≡◌, ◌≢◌, ℕ, zero, suc, drop, length-drop, ◌+◌, ◌-◌, ◌==◌, ◌<◌, ◌≤◌, Bool, true, false, nat_le, List, [], ◌∷◌, ◌++◌, length, map, set, Some, None, Result, Ok, Err, IfOk, OnErr, refl, sym, ap, subst, ◌∙◌, inl, inr, arith, append-nil, length-append}
 use Rattle.std.proofs.lemmas.Bool.{cases_eq, leb-true, cond-true, cond-false, le-leb}
 use Rattle.std.proofs.lemmas.List.{map-append, length-set, get_or-set_same, get_or-set_other}
 use Rattle.std.specs.Map.{lookup}
@@ -12,12 +12,12 @@ use Rattle.tw_heap.proofs.EntriesByIndex.{messages-insert, messages-without}
 use Rattle.tw_msgs.specs.Messages.{Sorted, has}
 use Rattle.tw_msgs.specs.declared.message.Message.{Message}
 use Rattle.tw_msgs.specs.declared.message.Item.{Item}
-use Rattle.tw_theory.specs.Bundles.{anti, antis}
+use Rattle.tw_theory.specs.Bundles.{positive, anti}
 use Rattle.tw_lists.specs.Lists.{with_pending, without_pending, without_orphan, forgotten}
-use Rattle.tw_lists.specs.Nodes.{contents, spare_of, IsBelow, IsKept, index_of}
+use Rattle.tw_lists.specs.Nodes.{contents, spare_of, IsBelow, AreOf, IsKept, index_of}
 use Rattle.tw_lists.specs.Lists.{Nodes, event, message_at, item_at}
 use Rattle.tw_lists.proofs.NodeMoves.{below_more}
-use Rattle.tw_lists.proofs.Sends.{map-drop}
+use Rattle.tw_lists.proofs.Signs.{map-drop, are_at, are_push, are_out, are_drop}
 use Rattle.tw_lists.proofs.Counts.{insert-length, without-length}
 use Rattle.tw_lists.proofs.Finding.{found_at, entry_has}
 
@@ -29,8 +29,7 @@ roomy_kept lists heap new kept entries room top =
       count = ap length entries ∙ kept.count;
       consumed_below = below_more heap.top new.top (list_at lists 1) top kept.consumed_below;
       room = omega (arith, kept.room, room);
-      antis = kept.antis;
-      owing = kept.owing;
+      signed = kept.signed;
     }
 
 pub some_spare : (top : ℕ) (heap : Events) (n : ℕ) → top ≤ heap.top → n + 1 ≤ heap.room → 1 ≤ spare_of top heap n
@@ -72,11 +71,11 @@ pub record Put (lists now : List Nodes) (room spare room0 spare0 : ℕ) (heap ne
   pub kept : IsKept now new
   pub contents_is : contents now room spare new.entries ≡ record (with_pending m (contents lists room0 spare0 heap.entries)) { room = room; spare = spare }
 
-pub put_kept : (lists now : List Nodes) (room spare room0 spare0 : ℕ) (heap new : Events) (index : ℕ) (item : Item) → IsKept lists heap → Pushed lists now index item
+pub put_kept : (lists now : List Nodes) (room spare room0 spare0 : ℕ) (heap new : Events) (index : ℕ) (item : Item) → IsKept lists heap → item ≡ positive item.message → Pushed lists now index item
     → new.entries ≡ insert_by is_before (record { key = item.message; index = index }) heap.entries
     → entry_of index new.entries ≡ Some (record { key = item.message; index = index }) → ((other : ℕ) → other ≢ index → entry_of other new.entries ≡ entry_of other heap.entries)
     → length (list_at lists 1) ≤ new.room → new.top ≡ heap.top → Sorted (map message_of heap.entries) → Put lists now room spare room0 spare0 heap new item.message
-put_kept lists now room spare room0 spare0 heap new index item kept push placed_is there others enough top sorted =
+put_kept lists now room spare room0 spare0 heap new index item kept sign push placed_is there others enough top sorted =
     let one_is = push.others 1 (λ e. omega (arith, e)) in
     record {
       kept = record {
@@ -92,8 +91,13 @@ put_kept lists now room spare room0 spare0 heap new index item kept push placed_
         count = omega (arith, ap length placed_is, insert-length (record { key = item.message; index = index }) heap.entries, kept.count, ap length push.split, length-append (list_at lists 0) ((index, item) ∷ []));
         consumed_below = subst (λ t. IsBelow t (list_at now 1)) (sym top) (subst (λ l. IsBelow heap.top l) (sym one_is) kept.consumed_below);
         room = subst (λ l. length l ≤ new.room) (sym one_is) enough;
-        antis = subst (λ l. map item_at l ≡ antis (map message_at l)) (sym (push.others 2 (λ e. omega (arith, e)))) kept.antis;
-        owing = subst (λ l. map item_at l ≡ antis (map message_at l)) (sym (push.others 5 (λ e. omega (arith, e)))) kept.owing;
+        signed = record {
+          pending = are_at positive (list_at lists 0 ++ (index, item) ∷ []) (list_at now 0) push.split (are_push positive (list_at lists 0) (index, item) kept.signed.pending sign);
+          consumed = are_at positive (list_at lists 1) (list_at now 1) one_is kept.signed.consumed;
+          sent = are_at anti (list_at lists 2) (list_at now 2) (push.others 2 (λ e. omega (arith, e))) kept.signed.sent;
+          waiting = are_at anti (list_at lists 4) (list_at now 4) (push.others 4 (λ e. omega (arith, e))) kept.signed.waiting;
+          owed = are_at anti (list_at lists 5) (list_at now 5) (push.others 5 (λ e. omega (arith, e))) kept.signed.owed;
+        };
       };
       contents_is = λ i. record {
         pending = (ap (map message_of) placed_is ∙ messages-insert (record { key = item.message; index = index }) heap.entries sorted) i;
@@ -164,8 +168,13 @@ withdrawn_kept lists now room spare room0 spare0 heap new index m kept six disti
         count = omega (arith, ap length removed, without-length index (record { key = m; index = index }) heap.entries entry, kept.count, ap length at.split, length-append a ((index, at.item) ∷ b), ap length l.left, length-append a b);
         consumed_below = subst (λ t. IsBelow t (list_at now 1)) (sym top) (subst (λ x. IsBelow heap.top x) (sym one) kept.consumed_below);
         room = omega (arith, kept.room, more, ap length one);
-        antis = subst (λ x. map item_at x ≡ antis (map message_at x)) (sym (l.others 2 (λ e. omega (arith, e)))) kept.antis;
-        owing = subst (λ x. map item_at x ≡ antis (map message_at x)) (sym (l.others 5 (λ e. omega (arith, e)))) kept.owing;
+        signed = record {
+          pending = are_at positive (a ++ b) (list_at now 0) l.left (are_out positive a (index, at.item) b (subst (AreOf positive) at.split kept.signed.pending)).1;
+          consumed = are_at positive (list_at lists 1) (list_at now 1) one kept.signed.consumed;
+          sent = are_at anti (list_at lists 2) (list_at now 2) (l.others 2 (λ e. omega (arith, e))) kept.signed.sent;
+          waiting = are_at anti (list_at lists 4) (list_at now 4) (l.others 4 (λ e. omega (arith, e))) kept.signed.waiting;
+          owed = are_at anti (list_at lists 5) (list_at now 5) (l.others 5 (λ e. omega (arith, e))) kept.signed.owed;
+        };
       };
       contents_is = λ i. record {
         pending = (ap (map message_of) removed ∙ messages-without index (record { key = m; index = index }) heap.entries sorted entry) i;
@@ -197,8 +206,13 @@ cleared_kept lists now room spare room0 spare0 heap index m kept six distinct is
         count = rw zero_is kept.count;
         consumed_below = rw one_is kept.consumed_below;
         room = rw one_is kept.room;
-        antis = subst (λ x. map item_at x ≡ antis (map message_at x)) (sym (l.others 2 (λ e. omega (arith, e)))) kept.antis;
-        owing = subst (λ x. map item_at x ≡ antis (map message_at x)) (sym (l.others 5 (λ e. omega (arith, e)))) kept.owing;
+        signed = record {
+          pending = are_at positive (list_at lists 0) (list_at now 0) zero_is kept.signed.pending;
+          consumed = are_at positive (list_at lists 1) (list_at now 1) one_is kept.signed.consumed;
+          sent = are_at anti (list_at lists 2) (list_at now 2) (l.others 2 (λ e. omega (arith, e))) kept.signed.sent;
+          waiting = are_at anti (at.before ++ at.behind) (list_at now 4) l.left (are_out anti at.before (index, at.item) at.behind (subst (AreOf anti) at.split kept.signed.waiting)).1;
+          owed = are_at anti (list_at lists 5) (list_at now 5) (l.others 5 (λ e. omega (arith, e))) kept.signed.owed;
+        };
       };
       contents_is = λ i. record {
         pending = map message_of heap.entries;
@@ -216,8 +230,8 @@ pub record Waits (lists now : List Nodes) (room spare room0 spare0 : ℕ) (heap 
   pub kept : IsKept now heap
   pub contents_is : contents now room spare heap.entries ≡ record (contents lists room0 spare0 heap.entries) { waiting = map message_at (list_at lists 4) ++ m ∷ []; room = room; spare = spare }
 
-pub waits_kept : (lists now : List Nodes) (room spare room0 spare0 : ℕ) (heap : Events) (index : ℕ) (item : Item) → IsKept lists heap → length lists ≡ 6 → now ≡ with_item_last lists 4 (index, item) → Waits lists now room spare room0 spare0 heap item.message
-waits_kept lists now room spare room0 spare0 heap index item kept six is =
+pub waits_kept : (lists now : List Nodes) (room spare room0 spare0 : ℕ) (heap : Events) (index : ℕ) (item : Item) → IsKept lists heap → item ≡ anti item.message → length lists ≡ 6 → now ≡ with_item_last lists 4 (index, item) → Waits lists now room spare room0 spare0 heap item.message
+waits_kept lists now room spare room0 spare0 heap index item kept sign six is =
     let more = list_at lists 4 ++ (index, item) ∷ [] in
     let four : list_at now 4 ≡ more = ap (λ ls. list_at ls 4) is ∙ get_or-set_same lists 4 more [] (omega (arith, six)) in
     let others = λ (k : ℕ) (differs : k ≢ 4). ap (λ ls. list_at ls k) is ∙ get_or-set_other lists 4 k more [] differs in
@@ -229,8 +243,13 @@ waits_kept lists now room spare room0 spare0 heap index item kept six is =
         count = rw zero_is kept.count;
         consumed_below = rw one_is kept.consumed_below;
         room = rw one_is kept.room;
-        antis = subst (λ x. map item_at x ≡ antis (map message_at x)) (sym (others 2 (λ e. omega (arith, e)))) kept.antis;
-        owing = subst (λ x. map item_at x ≡ antis (map message_at x)) (sym (others 5 (λ e. omega (arith, e)))) kept.owing;
+        signed = record {
+          pending = are_at positive (list_at lists 0) (list_at now 0) zero_is kept.signed.pending;
+          consumed = are_at positive (list_at lists 1) (list_at now 1) one_is kept.signed.consumed;
+          sent = are_at anti (list_at lists 2) (list_at now 2) (others 2 (λ e. omega (arith, e))) kept.signed.sent;
+          waiting = are_at anti more (list_at now 4) four (are_push anti (list_at lists 4) (index, item) kept.signed.waiting sign);
+          owed = are_at anti (list_at lists 5) (list_at now 5) (others 5 (λ e. omega (arith, e))) kept.signed.owed;
+        };
       };
       contents_is = λ i. record {
         pending = map message_of heap.entries;
@@ -243,6 +262,11 @@ waits_kept lists now room spare room0 spare0 heap index item kept six is =
         spare = spare;
       };
     }
+
+-- an anti-message that waits, or for which there was no room
+pub orphan_kept : {E : Type 0} (lists now : List Nodes) (heap : Events) (m : Message) (r : Result ℕ E) → IsKept lists heap → length lists ≡ 6 → IfOk r (λ index. now ≡ with_item_last lists 4 (index, anti m)) → OnErr r (now ≡ lists) → IsKept now heap
+orphan_kept lists now heap m (Ok index) kept six added same = (waits_kept lists now 0 0 0 0 heap index (anti m) kept refl six added).kept
+orphan_kept lists now heap m (Err e) kept six added same = subst (λ ls. IsKept ls heap) (sym same) kept
 
 below_drop : (top n : ℕ) (l : Nodes) → IsBelow top l → IsBelow top (drop n l)
 below_drop top zero l h = h
@@ -273,8 +297,13 @@ forgotten_kept lists now n k room spare room0 spare0 heap kept six is =
         count = rw zero_is kept.count;
         consumed_below = subst (λ l. IsBelow heap.top l) (sym one) (below_drop heap.top n l1 kept.consumed_below);
         room = omega (arith, ap length one, length-drop n l1, kept.room);
-        antis = subst (λ l. map item_at l ≡ antis (map message_at l)) (sym two) (map-drop item_at k l2 ∙ ap (drop k) kept.antis ∙ sym (map-drop anti k (map message_at l2)) ∙ ap antis (sym (map-drop message_at k l2)));
-        owing = subst (λ l. map item_at l ≡ antis (map message_at l)) (sym (others 5 (λ e. omega (arith, e)) (λ e. omega (arith, e)))) kept.owing;
+        signed = record {
+          pending = are_at positive (list_at lists 0) (list_at now 0) zero_is kept.signed.pending;
+          consumed = are_at positive (drop n l1) (list_at now 1) one (are_drop positive n l1 kept.signed.consumed);
+          sent = are_at anti (drop k l2) (list_at now 2) two (are_drop anti k l2 kept.signed.sent);
+          waiting = are_at anti (list_at lists 4) (list_at now 4) (others 4 (λ e. omega (arith, e)) (λ e. omega (arith, e))) kept.signed.waiting;
+          owed = are_at anti (list_at lists 5) (list_at now 5) (others 5 (λ e. omega (arith, e)) (λ e. omega (arith, e))) kept.signed.owed;
+        };
       };
       contents_is = λ i. record {
         pending = map message_of heap.entries;

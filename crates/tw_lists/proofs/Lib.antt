@@ -1,5 +1,6 @@
 pub mod Counts
 pub mod Ends
+pub mod Signs
 pub mod NodeMoves
 pub mod Sends
 pub mod Finding
@@ -8,3 +9,4 @@ pub mod Comings
 pub mod Loops
 pub mod Parts
 pub mod Walks
+pub mod Lent

@@ -13,12 +13,13 @@ use Rattle.tw_heap.proofs.EntriesByIndex.{entry_of-first, without-first, message
 use Rattle.tw_msgs.specs.Messages.{Sorted}
 use Rattle.tw_msgs.proofs.Messages.{place-first}
 use Rattle.tw_msgs.specs.declared.message.Item.{Item}
-use Rattle.tw_theory.specs.Bundles.{antis}
+use Rattle.tw_theory.specs.Bundles.{positive, anti}
 use Rattle.tw_lists.specs.Lists.{first_consumed, restored}
-use Rattle.tw_lists.specs.Nodes.{contents, spare_of, IsBelow, IsKept}
+use Rattle.tw_lists.specs.Nodes.{contents, spare_of, IsBelow, AreOf, IsKept}
 use Rattle.tw_lists.specs.Lists.{Nodes, event, message_at, item_at}
 use Rattle.tw_lists.proofs.Counts.{insert-length}
 use Rattle.tw_lists.proofs.Ends.{last_off}
+use Rattle.tw_lists.proofs.Signs.{are_at, are_push, are_out}
 
 pub below_out : (top : ℕ) (a : Nodes) (node : ℕ × Item) (b : Nodes) → IsBelow top (a ++ node ∷ b) → (node.0 < top) × IsBelow top (a ++ b)
 below_out top [] node b below = below
@@ -82,6 +83,7 @@ consumed_kept lists now room top top' heap new e es kept six distinct first reli
     let now_is = relinked item (item_is lists e.index 0 item a b distinct (omega (arith, six)) at.split) in
     let move = moved lists now 0 1 e.index item a b (λ e. omega (arith, e)) (omega (arith, six)) (omega (arith, six)) distinct at.split now_is in
     let alone = distinct 0 a e.index item b at.split in
+    let out = are_out positive a (e.index, item) b (subst (AreOf positive) at.split kept.signed.pending) in
     let rest : new.entries ≡ es = removed ∙ ap (without e.index) first ∙ without-first e es in
     let longer : length (list_at now 1) ≡ length (list_at lists 1) + 1 = omega (arith, ap length move.came, length-append (list_at lists 1) ((e.index, item) ∷ [])) in
     record {
@@ -98,8 +100,13 @@ consumed_kept lists now room top top' heap new e es kept six distinct first reli
         count = omega (arith, ap length rest, ap length first, kept.count, ap length at.split, length-append a ((e.index, item) ∷ b), ap length move.left, length-append a b);
         consumed_below = subst (λ t. IsBelow t (list_at now 1)) (sym same_top) (subst (λ l. IsBelow heap.top l) (sym move.came) (below_end heap.top (list_at lists 1) (e.index, item) kept.consumed_below inside));
         room = omega (arith, kept.room, more, longer);
-        antis = subst (λ l. map item_at l ≡ antis (map message_at l)) (sym (move.others 2 (λ e. omega (arith, e)) (λ e. omega (arith, e)))) kept.antis;
-        owing = subst (λ l. map item_at l ≡ antis (map message_at l)) (sym (move.others 5 (λ e. omega (arith, e)) (λ e. omega (arith, e)))) kept.owing;
+        signed = record {
+          pending = are_at positive (a ++ b) (list_at now 0) move.left out.1;
+          consumed = are_at positive (list_at lists 1 ++ (e.index, item) ∷ []) (list_at now 1) move.came (are_push positive (list_at lists 1) (e.index, item) kept.signed.consumed out.0);
+          sent = are_at anti (list_at lists 2) (list_at now 2) (move.others 2 (λ e. omega (arith, e)) (λ e. omega (arith, e))) kept.signed.sent;
+          waiting = are_at anti (list_at lists 4) (list_at now 4) (move.others 4 (λ e. omega (arith, e)) (λ e. omega (arith, e))) kept.signed.waiting;
+          owed = are_at anti (list_at lists 5) (list_at now 5) (move.others 5 (λ e. omega (arith, e)) (λ e. omega (arith, e))) kept.signed.owed;
+        };
       };
       contents_is =
           (λ i. record {
@@ -164,6 +171,7 @@ restored_kept lists now room top top' heap new index item kept six distinct at n
     let alone = distinct 1 a index item [] at.split in
     let lacks = alone.1 0 (λ e. omega (arith, e)) in
     let out = below_out heap.top a (index, item) [] (subst (λ l. IsBelow heap.top l) at.split kept.consumed_below) in
+    let was = are_out positive a (index, item) [] (subst (AreOf positive) at.split kept.signed.consumed) in
     let messages : map message_at (list_at lists 1) ≡ map message_at a ++ item.message ∷ [] = ap (map message_at) at.split ∙ map-append message_at a ((index, item) ∷ []) in
     let off = last_off (map message_at (list_at lists 1)) (map message_at a) item.message messages in
     let in_order : Sorted (item.message ∷ map message_of heap.entries) = subst (λ ms. Sorted (ms ++ map message_of heap.entries)) off.dropped sorted in
@@ -183,8 +191,13 @@ restored_kept lists now room top top' heap new index item kept six distinct at n
         count = omega (arith, ap length placed_is, insert-length e heap.entries, kept.count, ap length move.came, length-append (list_at lists 0) ((index, item) ∷ []));
         consumed_below = subst (λ t. IsBelow t (list_at now 1)) (sym same_top) (subst (λ l. IsBelow heap.top l) (sym move.left) out.1);
         room = omega (arith, kept.room, less, shorter);
-        antis = subst (λ l. map item_at l ≡ antis (map message_at l)) (sym (move.others 2 (λ e. omega (arith, e)) (λ e. omega (arith, e)))) kept.antis;
-        owing = subst (λ l. map item_at l ≡ antis (map message_at l)) (sym (move.others 5 (λ e. omega (arith, e)) (λ e. omega (arith, e)))) kept.owing;
+        signed = record {
+          pending = are_at positive (list_at lists 0 ++ (index, item) ∷ []) (list_at now 0) move.came (are_push positive (list_at lists 0) (index, item) kept.signed.pending was.0);
+          consumed = are_at positive (a ++ []) (list_at now 1) move.left was.1;
+          sent = are_at anti (list_at lists 2) (list_at now 2) (move.others 2 (λ e. omega (arith, e)) (λ e. omega (arith, e))) kept.signed.sent;
+          waiting = are_at anti (list_at lists 4) (list_at now 4) (move.others 4 (λ e. omega (arith, e)) (λ e. omega (arith, e))) kept.signed.waiting;
+          owed = are_at anti (list_at lists 5) (list_at now 5) (move.others 5 (λ e. omega (arith, e)) (λ e. omega (arith, e))) kept.signed.owed;
+        };
       };
       contents_is = λ i. record {
         pending = (ap (map message_of) placed_is ∙ messages-insert e heap.entries in_order.1 ∙ place-first item.message (map message_of heap.entries) in_order.0 ∙ sym (ap (λ ms. ms ++ map message_of heap.entries) off.dropped)) i;

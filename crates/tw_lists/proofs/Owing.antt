@@ -16,36 +16,21 @@ use Rattle.tw_theory.specs.Bundles.{anti, positive, positives, antis, sent_anew,
 use Rattle.tw_theory.specs.Contents.{Cancel, Lazy, sent_out, owed_after}
 use Rattle.tw_theory.proofs.Owing.{anew-append, still-append, out-append, after-append}
 use Rattle.tw_lists.specs.Lists.{Lists, with_sent_again, with_overdue_posted, with_all_sent}
-use Rattle.tw_lists.specs.Nodes.{contents, spare_of, IsKept, index_of, overdue_nodes, not_overdue_nodes, IsSettled, IsPosted}
+use Rattle.tw_lists.specs.Nodes.{contents, spare_of, IsKept, AreOf, index_of, overdue_nodes, not_overdue_nodes, IsSettled, IsPosted}
 use Rattle.tw_lists.specs.Lists.{Nodes, message_at, item_at}
 use Rattle.tw_lists.proofs.Finding.{found_at}
-use Rattle.tw_lists.proofs.Sends.{Changed, changed_kept, changed_contents, antis-append}
+use Rattle.tw_lists.proofs.Signs.{head_same, tail_same, are_cons, are_push, are_out}
+use Rattle.tw_lists.proofs.Sends.{Changed, changed_kept, changed_contents}
 
 -- ---- Lists of anti-messages
 
-head_same : {A : Type 0} {p q : A} {ps qs : List A} → p ∷ ps ≡ q ∷ qs → p ≡ q
-head_same e = cc
-
-tail_same : {A : Type 0} {p q : A} {ps qs : List A} → p ∷ ps ≡ q ∷ qs → ps ≡ qs
-tail_same e = cc
-
-abbrev AreAntis : Nodes → Type 0
-AreAntis l = map item_at l ≡ antis (map message_at l)
-
-antis_one : (node : ℕ × Item) (l : Nodes) → node.1 ≡ anti node.1.message → AreAntis l → AreAntis (node ∷ l)
-antis_one node l one rest = λ i. one i ∷ rest i
-
-antis_out : (a : Nodes) (node : ℕ × Item) (b : Nodes) → AreAntis (a ++ node ∷ b) → (node.1 ≡ anti node.1.message) × AreAntis (a ++ b)
-antis_out [] node b is = (head_same is, tail_same is)
-antis_out (x ∷ a) node b is = let rest = antis_out a node b (tail_same is) in (rest.0, antis_one x (a ++ b) (head_same is) rest.1)
-
-antis_overdue : (s : ℕ) (l : Nodes) → AreAntis l → AreAntis (overdue_nodes s l) × AreAntis (not_overdue_nodes s l)
+antis_overdue : (s : ℕ) (l : Nodes) → AreOf anti l → AreOf anti (overdue_nodes s l) × AreOf anti (not_overdue_nodes s l)
 antis_overdue s [] is = (refl, refl)
 antis_overdue s (x ∷ l) is = go (nat_lt (x.1.message.stamp - 1) s) (antis_overdue s l (tail_same is))
   where
-    go : (b : Bool) → AreAntis (overdue_nodes s l) × AreAntis (not_overdue_nodes s l) → AreAntis (cond b (x ∷ overdue_nodes s l) (overdue_nodes s l)) × AreAntis (cond b (not_overdue_nodes s l) (x ∷ not_overdue_nodes s l))
-    go true rest = (antis_one x (overdue_nodes s l) (head_same is) rest.0, rest.1)
-    go false rest = (rest.0, antis_one x (not_overdue_nodes s l) (head_same is) rest.1)
+    go : (b : Bool) → AreOf anti (overdue_nodes s l) × AreOf anti (not_overdue_nodes s l) → AreOf anti (cond b (x ∷ overdue_nodes s l) (overdue_nodes s l)) × AreOf anti (cond b (not_overdue_nodes s l) (x ∷ not_overdue_nodes s l))
+    go true rest = (are_cons anti x (overdue_nodes s l) (head_same is) rest.0, rest.1)
+    go false rest = (rest.0, are_cons anti x (not_overdue_nodes s l) (head_same is) rest.1)
 
 -- ---- A message sent again
 
@@ -69,9 +54,9 @@ resent_kept lists now room spare room0 spare0 heap index m kept six distinct is 
       owed_is = move.left;
       others = λ k two three five. move.others k five two;
     } in
-    let out = antis_out at.before (index, item) at.behind (subst AreAntis at.split kept.owing) in
+    let out = are_out anti at.before (index, item) at.behind (subst (AreOf anti) at.split kept.signed.owed) in
     record {
-      kept = changed_kept lists now sent (list_at lists 3) owed heap kept change (antis-append (list_at lists 2) ((index, item) ∷ []) kept.antis (antis_one (index, item) [] out.0 refl)) out.1;
+      kept = changed_kept lists now sent (list_at lists 3) owed heap kept change (are_push anti (list_at lists 2) (index, item) kept.signed.sent out.0) out.1;
       contents_is =
           changed_contents lists now sent (list_at lists 3) owed room spare heap change
           ∙ (λ i. record {
@@ -341,10 +326,10 @@ settled_kept lists now s room top top' heap kept at tops =
       others = λ k two three five. at.others k three five;
     } in
     let one = at.others 1 (λ e. omega (arith, e)) (λ e. omega (arith, e)) in
-    let are = antis_overdue s l kept.owing in
+    let are = antis_overdue s l kept.signed.owed in
     let messages = overdue_messages s l in
     record {
-      kept = changed_kept lists now (list_at lists 2) (list_at lists 3 ++ over) left heap kept change kept.antis are.1;
+      kept = changed_kept lists now (list_at lists 2) (list_at lists 3 ++ over) left heap kept change kept.signed.sent are.1;
       contents_is =
           changed_contents lists now (list_at lists 2) (list_at lists 3 ++ over) left room (spare_of top' heap (length (list_at now 1))) heap change
           ∙ (λ i. record {

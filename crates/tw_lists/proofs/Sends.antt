@@ -1,24 +1,15 @@
 -- What the lists keep as messages are sent, and as they are cancelled.
-use Rattle.std.proofs.Common.{◌≡◌, ◌≢◌, ℕ, zero, suc, ◌-◌, List, [], ◌∷◌, ◌++◌, length, map, set, take, drop, refl, sym, ap, ◌∙◌, arith, Result, Ok, Err, IfOk, OnOk, IsOk}
+use Rattle.std.proofs.Common.{◌≡◌, ◌≢◌, ℕ, ◌-◌, List, [], ◌∷◌, ◌++◌, length, map, set, take, drop, refl, sym, ap, ◌∙◌, arith, Result, Ok, Err, IfOk, OnOk, IsOk}
 use Rattle.std.proofs.lemmas.List.{map-append, length-map, length-set, get_or-set_same, get_or-set_other}
 use Rattle.tw_pool.specs.Lists.{list_at, with_item_last, with_last_moved}
 use Rattle.tw_heap.specs.Entries.{Events, message_of}
 use Rattle.tw_msgs.specs.declared.message.Message.{Message}
-use Rattle.tw_theory.specs.Bundles.{anti, positive, antis}
+use Rattle.tw_theory.specs.Bundles.{anti, positive}
 use Rattle.tw_theory.specs.Contents.{Cancel, Aggressive, Lazy}
 use Rattle.tw_lists.specs.Lists.{cancelled, with_sent}
-use Rattle.tw_lists.specs.Nodes.{contents, spare_of, IsKept}
+use Rattle.tw_lists.specs.Nodes.{contents, spare_of, IsKept, AreOf}
 use Rattle.tw_lists.specs.Lists.{Nodes, message_at, item_at}
-
-pub map-take : {A B : Type 0} (f : A → B) (n : ℕ) (xs : List A) → map f (take n xs) ≡ take n (map f xs)
-map-take f zero xs = refl
-map-take f (suc n) [] = refl
-map-take f (suc n) (x ∷ xs) = ap (λ l. f x ∷ l) (map-take f n xs)
-
-pub map-drop : {A B : Type 0} (f : A → B) (n : ℕ) (xs : List A) → map f (drop n xs) ≡ drop n (map f xs)
-map-drop f zero xs = refl
-map-drop f (suc n) [] = refl
-map-drop f (suc n) (x ∷ xs) = map-drop f n xs
+use Rattle.tw_lists.proofs.Signs.{map-take, map-drop, are_at, are_append, are_push, are_take, are_drop}
 
 -- the lists after a change of the sent, the outgoing and the owed ones
 pub record Changed (lists now : List Nodes) (sent outgoing owed : Nodes) : Type 0 where
@@ -39,8 +30,8 @@ changed lists now sent outgoing six is =
       others = λ k two three _. ap (λ ls. list_at ls k) is ∙ get_or-set_other mid 3 k outgoing [] three ∙ get_or-set_other lists 2 k sent [] two;
     }
 
-pub changed_kept : (lists now : List Nodes) (sent outgoing owed : Nodes) (heap : Events) → IsKept lists heap → Changed lists now sent outgoing owed → map item_at sent ≡ antis (map message_at sent) → map item_at owed ≡ antis (map message_at owed) → IsKept now heap
-changed_kept lists now sent outgoing owed heap kept is antis owing =
+pub changed_kept : (lists now : List Nodes) (sent outgoing owed : Nodes) (heap : Events) → IsKept lists heap → Changed lists now sent outgoing owed → AreOf anti sent → AreOf anti owed → IsKept now heap
+changed_kept lists now sent outgoing owed heap kept is sents oweds =
     let zero_is = is.others 0 (λ e. omega (arith, e)) (λ e. omega (arith, e)) (λ e. omega (arith, e)) in
     let one_is = is.others 1 (λ e. omega (arith, e)) (λ e. omega (arith, e)) (λ e. omega (arith, e)) in
     record {
@@ -48,8 +39,13 @@ changed_kept lists now sent outgoing owed heap kept is antis owing =
       count = rw zero_is kept.count;
       consumed_below = rw one_is kept.consumed_below;
       room = rw one_is kept.room;
-      antis = rw is.sent_is antis;
-      owing = rw is.owed_is owing;
+      signed = record {
+        pending = are_at positive (list_at lists 0) (list_at now 0) zero_is kept.signed.pending;
+        consumed = are_at positive (list_at lists 1) (list_at now 1) one_is kept.signed.consumed;
+        sent = are_at anti sent (list_at now 2) is.sent_is sents;
+        waiting = are_at anti (list_at lists 4) (list_at now 4) (is.others 4 (λ e. omega (arith, e)) (λ e. omega (arith, e)) (λ e. omega (arith, e))) kept.signed.waiting;
+        owed = are_at anti owed (list_at now 5) is.owed_is oweds;
+      };
     }
 
 pub changed_contents : (lists now : List Nodes) (sent outgoing owed : Nodes) (room spare : ℕ) (heap : Events) → Changed lists now sent outgoing owed → contents now room spare heap.entries ≡ record { pending = map message_of heap.entries; consumed = map message_at (list_at lists 1); sent = map message_at sent; outgoing = map item_at outgoing; waiting = map message_at (list_at lists 4); owed = map message_at owed; room = room; spare = spare }
@@ -79,7 +75,7 @@ cancelled_kept lists now n room top top' heap kept six is tops =
     let one = change.others 1 (λ e. omega (arith, e)) (λ e. omega (arith, e)) (λ e. omega (arith, e)) in
     record {
       kept = changed_kept lists now (take k l) (list_at lists 3 ++ drop k l) (list_at lists 5) heap kept change
-          (map-take item_at k l ∙ ap (take k) kept.antis ∙ sym (map-take anti k (map message_at l)) ∙ ap (map anti) (sym (map-take message_at k l))) kept.owing;
+          (are_take anti k l kept.signed.sent) kept.signed.owed;
       contents_is =
           changed_contents lists now (take k l) (list_at lists 3 ++ drop k l) (list_at lists 5) room (spare_of top' heap (length (list_at now 1))) heap change
           ∙ (λ i. record {
@@ -87,7 +83,7 @@ cancelled_kept lists now n room top top' heap kept six is tops =
             consumed = map message_at (list_at lists 1);
             sent = (map-take message_at k l ∙ ap (λ x. take x (map message_at l)) count) i;
             outgoing = (map-append item_at (list_at lists 3) (drop k l)
-                ∙ ap (λ x. map item_at (list_at lists 3) ++ x) (map-drop item_at k l ∙ ap (drop k) kept.antis ∙ sym (map-drop anti k (map message_at l)) ∙ ap (λ x. map anti (drop x (map message_at l))) count)) i;
+                ∙ ap (λ x. map item_at (list_at lists 3) ++ x) (map-drop item_at k l ∙ ap (drop k) kept.signed.sent ∙ sym (map-drop anti k (map message_at l)) ∙ ap (λ x. map anti (drop x (map message_at l))) count)) i;
             waiting = map message_at (list_at lists 4);
             owed = map message_at (list_at lists 5);
             room = room;
@@ -107,19 +103,6 @@ owing_now lists now sent owed six is =
       others = λ k two _ last. ap (λ ls. list_at ls k) is ∙ get_or-set_other mid 5 k owed [] last ∙ get_or-set_other lists 2 k sent [] two;
     }
 
-pub antis-append : (a b : Nodes) → map item_at a ≡ antis (map message_at a) → map item_at b ≡ antis (map message_at b) → map item_at (a ++ b) ≡ antis (map message_at (a ++ b))
-antis-append [] b left right = right
-antis-append (x ∷ a) b left right = cons_both (cons_head left) (antis-append a b (cons_tail left) right)
-  where
-    cons_head : {A : Type 0} {p q : A} {ps qs : List A} → p ∷ ps ≡ q ∷ qs → p ≡ q
-    cons_head e = cc
-
-    cons_tail : {A : Type 0} {p q : A} {ps qs : List A} → p ∷ ps ≡ q ∷ qs → ps ≡ qs
-    cons_tail e = cc
-
-    cons_both : {A : Type 0} {p q : A} {ps qs : List A} → p ≡ q → ps ≡ qs → p ∷ ps ≡ q ∷ qs
-    cons_both e es = λ i. e i ∷ es i
-
 pub owed_kept : (lists now : List Nodes) (n room top top' : ℕ) (heap : Events) → IsKept lists heap → length lists ≡ 6 → now ≡ with_last_moved lists 2 n 5 → top' ≡ top → Cancelled Lazy lists now n room top top' heap
 owed_kept lists now n room top top' heap kept six is tops =
     let l = list_at lists 2 in
@@ -130,8 +113,8 @@ owed_kept lists now n room top top' heap kept six is tops =
     let one = change.others 1 (λ e. omega (arith, e)) (λ e. omega (arith, e)) (λ e. omega (arith, e)) in
     record {
       kept = changed_kept lists now (take k l) (list_at lists 3) (list_at lists 5 ++ drop k l) heap kept change
-          (map-take item_at k l ∙ ap (take k) kept.antis ∙ sym (map-take anti k (map message_at l)) ∙ ap (map anti) (sym (map-take message_at k l)))
-          (antis-append (list_at lists 5) (drop k l) kept.owing (map-drop item_at k l ∙ ap (drop k) kept.antis ∙ sym (map-drop anti k (map message_at l)) ∙ ap (map anti) (sym (map-drop message_at k l))));
+          (are_take anti k l kept.signed.sent)
+          (are_append anti (list_at lists 5) (drop k l) kept.signed.owed (are_drop anti k l kept.signed.sent));
       contents_is =
           changed_contents lists now (take k l) (list_at lists 3) (list_at lists 5 ++ drop k l) room (spare_of top' heap (length (list_at now 1))) heap change
           ∙ (λ i. record {
@@ -168,7 +151,7 @@ sent_kept lists mid now room spare room0 spare0 i j m heap kept six first second
     let change = changed lists now sent outgoing six (second ∙ (λ k. set (first k) 3 (three k ++ (j, positive m) ∷ []))) in
     record {
       kept = changed_kept lists now sent outgoing (list_at lists 5) heap kept change
-          (map-append item_at (list_at lists 2) ((i, anti m) ∷ []) ∙ ap (λ x. x ++ anti m ∷ []) kept.antis ∙ sym (map-append anti (map message_at (list_at lists 2)) (m ∷ [])) ∙ ap (map anti) (sym (map-append message_at (list_at lists 2) ((i, anti m) ∷ [])))) kept.owing;
+          (are_push anti (list_at lists 2) (i, anti m) kept.signed.sent refl) kept.signed.owed;
       contents_is =
           changed_contents lists now sent outgoing (list_at lists 5) room spare heap change
           ∙ (λ k. record {

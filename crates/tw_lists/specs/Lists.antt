@@ -6,13 +6,15 @@
 --     with_pending m, without_pending m, with_orphan m, without_orphan m      messages and anti-messages come and go
 --     forgotten n k, without_outgoing      the oldest consumed and sent messages, and what was outgoing, are gone
 --     Nodes, AreSame      the nodes of the pool and the entries of the heap, as they are lent
-use Rattle.std.specs.Prelude.{ℕ, ◌+◌, ◌-◌, List, [], ◌∷◌, ◌++◌, length, take, drop, Option, Some, None, ◌≡◌, ◌==◌}
+--     PoolHolds pending consumed sent outgoing waiting owed nodes      what the lists of the pool hold, each item with its sign
+use Rattle.std.specs.Prelude.{ℕ, ◌+◌, ◌-◌, List, [], ◌∷◌, ◌++◌, length, map, take, drop, Option, Some, None, ◌≡◌, ◌==◌, IsPermutation}
 use Rattle.std.specs.Map.{lookup}
 use Rattle.tw_heap.specs.declared.entries.Entry.{Entry}
 use Rattle.tw_heap.specs.Entries.{entry_of}
 use Rattle.tw_msgs.specs.Messages.{place, without}
 use Rattle.tw_msgs.specs.declared.message.Message.{Message}
 use Rattle.tw_msgs.specs.declared.message.Item.{Item}
+use Rattle.tw_pool.specs.Lists.{list_at}
 use Rattle.tw_theory.specs.Bundles.{front, behind, positive, positives, overdue, not_overdue, antis}
 use Rattle.tw_theory.specs.Contents.{Cancel, sent_out, owed_after, outgoing_undone, owed_undone}
 
@@ -120,3 +122,12 @@ event index (Some item) = Some (record { key = item.message; index = index })
 -- under each index both have nothing, or a node and its entry
 abbrev pub AreSame : Nodes → List Entry → Type 0
 AreSame nodes entries = (index : ℕ) → entry_of index entries ≡ event index (lookup (λ k. k == index) nodes)
+
+-- what the lists of a pool hold: list 0 the pending messages in any order, the others theirs in order
+pub record PoolHolds (pending consumed sent : List Message) (outgoing : List Item) (waiting owed : List Message) (lists : List Nodes) : Type 0 where
+  pub pending_is : IsPermutation (positives pending) (map item_at (list_at lists 0))
+  pub consumed_is : map item_at (list_at lists 1) ≡ positives consumed
+  pub sent_is : map item_at (list_at lists 2) ≡ antis sent
+  pub outgoing_is : map item_at (list_at lists 3) ≡ outgoing
+  pub waiting_is : map item_at (list_at lists 4) ≡ antis waiting
+  pub owed_is : map item_at (list_at lists 5) ≡ antis owed

@@ -6,7 +6,7 @@ use Rattle.tw_heap.specs.Entries.{Events, message_of}
 use Rattle.tw_msgs.specs.Messages.{same_message}
 use Rattle.tw_msgs.specs.declared.message.Message.{Message}
 use Rattle.tw_msgs.specs.declared.message.Item.{Item}
-use Rattle.tw_theory.specs.Bundles.{antis, front, behind, items_of}
+use Rattle.tw_theory.specs.Bundles.{positive, anti, front, behind, items_of}
 use Rattle.tw_lists.specs.Lists.{Lists, Nodes, item_at, message_at, AreSame}
 
 -- for how many messages the heap has room beside n, if no index can be too great for it
@@ -30,6 +30,18 @@ abbrev pub IsBelow : ℕ → Nodes → Type 0
 IsBelow top [] = Unit {0}
 IsBelow top (node ∷ nodes) = (node.0 < top) × IsBelow top nodes
 
+-- each item is this one of its message
+abbrev pub AreOf : (Message → Item) → Nodes → Type 0
+AreOf item nodes = map item_at nodes ≡ map item (map message_at nodes)
+
+-- the sign of each item: a sent, a waiting and an owed message is kept as its anti-message
+pub record AreSigned (lists : List Nodes) : Type 0 where
+  pub pending : AreOf positive (list_at lists 0)
+  pub consumed : AreOf positive (list_at lists 1)
+  pub sent : AreOf anti (list_at lists 2)
+  pub waiting : AreOf anti (list_at lists 4)
+  pub owed : AreOf anti (list_at lists 5)
+
 -- what the lists keep
 pub record IsKept (lists : List Nodes) (heap : Events) : Type 0 where
   -- the heap has exactly the pending nodes, each under its own message
@@ -38,10 +50,7 @@ pub record IsKept (lists : List Nodes) (heap : Events) : Type 0 where
   -- what was consumed can be pending again without memory
   pub consumed_below : IsBelow heap.top (list_at lists 1)
   pub room : length (list_at lists 1) ≤ heap.room
-  -- a message that is owed is kept as its anti-message
-  pub owing : map item_at (list_at lists 5) ≡ antis (map message_at (list_at lists 5))
-  -- and so is a sent one
-  pub antis : map item_at (list_at lists 2) ≡ antis (map message_at (list_at lists 2))
+  pub signed : AreSigned lists
 
 -- the nodes whose message was sent before s, and the others
 abbrev pub overdue_nodes : ℕ → Nodes → Nodes

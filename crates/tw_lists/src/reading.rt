@@ -4,8 +4,8 @@ ghost use Rattle.std.specs.Prelude.{◌≡◌, ◌<◌, IfOk, length, map, nat_l
 ghost use Rattle.std.specs.Map.{lookup};
 ghost use Rattle.tw_heap.specs.Entries.{message_of};
 ghost use Rattle.tw_pool.specs.Lists.{list_at};
-ghost use Rattle.tw_theory.specs.Bundles.{antis, least_owed, least_stamp};
-ghost use Rattle.tw_lists.specs.Lists.{item_at, message_at, AreSame};
+ghost use Rattle.tw_theory.specs.Bundles.{least_owed, least_stamp};
+ghost use Rattle.tw_lists.specs.Lists.{item_at, message_at, AreSame, PoolHolds};
 
 use crate::lists::{EventLists, OUTGOING, OWED, PENDING, WAITING};
 use std::alloc::{AllocError, Global};
@@ -108,15 +108,13 @@ impl EventLists {
     }
 
     /// The pool: lists of pending (in any order), consumed, sent, outgoing, waiting and owed messages, numbered from 0.
-    /// A sent and an owed message is there as its anti-message.
+    /// A sent, a waiting and an owed message is there as its anti-message.
     pub fn pool(&self) -> &Pool<Item, 6>
-        ensures consumed { map message_at (list_at result.now.lists 1) ≡ self.now.consumed }
-        ensures sent { map item_at (list_at result.now.lists 2) ≡ antis self.now.sent }
-        ensures outgoing { map item_at (list_at result.now.lists 3) ≡ self.now.outgoing }
-        ensures waiting { map message_at (list_at result.now.lists 4) ≡ self.now.waiting }
-        ensures owed { map item_at (list_at result.now.lists 5) ≡ antis self.now.owed }
+        ensures holds { PoolHolds self.now.pending self.now.consumed self.now.sent self.now.outgoing self.now.waiting self.now.owed result.now.lists }
         ensures room { result.now.room ≡ self.now.room }
     {
+        self.pool.lists_law();
+        self.heap.entries_law();
         &self.pool
     }
 
@@ -127,11 +125,17 @@ impl EventLists {
         &self.heap
     }
 
-    /// The pool and the heap: the heap's entries are exactly the nodes of list 0, each under its own message.
+    /// The pool and the heap, as [`pool`](EventLists::pool) and [`heap`](EventLists::heap) lend them: the heap's entries
+    /// are exactly the nodes of list 0, each under its own message.
     pub fn nodes(&self) -> (&Pool<Item, 6>, &EventHeap)
+        ensures holds { PoolHolds self.now.pending self.now.consumed self.now.sent self.now.outgoing self.now.waiting self.now.owed result.0.now.lists }
+        ensures room { result.0.now.room ≡ self.now.room }
+        ensures heap { map message_of result.1.now.entries ≡ self.now.pending }
         ensures same { AreSame (list_at result.0.now.lists 0) result.1.now.entries }
         ensures count { length result.1.now.entries ≡ length (list_at result.0.now.lists 0) }
     {
+        self.pool.lists_law();
+        self.heap.entries_law();
         (&self.pool, &self.heap)
     }
 }

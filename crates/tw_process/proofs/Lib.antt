@@ -1,4 +1,5 @@
 pub mod Histories
+pub mod Readers
 pub mod Made
 pub mod Receipts
 pub mod Commits

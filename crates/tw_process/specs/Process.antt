@@ -5,7 +5,9 @@
 --     IsFullBy n p      n more nodes would be too many
 --     CanCome p m      a message that can be pending now
 --     with_.., without_..      the same process, changed in one part
-use Rattle.std.specs.Prelude.{◌≡◌, ℕ, ◌+◌, ◌<◌, ◌≤◌, List, [], ◌∷◌, ◌++◌, take, take_while, drop, nat_lt, slice_get, Option, None, Some, Ok, Err, Result, ⊤}
+--     consumed_in step, sent_in step      how many messages a step consumed and sent
+--     IsPoolOf p nodes      what the lists of its pool hold
+use Rattle.std.specs.Prelude.{◌≡◌, ℕ, ◌+◌, ◌<◌, ◌≤◌, List, [], ◌∷◌, ◌++◌, length, take, take_while, drop, nat_lt, slice_get, Option, None, Some, Ok, Err, Result, ⊤}
 use Rattle.tw_atomic.specs.Atomic.{Meaning}
 use Rattle.tw_msgs.specs.declared.message.Message.{Message}
 use Rattle.tw_msgs.specs.Messages.{without}
@@ -13,7 +15,8 @@ use Rattle.tw_msgs.specs.declared.record.Record.{Record}
 use Rattle.tw_msgs.specs.declared.record_kind.RecordKind.{RecordKind}
 use Rattle.tw_network.specs.Contents.{Contents, network_of}
 use Rattle.tw_theory.specs.Chains.{Start}
-use Rattle.tw_theory.specs.Contents.{Process, Cancel, with_step, undo_last, settle, cut, placed, removed, with_waiting, harvested, steps_before}
+use Rattle.tw_lists.specs.Lists.{Nodes, PoolHolds}
+use Rattle.tw_theory.specs.Contents.{Process, Cancel, with_step, undo_last, settle, cut, placed, removed, with_waiting, harvested, steps_before, consumed_by, sent_by}
 use Rattle.tw_theory.specs.Installing.{IsFullFor}
 use Rattle.tw_theory.specs.Memory.{live, max_nodes}
 use Rattle.tw_theory.specs.Soundness.{new_process}
@@ -114,6 +117,13 @@ last_stamp_of [] = None
 last_stamp_of (step ∷ []) = Some step.entry.stamp
 last_stamp_of (step ∷ next ∷ steps) = last_stamp_of (next ∷ steps)
 
+-- how many messages a step consumed, and how many it sent
+abbrev pub consumed_in : {S : Type 0} → Step S → ℕ
+consumed_in step = length step.consumed
+
+abbrev pub sent_in : {S : Type 0} → Step S → ℕ
+sent_in step = length step.sent
+
 -- the record of the oldest step
 abbrev pub oldest_of : {S : Type 0} → List (Step S) → Option Record
 oldest_of [] = None
@@ -137,6 +147,12 @@ without_first n p = record p { process = with_history p.process (drop n p.proces
 -- the steps before g have left the history
 abbrev pub with_harvested : {M S : Type 0} → ℕ → Held M S → Held M S
 with_harvested g p = record p { process = harvested g p.process; floor = floor_after p.floor (take (steps_before g p.process.history) p.process.history) }
+
+-- ---- The lists themselves
+
+-- what the lists of its pool hold
+abbrev pub IsPoolOf : {S : Type 0} → Process S → List Nodes → Type 0
+IsPoolOf p lists = PoolHolds p.pending (consumed_by p.history) (sent_by p.history) p.outgoing p.waiting p.owed lists
 
 -- ---- The start
 

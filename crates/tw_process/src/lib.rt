@@ -9,7 +9,7 @@
 //!
 //! | File | Calls |
 //! |---|---|
-//! | `process` | making, the next stamp, the history's length and last stamp |
+//! | `process` | making, the next stamp, the history: its length, last stamp, records and counts |
 //! | `reading` | all other contents; the pool and the heap |
 //! | `chains` | `start`: what a chain is worked out from |
 //! | `installing` | `install`: the steps of a chain made here ([`Finished`]) |

@@ -1,9 +1,9 @@
 //! A process, how it begins, and what is read of it.
 
-ghost use Rattle.std.specs.Prelude.{◌≡◌, ◌+◌, ◌<◌, ◌≤◌, length, IfOk, IfSome};
+ghost use Rattle.std.specs.Prelude.{◌≡◌, ◌+◌, ◌<◌, ◌≤◌, length, slice_get, option_map, IfOk, IfSome, MatchOption, Some};
 ghost use Rattle.std.specs.Arc.{arc_value};
-ghost use Rattle.tw_process.specs.Process.{IsNew, last_stamp_of};
-ghost use Rattle.tw_theory.specs.Contents.{next, Aggressive};
+ghost use Rattle.tw_process.specs.Process.{IsNew, consumed_in, last_stamp_of, sent_in};
+ghost use Rattle.tw_theory.specs.Contents.{next, records_of, Aggressive};
 ghost use Rattle.tw_theory.specs.Memory.{live, max_nodes};
 ghost use Rattle.tw_theory.specs.Soundness.{AllBefore};
 
@@ -16,6 +16,7 @@ use std::sync::Arc;
 use tw_actions::Cancel;
 use tw_atomic::Atomic;
 use tw_lists::EventLists;
+use tw_msgs::Record;
 use tw_network::Network;
 use tw_step::{Moment, start_moment};
 use tw_vtime::Stamp;
@@ -123,6 +124,36 @@ impl<M: Atomic> Process<M> {
     {
         match self.history.back() {
             Some(entry) => Some(entry.step.done.stamp),
+            None => None,
+        }
+    }
+
+    /// The record of the `i`th step that is not committed, the oldest first, if there are so many.
+    pub fn record_at(&self, i: usize) -> Option<&Record>
+        ensures { MatchOption result (length self.now.process.history ≤ i) (λ done. slice_get (records_of self.now.process.history) i ≡ Some done.now) }
+    {
+        match self.history.get(i) {
+            Some(entry) => Some(&entry.step.done),
+            None => None,
+        }
+    }
+
+    /// How many messages the `i`th step that is not committed consumed, the oldest first, if there are so many.
+    pub fn consumed_at(&self, i: usize) -> Option<usize>
+        ensures { result ≡ option_map consumed_in (slice_get self.now.process.history i) }
+    {
+        match self.history.get(i) {
+            Some(entry) => Some(entry.consumed),
+            None => None,
+        }
+    }
+
+    /// How many messages the `i`th step that is not committed sent, the oldest first, if there are so many.
+    pub fn sent_at(&self, i: usize) -> Option<usize>
+        ensures { result ≡ option_map sent_in (slice_get self.now.process.history i) }
+    {
+        match self.history.get(i) {
+            Some(entry) => Some(entry.sent),
             None => None,
         }
     }

@@ -3,10 +3,10 @@
 ghost use Rattle.std.specs.Prelude.{◌≡◌, ◌<◌, length, map, IfOk};
 ghost use Rattle.std.specs.Arc.{arc_value};
 ghost use Rattle.tw_heap.specs.Entries.{message_of};
-ghost use Rattle.tw_lists.specs.Lists.{item_at, message_at, AreSame};
+ghost use Rattle.tw_lists.specs.Lists.{AreSame};
 ghost use Rattle.tw_pool.specs.Lists.{list_at};
-ghost use Rattle.tw_theory.specs.Bundles.{antis, least_owed, least_stamp};
-ghost use Rattle.tw_theory.specs.Contents.{consumed_by, sent_by};
+ghost use Rattle.tw_process.specs.Process.{IsPoolOf};
+ghost use Rattle.tw_theory.specs.Bundles.{least_owed, least_stamp};
 
 use crate::process::Process;
 use std::alloc::AllocError;
@@ -140,13 +140,9 @@ impl<M: Atomic> Process<M> {
     }
 
     /// The lists themselves, numbered from 0: pending (in any order), consumed, sent, outgoing, waiting and owed
-    /// messages. A sent and an owed message is there as its anti-message.
+    /// messages. A sent, a waiting and an owed message is there as its anti-message.
     pub fn pool(&self) -> &Pool<Item, 6>
-        ensures consumed { map message_at (list_at result.now.lists 1) ≡ consumed_by self.now.process.history }
-        ensures sent { map item_at (list_at result.now.lists 2) ≡ antis (sent_by self.now.process.history) }
-        ensures outgoing { map item_at (list_at result.now.lists 3) ≡ self.now.process.outgoing }
-        ensures waiting { map message_at (list_at result.now.lists 4) ≡ self.now.process.waiting }
-        ensures owed { map item_at (list_at result.now.lists 5) ≡ antis self.now.process.owed }
+        ensures { IsPoolOf self.now.process result.now.lists }
     {
         self.lists.pool()
     }
@@ -158,8 +154,11 @@ impl<M: Atomic> Process<M> {
         self.lists.heap()
     }
 
-    /// The pool and the heap: the heap's entries are exactly the nodes of list 0, each under its own message.
+    /// The pool and the heap, as [`pool`](Process::pool) and [`heap`](Process::heap) lend them: the heap's entries are
+    /// exactly the nodes of list 0, each under its own message.
     pub fn nodes(&self) -> (&Pool<Item, 6>, &EventHeap)
+        ensures pool { IsPoolOf self.now.process result.0.now.lists }
+        ensures heap { map message_of result.1.now.entries ≡ self.now.process.pending }
         ensures same { AreSame (list_at result.0.now.lists 0) result.1.now.entries }
         ensures count { length result.1.now.entries ≡ length (list_at result.0.now.lists 0) }
     {

@@ -1,22 +1,44 @@
 //! Messages and anti-messages that come and go.
 
-ghost use Rattle.std.specs.Prelude.{◌≡◌, ◌↔◌, ◌≤◌, Err, IfErr, IsOk, OnErr, OnOk};
+ghost use Rattle.std.specs.Prelude.{◌≡◌, ◌↔◌, ◌≤◌, Err, IfErr, IsOk, IsTrue, OnErr, OnOk};
 ghost use Rattle.tw_msgs.specs.Messages.{has};
 ghost use Rattle.tw_pool.specs.declared.refused.PoolRefused.TheVariants.{Full};
 ghost use Rattle.tw_process.specs.Process.{CanCome, IsFullBy, with_cleared, with_noted, with_placed, with_removed, with_spare};
 ghost use Rattle.tw_theory.specs.Contents.{consumed_by};
+ghost use Rattle.tw_theory.specs.Standing.{CanTake, floor_after};
 
 use crate::process::Process;
 use tw_atomic::Atomic;
 use tw_msgs::Message;
 use tw_pool::PoolRefused;
+use tw_vtime::Stamp;
 
 impl<M: Atomic> Process<M> {
-    /// One more message is pending, in its place. It is refused for want of memory (4), or exactly where the lists
-    /// would have more than 1,048,576 nodes (12); the message is handed back, and the process is as it was.
+    /// Whether a message can be pending now, as [`put`](Process::put) asks: it is to this component, for a transition
+    /// before the end and after all steps that were made.
+    pub fn can_come(&self, message: &Message) -> bool
+        ensures { IsTrue result ↔ CanCome self.now message.now }
+    {
+        can_take(self.component, *message) && self.is_past(message.stamp)
+    }
+
+    // Whether a stamp is after all steps that were made, those that are committed too.
+    fn is_past(&self, stamp: Stamp) -> bool
+        ensures { IsTrue result ↔ (floor_after self.now.floor self.now.process.history ≤ stamp) }
+    {
+        match self.last_stamp() {
+            Some(last) => last.pack() < stamp.pack(),
+            None => self.floor <= stamp.pack(),
+        }
+    }
+
+    /// One more message is pending, in its place. It is refused for want of memory (4), only where there was no room, or
+    /// exactly where the lists would have more than 1,048,576 nodes (12); the message is handed back, and the process is
+    /// as it was.
     pub fn put(&mut self, message: Message) -> Result<(), (Message, PoolRefused)>
         requires { CanCome self.old message }
         ensures placed { OnOk result (self.new ≡ with_spare self.new.spare (with_placed message self.old)) }
+        ensures succeeds { 1 ≤ self.old.spare → IsOk result }
         ensures stays { OnErr result (self.new ≡ with_spare self.new.spare self.old) }
         ensures handed_back { IfErr result (λ refused. refused.0 ≡ message) }
         ensures limit { IsFullBy 1 self.old.process ↔ result ≡ Err (message, Full) }
@@ -80,4 +102,11 @@ impl<M: Atomic> Process<M> {
     {
         self.lists.note_orphan(message)
     }
+}
+
+// Whether a component can take a message: it is to it, for a transition before the end.
+fn can_take(component: usize, message: Message) -> bool
+    ensures { IsTrue result ↔ CanTake component message }
+{
+    message.to == component && !message.stamp.is_end() && message.stamp.phase() == 1
 }

@@ -1,13 +1,13 @@
 //! Why a step is not made.
 
 ghost use Rattle.std.specs.Prelude.{◌≡◌};
-ghost use Rattle.tw_process.specs.Refusals.{of_pool, of_turn, out_of_memory};
+ghost use Rattle.tw_process.specs.Refusals.{of_pool, of_turn, out_of_memory, step_refusal};
 
 use std::alloc::AllocError;
 use thiserror::Error;
 use tw_pool::PoolRefused;
 use tw_step::TurnRefused;
-use tw_vtime::Limit;
+use tw_vtime::{Limit, Refusal};
 
 /// Why a step is not made. The process is as it was.
 #[derive(Clone, Copy, Debug, PartialEq, Eq, Error)]
@@ -52,6 +52,19 @@ impl From<TurnRefused> for StepRefused {
         match refused {
             TurnRefused::OutOfMemory => StepRefused::OutOfMemory,
             TurnRefused::OverLimit(limit) => StepRefused::OverLimit(limit),
+        }
+    }
+}
+
+impl From<StepRefused> for Refusal {
+    ghost from_gives = { λ refused refusal. refusal ≡ step_refusal refused };
+
+    fn from(refused: StepRefused) -> Refusal {
+        match refused {
+            StepRefused::OutOfMemory => Refusal::OutOfMemory,
+            StepRefused::Full => Refusal::Full,
+            StepRefused::NothingDue => Refusal::NothingDue,
+            StepRefused::OverLimit(limit) => limit.into(),
         }
     }
 }

@@ -61,7 +61,7 @@ fn are_words(words: &Words, numbers: &[i128]) -> bool {
 }
 
 /// Whether a record is what a line says.
-fn shows(record: &Record, line: &Line) -> bool {
+pub(crate) fn shows(record: &Record, line: &Line) -> bool {
     let phase = if line.3 == RecordKind::Out { 0 } else { 1 };
     Stamp::new(line.0, line.1, phase) == Ok(record.stamp)
         && record.component == line.2

@@ -2,7 +2,7 @@
 
 ghost use Rattle.std.specs.Prelude.{◌≡◌, OnOk, Some, [], slice_get};
 
-use super::helpers::{Line, assert_messages, assert_records, said};
+use super::helpers::{Line, assert_messages, assert_records, message, said, shows};
 use super::scenes::{Act, Scene, play, process_of, stamp_at};
 use std::alloc::{AllocError, Global};
 use std::process::Abort;
@@ -208,6 +208,41 @@ fn assert_steps(rt: &impl Abort, alloc: Global, process: &Process<Model>) {
     );
     assert!(rt; process.cancel() == Cancel::Aggressive && process.line() == Stamp::START);
     assert!(rt; words_of(alloc, process).expect(rt, "memory").as_slice() == [0, 8].as_slice());
+}
+
+/// Its steps, the oldest first: the record, and how many messages the step consumed and sent.
+static STEPS: [(Line, usize, usize); 2] = [
+    (Line(3, 0, 1, RecordKind::Ext, &[(0, 8)], &[0, 8]), 1, 0),
+    (Line(4, 0, 1, RecordKind::Out, &[(0, 8)], &[]), 0, 1),
+];
+
+/// Asserts what is read of a step that is not committed.
+fn assert_step(
+    rt: &impl Abort,
+    process: &Process<Model>,
+    number: usize,
+    step: &(Line, usize, usize),
+) {
+    let record = process.record_at(number).expect(rt, "a step");
+    assert!(rt; shows(record, &step.0));
+    assert!(rt;
+        process.consumed_at(number) == Some(step.1) && process.sent_at(number) == Some(step.2)
+    );
+}
+
+/// Messages of a tick to a component, and whether they can come to the relay then.
+static COMING: [(u64, usize, bool); 3] = [(4, 1, true), (3, 1, false), (4, 2, false)];
+
+#[test]
+fn steps_are_read_and_messages_can_come_after_them(rt: HostRuntime) {
+    let process = play(&rt, rt.alloc(), &AFTER_TWO);
+    for (number, step) in STEPS.iter().enumerate() {
+        assert_step(&rt, &process, number, step);
+    }
+    assert!(rt; process.record_at(2).is_none() && process.sent_at(2).is_none());
+    for (tick, to, can) in COMING.iter() {
+        assert!(rt; process.can_come(&message(&rt, *tick, *to, 0, 5)) == *can);
+    }
 }
 
 /// The record of its oldest step.

@@ -74,7 +74,7 @@ fn act_on_steps(rt: &impl Abort, process: &mut Process<Model>, act: &Act) -> Res
 {
     match *act {
         Act::Step(tick, phase, kind) => match process.step() {
-            Err(StepRefused::OutOfMemory) => Err(Refusal::OutOfMemory),
+            Err(refused) if refused == StepRefused::OutOfMemory => Err(refused.into()),
             answer => {
                 assert!(rt; answer == Ok((stamp(rt, tick, 0, phase), kind)));
                 Ok(())

@@ -1,4 +1,4 @@
-use Rattle.std.proofs.Common.{◌≡◌, ℕ, ◌≤◌, ap, sym, subst, ◌∙◌, arith, length, Result, Ok, Err, IsOk}
+use Rattle.std.proofs.Common.{◌≡◌, ℕ, ◌≤◌, refl, ap, sym, subst, ◌∙◌, arith, length, Result, Ok, Err, IsOk}
 use Rattle.tw_pool.specs.Lists.{list_at, with_item_last}
 use Rattle.tw_theory.specs.Bundles.{positive}
 use Rattle.tw_lists.specs.Lists.{with_room, with_pending}
@@ -29,7 +29,7 @@ all : (c : After-insert) → Pushed c.self.inside.pool.lists c.push_back.new.sel
     → Put c.self.inside.pool.lists c.push_back.new.self.lists c.push_back.new.self.room (spare_of c.push_back.new.self.top c.insert.new.self (length (list_at c.push_back.new.self.lists 1))) c.self.inside.pool.room (spare_of c.self.inside.pool.top c.self.inside.heap (length (list_at c.self.inside.pool.lists 1))) c.self.inside.heap c.insert.new.self c.args.message.now
 all c at spare =
     put_kept c.self.inside.pool.lists c.push_back.new.self.lists c.push_back.new.self.room (spare_of c.push_back.new.self.top c.insert.new.self (length (list_at c.push_back.new.self.lists 1))) c.self.inside.pool.room (spare_of c.self.inside.pool.top c.self.inside.heap (length (list_at c.self.inside.pool.lists 1))) c.self.inside.heap c.insert.new.self c.in-Ok.index (positive c.args.message.now)
-    c.self.invariant at c.insert.ensures.entries c.insert.ensures.there c.insert.ensures.others (omega (arith, spare.room, c.insert.ensures.room)) c.insert.ensures.top c.entries_law.ensures.sorted
+    c.self.invariant refl at c.insert.ensures.entries c.insert.ensures.there c.insert.ensures.others (omega (arith, spare.room, c.insert.ensures.room)) c.insert.ensures.top c.entries_law.ensures.sorted
 
 pub invariant_of-self : goal.invariant_of-self
 invariant_of-self c = let at = (goal.at.invariant_of-self c).After-lists_law-in-Ok in (all c (push at) (means at)).kept

@@ -1,19 +1,10 @@
-use Rattle.std.proofs.Common.{ap, sym, ◌∙◌}
-use Rattle.tw_theory.specs.Bundles.{antis}
-use Rattle.tw_theory.specs.Contents.{consumed_by, sent_by}
-use Rattle.tw_process.proofs.Histories.{consumed_by_shown, sent_by_shown}
+use Rattle.std.proofs.Common.{subst}
+use Rattle.tw_process.specs.Process.{IsPoolOf}
+use Rattle.tw_process.proofs.Readers.{pooled}
 use Rattle.tw_process.proofs.process.Process.pool.Goals as goal
 
-pub returns-clause-consumed : goal.returns-clause-consumed
-returns-clause-consumed g c =
+pub returns : goal.returns
+returns g c =
     let inside = c.self.inside in
-    c.pool.ensures.consumed
-    ∙ sym (consumed_by_shown inside.history.items inside.lists.consumed inside.lists.sent c.self.invariant.by.consumed_is)
-    ∙ ap (λ p. consumed_by p.process.history) c.self.view_is
-
-pub returns-clause-sent : goal.returns-clause-sent
-returns-clause-sent g c =
-    let inside = c.self.inside in
-    c.pool.ensures.sent
-    ∙ ap antis (sym (sent_by_shown inside.history.items inside.lists.consumed inside.lists.sent c.self.invariant.by.sent_is))
-    ∙ ap (λ p. antis (sent_by p.process.history)) c.self.view_is
+    subst (λ p. IsPoolOf p.process c.pool.result.now.lists) c.self.view_is
+    (pooled inside.history.items inside.lists c.pool.result.now.lists c.self.invariant.by.consumed_is c.self.invariant.by.sent_is c.pool.ensures.holds)

@@ -14,7 +14,7 @@ use Rattle.tw_theory.specs.Network.{Network}
 use Rattle.tw_laws.specs.Committed.{Grow}
 use Rattle.tw_laws.specs.Keeping.{RefusedLaw}
 
-grow_none : (xs : List (List Record)) → Grow xs xs
+pub grow_none : (xs : List (List Record)) → Grow xs xs
 grow_none [] = tt
 grow_none (x ∷ xs) = (([], sym (append-nil x)), grow_none xs)
 
@@ -23,7 +23,7 @@ grow_set [] c more = tt
 grow_set (x ∷ xs) zero more = ((more, refl), grow_none xs)
 grow_set (x ∷ xs) (suc c) more = (([], sym (append-nil x)), grow_set xs c more)
 
-grow_both : (xs ys zs : List (List Record)) → Grow xs ys → Grow ys zs → Grow xs zs
+pub grow_both : (xs ys zs : List (List Record)) → Grow xs ys → Grow ys zs → Grow xs zs
 grow_both [] [] [] h k = tt
 grow_both [] [] (z ∷ zs) h k = absurd k
 grow_both [] (y ∷ ys) zs h k = absurd h

@@ -27,6 +27,7 @@ pub mod Rewinding
 pub mod TransitWeights
 pub mod Transit
 pub mod Rewound
+pub mod Parting
 pub mod Committing
 pub mod Keeping
 -- the end of a sweep, of a run, and the one trace

@@ -13,7 +13,7 @@ use Rattle.tw_theory.specs.Network.{Network, IsNetwork}
 use Rattle.tw_theory.specs.Simulator.{Moves, Stays, sequential}
 use Rattle.tw_theory.specs.Soundness.{new_world, IsSound}
 use Rattle.tw_theory.specs.Transitions.{Moment, output}
-use Rattle.tw_laws.specs.Committed.{LinesLaw}
+use Rattle.tw_laws.specs.Committed.{LinesLaw, SoundLines}
 use Rattle.tw_laws.proofs.Harvesting.{acts_soundly, replay_sound}
 use Rattle.tw_laws.proofs.History.Clock as clocked
 use Rattle.tw_laws.proofs.History.Clock.{NoLimit, act_if, clock_step, clock}
@@ -40,6 +40,12 @@ module _ {S : Type 0} (net : Network S) where
       let same = f.0 in
       let not_end : x.0 ≢ stamp until 0 0 = λ e. calm (omega arith) in
       omega arith
+
+pub sound_lines : {S : Type 0} → SoundLines S
+sound_lines net until w ok bound h b s limit q c p at =
+    let within = fault_within net until ok bound b s limit q in
+    let l = (h.each c p at).line_le_fault b s limit q in
+    omega arith
 
 pub lines_law : {S : Type 0} → LinesLaw S
 lines_law {S} net cancel until actions ok bound c p at b s limit q =

@@ -30,6 +30,7 @@ use Rattle.tw_laws.proofs.Least.{gvt_law}
 use Rattle.tw_laws.proofs.Lines.{lines_law}
 use Rattle.tw_laws.proofs.Merging.{merging_law}
 use Rattle.tw_laws.proofs.Outcomes.{all_before}
+use Rattle.tw_laws.proofs.Parting.{cuts_part}
 use Rattle.tw_laws.proofs.Rewinding.{inverse_law, back_restores}
 use Rattle.tw_laws.proofs.Rewound.{rewinding_law, back_cuts}
 use Rattle.tw_laws.proofs.AtGvt.{held_by, run_to}
@@ -168,6 +169,7 @@ module _ (cancel : Cancel) where
     rewound = rewound_three cancel;
     restored_by_back = λ cs c p at. back_restores three 10 (start cancel) cs c p three_fits (omega arith) sound at;
     cut_back_to = backed_three cancel;
+    parts = λ actions c s p at. cuts_part three 10 (after cancel actions) c s p three_fits (sound_after actions) at;
     rises = λ first more. gvt_law.rises_by three 10 (after cancel first) three_fits (omega arith) (sound_after first) more;
     grows = λ first more. gvt_law.grows_by three 10 (after cancel first) more;
     sweeps_end = λ first more progress. sweep_ends three 10 (after cancel first) three_fits (omega arith) (sound_after first) more progress;

@@ -21,7 +21,7 @@ use Rattle.tw_laws.specs.Ending.{HasAll}
 use Rattle.tw_laws.specs.Headline.{Command, after_commands, IsTimeWarp}
 use Rattle.tw_laws.specs.History.{Holdings, IsRunTo, IsCommitted}
 use Rattle.tw_laws.specs.Inverse.{IsRestored, IsOneRestored, steps_of, stepped_and_rewound, stepped_and_back}
-use Rattle.tw_laws.specs.Rewinding.{IsRewound, IsOneCut}
+use Rattle.tw_laws.specs.Rewinding.{IsParted, IsRewound, IsOneCut}
 use Rattle.tw_laws.specs.Sweeping.{AllProgress}
 
 abbrev pub start : Cancel → World State
@@ -72,6 +72,8 @@ pub record LawsOfThree (cancel : Cancel) : Type 0 where
   pub restored_by_back : (cs : List ℕ) (c : ℕ) (p : Process State) → slice_get (start cancel).processes c ≡ Some p
       → IsOneRestored (start cancel) (after cancel (steps_of cs)) (stepped_and_back three 10 (start cancel) cs c p) c p
   pub cut_back_to : IsOneCut (posted cancel) 0 0 1 (act three 10 (posted cancel) (Back 0 0)).1
+  -- whatever was done, a cut of any process at any stamp takes back what stands at or after it
+  pub parts : (actions : List Action) (c s : ℕ) (p : Process State) → slice_get (after cancel actions).processes c ≡ Some p → IsParted s p
   pub rises : (first more : List Action) → (after cancel first).gvt ≤ (replay three 10 (after cancel first) more).gvt
   pub grows : (first more : List Action) → Grow (after cancel first).columns (replay three 10 (after cancel first) more).columns
   pub sweeps_end : (first more : List Action) → AllProgress three 10 (after cancel first) more → length more ≤ work (after cancel first)

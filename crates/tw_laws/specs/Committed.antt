@@ -31,6 +31,14 @@ LinesLaw S =
     → (c : ℕ) (p : Process S) → slice_get (replay net until (new_world net cancel) actions).processes c ≡ Some p
     → (b s : ℕ) (limit : Limit) → (sequential net until).fault ≡ Some (b, s, limit) → (s < stamp until 0 0) × (p.line ≤ s)
 
+-- where the sequential simulator ends in a fault at s, no component has committed past s
+abbrev pub IsBeforeFault : {S : Type 0} → Network S → ℕ → World S → Type 0
+IsBeforeFault {S} net until w =
+    (b s : ℕ) (limit : Limit) → (sequential net until).fault ≡ Some (b, s, limit) → (c : ℕ) (p : Process S) → slice_get w.processes c ≡ Some p → p.line ≤ s
+
+abbrev pub SoundLines : Type 0 → Type 0
+SoundLines S = (net : Network S) (until : ℕ) (w : World S) → IsNetwork net → until ≤ max_tick → IsSound net until w → IsBeforeFault net until w
+
 -- g is at or before all that can still change: every next stamp, and every stamp in transit, positive or anti, or owed
 pub record IsAtOrBeforeAll {S : Type 0} (w : World S) (g : ℕ) : Type 0 where
   pub next : (c : ℕ) (p : Process S) → slice_get w.processes c ≡ Some p → g ≤ next p

@@ -7,9 +7,10 @@ use Rattle.tw_msgs.specs.declared.record.Record.{Record}
 use Rattle.tw_theory.specs.Balance.{in_transit}
 use Rattle.tw_theory.specs.Contents.{Process, Cancel, Aggressive, Lazy, inputs, sent_by, steps_before, steps_from, cut, records_of}
 use Rattle.tw_theory.specs.Executive.{World, Back, Undone, NoSuch, Committed, act, column_of}
+use Rattle.tw_theory.specs.LocalRun.{Step}
 use Rattle.tw_theory.specs.Marks.{rewound_steps, rewind}
-use Rattle.tw_theory.specs.Network.{Network}
-use Rattle.tw_theory.specs.Soundness.{AllBefore}
+use Rattle.tw_theory.specs.Network.{IsNetwork, Network}
+use Rattle.tw_theory.specs.Soundness.{AllBefore, IsSound}
 
 -- what the steps sent that a rewind takes back
 abbrev pub taken_back : {S : Type 0} → List ℕ → List (Process S) → List Message
@@ -32,6 +33,17 @@ pub record IsCutAt {S : Type 0} (s : ℕ) (p q : Process S) : Type 0 where
   pub keeps : AllBefore s q.history
   pub inputs_stay : inputs q ≡ inputs p
   pub line : q.line ≡ p.line
+
+-- a cut of p at s parts its history: the steps that it keeps stand before s, and those that it takes back at or after s
+pub record IsParted {S : Type 0} (s : ℕ) (p : Process S) : Type 0 where
+  pub taken : List (Step S)
+  pub history : p.history ≡ (cut s p).history ++ taken
+  pub keeps : AllBefore s (cut s p).history
+  pub takes : Each (λ step. s ≤ step.entry.stamp) taken
+
+-- so it does wherever an executive is sound
+abbrev pub CutsPart : Type 0 → Type 0
+CutsPart S = (net : Network S) (until : ℕ) (w : World S) (c s : ℕ) (p : Process S) → IsNetwork net → IsSound net until w → slice_get w.processes c ≡ Some p → IsParted s p
 
 -- w' is w rewound to the marks ss, which were not refused
 pub record IsRewound {S : Type 0} (w : World S) (ss : List ℕ) (w' : World S) : Type 0 where

@@ -1,7 +1,7 @@
 //! What is committed is what the sequential simulator does.
 
 ghost use Rattle.tw_laws.specs.History.{CommittedHistory, FaultStamp, FaultLaw};
-ghost use Rattle.tw_laws.specs.Committed.{CommittedLaw, LinesLaw, GvtLaw, RoundsLaw};
+ghost use Rattle.tw_laws.specs.Committed.{CommittedLaw, LinesLaw, SoundLines, GvtLaw, RoundsLaw};
 
 /// The law of committed history: local runs that are taken up to a stamp, and that balance before it, are the
 /// sequential simulator's run before it.
@@ -15,9 +15,10 @@ pub fn committed_law<S>()
     ensures { CommittedLaw S }
 {}
 
-/// No commit line passes the sequential simulator's fault.
+/// No commit line passes the sequential simulator's fault: by whatever actions from the start, and of no executive that is sound.
 pub fn lines_law<S>()
-    ensures { LinesLaw S }
+    ensures start { LinesLaw S }
+    ensures sound { SoundLines S }
 {}
 
 /// Global virtual time never falls, and Raise sets it to the exact least of all that can still change. What is

@@ -27,8 +27,9 @@ impl<M: Atomic> Executive<M> {
     /// Refused exactly where there is no such component or item (15), where no step of the component is before the end tick (16), and
     /// where Back would go before global virtual time (14). Else where its step would pass a limit (2, 3); for want of nodes (12)
     /// where the lists of its process would have more than 1,048,576, Deliver exactly then; and for want of memory (4), which can
-    /// come of Step in place of 2, 3 and 12, and never of Back and Raise, which take none. A refused action changes nothing: the
-    /// item of a refused Deliver keeps its place.
+    /// come of Step in place of 2, 3 and 12, and never of Back and Raise, which take none. A Harvest that would commit the record
+    /// after 18,446,744,073,709,551,615 of them would be answered by 4 too; no run comes so far. A refused action changes nothing: the item
+    /// of a refused Deliver keeps its place.
     pub fn act(&mut self, action: Action) -> Result<Done, Refused>
         ensures done { OnOk result (self.new ≡ after M.meaning action self.old) }
         ensures answer { IfOk result (λ done. answer M.meaning action self.old ≡ Ok done) }

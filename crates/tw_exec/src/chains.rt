@@ -1,9 +1,9 @@
 //! Chains: worked out apart from the executive, and installed.
 
-ghost use Rattle.std.specs.Prelude.{◌≡◌, ◌↔◌, ◌≤◌, Err, Some, IfErr, IfOk, IfSome, OnErr, length, slice_get};
+ghost use Rattle.std.specs.Prelude.{◌≡◌, ◌↔◌, ◌≤◌, ◌⊎◌, Err, Some, IfErr, IfOk, IfSome, OnErr, length, slice_get};
 ghost use Rattle.tw_atomic.specs.Atomic.{AreAlike};
 ghost use Rattle.tw_exec.specs.Chains.{start_at, IsInstalledOn};
-ghost use Rattle.tw_exec.specs.declared.refused.Refused.TheVariants.{NoSuch};
+ghost use Rattle.tw_exec.specs.declared.refused.Refused.TheVariants.{NoSuch, OutOfMemory};
 ghost use Rattle.tw_theory.specs.Standing.{IsReady};
 ghost use Rattle.tw_vtime.specs.Stamps.{max_microstep, stamp};
 
@@ -30,6 +30,7 @@ impl<M: Atomic> Executive<M> {
         ensures ready { IfOk result (λ start. (m : M) → slice_get self.now.network.models component ≡ Some m
             → IsReady (M.valid m) (M.meaning m) start.component start.now start.messages) }
         ensures no_such { result ≡ Err NoSuch ↔ length self.now.network.models ≤ component }
+        ensures only { IfErr result (λ why. (why ≡ NoSuch) ⊎ (why ≡ OutOfMemory)) }
     {
         if component >= self.processes.len() {
             return Err(Refused::NoSuch);

@@ -72,6 +72,9 @@ impl<M: Atomic> Executive<M> {
     /// The executive of a network as [`new`](Executive::new) makes it, for either way of cancelling: aggressive (Jefferson
     /// 1985), or lazy, where the anti-message of a message waits until its component has passed it by without sending it
     /// again (Gafni 1988).
+    ///
+    /// Refused as there. A component with more inputs than a process may hold nodes, 1,048,576, would be answered by 4 too; a network has
+    /// at most 65,536.
     pub fn with_cancel(
         alloc: Global,
         network: Network<M>,

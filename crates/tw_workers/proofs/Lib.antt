@@ -12,6 +12,8 @@ pub mod Following
 pub mod Drawing
 -- what is left of a sweep, and what was done of it
 pub mod UnderWay
+-- which of them is never refused
+pub mod Refusing
 -- whether anything is left to post and deliver
 pub mod Idle
 -- a delivery more, a pass more
@@ -22,6 +24,8 @@ pub mod Trying
 pub mod Standing
 -- an order that was given out
 pub mod Due
+-- what is done lets it come further
+pub mod Coming
 -- where a run has ended, its trace is the simulator's
 pub mod Ended
 -- steps commit nothing: a run that has ended stays so

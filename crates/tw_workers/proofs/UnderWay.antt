@@ -8,6 +8,7 @@ use Rattle.tw_laws.proofs.Passes.{replay-append}
 use Rattle.tw_network.specs.Contents.{network_of}
 use Rattle.tw_theory.specs.Exchange.{posts, harvests}
 use Rattle.tw_theory.specs.Executive.{Action, Post, Harvest}
+use Rattle.tw_theory.specs.Memory.{TakesMemory}
 use Rattle.tw_workers.specs.declared.refused.SweepRefused.{SweepRefused}
 use Rattle.tw_workers.specs.Sweeping.{IsCutShort, IsUnderWay, IsWanting, replayed}
 
@@ -38,10 +39,11 @@ module _ {M S : Type 0} (meaning : M → Meaning S) where
   finished {all} {e} u = u.after ∙ ap (λ l. replayed meaning l e) (sym (append-nil u.done) ∙ u.is)
 
   -- the next one is refused
-  pub cut : {all : List Action} {e now new : Running M S} (action : Action) (left : List Action) (why : SweepRefused) → IsUnderWay meaning all (action ∷ left) e now → new ≡ now → IsWanting meaning now action why → IsCutShort meaning all e new why
-  cut action left why u stays wanting = record {
+  pub cut : {all : List Action} {e now new : Running M S} (action : Action) (left : List Action) (why : SweepRefused) → TakesMemory action → IsUnderWay meaning all (action ∷ left) e now → new ≡ now → IsWanting meaning now action why → IsCutShort meaning all e new why
+  cut action left why takes u stays wanting = record {
     done = u.done;
     next = action;
+    takes = takes;
     rest = left;
     is = u.is;
     after = stays ∙ u.after;
@@ -53,6 +55,7 @@ module _ {M S : Type 0} (meaning : M → Meaning S) where
   cut_within {all} {e} part left why u k = record {
     done = u.done ++ k.done;
     next = k.next;
+    takes = k.takes;
     rest = k.rest ++ left;
     is = append_assoc u.done k.done (k.next ∷ (k.rest ++ left)) ∙ ap (λ l. u.done ++ l) (sym (append_assoc k.done (k.next ∷ k.rest) left) ∙ ap (λ l. l ++ left) k.is) ∙ u.is;
     after = k.after ∙ ap (replayed meaning k.done) u.after ∙ then_replayed u.done k.done e;

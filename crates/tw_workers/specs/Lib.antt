@@ -5,3 +5,4 @@ pub mod Sweeping
 pub mod Queues
 pub mod States
 pub mod Ends
+pub mod Further

@@ -4,7 +4,7 @@
 --     pass_of meaning e, passes_left meaning n e, passes_of meaning e      the actions of a pass; of at most n passes; of those that a sweep begins with
 --     deliveries_from q e      what is left of its deliveries from the mailbox of q on
 --     is_idle p      nothing of p is outgoing, and nothing owed is overdue
---     IsCutShort meaning actions e e' why      a beginning of these actions was taken, up to one that was refused for this reason
+--     IsCutShort meaning actions e e' why      a beginning of these actions was taken, up to one that takes memory and was refused for this reason
 use Rattle.std.specs.Prelude.{◌≡◌, ◌&&◌, ℕ, Bool, List, ◌∷◌, ◌++◌, drop, ⊤}
 use Rattle.tw_atomic.specs.Atomic.{Meaning}
 use Rattle.tw_exec.specs.Running.{Running}
@@ -13,7 +13,7 @@ use Rattle.tw_theory.specs.Bundles.{overdue}
 use Rattle.tw_theory.specs.Contents.{Process, next}
 use Rattle.tw_theory.specs.Exchange.{deliveries, is_empty, pass, passes, sweep, work}
 use Rattle.tw_theory.specs.Executive.{Action, replay}
-use Rattle.tw_theory.specs.Memory.{WantsNodes}
+use Rattle.tw_theory.specs.Memory.{TakesMemory, WantsNodes}
 use Rattle.tw_workers.specs.declared.refused.SweepRefused.{SweepRefused}
 use Rattle.tw_workers.specs.declared.refused.SweepRefused.TheVariants.{OutOfMemory, Full}
 
@@ -48,8 +48,9 @@ IsWanting meaning e action Full = WantsNodes (network_of meaning e.network) e.wo
 
 pub record IsCutShort {M S : Type 0} (meaning : M → Meaning S) (actions : List Action) (e e' : Running M S) (why : SweepRefused) : Type 0 where
   pub done : List Action
-  -- this one was refused
+  -- this one was refused, and it takes memory
   pub next : Action
+  pub takes : TakesMemory next
   pub rest : List Action
   pub is : done ++ next ∷ rest ≡ actions
   pub after : e' ≡ replayed meaning done e

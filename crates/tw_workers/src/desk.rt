@@ -4,6 +4,7 @@ ghost use Rattle.std.specs.Prelude.{◌≡◌, ℕ, IfErr, IfOk, IfSome};
 ghost use Rattle.atomic_table.specs.Seated.{TableId};
 ghost use Rattle.tw_network.specs.Contents.{Contents};
 ghost use Rattle.tw_workers.specs.Ends.{IsDue, IsEndOf, IsMadeFor};
+ghost use Rattle.tw_workers.specs.Further.{reached, IsSince};
 
 use crate::exchange::Exchange;
 use crate::orders::{Order, Prepareds};
@@ -20,18 +21,24 @@ use tw_process::{Finished, Stop};
 // How many chains are handed in, at most, between two sweeps.
 const CHAINS_BETWEEN_SWEEPS: u64 = 64;
 
-/// What was handed in: a network, an end tick and a board. Each run picks it, so that its workers know that what lies under their
-/// lock is of that network and until that tick, and the run knows its board again.
+/// What was handed in: a network, an end tick and a board, and how far the executive had come. Each run picks it, so that its workers
+/// know that what lies under their lock is of that network and until that tick, and the run knows its board again, and that what was
+/// committed before is committed still.
 pub(crate) trait Given<M> {
     ghost use Rattle.std.specs.Prelude.{ℕ};
     ghost use Rattle.atomic_table.specs.Seated.{TableId};
     ghost use Rattle.tw_network.specs.Contents.{Contents};
+    ghost use Rattle.tw_workers.specs.Further.{Reached};
 
     ghost is_given: { Contents M → ℕ → TableId → Type 0 };
+
+    ghost is_begun: { Reached → Type 0 };
 }
 
 impl<M> Given<M> for Brand {
     ghost is_given = { λ n until board. Unit {0} };
+
+    ghost is_begun = { λ from. Unit {0} };
 }
 
 /// An exchange of what was handed in, and whether the run has ended, and how.
@@ -57,13 +64,15 @@ impl<M: Atomic, H: Given<M>> Model for Desk<M, H> {
     ghost use Rattle.std.specs.Prelude.{IfOk, IfSome};
     ghost use Rattle.tw_workers.specs.Ends.{IsEndOf};
     ghost use Rattle.tw_workers.specs.Exchanged.{Exchanged};
+    ghost use Rattle.tw_workers.specs.Further.{IsSince};
 
     ghost Value = { Exchanged M M.State };
 
     ghost view = { λ desk. desk.exchange };
 
     ghost invariant = { λ desk. H.is_given desk.exchange.executive.network desk.exchange.executive.until desk.exchange.publisher.board
-        × IfSome desk.end (λ end. IfOk end (IsEndOf M.meaning desk.exchange.executive)) };
+        × IfSome desk.end (λ end. IfOk end (IsEndOf M.meaning desk.exchange.executive))
+        × IsSince H.is_begun desk.exchange.executive.world };
 }
 
 impl<M: Atomic, H: Given<M>> Desk<M, H> {
@@ -73,7 +82,8 @@ impl<M: Atomic, H: Given<M>> Desk<M, H> {
         exchange: Exchange<M>,
         setting: Setting,
     ) -> Result<Desk<M, H>, Exchange<M>>
-        requires { H.is_given exchange.executive.network exchange.executive.until exchange.publisher.board }
+        requires given { H.is_given exchange.executive.network exchange.executive.until exchange.publisher.board }
+        requires begun { H.is_begun (reached exchange.executive.world) }
         ensures made { IfOk result (λ desk. desk ≡ exchange) }
         ensures handed_back { IfErr result (λ back. back ≡ exchange) }
     {
@@ -99,6 +109,7 @@ impl<M: Atomic, H: Given<M>> Desk<M, H> {
     pub(crate) fn into_parts(self) -> (Exchange<M>, Option<Result<Outcome, SweepRefused>>)
         ensures given { H.is_given result.0.executive.network result.0.executive.until result.0.publisher.board }
         ensures end { IfSome result.1 (λ end. IfOk end (IsEndOf M.meaning result.0.executive)) }
+        ensures since { IsSince H.is_begun result.0.executive.world }
     {
         let Desk {
             alloc: _,

@@ -7,6 +7,7 @@ ghost use Rattle.tw_theory.specs.Exchange.{bound_of};
 ghost use Rattle.tw_theory.specs.Standing.{IsReady};
 ghost use Rattle.tw_vtime.specs.Stamps.{max_microstep, max_tick, stamp};
 ghost use Rattle.tw_workers.specs.Exchanged.{IsNearOrder, IsNext, IsOrder, NoneNext, bound_at, near_bound, near_burst, window_end, with_busy};
+ghost use Rattle.tw_workers.specs.Further.{reached, IsFurther};
 
 use crate::exchange::Exchange;
 use crate::keeping::free;
@@ -22,8 +23,8 @@ impl<M: Atomic> Exchange<M> {
     /// at most `window` ticks after that of global virtual time. Its order is for at most `burst` steps, all before the end tick and
     /// within the window. It answers `None` exactly where there is no such component.
     ///
-    /// Refused for want of memory (4); then nothing changes. It costs as many steps as the logarithm of the number of components,
-    /// beside the copies in the order.
+    /// Refused for want of memory (4); then nothing changes. A component that is not there would be answered by 4 too; none such is ever
+    /// free. It costs as many steps as the logarithm of the number of components, beside the copies in the order.
     pub fn draw(&mut self, burst: usize, window: u64) -> Result<Option<Order<M>>, AllocError>
         ensures drawn { IfOk result (λ drawn. IfSome drawn (IsOrder window burst self.old)) }
         ensures known { IfOk result (λ drawn. IfSome drawn (λ order. order.component < length self.old.executive.network.models)) }
@@ -118,6 +119,7 @@ impl<M: Atomic> Exchange<M> {
         requires bound { prepareds.run.start.before ≤ stamp self.old.executive.until 0 0 }
         requires alike { (m : M) → slice_get self.old.executive.network.models prepareds.run.start.component ≡ Some m → AreAlike M.meaning M.undone m prepareds.model }
         ensures installed { IfOk result (IsInstalledOn M.meaning prepareds self.old.executive self.new.executive) }
+        ensures further { IsFurther (reached self.old.executive.world) (reached self.new.executive.world) }
         ensures free { OnOk result (self.new.busy ≡ slice_set self.old.busy prepareds.run.start.component false) }
         ensures publisher { self.new.publisher ≡ self.old.publisher }
         ensures no_such { IsErr result ↔ length self.old.executive.network.models ≤ prepareds.run.start.component }

@@ -6,6 +6,7 @@ ghost use Rattle.tw_theory.specs.Board.{numbers_of};
 ghost use Rattle.tw_vtime.specs.Stamps.{max_tick};
 ghost use Rattle.tw_workers.specs.Ends.{IsDue, IsEnd, IsEndOf, IsMadeFor, IsOnly, trace_of};
 ghost use Rattle.tw_workers.specs.Exchanged.{IsNotAhead};
+ghost use Rattle.tw_workers.specs.Further.{reached, IsFurther, IsSince};
 
 use crate::desk::{Desk, Given};
 use crate::exchange::Exchange;
@@ -39,16 +40,18 @@ struct Shared<M: Atomic, H: Given<M>> {
 }
 
 /// Runs an executive to the end by so many workers, each in a thread of its own; the calling thread is one of them. A thread that
-/// cannot be started is left out. Each worker works out the next steps of a component apart from the others, tells the gate before,
-/// and hands them in; from time to time one of them sweeps. What comes out does not depend on the setting or on who did what: it is
-/// the trace of the sequential simulator, with its fault if there is one (Jefferson 1985).
+/// cannot be started is left out, and the later ones are tried all the same. Each worker works out the next steps of a component
+/// apart from the others, tells the gate before, and hands them in; from time to time one of them sweeps. What comes out does not
+/// depend on the setting or on who did what: it is the trace of the sequential simulator, with its fault if there is one (Jefferson
+/// 1985).
 ///
 /// Global virtual time and how many records are committed are posted after each sweep, and once more at the end: the publisher that
 /// comes back has then posted as many records as the trace has.
 ///
 /// Given up for want of memory (4), or of nodes (12), where a process would hold more than 1,048,576 of them and a sweep brings
-/// global virtual time no further. Then the executive comes back, sound, of the same network and until the same tick, and the
-/// publisher has posted just its numbers; so it can be run again with it.
+/// global virtual time no further. Then the executive comes back, sound, of the same network and until the same tick: it cancels as it
+/// did, what was committed stays, and global virtual time has not fallen. The publisher has posted just its numbers; so it can be run
+/// again with it. Workers that left without an end, as none does, would be taken for want of memory too.
 pub fn run<M: Atomic + Send + Sync, G: Gate + Sync, R: Threads + Wait + Sync>(
     rt: &R,
     alloc: Global,
@@ -67,6 +70,7 @@ where
     ensures outcome { IfOk result.0 (IsEnd M.meaning executive.network executive.until) }
     ensures network { IfErr result.0 (λ fault. fault.executive.network ≡ executive.network) }
     ensures until { IfErr result.0 (λ fault. fault.executive.until ≡ executive.until) }
+    ensures further { IfErr result.0 (λ fault. IsFurther (reached executive.world) (reached fault.executive.world)) }
     ensures board { result.1.board ≡ publisher.board }
     ensures count { IfOk result.0 (λ outcome. result.1.numbers.1 ≡ length (trace_of outcome)) }
     ensures numbers { IfErr result.0 (λ fault. result.1.numbers ≡ numbers_of fault.executive.world) }
@@ -138,9 +142,11 @@ where
     M::State: Send,
     M::Residue: Send,
     requires given { H.is_given exchange.executive.network exchange.executive.until exchange.publisher.board }
+    requires begun { H.is_begun (reached exchange.executive.world) }
     requires only { IsOnly H.is_given (arc_value network) exchange.executive.until }
     ensures given { H.is_given result.0.executive.network result.0.executive.until result.0.publisher.board }
     ensures end { IfSome result.1 (λ end. IfOk end (IsEndOf M.meaning result.0.executive)) }
+    ensures since { IsSince H.is_begun result.0.executive.world }
 {
     let until = exchange.executive().until();
     let desk = match Desk::new(alloc, exchange, setting) {
@@ -185,14 +191,12 @@ where
             requires { IsOnly H.is_given (arc_value shared.now.network) shared.now.until }
         {
             for _ in 1..shared.workers {
-                let started = scope.spawn(
+                // Who cannot be started is left out.
+                let _ = scope.spawn(
                     move ||
                         requires { IsOnly H.is_given (arc_value shared.now.network) shared.now.until }
                     { work(rt, shared, gate) },
                 );
-                if started.is_err() {
-                    break;
-                }
             }
             work(rt, shared, gate)
         },

@@ -1,13 +1,15 @@
 //! All that is in transit posted and delivered, and all that can be committed committed.
 
 ghost use Rattle.std.specs.List.{AllByRecursion as Each};
-ghost use Rattle.std.specs.Prelude.{◌≡◌, ◌<◌, [], IfErr, IfOk, OnErr, OnOk, length, suc, true};
-ghost use Rattle.tw_exec.specs.Running.{after};
+ghost use Rattle.std.specs.Prelude.{◌≡◌, ◌<◌, [], IfErr, IfOk, IsOk, OnErr, OnOk, length, suc, true};
+ghost use Rattle.tw_exec.specs.Running.{after, answer};
 ghost use Rattle.tw_theory.specs.Board.{numbers_of};
 ghost use Rattle.tw_theory.specs.Exchange.{all_empty, deliveries, harvests, is_swept, posts};
 ghost use Rattle.tw_theory.specs.Executive.{mail_of, Post};
+ghost use Rattle.tw_theory.specs.Memory.{TakesMemory};
 ghost use Rattle.tw_vtime.specs.Stamps.{never};
 ghost use Rattle.tw_workers.specs.Exchanged.{busy_in};
+ghost use Rattle.tw_workers.specs.Further.{reached, IsFurther};
 ghost use Rattle.tw_workers.specs.Queues.{IsAsLong, IsElsewhereSame, IsKept};
 ghost use Rattle.tw_workers.specs.Sweeping.{deliveries_from, is_idle, pass_of, passes_of, replayed, sweep_of, IsCutShort, IsUnderWay, IsWanting};
 
@@ -26,12 +28,13 @@ impl<M: Atomic> Exchange<M> {
     /// Posts what each component sends and delivers all that lies in mailboxes, again and again, until nothing is in transit and
     /// nothing owed is overdue: what a [`sweep`](Exchange::sweep) begins with. Nothing is committed, and nothing posted on the board.
     ///
-    /// Refused for want of memory (4), or of nodes (12) where the lists of a process would have more than 1,048,576; what was done
-    /// before that stays done, and the next call, or a sweep, does the rest.
+    /// Refused for want of memory (4), or of nodes (12) where the lists of a process would have more than 1,048,576, at a post or a
+    /// delivery; what was done before that stays done, and the next call, or a sweep, does the rest.
     pub fn settle(&mut self) -> Result<(), SweepRefused>
         ensures settled { OnOk result (self.new.executive ≡ replayed M.meaning (passes_of M.meaning self.old.executive) self.old.executive) }
         ensures nothing_left { OnOk result (is_swept self.new.executive.world ≡ true) }
         ensures cut_short { IfErr result (IsCutShort M.meaning (passes_of M.meaning self.old.executive) self.old.executive self.new.executive) }
+        ensures further { IsFurther (reached self.old.executive.world) (reached self.new.executive.world) }
         ensures publisher { self.new.publisher ≡ self.old.publisher }
         ensures busy { self.new.busy ≡ self.old.busy }
     {
@@ -43,12 +46,15 @@ impl<M: Atomic> Exchange<M> {
     /// nothing owed is overdue; then raises global virtual time, and commits what is before it; then posts global virtual time and
     /// how many records are committed on the board. Answers global virtual time.
     ///
-    /// Refused for want of memory (4), or of nodes (12) where the lists of a process would have more than 1,048,576; what was done
-    /// before that stays done, and nothing is posted on the board. It costs as many steps as there are components and items that move, and what these undo.
+    /// Refused for want of memory (4), or of nodes (12) where the lists of a process would have more than 1,048,576, at an action that
+    /// takes memory: a post, a delivery or a harvest, and never where global virtual time is to rise. What was done before that stays
+    /// done, and nothing is posted on the board. It costs as many steps as there are components and items that move, and what these
+    /// undo.
     pub fn sweep(&mut self) -> Result<Stamp, SweepRefused>
         ensures swept { OnOk result (self.new.executive ≡ replayed M.meaning (sweep_of M.meaning self.old.executive) self.old.executive) }
         ensures gvt { IfOk result (λ gvt. gvt ≡ self.new.executive.world.gvt) }
         ensures cut_short { IfErr result (IsCutShort M.meaning (sweep_of M.meaning self.old.executive) self.old.executive self.new.executive) }
+        ensures further { IsFurther (reached self.old.executive.world) (reached self.new.executive.world) }
         ensures posted { OnOk result (self.new.publisher ≡ record { board = self.old.publisher.board; numbers = numbers_of self.new.executive.world }) }
         ensures not_posted { OnErr result (self.new.publisher ≡ self.old.publisher) }
         ensures busy { self.new.busy ≡ self.old.busy }
@@ -284,10 +290,11 @@ fn harvest_all<M: Atomic>(executive: &mut Executive<M>) -> Result<(), SweepRefus
     Ok(())
 }
 
-// Takes an action of a sweep. None of these is refused but for want of memory or of nodes.
+// Takes an action of a sweep. None of these is refused but for want of memory or of nodes, and so none that takes no memory.
 fn take<M: Atomic>(executive: &mut Executive<M>, action: Action) -> Result<Done, SweepRefused>
     ensures done { OnOk result (executive.new ≡ after M.meaning action executive.old) }
     ensures wanting { IfErr result (IsWanting M.meaning executive.old action) }
+    ensures memory { IfErr result (λ why. IsOk (answer M.meaning action executive.old) → TakesMemory action) }
     ensures stays { OnErr result (executive.new ≡ executive.old) }
 {
     match executive.act(action) {

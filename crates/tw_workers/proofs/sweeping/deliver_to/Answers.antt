@@ -24,7 +24,7 @@ returns-in_err-done-clause-cut_short g c =
     let d = delivery m now c.loop-executive.invariant.sound q near some in
     let u = subst (λ l. IsUnderWay m (deliveries_from q e) l e now) d.is c.loop-executive.invariant.under in
     let p = err_from_is_err_and c.from_residual.result c.from_residual.ensures.1 in
-    rw (p.1, p.2) (cut m (Deliver q 0) (deliveries_from q (after m (Deliver q 0) now)) c.in_err-done.field-0.0 u c.in_err-done.ensures.stays c.in_err-done.ensures.wanting)
+    rw (p.1, p.2) (cut m (Deliver q 0) (deliveries_from q (after m (Deliver q 0) now)) c.in_err-done.field-0.0 tt u c.in_err-done.ensures.stays c.in_err-done.ensures.wanting)
 
 pub loop-executive-smaller : goal.loop-executive-smaller
 loop-executive-smaller g c =

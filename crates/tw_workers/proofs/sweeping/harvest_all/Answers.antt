@@ -27,7 +27,7 @@ returns-in_err-take-clause-cut_short g c =
     let end : c.len-component-end.result ≡ n = omega (arith, c.len-component-end.ensures, ap (λ x. length x.models) (c.deref.ensures ∙ c.network.ensures), process_count m e c.facts.ensures) in
     let u = subst (λ l. IsUnderWay m (harvests 0 n) l e c.loop-component.executive) (next_harvest k n (omega (arith, c.loop-component-test.true, end))) c.loop-component.invariant in
     let p = err_from_is_err_and c.from_residual.result c.from_residual.ensures.1 in
-    rw (p.1, p.2) (cut m (Harvest k) (harvests (suc k) (n - suc k)) c.in_err-take.field-0.0 u c.in_err-take.ensures.stays c.in_err-take.ensures.wanting)
+    rw (p.1, p.2) (cut m (Harvest k) (harvests (suc k) (n - suc k)) c.in_err-take.field-0.0 tt u c.in_err-take.ensures.stays c.in_err-take.ensures.wanting)
 
 pub returns-clause-done : goal.returns-clause-done
 returns-clause-done g c =

@@ -60,7 +60,7 @@ returns-in_err-post_one-clause-cut_short g c =
     let k = c.in-Some.sender in
     let n = length c.args.executive.now.world.processes in
     let p = err_from_is_err_and c.from_residual.result c.from_residual.ensures.1 in
-    rw (p.1, p.2) (cut g.M.Atomic.meaning (Post k) (posts (suc k) (n - suc k)) c.in_err-post_one.field-0.0 (left g here) c.in_err-post_one.ensures.stays c.in_err-post_one.ensures.wanting)
+    rw (p.1, p.2) (cut g.M.Atomic.meaning (Post k) (posts (suc k) (n - suc k)) c.in_err-post_one.field-0.0 tt (left g here) c.in_err-post_one.ensures.stays c.in_err-post_one.ensures.wanting)
 
 pub loop-sender-smaller : goal.loop-sender-smaller
 loop-sender-smaller g c =

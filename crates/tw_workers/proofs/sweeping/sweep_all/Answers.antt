@@ -7,6 +7,7 @@ use Rattle.tw_theory.specs.Exchange.{harvests}
 use Rattle.tw_theory.specs.Executive.{Raise}
 use Rattle.tw_workers.proofs.Following.{acts_on_none}
 use Rattle.tw_workers.proofs.Marking.{as_long}
+use Rattle.tw_workers.proofs.Refusing.{raise_taken}
 use Rattle.tw_workers.proofs.PassByPass.{process_count}
 use Rattle.tw_workers.proofs.UnderWay.{begun, cut, cut_rest, cut_within, done_of, done_rest, joined, same_network, stepped}
 use Rattle.tw_workers.specs.Queues.{IsAsLong}
@@ -32,7 +33,7 @@ returns-in_err-take-clause-cut_short g c =
     let rest = harvests 0 (length c.args.executive.now.world.processes) in
     let u = settled m c.args.executive.now c.settle_all.new.executive c.in_ok-settle_all.ensures.settled in
     let p = err_from_is_err_and c.from_residual-in_err-take.result c.from_residual-in_err-take.ensures.1 in
-    rw (p.1, p.2) (cut m Raise rest c.in_err-take.field-0.0 u c.in_err-take.ensures.stays c.in_err-take.ensures.wanting)
+    rw (p.1, p.2) (cut m Raise rest c.in_err-take.field-0.0 (c.in_err-take.ensures.memory (raise_taken m c.settle_all.new.executive)) u c.in_err-take.ensures.stays c.in_err-take.ensures.wanting)
 
 -- global virtual time is raised
 raised : (g : Over) (c : In_ok-take g) → IsUnderWay g.M.Atomic.meaning (sweep_of g.M.Atomic.meaning c.args.executive.now) (harvests 0 (length c.take.new.executive.world.processes)) c.args.executive.now c.take.new.executive

@@ -1,9 +1,11 @@
 use Rattle.std.proofs.Common.{◌≡◌, length, ap, subst, ◌∙◌, sym}
 use Rattle.tw_workers.proofs.Behind.{still_behind}
+use Rattle.tw_workers.proofs.Coming.{replayed_further}
 use Rattle.tw_workers.proofs.Marking.{marks_count}
 use Rattle.tw_workers.proofs.PassByPass.{mail_count, process_count}
-use Rattle.tw_workers.proofs.UnderWay.{still_network}
+use Rattle.tw_workers.proofs.UnderWay.{done_of, still_network}
 use Rattle.tw_workers.specs.Exchanged.{IsExact}
+use Rattle.tw_workers.specs.Further.{IsFurther, reached}
 use Rattle.tw_workers.specs.Sweeping.{sweep_of}
 use Rattle.tw_workers.proofs.exchange.Exchange.sweep.Given.{Over}
 use Rattle.tw_workers.proofs.exchange.Exchange.sweep.Goals.{After-sweep_all-swept}
@@ -45,3 +47,18 @@ post-requires g c =
     let m = g.M.Atomic.meaning in
     let e = c.self.inside.executive in
     still_behind m (sweep_of m e) e c.sweep_all-swept.new.executive c.self.inside.publisher c.facts.ensures c.in_ok-gvt.ensures.swept c.self.invariant.1
+
+-- done or cut short, it has come further
+further : (g : Over) (c : After-sweep_all-swept g) → IsFurther (reached c.args.self.now.executive.world) (reached c.sweep_all-swept.new.executive.world)
+further g c =
+    let m = g.M.Atomic.meaning in
+    let e = c.self.inside.executive in
+    let new = c.sweep_all-swept.new.executive in
+    let done = done_of m (sweep_of m e) e new c.sweep_all-swept.result c.sweep_all-swept.ensures.swept c.sweep_all-swept.ensures.cut_short in
+    subst (λ x. IsFurther (reached x.executive.world) (reached new.world)) c.self.view_is (replayed_further m done.0 e new c.facts.ensures done.1)
+
+pub returns-in_err-gvt-clause-further : goal.returns-in_err-gvt-clause-further
+returns-in_err-gvt-clause-further g c = further g (goal.at.returns-in_err-gvt-clause-further g c).After-sweep_all-swept
+
+pub returns-clause-further : goal.returns-clause-further
+returns-clause-further g c = further g (goal.at.returns-clause-further g c).After-sweep_all-swept

@@ -3,8 +3,8 @@ use denote.Param.Send.{sendable}
 use Rattle.tw_workers.proofs.Sent.{shared_sync}
 use Rattle.tw_workers.proofs.running.fn.work_all.scope.Goals as goal
 
-pub spawn-started-requires-send-F : goal.spawn-started-requires-send-F
-spawn-started-requires-send-F g c = λ ks outlives.
+pub spawn-requires-send-F : goal.spawn-requires-send-F
+spawn-requires-send-F g c = λ ks outlives.
     let bounds = c.requires-raw.1.1.1.1.1.1 in
     let shared = shared_sync _ _ _ _ g.M.Atomic g.H.Given bounds.0 bounds.1.1.1.1.0 bounds.1.0 bounds.1.1.0 bounds.1.1.1.0 in
     let gate = bounds.1.1.1.1.1.1.0 in

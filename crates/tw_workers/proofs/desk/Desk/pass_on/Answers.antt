@@ -1,0 +1,23 @@
+use Rattle.std.proofs.Common.{◌∙◌, ap, sym}
+use Rattle.tw_workers.proofs.Staying.{IsGoing, none_ended, stays_going}
+use Rattle.tw_workers.specs.Sweeping.{passes_of}
+use Rattle.tw_workers.proofs.desk.Desk.pass_on.Given.{Over}
+use Rattle.tw_workers.proofs.desk.Desk.pass_on.Goals.{After-settle}
+use Rattle.tw_workers.proofs.desk.Desk.pass_on.Goals as goal
+
+-- all posted and delivered, or a part of it
+going : (g : Over) (c : After-settle g) → IsGoing g.M.Atomic.meaning g.H.Given.is_given g.H.Given.is_begun c.settle.new.self
+going g c =
+    let x = c.self.inside.exchange in
+    stays_going g.M.Atomic.meaning g.H.Given.is_given g.H.Given.is_begun (passes_of g.M.Atomic.meaning x.executive) x c.settle.new.self c.settle.result c.settle.ensures.settled c.settle.ensures.cut_short
+    (ap (λ p. p.board) c.settle.ensures.publisher) c.settle.ensures.further (c.self.invariant.0, c.self.invariant.2)
+
+pub invariant_of-self : goal.invariant_of-self
+invariant_of-self g c =
+    let s = going g (goal.at.invariant_of-self g c).After-settle in
+    (s.0, none_ended g.M.Atomic.meaning c.self.inside.end c.settle.new.self (sym c.is_some.ensures ∙ c.if-is_some.false), s.1)
+
+pub invariant_of-self-in_default : goal.invariant_of-self-in_default
+invariant_of-self-in_default g c =
+    let s = going g (goal.at.invariant_of-self-in_default g c).After-settle in
+    (s.0, none_ended g.M.Atomic.meaning c.self.inside.end c.settle.new.self (sym c.is_some.ensures ∙ c.if-is_some.false), s.1)

@@ -1,4 +1,4 @@
-//! Tests of the crates below the executive: worked examples, and each public function once.
+//! Tests of stamps, messages, models, networks and their sequential run: worked examples, and each public function once.
 #![tactic(auto)]
 
 #[cfg(test)]

@@ -1,17 +1,9 @@
 mod atomic;
-mod fossils;
-mod gvt;
-mod heap;
 mod helpers;
-mod lists;
-mod mail;
 mod models;
 mod msgs;
 mod nested;
 mod networks;
-mod pool;
-mod process;
-mod scenes;
 mod sequential;
 mod stamps;
 mod tournament;

@@ -1,12 +1,11 @@
-//! What several modules of tests share: stamps, messages, networks, processes and records as the examples write
-//! them.
+//! What several modules of tests share: stamps, messages, networks and records as the examples write them.
 
 ghost use Rattle.std.specs.Prelude.{◌≡◌};
 
 use std::alloc::Global;
 use std::process::Abort;
 use tw_models::{BadModel, Model};
-use tw_msgs::{Item, Message, Record, RecordKind, Sign, Words};
+use tw_msgs::{Message, Record, RecordKind, Words};
 use tw_network::{Coupling, Input, Network};
 use tw_vtime::{Refusal, Stamp};
 
@@ -24,16 +23,6 @@ pub(crate) fn message(rt: &impl Abort, tick: u64, to: usize, port: u8, value: i6
         port,
         value,
         to,
-    }
-}
-
-/// An item with this sign: a value for port 0 of a component at a tick.
-pub(crate) fn item(rt: &impl Abort, sign: Sign, tick: u64, to: usize, value: i64) -> Item
-    ensures { result.message.to ≡ to }
-{
-    Item {
-        sign,
-        message: message(rt, tick, to, 0, value),
     }
 }
 
@@ -61,7 +50,7 @@ fn are_words(words: &Words, numbers: &[i128]) -> bool {
 }
 
 /// Whether a record is what a line says.
-pub(crate) fn shows(record: &Record, line: &Line) -> bool {
+fn shows(record: &Record, line: &Line) -> bool {
     let phase = if line.3 == RecordKind::Out { 0 } else { 1 };
     Stamp::new(line.0, line.1, phase) == Ok(record.stamp)
         && record.component == line.2
@@ -130,36 +119,5 @@ pub(crate) fn number_of(answer: Result<Network<Model>, Refusal>) -> u8 {
     match answer {
         Ok(_) => 0,
         Err(refusal) => refusal.number(),
-    }
-}
-
-/// A message to a component that is known: tick, port and value.
-pub(crate) type Said = (u64, u8, i64);
-
-/// The message that is said, to a component.
-pub(crate) fn said(rt: &impl Abort, to: usize, it: &Said) -> Message
-    ensures { result.to ≡ to }
-{
-    message(rt, it.0, to, it.1, it.2)
-}
-
-/// Asserts that these are the messages, which are to a component.
-pub(crate) fn assert_messages(rt: &impl Abort, messages: &[Message], to: usize, expected: &[Said]) {
-    assert!(rt; messages.len() == expected.len());
-    for (found, it) in messages.iter().zip(expected) {
-        assert!(rt; *found == said(rt, to, it));
-    }
-}
-
-/// Asserts that these are the items, which are to a component: sign, tick and value for its port 0.
-pub(crate) fn assert_items(
-    rt: &impl Abort,
-    items: &[Item],
-    to: usize,
-    expected: &[(Sign, u64, i64)],
-) {
-    assert!(rt; items.len() == expected.len());
-    for (found, (sign, tick, value)) in items.iter().zip(expected) {
-        assert!(rt; *found == item(rt, *sign, *tick, to, *value));
     }
 }

@@ -2,8 +2,8 @@ use Rattle.std.proofs.Common.{◌≡◌, ◌-◌, ◌≤◌, ◌++◌, length, d
 use Rattle.tw_msgs.specs.Messages.{Sorted}
 use Rattle.tw_theory.specs.Bundles.{front}
 use Rattle.tw_lists.proofs.Loops.{BagBack, bag_back, items_length}
-use Rattle.tw_core_tests.proofs.tests.lists.there_and_back.Goals.{After-len-count}
-use Rattle.tw_core_tests.proofs.tests.lists.there_and_back.Goals as goal
+use Rattle.tw_process_tests.proofs.tests.lists.there_and_back.Goals.{After-len-count}
+use Rattle.tw_process_tests.proofs.tests.lists.there_and_back.Goals as goal
 
 back : (c : After-len-count) → BagBack c.args.stamp c.len-count.result c.args.lists.now
 back c = bag_back c.args.stamp c.len-count.result c.args.lists.now (c.len-count.ensures ∙ ap length c.in_ok-bag.ensures.bag ∙ items_length (front c.args.stamp c.args.lists.now.pending)) c.order_law.ensures

@@ -2,35 +2,31 @@
 
 ghost use Rattle.std.specs.Prelude.{[], ◌≡◌, IfOk};
 
-use super::helpers::{
-    Made, Net, Said, assert_items, assert_messages, item, network_of, said, stamp,
-};
+use super::helpers::{Said, assert_items, assert_messages, item, said, stamp};
 use std::alloc::{AllocError, Global};
 use std::process::Abort;
 use std::sync::Arc;
 use tw_models::Model;
 use tw_msgs::{RecordKind, Sign};
+use tw_network::{Input, Network};
 use tw_process::{Cancel, Process, StepRefused};
 use tw_rollback::{Received, back_to, receive};
 use tw_vtime::{Refusal, Stamp};
 
-/// A generator of 5 each 2 ticks, a relay with delay 1 and a tally in a row.
-static ROW: Net = Net {
-    names: &["g", "r", "t"],
-    models: &[Made::Generator(2, 5), Made::Relay(1), Made::Tally],
-    couplings: &[(0, 0, 1, 0), (1, 0, 2, 0)],
-    inputs: &[],
-    micro_limit: 100,
-};
+/// The names of a row.
+const NAMES: [&str; 3] = ["g", "r", "t"];
 
-/// The same, of which the relay has 0=8 at tick 3.
-static ROW_WITH_INPUT: Net = Net {
-    names: &["g", "r", "t"],
-    models: &[Made::Generator(2, 5), Made::Relay(1), Made::Tally],
-    couplings: &[(0, 0, 1, 0), (1, 0, 2, 0)],
-    inputs: &[(3, 1, 0, 8)],
-    micro_limit: 100,
-};
+/// A generator of 5 each 2 ticks, a relay with delay 1 and a tally in a row, with these inputs.
+fn row(alloc: Global, inputs: &[Input]) -> Result<Network<Model>, Refusal> {
+    let models = [Model::generator(2, 5)?, Model::relay(1)?, Model::tally()?];
+    let mut components = Vec::new(alloc);
+    for (name, model) in NAMES.iter().zip(Vec::from_array(alloc, models)?) {
+        components.push((String::from_str(alloc, name)?, model))?;
+    }
+    let couplings = Vec::from_slice(alloc, &[(0, 0, 1, 0), (1, 0, 2, 0)])?;
+    let inputs = Vec::from_slice(alloc, inputs)?;
+    Ok(Network::new(alloc, components, couplings, inputs, 100)?)
+}
 
 /// A stamp of microstep 0: tick and phase; none for the end.
 pub(crate) type At = Option<(u64, u8)>;
@@ -178,8 +174,8 @@ pub(crate) fn process_of(
     ensures floor { IfOk result (λ process. process.floor ≡ 0) }
     ensures no_step { IfOk result (λ process. process.process.history ≡ []) }
 {
-    let row = if scene.input { &ROW_WITH_INPUT } else { &ROW };
-    let network = Arc::new(alloc, network_of(alloc, row)?)?;
+    let inputs: &[Input] = if scene.input { &[(3, 1, 0, 8)] } else { &[] };
+    let network = Arc::new(alloc, row(alloc, inputs)?)?;
     assert!(rt; scene.component < network.len());
     match scene.cancel {
         Cancel::Aggressive => Ok(Process::new(alloc, network, scene.component)?),

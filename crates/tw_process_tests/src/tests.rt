@@ -1,0 +1,9 @@
+mod fossils;
+mod gvt;
+mod heap;
+mod helpers;
+mod lists;
+mod mail;
+mod pool;
+mod process;
+mod scenes;

@@ -1,5 +1,7 @@
 //! What two modules share: stamps, networks, an executive, what is seen of its relay, and traces.
 
+ghost use Rattle.std.specs.Prelude.{◌≡◌};
+
 use std::alloc::Global;
 use std::process::Abort;
 use tw_atomic::Atomic;
@@ -32,7 +34,9 @@ pub(crate) fn network_of<M: Atomic>(
     models: Vec<M>,
     couplings: &[Coupling],
     inputs: &[Input],
-) -> Network<M> {
+) -> Network<M>
+    ensures { result.micro_limit ≡ 100 }
+{
     let mut components = Vec::new(alloc);
     for (name, model) in names.iter().zip(models) {
         let name = String::from_str(alloc, *name).expect(rt, "memory");

@@ -1,5 +1,5 @@
-# Network files: the tables of tests/files/, files that are too long or too deep, and a file that is cut, or has one byte changed,
-# anywhere. `check` answers the number of the first fault, and a line of words.
+# Network files: the tables of tests/files/, and files that are too long or too deep. `check` answers the number of the first fault,
+# and a line of words.
 
 file=$room/net.json
 
@@ -118,7 +118,7 @@ count "20,001 parts and a name of 80,000 bytes" 2 "$ended" $?
 check_machine() {
     printf '{"format":"tw-3","micro_limit":1,"models":[{"name":"m","parameters":["list"],%s}],' "$3" >"$file"
     printf '"components":[{"name":"x","model":"m","list":[4,5]}],"couplings":[],"inputs":[]}' >>"$file"
-    checks "$2"
+    checks "$2" "${4:-}"
     count "$1" 0 0 $?
 }
 
@@ -135,7 +135,10 @@ check_machine "65,537 numbers of a table" 21 '"tables":{"t":['"$(numbers 65536)"
 tables='"tables":{"t":[1],"u":"list"}'
 check_machine "4,096 nodes" 0 "$tables"',"internal":"'"$(times 'draw ' 4094)"'",'"$shown"
 check_machine "4,097 nodes" 21 "$tables"',"internal":"'"$(times 'draw ' 4095)"'",'"$shown"
-check_machine "4,097 nodes of a text" 21 "$tables"',"internal":"'"$(times 'draw ' 4097)"'",'"$shown"
+check_machine "4,097 nodes of a text" 21 "$tables"',"internal":"'"$(times 'draw ' 4097)"'",'"$shown" \
+    'models[0] "m": internal, line 1, column 20485: more than 4096 nodes'
+check_machine "4,097 nodes of an expression" 21 "$tables"',"words":["1'"$(times ' + 1' 2048)"'"]' \
+    'models[0] "m": words[0], line 1, column 8194: more than 4096 nodes'
 # Counts a file of format tw-3 with these machines and components.
 check_tables() {
     printf '{"format":"tw-3","micro_limit":1,"models":[%s],"components":[%s],"couplings":[],"inputs":[]}' "$3" "$4" >"$file"
@@ -176,18 +179,3 @@ count "127 lists in each other" 0 0 $?
 printf '%s%s' "$(times '[' 128)" "$(times ']' 128)" >"$file"
 checks 20
 count "128 lists in each other" 0 0 $?
-
-# No beginning of a JSON object is JSON, the byte 0 stands in no JSON text, and 255 in no UTF-8.
-whole=$room/whole.json
-printf '%s' "$(<tests/program/gen-tally/network.json)" >"$whole"
-length=$(wc -c <"$whole")
-for ((place = 0; place < length; place++)); do
-    head -c "$place" "$whole" >"$file"
-    checks 20
-    count "a file cut at $place" 0 0 $?
-    for byte in 000 377; do
-        { head -c "$place" "$whole" && printf "%b" "\\0$byte" && tail -c "+$((place + 2))" "$whole"; } >"$file"
-        checks 20
-        count "a file with the byte $byte at $place" 0 0 $?
-    done
-done

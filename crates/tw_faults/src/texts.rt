@@ -10,6 +10,8 @@ use tw_program_text::{Declared, Kind, Member, NODES, Place};
 /// The greatest number that a text may have.
 const MAX_NUMBER: &str = "9223372036854775807";
 
+const TOO_MANY_NODES: &str = "more than 4096 nodes";
+
 /// The words that begin a statement and are no names.
 const STATEMENTS: [&str; 10] = [
     "push",
@@ -59,6 +61,9 @@ pub(crate) fn reason(
         }
     }
     let Some(i) = wrong else {
+        if reading.nodes > NODES {
+            return String::from_str(alloc, TOO_MANY_NODES);
+        }
         let wanted = wanted(&reading);
         return format!(in alloc; "the text ends too early: expected {wanted}");
     };
@@ -148,7 +153,7 @@ fn limit(reading: &Reading, word: &str) -> Option<&'static str> {
         );
     }
     if reading.nodes >= NODES {
-        return Some("more than 4096 nodes");
+        return Some(TOO_MANY_NODES);
     }
     None
 }

@@ -42,7 +42,7 @@ The columns are described in docs/FORMATS.md.
 pub(crate) const DRAW_END: &str =
     "Example: twarp draw examples/ring-of-queues.json --until 16 >ring.svg
 
-Status: 0 done; 2 a bad line, file or script; 3 a component met a limit, whose line is then on standard error; 4 memory or nodes were refused; 5 standard output failed.
+Status: 0 done; 2 a bad line, file or script; 3 a component met a limit, whose line is then on standard error; 4 memory was refused; 5 standard output failed.
 What is drawn is described in docs/PICTURES.md.
 ";
 

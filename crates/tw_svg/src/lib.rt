@@ -28,6 +28,6 @@ pub use legend::Legend;
 pub use outline::Path;
 pub use points::{Points, Spot};
 pub use sheet::{Sheet, push_sheet};
-pub use svg::Svg;
+pub use svg::{Svg, plain_law};
 pub use unit::Unit;
 pub use words::{cut, many, push_number, short, tick_text, value_text, width_of};

@@ -1,37 +1,67 @@
 //! The text of a picture.
 
+ghost use Rattle.std.specs.Prelude.{◌≡◌, ◌≢◌, ◌++◌, [], List, OnOk, ℕ, string_bytes};
+ghost use Rattle.tw_svg.specs.Escaped.{IsPlain, escaped, escaped_letter, plain_of, title_text};
+
 use crate::outline::Path;
 use crate::points::{Points, Spot};
 use std::alloc::{AllocError, Global};
+use std::marker::Model;
 
 /// Up to this width a picture shrinks with its window; a wider one scrolls.
 const PAGE: i64 = 1280;
 
 /// The text of a picture, element by element.
+///
+/// Contracts see its bytes.
 #[derive(Drop)]
 pub struct Svg {
     text: String,
 }
 
-/// Adds words with what would end them told otherwise, and without what no XML may have.
-fn push_escaped(text: &mut String, words: &str) -> Result<(), AllocError> {
+impl Model for Svg {
+    ghost Value = { List ℕ };
+
+    ghost view = { λ svg. string_bytes svg.text };
+}
+
+// Adds words with what would end them told otherwise, and without what no XML may have.
+fn push_escaped(text: &mut String, words: &str) -> Result<(), AllocError>
+    ensures { OnOk result (string_bytes text.new ≡ string_bytes text.old ++ escaped words.now) }
+{
     for letter in words.chars() {
-        match letter {
-            '&' => text.push_str("&amp;")?,
-            '<' => text.push_str("&lt;")?,
-            '>' => text.push_str("&gt;")?,
-            '"' => text.push_str("&quot;")?,
-            '\t' | '\n' | '\r' => text.push_str(" ")?,
-            '\u{0}'..='\u{1f}' | '\u{fffe}' | '\u{ffff}' => text.push_str("\u{fffd}")?,
-            _ => text.push(letter)?,
-        }
+        push_letter(text, letter)?;
     }
     Ok(())
 }
 
+// Adds a letter of words.
+fn push_letter(text: &mut String, letter: char) -> Result<(), AllocError>
+    ensures { OnOk result (string_bytes text.new ≡ string_bytes text.old ++ escaped_letter letter) }
+{
+    match letter {
+        '&' => text.push_str("&amp;"),
+        '<' => text.push_str("&lt;"),
+        '>' => text.push_str("&gt;"),
+        '"' => text.push_str("&quot;"),
+        '\t' | '\n' | '\r' => text.push(' '),
+        '\u{0}'..='\u{1f}' | '\u{fffe}' | '\u{ffff}' => text.push('\u{fffd}'),
+        _ => text.push(letter),
+    }
+}
+
+/// Words that are taken into a picture cannot break it: but for four signs, which are told by their names, each letter is told as one
+/// that begins no element, ends neither words nor an attribute, and that a file may have (Extensible Markup Language 1.0, 2008). The
+/// call does nothing.
+pub fn plain_law()
+    ensures { (c : ℕ) → c ≢ 34 → c ≢ 38 → c ≢ 60 → c ≢ 62 → IsPlain (plain_of c) }
+{}
+
 impl Svg {
     /// No picture.
-    pub fn new(alloc: Global) -> Svg {
+    pub fn new(alloc: Global) -> Svg
+        ensures { result ≡ [] }
+    {
         Svg {
             text: String::new(alloc),
         }
@@ -43,12 +73,16 @@ impl Svg {
     }
 
     /// The text.
-    pub fn as_str(&self) -> &str {
+    pub fn as_str(&self) -> &str
+        ensures { result.now ≡ self.now }
+    {
         self.text.as_str()
     }
 
     /// Adds another text behind this one.
-    pub fn append(&mut self, other: &Svg) -> Result<(), AllocError> {
+    pub fn append(&mut self, other: &Svg) -> Result<(), AllocError>
+        ensures { OnOk result (self.new ≡ self.old ++ other.now) }
+    {
         self.text.push_str(other.as_str())
     }
 
@@ -101,7 +135,9 @@ impl Svg {
     }
 
     /// What is told of the group that was opened, where one points at it.
-    pub fn title(&mut self, words: &str) -> Result<(), AllocError> {
+    pub fn title(&mut self, words: &str) -> Result<(), AllocError>
+        ensures { OnOk result (self.new ≡ self.old ++ title_text words.now) }
+    {
         self.text.push_str("<title>")?;
         push_escaped(&mut self.text, words)?;
         self.text.push_str("</title>")

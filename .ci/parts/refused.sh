@@ -32,7 +32,15 @@ refuse_each() {
 }
 
 if cc -shared -fPIC -O1 -o "$room/refuse.so" tests/refuse.c 2>"$err"; then
-    for case in $PWD/tests/program/{gen-tally,microstep-fault,mutual-confluent,straggler-of-three,nested,check-whole,demonstration}; do
+    # A picture of a run and one of Time Warp: what is wanted of them is what they are with nothing refused.
+    for case in gen-tally straggler-of-three; do
+        cp -r "tests/program/$case" "$room/$case-drawn"
+        sed -i '1s/.*/draw/' "$room/$case-drawn/args"
+        mapfile -t words <"$room/$case-drawn/args"
+        (cd "$room/$case-drawn" && exec "$program" "${words[@]}" >"$room/$case-drawn/stdout")
+    done
+    for case in $PWD/tests/program/{gen-tally,microstep-fault,mutual-confluent,straggler-of-three,nested,check-whole,demonstration} \
+        $PWD/tests/program/{figures-of-gen-tally,items-of-a-microstep-fault,a-seed} "$room"/{gen-tally,straggler-of-three}-drawn; do
         mapfile -t words <"$case/args"
         status=$(cat "$case/status" 2>/dev/null || echo 0)
         lines=("${words[*]}")

@@ -2,7 +2,8 @@
 """expected.py NETWORK TRACE UNTIL [--json]: what `twarp stats` writes of a run, computed from its trace and its network file alone.
 
 It is a second, independent way to the numbers: the trace is that of tests/program/ and examples/, whose bytes are not the
-program's own. Of machines it knows the start values of registers, queues and `length`, which is what the networks here show."""
+program's own. Of machines it knows the start values of registers, queues, `length` and a table's number at `random`, which is what the networks here
+show."""
 import json
 import re
 import sys
@@ -21,6 +22,8 @@ def machine_figures(machine, part):
     """The names of its figures, each with what it is of the words, and the words of its start state."""
     registers, queues, start, figures, behind = machine.get("registers", {}), machine.get("queues", {}), [], [], []
     constant = lambda it: part[it] if isinstance(it, str) else it
+    # (the random number is one draw from `random`; `random(n)` is its upper 32 bits, modulo n)
+    random = (constant(machine.get("random", 0)) * 6364136223846793005 + 1442695040888963407) % 2**64 >> 32
     plain = 0
     for entry in machine["words"]:
         text = " ".join(str(entry).split())
@@ -36,8 +39,12 @@ def machine_figures(machine, part):
             values, names = [entry], [text]
         elif bare in registers:
             values, names = [constant(registers[bare])], [text]
-        elif re.fullmatch(r"length\((\w+)\)", bare):
+        elif re.fullmatch(r"length\(\w+\)", bare):
             values, names = [0], [text]
+        elif drawn := re.fullmatch(r"(\w+)\[random\((\d+)\)\]", bare):
+            table = machine["tables"][drawn[1]]
+            table = part[table] if isinstance(table, str) else table
+            values, names = [table[random % int(drawn[2])]], [text]
         else:
             values, names = [None], [text]
         if not behind:

@@ -1,0 +1,179 @@
+//! Columns of committed records, and what they are as one trace.
+
+ghost use Rattle.std.specs.Prelude.{◌≡◌, ◌<◌, ◌+◌, IsTrue};
+ghost use Rattle.std.specs.List.{AllByRecursion as Each};
+ghost use Rattle.tw_fossils.specs.Columns.{AreColumns, IsColumn, IsRising};
+
+use crate::messages::tell_records;
+use crate::networks::row;
+use std::alloc::Global;
+use std::sync::Arc;
+use tw_fossils::{Column, into_trace, merge};
+use tw_looks::{Sum, Told, add_records};
+use tw_models::Model;
+use tw_msgs::Record;
+use tw_process::Process;
+use tw_vtime::{Refusal, Stamp};
+
+// How often something is tried at most that a second try ends.
+const TRIES: usize = 3;
+
+// How many steps of each component of the row are committed.
+const STEPS: [usize; 3] = [12, 3, 0];
+
+/// Whether these records are a component's, and each is after a stamp.
+fn are_after(component: usize, stamp: Stamp, records: &[Record]) -> bool
+    ensures own { IsTrue result → Each (λ r. r.component ≡ component) records.now }
+    ensures after { IsTrue result → Each (λ r. stamp < r.stamp) records.now }
+{
+    match records.split_first() {
+        None => true,
+        Some((first, later)) => {
+            first.component == component
+                && stamp < first.stamp
+                && are_after(component, stamp, later)
+        }
+    }
+}
+
+/// Whether these records are a component's, in the order of their stamps.
+fn is_column(component: usize, records: &[Record]) -> bool
+    ensures { IsTrue result → IsColumn component records.now }
+{
+    match records.split_first() {
+        None => true,
+        Some((first, later)) => {
+            first.component == component
+                && are_after(component, first.stamp, later)
+                && is_column(component, later)
+        }
+    }
+}
+
+/// Whether these are the columns of the components from one on.
+fn are_columns(component: usize, columns: &[Column]) -> bool
+    ensures { IsTrue result → AreColumns component columns.now }
+{
+    match columns.split_first() {
+        None => true,
+        Some((first, later)) => {
+            component < usize::MAX
+                && is_column(component, first.records())
+                && are_columns(component + 1, later)
+        }
+    }
+}
+
+// The process of a component of the row after so many steps, if there is memory for them.
+fn stepped(alloc: Global, component: usize, steps: usize) -> Result<Process<Model>, Refusal> {
+    let network = Arc::new(alloc, row(alloc)?)?;
+    if component >= network.len() {
+        return Err(Refusal::UnknownComponent);
+    }
+    let mut process = Process::new(alloc, network, component)?;
+    for _ in 0..steps {
+        if process.step().is_err() {
+            return Err(Refusal::OutOfMemory);
+        }
+    }
+    Ok(process)
+}
+
+// The sum over the records of a column.
+fn look(column: &Column) -> Sum {
+    let mut sum = Sum::new();
+    add_records(&mut sum, column.records());
+    sum
+}
+
+// Adds a record to a column, at the second try where memory is refused at the first and the record is handed back.
+fn push(told: &mut Told, column: &mut Column, record: Record) {
+    let before = look(column);
+    let Err(failed) = column.push(record) else {
+        return;
+    };
+    let after = look(column);
+    told.compare("push", before, after);
+    if column.push(failed.value).is_err() {
+        told.give_up("push");
+    }
+}
+
+// The column of all steps of a process.
+fn column_of(told: &mut Told, alloc: Global, mut process: Process<Model>) -> Column {
+    let mut column = Column::new(alloc);
+    for _ in 0..process.history_len() {
+        if let Some(record) = process.commit_oldest() {
+            push(told, &mut column, record);
+        }
+    }
+    column
+}
+
+// The columns of the row, if there is memory for them.
+fn columns_once(told: &mut Told, alloc: Global) -> Result<Vec<Column>, Refusal> {
+    let mut columns = Vec::new(alloc);
+    for component in 0..3 {
+        let process = stepped(alloc, component, STEPS[component])?;
+        columns.push(column_of(told, alloc, process))?;
+    }
+    Ok(columns)
+}
+
+// The columns of the row, at the second try where the first finds no memory.
+fn columns_of(told: &mut Told, alloc: Global) -> Option<Vec<Column>> {
+    match columns_once(told, alloc) {
+        Err(Refusal::OutOfMemory) => columns_once(told, alloc).ok(),
+        made => made.ok(),
+    }
+}
+
+// Merges copies of the records before tick 4 and its output, at the second try where the first finds no memory, and tells them.
+fn tell_merged(told: &mut Told, alloc: Global, columns: &[Column]) {
+    let line = Stamp::new(4, 0, 1).unwrap_or(Stamp::END);
+    if !are_columns(0, columns) {
+        told.give_up("columns");
+        return;
+    }
+    let merged = match merge(alloc, columns, line) {
+        Err(_) => merge(alloc, columns, line),
+        made => made,
+    };
+    match merged {
+        Ok(trace) => tell_records(told, trace.as_slice()),
+        Err(_) => told.give_up("merge"),
+    }
+}
+
+// All records, if there is memory for them.
+fn trace_of(alloc: Global, columns: Vec<Column>) -> Option<Vec<Record>> {
+    if !are_columns(0, columns.as_slice()) {
+        return None;
+    }
+    into_trace(alloc, columns, Stamp::END).ok()
+}
+
+// Tells the trace of new columns, of which nothing is left where memory is refused: then it is made again.
+fn tell_trace(told: &mut Told, alloc: Global) {
+    for _ in 0..TRIES {
+        let Some(columns) = columns_of(told, alloc) else {
+            continue;
+        };
+        if let Some(trace) = trace_of(alloc, columns) {
+            tell_records(told, trace.as_slice());
+            return;
+        }
+    }
+    told.give_up("into_trace");
+}
+
+/// Makes columns and traces of them, and tells them.
+pub(crate) fn play(told: &mut Told, alloc: Global) {
+    told.begin("merged");
+    match columns_of(told, alloc) {
+        Some(columns) => tell_merged(told, alloc, columns.as_slice()),
+        None => told.give_up("columns"),
+    }
+    told.begin("one trace");
+    tell_trace(told, alloc);
+}

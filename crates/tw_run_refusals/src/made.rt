@@ -1,0 +1,104 @@
+//! Networks, and executives and exchanges of them. What could not be made leaves nothing, and is made again.
+
+use std::alloc::Global;
+use tw_board::{Board, Reader};
+use tw_exec::Executive;
+use tw_models::{BadModel, Model};
+use tw_network::{Coupling, Input, Network};
+use tw_process::Cancel;
+use tw_vtime::Refusal;
+use tw_workers::Exchange;
+
+/// A model, by its parameters.
+#[derive(Clone, Copy)]
+pub(crate) enum Made {
+    /// A generator: period and value.
+    Gen(u64, i64),
+    /// A relay: its delay.
+    Relay(u64),
+    /// A queue: its service time.
+    Queue(u64),
+    Tally,
+}
+
+/// What a network is made of.
+pub(crate) struct Net {
+    pub(crate) names: &'static [&'static str],
+    pub(crate) models: &'static [Made],
+    pub(crate) couplings: &'static [Coupling],
+    pub(crate) inputs: &'static [Input],
+    pub(crate) micro_limit: u64,
+}
+
+/// A network, the end tick, and the way of cancelling.
+pub(crate) struct Run {
+    pub(crate) net: Net,
+    pub(crate) until: u64,
+    pub(crate) cancel: Cancel,
+}
+
+// The model.
+fn model_of(made: Made) -> Result<Model, BadModel> {
+    match made {
+        Made::Gen(period, value) => Model::generator(period, value),
+        Made::Relay(delay) => Model::relay(delay),
+        Made::Queue(service) => Model::queue(service),
+        Made::Tally => Model::tally(),
+    }
+}
+
+// The network, if there is memory for it.
+fn network_of(alloc: Global, net: &Net) -> Result<Network<Model>, Refusal> {
+    let mut components = Vec::new(alloc);
+    for (name, made) in net.names.iter().zip(net.models) {
+        components.push((String::from_str(alloc, name)?, model_of(*made)?))?;
+    }
+    let couplings = Vec::from_slice(alloc, net.couplings)?;
+    let inputs = Vec::from_slice(alloc, net.inputs)?;
+    Ok(Network::new(alloc, components, couplings, inputs, net.micro_limit)?)
+}
+
+// The executive, if there is memory for it.
+fn begin(alloc: Global, run: &Run) -> Result<Executive<Model>, Refusal> {
+    let network = network_of(alloc, &run.net)?;
+    match run.cancel {
+        Cancel::Aggressive => Ok(Executive::new(alloc, network, run.until)?),
+        Cancel::Lazy => Ok(Executive::with_cancel(alloc, network, run.until, Cancel::Lazy)?),
+    }
+}
+
+/// The executive at the start of a run, at the second try where the first finds no memory.
+pub(crate) fn executive_of(alloc: Global, run: &Run) -> Option<Executive<Model>> {
+    match begin(alloc, run) {
+        Err(Refusal::OutOfMemory) => begin(alloc, run).ok(),
+        made => made.ok(),
+    }
+}
+
+// An exchange of an executive, and a reader of its board; where there is no memory for them the executive comes back.
+fn share(
+    alloc: Global,
+    executive: Executive<Model>,
+) -> Result<(Exchange<Model>, Reader), Executive<Model>> {
+    let Ok((mut board, publisher)) = Board::new(alloc) else {
+        return Err(executive);
+    };
+    let Ok(reader) = board.reader() else {
+        return Err(executive);
+    };
+    match Exchange::new(alloc, executive, publisher) {
+        Ok(exchange) => Ok((exchange, reader)),
+        Err((executive, _, _)) => Err(executive),
+    }
+}
+
+/// An exchange of an executive, and a reader of its board, at the second try where the first finds no memory.
+pub(crate) fn exchange_of(
+    alloc: Global,
+    executive: Executive<Model>,
+) -> Option<(Exchange<Model>, Reader)> {
+    match share(alloc, executive) {
+        Ok(made) => Some(made),
+        Err(executive) => share(alloc, executive).ok(),
+    }
+}

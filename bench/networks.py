@@ -1,0 +1,165 @@
+"""Networks drawn at random, as the JSON values of their files: flat ones of the five models, nested ones, and ones with machines."""
+
+import json
+import random
+from pathlib import Path
+
+EXAMPLES = Path(__file__).resolve().parent.parent / "examples"
+BIG = [-(2**63), -(2**63) - 1, 2**63 - 1, 2**63, 2**64 - 1, 2**64, 1099511627774, 1099511627775, 1099511627776, 8388607, 8388608, 0, -1, 1e3]
+
+
+def model(draw, name):
+    """A component of one of the five models, of which time may stand still."""
+    kind = draw.choice(["gen", "tally", "relay", "queue", "hop", "hop", "relay"])
+    more = {
+        "gen": lambda: {"period": draw.randint(1, 4), "value": draw.randint(-9, 9)},
+        "tally": dict,
+        "relay": lambda: {"delay": draw.choice([0, 1, 1, 2, 3])},
+        "queue": lambda: {"service": draw.choice([0, 1, 2, 3])},
+        "hop": lambda: {"seed": draw.randint(0, 99), "ports": draw.randint(1, 3), "spread": draw.choice([1, 2, 4])},
+    }[kind]()
+    return {"name": name, "model": kind, **more}
+
+
+def inputs(draw, names, until):
+    """Inputs of these components, some of them at one tick and equal."""
+    found = []
+    for _ in range(draw.choice([0, 1, 2, 4, 8])):
+        one = {"tick": draw.randint(0, until), "to": draw.choice(names), "port": draw.randint(0, 2), "value": draw.randint(-3, 9)}
+        found += [one] * draw.choice([1, 1, 1, 2, 3])
+    return found
+
+
+def couplings(draw, names, many):
+    """Couplings between different components, none twice."""
+    found = set()
+    for _ in range(many):
+        one, other = draw.choice(names), draw.choice(names)
+        if one != other:
+            found.add((one, draw.randint(0, 2), other, draw.randint(0, 2)))
+    return [list(it) for it in sorted(found)]
+
+
+def flat(draw):
+    """A network of one to eight components, and an end tick."""
+    names = list("abcdefgh")[: draw.randint(1, 8)]
+    until = draw.choice([2, 4, 8, 16])
+    return {
+        "format": "tw-1",
+        "micro_limit": draw.choice([1, 2, 5, 100]),
+        "components": [model(draw, name) for name in names],
+        "couplings": couplings(draw, names, draw.randint(0, 12)),
+        "inputs": inputs(draw, names, until),
+    }, until
+
+
+def coupled(draw, name, depth):
+    """A coupled model, whose parts are models or, down to a depth, coupled models."""
+    names = list("abc")[: draw.randint(1, 3)]
+    parts = [coupled(draw, it, depth - 1) if depth > 0 and draw.random() < 0.5 else model(draw, it) for it in names]
+    return {"name": name, "components": parts, "couplings": couplings(draw, [*names, ""], draw.randint(0, 6))}
+
+
+def nested(draw):
+    """A network of coupled models, and an end tick."""
+    whole = coupled(draw, "", 3)
+    until = draw.choice([2, 4, 8])
+    names = [it["name"] for it in whole["components"]]
+    atoms = [it["name"] for it in whole["components"] if "model" in it]
+    return {
+        "format": "tw-2",
+        "micro_limit": draw.choice([1, 5, 100]),
+        "components": whole["components"],
+        "couplings": couplings(draw, names, draw.randint(0, 6)),
+        "inputs": inputs(draw, atoms, until) if atoms else [],
+    }, until
+
+
+def with_machines(draw):
+    """An example of machines, with other numbers here and there, and an end tick."""
+    files = sorted(it for it in EXAMPLES.glob("*.json") if '"tw-3"' in it.read_text())
+    value = json.loads(draw.choice(files).read_text())
+    return value, draw.choice([5, 20, 40])
+
+
+def network(seed):
+    """The network of a seed, and its end tick."""
+    draw = random.Random(seed)
+    return draw.choice([flat, flat, flat, nested, with_machines])(draw)
+
+
+def places(value, at=()):
+    """Each place in a JSON value."""
+    yield at
+    if isinstance(value, dict):
+        for key in value:
+            yield from places(value[key], (*at, key))
+    elif isinstance(value, list):
+        for key, one in enumerate(value):
+            yield from places(one, (*at, key))
+
+
+def put(value, at, other):
+    """Puts another value at a place, or takes the place away."""
+    if not at:
+        return other
+    inside = value
+    for key in at[:-1]:
+        inside = inside[key]
+    if other is places:
+        del inside[at[-1]]
+    else:
+        inside[at[-1]] = other
+    return value
+
+
+WORDS = ["draw ", "(", ")", "[", "]", "{", "}", " if ", " else ", " repeat ", " + ", " * ", " / ", " % ", " - ", ":=", ";", "t[0]", "0", "9" * 20, "\u00e9", "\\", "\"", "a", ".", "tw-2", "in", " "]
+
+
+def changed(draw, value):
+    """A value with one to three things changed: a number, a name, a member taken away or put twice, a text."""
+    for _ in range(draw.randint(1, 3)):
+        at = draw.choice(list(places(value)))
+        here = value
+        for key in at:
+            here = here[key]
+        kind = draw.randrange(6)
+        if kind == 0:
+            value = put(value, at, draw.choice(BIG))
+        elif kind == 1 and at:
+            value = put(value, at, places)
+        elif kind == 2 and isinstance(here, str):
+            cut = draw.randint(0, len(here))
+            value = put(value, at, here[:cut] + draw.choice(WORDS) * draw.choice([1, 1, 2, 70, 5000]) + here[cut:])
+        elif kind == 3 and isinstance(here, list):
+            value = put(value, at, here * draw.choice([0, 2, 20, 1100]))
+        elif kind == 4:
+            other = draw.choice(list(places(value)))
+            there = value
+            for key in other:
+                there = there[key]
+            value = put(value, at, json.loads(json.dumps(there)))
+        else:
+            value = put(value, at, draw.choice([None, True, "", "a", "a.b", [], {}, [[]], "x" * 100000]))
+        if not isinstance(value, dict):
+            return value
+    return value
+
+
+def broken(draw, text):
+    """A text with bytes changed, taken away, put in, or cut."""
+    data = bytearray(text)
+    for _ in range(draw.randint(1, 4)):
+        at = draw.randint(0, max(len(data) - 1, 0))
+        kind = draw.randrange(5)
+        if kind == 0 and data:
+            data[at] = draw.randrange(256)
+        elif kind == 1:
+            del data[at : at + draw.choice([1, 1, 8, 99])]
+        elif kind == 2:
+            data[at:at] = bytes(draw.randrange(256) for _ in range(draw.choice([1, 2, 8])))
+        elif kind == 3:
+            data[at:at] = data[at : at + draw.choice([1, 8, 64])]
+        else:
+            del data[at:]
+    return bytes(data)

@@ -12,7 +12,8 @@ settings="1 16 1000 aggressive
 2 1 0 aggressive
 4 256 1 lazy
 64 16 0 lazy
-64 1 1000 aggressive"
+64 1 1000 aggressive
+auto 16 1000 aggressive"
 
 # Runs a case by these words, and counts it by this name.
 try_case() {

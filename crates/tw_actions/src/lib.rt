@@ -5,14 +5,17 @@
 //! - [`Cause`]: why a chain, made apart from its process, has no more steps; [`Finished`], [`Stop`]: how many of them
 //!   its process made, and why no more.
 //! - [`RunState`]: how a run stands.
+//! - [`MAX_WORKERS`], [`MAX_BURST`]: what a run by workers may be set to.
 #![tactic(auto)]
 
 mod action;
 mod cancel;
 mod chain;
 mod run_state;
+mod setting;
 
 pub use action::{Action, Done, Received};
 pub use cancel::Cancel;
 pub use chain::{Cause, Finished, Stop};
 pub use run_state::RunState;
+pub use setting::{MAX_BURST, MAX_WORKERS};

@@ -1,6 +1,5 @@
 -- The five models and machines together may go to another thread, and be seen from several at once.
-use denote.RattleType.{RattleType}
-use denote.Param.Send.{IsSend, IsSync, sendable}
+use denote.Param.Send.{IsSend, IsSync}
 use denote.Param.SendFields.{variants_send, variants_sync}
 use Rattle.tw_any_model.specs.contracts.any_model.AnyModel as any_model
 use Rattle.tw_machine.proofs.Sent.{machine_send, machine_sync}

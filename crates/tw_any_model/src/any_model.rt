@@ -1,12 +1,12 @@
 //! One of the five models, or a machine.
-ghost use Rattle.std.specs.Prelude.{◌≡◌, ◌↔◌, IsTrue};
+ghost use Rattle.std.specs.Prelude.{◌≡◌, ◌↔◌, IfOk, IsTrue};
 
 use std::alloc::{AllocError, Global};
 use tw_atomic::{Atomic, Outbox, Turn};
 use tw_machine::kept::Kept;
 use tw_machine::machine::Machine;
 use tw_machine::memory::State as MachineState;
-use tw_models::{Model, Residue, State};
+use tw_models::{Model, OnHeap, Residue, State};
 
 /// The model of a component.
 #[derive(Drop)]
@@ -17,11 +17,12 @@ pub enum AnyModel {
     Machine(Machine),
 }
 
-/// A state of the one or the other.
+/// A state of the one or the other. A machine's lies on the heap, so that a state takes 40 bytes in
+/// place.
 #[derive(Drop)]
 pub enum AnyState {
     OfBuiltIn(State),
-    OfMachine(MachineState),
+    OfMachine(OnHeap<MachineState>),
 }
 
 /// What a transition of the one or the other keeps of the state before it.
@@ -52,14 +53,17 @@ impl Atomic for AnyModel {
     fn start(&self, alloc: Global) -> Result<AnyState, AllocError> {
         Ok(match self {
             AnyModel::BuiltIn(model) => AnyState::OfBuiltIn(model.start(alloc)?),
-            AnyModel::Machine(machine) => AnyState::OfMachine(machine.start(alloc)?),
+            AnyModel::Machine(machine) => AnyState::OfMachine(OnHeap::new(
+                alloc,
+                machine.start(alloc)?,
+            )?),
         })
     }
 
     fn ta(&self, state: &AnyState) -> Option<u64> {
         match (self, state) {
             (AnyModel::BuiltIn(model), AnyState::OfBuiltIn(state)) => model.ta(state),
-            (AnyModel::Machine(machine), AnyState::OfMachine(state)) => machine.ta(state),
+            (AnyModel::Machine(machine), AnyState::OfMachine(state)) => machine.ta(state.get()),
             _ => None,
         }
     }
@@ -75,7 +79,7 @@ impl Atomic for AnyModel {
         match (self, state) {
             (AnyModel::BuiltIn(model), AnyState::OfBuiltIn(state)) => model.output(state, outbox),
             (AnyModel::Machine(machine), AnyState::OfMachine(state)) => {
-                machine.output(state, outbox);
+                machine.output(state.get(), outbox);
             }
             _ => {}
         }
@@ -95,7 +99,7 @@ impl Atomic for AnyModel {
                 Ok(AnyResidue::BuiltInParts(parts))
             }
             (AnyModel::Machine(machine), AnyState::OfMachine(state)) => {
-                let parts = machine.forward(alloc, state, turn, elapsed, bag)?;
+                let parts = machine.forward(alloc, state.get_mut(), turn, elapsed, bag)?;
                 Ok(AnyResidue::MachineParts(parts))
             }
             _ => Ok(AnyResidue::Nothing),
@@ -115,7 +119,7 @@ impl Atomic for AnyModel {
                 model.transition(alloc, state, turn, elapsed, bag)
             }
             (AnyModel::Machine(machine), AnyState::OfMachine(state)) => {
-                machine.transition(alloc, state, turn, elapsed, bag)
+                machine.transition(alloc, state.get_mut(), turn, elapsed, bag)
             }
             _ => Ok(()),
         }
@@ -142,7 +146,7 @@ impl Atomic for AnyModel {
                 AnyState::OfMachine(state),
                 AnyResidue::MachineParts(parts),
             ) => {
-                machine.back(state, turn, elapsed, bag, parts);
+                machine.back(state.get_mut(), turn, elapsed, bag, parts);
             }
             _ => {}
         }
@@ -159,7 +163,7 @@ impl Atomic for AnyModel {
                 model.words(alloc, state, words)
             }
             (AnyModel::Machine(machine), AnyState::OfMachine(state)) => {
-                machine.words(alloc, state, words)
+                machine.words(alloc, state.get(), words)
             }
             _ => Ok(()),
         }
@@ -168,7 +172,10 @@ impl Atomic for AnyModel {
     fn same(&self, one: &AnyState, other: &AnyState) -> bool {
         match (one, other) {
             (AnyState::OfBuiltIn(one), AnyState::OfBuiltIn(other)) => same_built_in(one, other),
-            (AnyState::OfMachine(one), AnyState::OfMachine(other)) => same_machine(one, other),
+            (AnyState::OfMachine(one), AnyState::OfMachine(other)) => same_machine(
+                one.get(),
+                other.get(),
+            ),
             _ => false,
         }
     }
@@ -176,11 +183,7 @@ impl Atomic for AnyModel {
     fn copy(&self, alloc: Global, state: &AnyState) -> Result<AnyState, AllocError> {
         Ok(match state {
             AnyState::OfBuiltIn(state) => AnyState::OfBuiltIn(Model::Tally.copy(alloc, state)?),
-            AnyState::OfMachine(state) => AnyState::OfMachine(MachineState {
-                memory: state.memory.copied(alloc)?,
-                time: state.time,
-                left: state.left,
-            }),
+            AnyState::OfMachine(state) => AnyState::OfMachine(copy_of_machine(alloc, state.get())?),
         })
     }
 
@@ -196,6 +199,18 @@ fn same_built_in(one: &State, other: &State) -> bool
     ensures { IsTrue result ↔ (one.now ≡ other.now) }
 {
     Model::Tally.same(one, other)
+}
+
+/// A copy of a machine's state, on the heap. The only error is want of memory.
+fn copy_of_machine(alloc: Global, state: &MachineState) -> Result<OnHeap<MachineState>, AllocError>
+    ensures { IfOk result (λ copy. copy ≡ state.now) }
+{
+    let copy = MachineState {
+        memory: state.memory.copied(alloc)?,
+        time: state.time,
+        left: state.left,
+    };
+    OnHeap::new(alloc, copy)
 }
 
 /// Whether two states of machines are equal.

@@ -17,6 +17,7 @@ ghost use Rattle.tw_atomic.specs.Waiting.{AlwaysWaits};
 
 use arrayvec::ArrayVec;
 use std::alloc::{AllocError, Global};
+pub use tw_msgs::OutOfMemory;
 
 /// The kind of a transition.
 #[derive(Clone, Copy, Debug, PartialEq, Eq)]

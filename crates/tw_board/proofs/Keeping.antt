@@ -1,6 +1,6 @@
 -- Each kind of step keeps the rule of the board.
-use Rattle.std.proofs.Common.{◌≡◌, ℕ, ◌<◌, ◌≤◌, ◌≢◌, max, Bool, true, false, List, get_or, set, refl, sym, ap, ◌∙◌, subst, ⊎_elim, arith, le_refl, length-set, get_or-set_other, get_or-set_same}
-use Rattle.std.proofs.lemmas.Bool.{cases_lt}
+use Rattle.std.proofs.Common.{◌≡◌, ℕ, ◌<◌, ◌≤◌, ◌≢◌, max, true, false, List, get_or, set, refl, sym, ap, ◌∙◌, subst, ⊎_elim, arith, le_refl, length-set, get_or-set_other, get_or-set_same}
+use Rattle.std.proofs.lemmas.Bool.{both_ways, cases_lt}
 use lib.Seq.{set-get_or}
 use mathlib.Core.Option.{some}
 use lib.ListN.{get_elem?}
@@ -8,18 +8,12 @@ use Rattle.atomic_table.specs.Table.{State, Me, keeps, stepped, Allows, Enters, 
 use Rattle.atomic_table.proofs.Lists.{at_set, at_snoc}
 use Rattle.tw_vtime.specs.Stamps.{IsStamp}
 use Rattle.tw_theory.specs.Board.{Numbers, AtMost}
+use Rattle.tw_theory.proofs.Board.{at_most_trans}
 use Rattle.tw_board.specs.declared.rule.View.{View}
 use Rattle.tw_board.specs.Rule.{reader, Fits, IsKept, words_of, HasSeenGvt, HasSeenCommitted, HasFoundGvt, HasFoundCommitted, HasPostedGvt, HasPostedCommitted}
 
 abbrev word : State ℕ View → ℕ → ℕ
 word s i = get_or s.words i 0
-
--- what is not above some numbers is not above greater ones
-more : (one other greater : Numbers) → AtMost one other → AtMost other greater → AtMost one greater
-more one other greater low up =
-    let low_gvt : one.0 ≤ other.0 = low.0 in let low_count : one.1 ≤ other.1 = low.1 in
-    let up_gvt : other.0 ≤ greater.0 = up.0 in let up_count : other.1 ≤ greater.1 = up.1 in
-    (omega (arith, low_gvt, up_gvt), omega (arith, low_count, up_count))
 
 -- the other seats' views fit words that are not below, and that stay unless the step is the publisher's
 others : (s : State ℕ View) → IsKept s → (id : ℕ) (w : View) (words : Numbers) → AtMost (words_of s) words
@@ -28,8 +22,8 @@ others : (s : State ℕ View) → IsKept s → (id : ℕ) (w : View) (words : Nu
 others s kept id w words up same mine j u at = ⊎_elim
     (λ (t : (j ≡ id) × (w ≡ u)). subst (λ (x : ℕ × View). Fits words x.0 x.1) (λ i. (sym t.0 i, t.1 i)) mine)
     (λ (t : (j ≢ id) × (get_elem? s.views j ≡ some u)). let f = kept.fits j u t.1 in record {
-      seen = more _ _ _ f.seen up;
-      told = more _ _ _ f.told up;
+      seen = at_most_trans _ _ _ f.seen up;
+      told = at_most_trans _ _ _ f.told up;
       exact = λ p. let o = f.exact p in let e = same j t.0 o.0 in (o.0, o.1 ∙ e.0, o.2 ∙ e.1);
     })
     (at_set s.views id j w u at)
@@ -41,16 +35,13 @@ looked s kept id w mine = record { two = kept.two; is_stamp = kept.is_stamp; fit
 loads : (s : State ℕ View) → IsKept s → (i id : ℕ) (cs : List (ℕ × ℕ)) (w : View) → Fits (words_of s) id w → IsKept (stepped s i (word s i) id cs w keeps)
 loads s kept i id cs w mine = subst (λ (ws : List ℕ). IsKept record { words = ws; homes = s.homes; views = set s.views id w }) (sym (set-get_or s.words i 0)) (looked s kept id w mine)
 
-not_both : (b : Bool) → b ≡ false → b ≡ true → ⊥
-not_both b p q = cc
-
 pub sees_gvt : (slots id : ℕ) (v : Me ℕ View) → v.0.posts ≡ false → Allows IsKept slots id v 0 (λ n. n) (HasSeenGvt v)
 sees_gvt slots id v looks s kept _ at _ =
     let f = kept.fits id v.0 at in let w : View = record v.0 { gvt = word s 0 } in (
       w,
       keeps,
       tt,
-      loads s kept 0 id v.1 w record { seen = (le_refl (word s 0), f.seen.1); told = f.told; exact = λ p. absurd (not_both v.0.posts looks p) },
+      loads s kept 0 id v.1 w record { seen = (le_refl (word s 0), f.seen.1); told = f.told; exact = λ p. absurd (both_ways v.0.posts looks p) },
       (refl, f.seen.0, kept.is_stamp),
     )
 
@@ -60,7 +51,7 @@ sees_committed slots id v looks s kept _ at _ =
       w,
       keeps,
       tt,
-      loads s kept 1 id v.1 w record { seen = (f.seen.0, le_refl (word s 1)); told = f.told; exact = λ p. absurd (not_both v.0.posts looks p) },
+      loads s kept 1 id v.1 w record { seen = (f.seen.0, le_refl (word s 1)); told = f.told; exact = λ p. absurd (both_ways v.0.posts looks p) },
       (refl, f.seen.1),
     )
 
@@ -120,7 +111,7 @@ posts_committed slots id k v posts s kept _ at _ =
 
 -- a view that is not the publisher's, and has seen no more than the words
 plain : (words : Numbers) (j gvt committed : ℕ) → AtMost (gvt, committed) words → Fits words j (reader gvt committed)
-plain words j gvt committed low = record { seen = low; told = (omega arith, omega arith); exact = λ h. absurd (not_both false refl h) }
+plain words j gvt committed low = record { seen = low; told = (omega arith, omega arith); exact = λ h. absurd (both_ways false refl h) }
 
 pub enters : (slots : ℕ) → Enters IsKept slots 0 (λ _ w. w ≡ reader 0 0)
 enters slots s kept _ _ = (
@@ -160,4 +151,4 @@ tells id v other w = joins id v other w (record v { told_gvt = w.gvt; told_commi
 
 pub shows : (id : ℕ) (v : View) (other : ℕ) (w : View) → v.posts ≡ false → Joins IsKept id v other w (record v { gvt = w.gvt; committed = w.committed }) (reader 0 0)
 shows id v other w looks = joins id v other w (record v { gvt = w.gvt; committed = w.committed })
-    (λ words f g. record { seen = g.seen; told = f.told; exact = λ p. absurd (not_both v.posts looks p) })
+    (λ words f g. record { seen = g.seen; told = f.told; exact = λ p. absurd (both_ways v.posts looks p) })

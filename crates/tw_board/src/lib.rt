@@ -17,3 +17,4 @@ mod board;
 mod rule;
 
 pub use board::{Board, Publisher, Reader};
+pub use tw_vtime::OutOfMemory;

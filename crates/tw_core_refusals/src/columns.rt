@@ -15,9 +15,6 @@ use tw_msgs::Record;
 use tw_process::Process;
 use tw_vtime::{Refusal, Stamp};
 
-// How often something is tried at most that a second try ends.
-const TRIES: usize = 3;
-
 // How many steps of each component of the row are committed.
 const STEPS: [usize; 3] = [12, 3, 0];
 
@@ -145,26 +142,41 @@ fn tell_merged(told: &mut Told, alloc: Global, columns: &[Column]) {
     }
 }
 
-// All records, if there is memory for them.
-fn trace_of(alloc: Global, columns: Vec<Column>) -> Option<Vec<Record>> {
+// The sum over the records of all columns.
+fn look_at_all(columns: &[Column]) -> Sum {
+    let mut sum = Sum::new();
+    for column in columns {
+        add_records(&mut sum, column.records());
+    }
+    sum
+}
+
+// All records, at the second try where memory is refused at the first and the columns are handed back.
+fn trace_of(told: &mut Told, alloc: Global, columns: Vec<Column>) -> Option<Vec<Record>> {
     if !are_columns(0, columns.as_slice()) {
         return None;
     }
-    into_trace(alloc, columns, Stamp::END).ok()
-}
-
-// Tells the trace of new columns, of which nothing is left where memory is refused: then it is made again.
-fn tell_trace(told: &mut Told, alloc: Global) {
-    for _ in 0..TRIES {
-        let Some(columns) = columns_of(told, alloc) else {
-            continue;
-        };
-        if let Some(trace) = trace_of(alloc, columns) {
-            tell_records(told, trace.as_slice());
-            return;
+    let before = look_at_all(columns.as_slice());
+    match into_trace(alloc, columns, Stamp::END) {
+        Ok(trace) => Some(trace),
+        Err(failed) => {
+            let after = look_at_all(failed.value.as_slice());
+            told.compare("into_trace", before, after);
+            into_trace(alloc, failed.value, Stamp::END).ok()
         }
     }
-    told.give_up("into_trace");
+}
+
+// Tells the trace of new columns.
+fn tell_trace(told: &mut Told, alloc: Global) {
+    let Some(columns) = columns_of(told, alloc) else {
+        told.give_up("columns");
+        return;
+    };
+    match trace_of(told, alloc, columns) {
+        Some(trace) => tell_records(told, trace.as_slice()),
+        None => told.give_up("into_trace"),
+    }
 }
 
 /// Makes columns and traces of them, and tells them.

@@ -13,7 +13,7 @@ use Rattle.tw_netfile.specs.TreeMeaning.{IsMeaning}
 use Rattle.tw_texts.specs.Traces.{AppendsBeginning}
 use Rattle.tw_engine.specs.declared.exit.Exit.{Exit}
 use Rattle.tw_engine.specs.declared.exit.Exit.TheVariants.{Done, Bad, Fault, Limited, Want, NoWrite}
-use Rattle.tw_engine.specs.Runs.{IsDemo, IsRun, IsRunByWorkers, IsShown, IsWorked, demo_network, name_in, text_or_nothing, run_fault}
+use Rattle.tw_engine.specs.Runs.{IsDemo, IsMadeInOrder, IsRun, IsRunByWorkers, IsShown, IsWorked, demo_network, name_in, text_or_nothing, run_fault}
 
 pub no_name : (names : List (List ℕ)) (component : ℕ) → length names ≤ component → [] ≡ name_in names component
 no_name names component past = sym (ap text_or_nothing (slice_get_past names component past))
@@ -63,19 +63,24 @@ demo_of_shown (Bad why line) old new shown = shown
 demo_of_shown (Want why) old new shown = inl shown
 demo_of_shown NoWrite old new shown = shown
 
--- what workers write of a file's network
+-- what a run in order writes of a file's network
+pub run_of_ordered : (bytes : List ℕ) (until : ℕ) (n : Contents AnyModel) (exit : Exit) (old new : Option (List ℕ)) → IsMeaning bytes n
+    → IsMadeInOrder n until exit old new → IsRun bytes until exit old new
+run_of_ordered bytes until n exit old new means (inl shown) = run_of_shown bytes until n exit old new means shown
+run_of_ordered bytes until n exit old new means (inr late) =
+    subst (λ (e : Exit). IsRun bytes until e old new) (sym late.0) (late.2, refl, inl (refl, late.1))
+
+-- what workers write of it
 pub run_of_worked : (bytes : List ℕ) (until : ℕ) (n : Contents AnyModel) (exit : Exit) (old new : Option (List ℕ)) → IsMeaning bytes n
     → IsWorked n until exit old new → IsRunByWorkers bytes until exit old new
-run_of_worked bytes until n exit old new means (inl shown) = inl (run_of_shown bytes until n exit old new means shown)
-run_of_worked bytes until n exit old new means (inr (inl full)) = inr full
-run_of_worked bytes until n exit old new means (inr (inr late)) =
-    inl (subst (λ (e : Exit). IsRun bytes until e old new) (sym late.0) (late.2, refl, inl (refl, late.1)))
+run_of_worked bytes until n exit old new means (inl ordered) = inl (run_of_ordered bytes until n exit old new means ordered)
+run_of_worked bytes until n exit old new means (inr full) = inr full
 
 -- what they write of the demonstration
 pub demo_of_worked : (n : Contents AnyModel) (exit : Exit) (old new : Option (List ℕ)) → n ≡ demo_network → IsWorked n 5 exit old new → IsDemo exit old new
 demo_of_worked n exit old new is worked = demo_of (subst (λ (m : Contents AnyModel). IsWorked m 5 exit old new) is worked)
   where
     demo_of : IsWorked demo_network 5 exit old new → IsDemo exit old new
-    demo_of (inl shown) = demo_of_shown exit old new shown
-    demo_of (inr (inl full)) = subst (λ (e : Exit). IsDemo e old new) (sym full.0) (inr (refl, full.1))
-    demo_of (inr (inr late)) = let after = late.1 in absurd (omega (arith, after))
+    demo_of (inl (inl shown)) = demo_of_shown exit old new shown
+    demo_of (inl (inr late)) = let after = late.1 in absurd (omega (arith, after))
+    demo_of (inr full) = subst (λ (e : Exit). IsDemo e old new) (sym full.0) (inr (refl, full.1))

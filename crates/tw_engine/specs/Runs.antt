@@ -2,7 +2,7 @@
 --     run_text n until      the trace of a network's sequential run, and a line for its fault
 --     IsRun given until exit old new      how a run of the network that a file means ends, and what is then written
 --     IsDone job exit given old new      the same of a job
-use Rattle.std.specs.Prelude.{◌≡◌, ◌<◌, ◌⊎◌, ◌++◌, ℕ, List, [], ◌∷◌, codes, pos, Option, Some, None, slice_get}
+use Rattle.std.specs.Prelude.{◌≡◌, ◌<◌, ◌≤◌, ◌⊎◌, ◌++◌, ℕ, List, [], ◌∷◌, codes, pos, Option, Some, None, slice_get}
 use Rattle.std.specs.Io.KnownBytes.{Appends, Keeps}
 use Rattle.tw_vtime.specs.Stamps.{max_tick}
 use Rattle.tw_vtime.specs.declared.limits.Limit.{Limit}
@@ -20,6 +20,7 @@ use Rattle.tw_netfile.specs.TreeMeaning.{IsFault, IsMeaning}
 use Rattle.tw_netfile.specs.declared.refused.FileRefused.{FileRefused}
 use Rattle.tw_texts.specs.Texts.{trace_text, fault_line}
 use Rattle.tw_texts.specs.Traces.{AppendsBeginning}
+use Rattle.tw_workers.specs.declared.outcome.Setting.{Setting}
 use Rattle.tw_engine.specs.declared.exit.Exit.{Exit}
 use Rattle.tw_engine.specs.declared.exit.Exit.TheVariants.{Done, Bad, Fault, Limited, Want, NoWrite}
 
@@ -89,12 +90,20 @@ IsShown n records fault (Bad why line) old new = ⊥
 IsShown n records fault (Want why) old new = (why ≡ refusal.OutOfMemory) × (Keeps old new ⊎ AppendsBeginning old new (text_of n records fault))
 IsShown n records fault NoWrite old new = Unit {0}
 
--- how a run of a network by workers ends: its text is written, or they want nodes (12), or the end tick is too late
-abbrev pub IsWorked : Contents AnyModel → ℕ → Exit → Option (List ℕ) → Option (List ℕ) → Type 0
-IsWorked n until exit old new =
+-- how a run of a network in order ends: its text is written, or the end tick is too late
+abbrev pub IsMadeInOrder : Contents AnyModel → ℕ → Exit → Option (List ℕ) → Option (List ℕ) → Type 0
+IsMadeInOrder n until exit old new =
     IsShown n (sequential (network_of any_meaning n) until).records (run_fault n until) exit old new
-    ⊎ ((exit ≡ Want refusal.Full) × Keeps old new)
     ⊎ ((exit ≡ Bad refusal.BadTick None) × (max_tick < until) × Keeps old new)
+
+-- how one by workers ends, who may also want nodes (12)
+abbrev pub IsWorked : Contents AnyModel → ℕ → Exit → Option (List ℕ) → Option (List ℕ) → Type 0
+IsWorked n until exit old new = IsMadeInOrder n until exit old new ⊎ ((exit ≡ Want refusal.Full) × Keeps old new)
+
+-- what workers are set to is in its range
+abbrev pub IsSet : Setting → Type 0
+IsSet setting =
+    ((1 ≤ setting.workers) × (setting.workers ≤ 64)) × ((1 ≤ setting.burst) × (setting.burst ≤ 256)) × (setting.window ≤ max_tick)
 
 -- ---- the jobs
 

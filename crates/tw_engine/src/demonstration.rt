@@ -11,7 +11,7 @@ use std::sync::Wait;
 use std::thread::Threads;
 use std::time::Clock;
 use tw_any_model::AnyModel;
-use tw_line::Setting;
+use tw_line::{Setting, Workers};
 use tw_models::Model;
 use tw_network::Network;
 use tw_process::Cancel;
@@ -22,7 +22,7 @@ const UNTIL: u64 = 5;
 
 // Its workers, and how far they work ahead. They tell nothing of it.
 const SETTING: Setting = Setting {
-    workers: 2,
+    workers: Workers::Count(2),
     burst: 16,
     window: 1000,
     progress: false,

@@ -10,6 +10,7 @@
 #![tactic(auto)]
 
 mod checks;
+mod choosing;
 mod demonstration;
 mod drawings;
 mod exit;

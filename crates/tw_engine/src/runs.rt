@@ -6,7 +6,7 @@ ghost use Rattle.tw_vtime.specs.Stamps.{max_tick};
 ghost use Rattle.tw_vtime.specs.declared.refusal.Refusal.TheVariants as refusal;
 ghost use Rattle.tw_engine.specs.Checks.{IsCheck};
 ghost use Rattle.tw_engine.specs.Jobs.{DriverReads, IsDone, IsDrawn, IsPlay, IsScriptedBy, MeansSome, PictureReads, ReadsScript};
-ghost use Rattle.tw_engine.specs.Runs.{IsFileExit, IsRun, IsShown, IsUnread, fault_text, run_fault};
+ghost use Rattle.tw_engine.specs.Runs.{IsFileExit, IsMadeInOrder, IsRun, IsShown, IsUnread, fault_text, run_fault};
 ghost use Rattle.tw_engine.specs.Views.{IsSummed, IsTabulated};
 
 use crate::checks::check_bytes;
@@ -282,8 +282,7 @@ pub(crate) fn read_all<N: Read>(alloc: Global, net: &mut N) -> Result<Vec<u8>, E
     }
 }
 
-// Simulates the network that a file's bytes mean, and writes its text. The fault is worked out
-// first, so that nothing is written before the outcome is known.
+// Simulates the network that a file's bytes mean, and writes its text.
 fn run<L: Listener, W: Write>(
     alloc: Global,
     bytes: &[u8],
@@ -293,15 +292,27 @@ fn run<L: Listener, W: Write>(
 ) -> Exit
     ensures { IsRun bytes.now until result (W.contents out.old) (W.contents out.new) }
 {
-    let network = match network(alloc, bytes) {
-        Ok(network) => network,
-        Err(exit) => return exit,
-    };
-    let fault = match fault_of(alloc, &network, until, listener) {
-        Ok(fault) => fault,
-        Err(exit) => return exit,
-    };
-    write_streamed(alloc, &network, until, fault, listener, out)
+    match network(alloc, bytes) {
+        Ok(network) => simulate(alloc, &network, until, listener, out),
+        Err(exit) => exit,
+    }
+}
+
+// Simulates a network in order, and writes its text. The fault is worked out first, so that nothing is written before the outcome is
+// known.
+pub(crate) fn simulate<L: Listener, W: Write>(
+    alloc: Global,
+    network: &Network<AnyModel>,
+    until: u64,
+    listener: &mut L,
+    out: &mut W,
+) -> Exit
+    ensures { IsMadeInOrder network.now until result (W.contents out.old) (W.contents out.new) }
+{
+    match fault_of(alloc, network, until, listener) {
+        Ok(fault) => write_streamed(alloc, network, until, fault, listener, out),
+        Err(exit) => exit,
+    }
 }
 
 // The network that a file's bytes mean.

@@ -1,7 +1,7 @@
-//! A run by workers.
+//! A run by workers, or in order where that is left to the program and workers would not pay.
 
 ghost use Rattle.std.specs.Prelude.{◌≡◌, ◌≤◌, ◌<◌, ◌⊎◌, IfErr, IfOk, None};
-ghost use Rattle.tw_engine.specs.Runs.{IsRunByWorkers, IsWorked};
+ghost use Rattle.tw_engine.specs.Runs.{IsMadeInOrder, IsRunByWorkers, IsSet, IsWorked};
 ghost use Rattle.tw_any_model.specs.AnyModel.{any_meaning};
 ghost use Rattle.tw_network.specs.Contents.{network_of};
 ghost use Rattle.tw_theory.specs.Simulator.{sequential};
@@ -10,8 +10,10 @@ ghost use Rattle.tw_workers.specs.Ends.{IsEnd};
 ghost use Rattle.tw_workers.specs.Exchanged.{IsNotAhead};
 ghost use Rattle.tw_vtime.specs.declared.refusal.Refusal.TheVariants as refusal;
 
+use crate::choosing::workers_of;
 use crate::exit::Exit;
-use crate::runs::{network, write_run};
+use crate::runs::{network, simulate, write_run};
+use crate::telling::Teller;
 use std::alloc::Global;
 use std::io::Write;
 use std::sync::{Arc, Wait};
@@ -26,10 +28,11 @@ use tw_network::Network;
 use tw_process::Cancel;
 use tw_progress::while_telling;
 use tw_seq::Seq;
+use tw_tell::Nobody;
 use tw_vtime::Refusal;
-use tw_workers::{Open, Outcome, run};
+use tw_workers::{Effort, Open, Outcome, run_counted};
 
-// Runs the network that a file's bytes mean by workers, and writes its text.
+// Runs the network that a file's bytes mean as its workers are set, and writes its text.
 pub(crate) fn run_by_workers<R: Threads + Wait + Clock + Eprint + Sync, W: Write>(
     rt: &R,
     alloc: Global,
@@ -47,7 +50,7 @@ pub(crate) fn run_by_workers<R: Threads + Wait + Clock + Eprint + Sync, W: Write
     }
 }
 
-// Runs a network by workers, and writes its text.
+// Runs a network as its workers are set, and writes its text.
 pub(crate) fn run_network<R: Threads + Wait + Clock + Eprint + Sync, W: Write>(
     rt: &R,
     alloc: Global,
@@ -59,14 +62,52 @@ pub(crate) fn run_network<R: Threads + Wait + Clock + Eprint + Sync, W: Write>(
 ) -> Exit
     ensures { IsWorked network until result (W.contents out.old) (W.contents out.new) }
 {
-    let executive = match started(alloc, network, until, cancel) {
-        Ok(executive) => executive,
-        Err(exit) => return exit,
-    };
+    match workers_of(rt, alloc, &network, until, setting) {
+        Some(workers) => match started(alloc, network, until, cancel) {
+            Ok(executive) => {
+                let set = in_range(setting, workers);
+                run_executive(rt, alloc, executive, set, setting.progress, out)
+            }
+            Err(exit) => exit,
+        },
+        None => run_in_order(rt, alloc, &network, until, setting.progress, out),
+    }
+}
+
+// Runs a network in order, and writes its text. Where that is asked for it tells how far it is.
+fn run_in_order<R: Clock + Eprint, W: Write>(
+    rt: &R,
+    alloc: Global,
+    network: &Network<AnyModel>,
+    until: u64,
+    progress: bool,
+    out: &mut W,
+) -> Exit
+    ensures { IsMadeInOrder network.now until result (W.contents out.old) (W.contents out.new) }
+{
+    if progress {
+        simulate(alloc, network, until, &mut Teller::new(rt, until), out)
+    } else {
+        simulate(alloc, network, until, &mut Nobody, out)
+    }
+}
+
+// Runs an executive by workers, and writes the text of its network's run.
+fn run_executive<R: Threads + Wait + Clock + Eprint + Sync, W: Write>(
+    rt: &R,
+    alloc: Global,
+    executive: Executive<AnyModel>,
+    setting: tw_workers::Setting,
+    progress: bool,
+    out: &mut W,
+) -> Exit
+    requires { IsSet setting }
+    ensures { IsWorked executive.network executive.until result (W.contents out.old) (W.contents out.new) }
+{
     let Ok(network) = Arc::try_clone(executive.network()) else {
         return Exit::Want(Refusal::OutOfMemory);
     };
-    let seq = match worked(rt, alloc, executive, setting) {
+    let seq = match worked(rt, alloc, executive, setting, progress) {
         Ok(seq) => seq,
         Err(why) => return Exit::Want(why),
     };
@@ -90,20 +131,26 @@ fn started(
     }
 }
 
-// The sequential run of an executive's network, made by workers. What the setting has out of range is brought into it.
+// The sequential run of an executive's network, made by workers. With `progress` it tells how far it is, and at the end what it spent.
 fn worked<R: Threads + Wait + Clock + Eprint + Sync>(
     rt: &R,
     alloc: Global,
     executive: Executive<AnyModel>,
-    setting: Setting,
+    setting: tw_workers::Setting,
+    progress: bool,
 ) -> Result<Seq, Refusal>
+    requires { IsSet setting }
     ensures records { IfOk result (λ seq. seq.records.items ≡ (sequential (network_of any_meaning executive.network) executive.until).records) }
     ensures fault { IfOk result (λ seq. seq.fault ≡ (sequential (network_of any_meaning executive.network) executive.until).fault) }
     ensures err { IfErr result (λ why. (why ≡ refusal.OutOfMemory) ⊎ (why ≡ refusal.Full)) }
 {
     executive.facts();
     outcome_law::<AnyState>();
-    match outcome(rt, alloc, executive, setting) {
+    let (ended, effort) = outcome(rt, alloc, executive, setting, progress);
+    if progress {
+        tell_effort(rt, &ended, effort);
+    }
+    match ended {
         Ok(Outcome::Complete(records)) => Ok(Seq {
             records,
             fault: None,
@@ -121,29 +168,32 @@ fn outcome<R: Threads + Wait + Clock + Eprint + Sync>(
     rt: &R,
     alloc: Global,
     executive: Executive<AnyModel>,
-    setting: Setting,
-) -> Result<Outcome, Refusal>
-    ensures outcome { IfOk result (IsEnd any_meaning executive.network executive.until) }
-    ensures err { IfErr result (λ why. (why ≡ refusal.OutOfMemory) ⊎ (why ≡ refusal.Full)) }
+    setting: tw_workers::Setting,
+    progress: bool,
+) -> (Result<Outcome, Refusal>, Effort)
+    requires { IsSet setting }
+    ensures outcome { IfOk result.0 (IsEnd any_meaning executive.network executive.until) }
+    ensures err { IfErr result.0 (λ why. (why ≡ refusal.OutOfMemory) ⊎ (why ≡ refusal.Full)) }
 {
     let Ok((mut board, publisher)) = Board::new(alloc) else {
-        return Err(Refusal::OutOfMemory);
+        return (Err(Refusal::OutOfMemory), Effort::nothing());
     };
-    if !setting.progress {
+    if !progress {
         return posted(rt, alloc, executive, setting, publisher);
     }
     let Ok(reader) = board.reader() else {
-        return Err(Refusal::OutOfMemory);
+        return (Err(Refusal::OutOfMemory), Effort::nothing());
     };
     let until = executive.until();
     while_telling(
         rt,
         reader,
         until,
-        move || -> Result<Outcome, Refusal>
-            requires { IsNotAhead publisher executive }
-            ensures outcome { IfOk result (IsEnd any_meaning executive.network executive.until) }
-            ensures err { IfErr result (λ why. (why ≡ refusal.OutOfMemory) ⊎ (why ≡ refusal.Full)) }
+        move || -> (Result<Outcome, Refusal>, Effort)
+            requires not_ahead { IsNotAhead publisher executive }
+            requires set { IsSet setting }
+            ensures outcome { IfOk result.0 (IsEnd any_meaning executive.network executive.until) }
+            ensures err { IfErr result.0 (λ why. (why ≡ refusal.OutOfMemory) ⊎ (why ≡ refusal.Full)) }
         { posted(rt, alloc, executive, setting, publisher) },
     )
 }
@@ -153,28 +203,45 @@ fn posted<R: Threads + Wait + Sync>(
     rt: &R,
     alloc: Global,
     executive: Executive<AnyModel>,
-    setting: Setting,
+    setting: tw_workers::Setting,
     publisher: Publisher,
-) -> Result<Outcome, Refusal>
-    requires { IsNotAhead publisher executive }
-    ensures outcome { IfOk result (IsEnd any_meaning executive.network executive.until) }
-    ensures err { IfErr result (λ why. (why ≡ refusal.OutOfMemory) ⊎ (why ≡ refusal.Full)) }
+) -> (Result<Outcome, Refusal>, Effort)
+    requires not_ahead { IsNotAhead publisher executive }
+    requires set { IsSet setting }
+    ensures outcome { IfOk result.0 (IsEnd any_meaning executive.network executive.until) }
+    ensures err { IfErr result.0 (λ why. (why ≡ refusal.OutOfMemory) ⊎ (why ≡ refusal.Full)) }
 {
-    let (ended, _) = run(rt, alloc, executive, in_range(setting), &Open, publisher);
+    let (ended, _, effort) = run_counted(rt, alloc, executive, setting, &Open, publisher);
     match ended {
-        Ok(outcome) => Ok(outcome),
-        Err(fault) => Err(Refusal::from(fault.why)),
+        Ok(outcome) => (Ok(outcome), effort),
+        Err(fault) => (Err(Refusal::from(fault.why)), effort),
     }
 }
 
-// The setting of a run, each number within its range.
-fn in_range(setting: Setting) -> tw_workers::Setting
-    ensures workers { (1 ≤ result.workers) × (result.workers ≤ 64) }
-    ensures burst { (1 ≤ result.burst) × (result.burst ≤ 256) }
-    ensures window { result.window ≤ max_tick }
+// Tells on standard error what a run came to, and what it spent.
+fn tell_effort<R: Eprint>(rt: &R, ended: &Result<Outcome, Refusal>, effort: Effort) {
+    let records = match ended {
+        Ok(Outcome::Complete(trace) | Outcome::Fault(trace, ..)) => trace.len(),
+        Err(_) => return,
+    };
+    let Effort {
+        rollbacks,
+        slept,
+        stepped_back,
+        ..
+    } = effort;
+    let (ones, rest) = (effort.useful() / 1_000, effort.useful() % 1_000);
+    let _ = eprintln!(rt;
+        "twarp: {records} records, {ones}.{rest:03} of the steps useful, {rollbacks} rollbacks, workers slept {slept} times and stepped back {stepped_back} times"
+    );
+}
+
+// The setting of a run by so many workers, each number brought within its range.
+fn in_range(setting: Setting, workers: u64) -> tw_workers::Setting
+    ensures { IsSet result }
 {
     tw_workers::Setting {
-        workers: setting.workers.clamp(1, 64),
+        workers: workers.clamp(1, 64),
         burst: setting.burst.clamp(1, 256) as usize,
         window: setting.window.min(MAX_TICK),
     }

@@ -4,12 +4,13 @@ use Rattle.std.specs.Prelude.{slice_get, slice_set, remove, nat_lt, Ok, Err}
 use Rattle.std.proofs.lemmas.Bool.{cond-true, cond-false, lt-ltb, le-ltb}
 use Rattle.tw_atomic.specs.Atomic.{Meaning}
 use Rattle.tw_exec.specs.Running.{shown, IsOwn}
-use Rattle.tw_exec.proofs.Worlds.{process_at, process_none, changed, there}
+use Rattle.tw_exec.proofs.Worlds.{process_at, process_none, changed}
 use Rattle.tw_msgs.specs.declared.message.Item.{Item}
 use Rattle.tw_msgs.specs.declared.record.Record.{Record}
 use Rattle.tw_msgs.specs.declared.record_kind.RecordKind.{RecordKind}
 use Rattle.tw_network.specs.Contents.{Contents, network_of}
 use Rattle.tw_process.specs.Process.{Held, IsStepped, next_made, with_cut, with_harvested, with_spare}
+use Rattle.tw_theory.proofs.Elements.{present}
 use Rattle.tw_theory.specs.Contents.{Process, cut, harvested, next, receive, records_of, settle, steps_before, steps_from, with_outgoing, with_step}
 use Rattle.tw_theory.specs.Executive.{Back, BeforeGvt, Deliver, Received, Harvest, Harvested, NoSuch, NothingDue, Post, Posted, Step, Stepped, Undone, World, act, act_back, act_deliver, act_harvest, act_post, act_step, column_of, if_made, mail_of, posted, refusal_of}
 use Rattle.tw_theory.specs.LocalRun.{NoStep, local_step}
@@ -70,7 +71,7 @@ module _ {M S : Type 0} (meaning : M → Meaning S) (n : Contents M) (until gvt 
   pub back_early : (c s : ℕ) → c < length ps → s < gvt → act (network_of meaning n) until (shown ps mail columns gvt) (Back c s) ≡ (Err BeforeGvt, shown ps mail columns gvt)
   unfolding act
   back_early c s near early =
-      let p = there ps c near in
+      let p = present ps c near in
       ap (act_back w c s) (process_at ps mail columns gvt c p.0 p.1) ∙ cond-true (nat_lt s gvt) _ _ (lt-ltb s gvt early)
 
   -- ---- taken

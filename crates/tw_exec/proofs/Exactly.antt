@@ -11,7 +11,7 @@ use Rattle.tw_actions.specs.declared.action.Done.{Done}
 use Rattle.tw_exec.specs.declared.refused.Refused.{Refused}
 use Rattle.tw_exec.specs.declared.refused.Refused.TheVariants.{OutOfMemory, Full, NothingDue, OverLimit, NoSuch, BeforeGvt, Committed}
 use Rattle.tw_exec.proofs.Kept.{step_refused}
-use Rattle.tw_exec.proofs.Worlds.{process_at, there}
+use Rattle.tw_exec.proofs.Worlds.{process_at}
 use Rattle.tw_msgs.specs.declared.message.Item.{Item}
 use Rattle.tw_msgs.specs.declared.message.Message.{Message}
 use Rattle.tw_msgs.specs.declared.record.Record.{Record}
@@ -20,6 +20,7 @@ use Rattle.tw_pool.specs.declared.refused.PoolRefused.{PoolRefused}
 use Rattle.tw_pool.specs.declared.refused.PoolRefused.TheVariants.{Full as full, OutOfMemory as outofmemory}
 use Rattle.tw_process.specs.Process.{Held, IsStop}
 use Rattle.tw_process.specs.declared.refused.StepRefused.{StepRefused}
+use Rattle.tw_theory.proofs.Elements.{present}
 use Rattle.tw_theory.specs.Bundles.{front, items_of}
 use Rattle.tw_theory.specs.Contents.{Process, next}
 use Rattle.tw_theory.specs.Executive as theory
@@ -121,7 +122,7 @@ module _ {M S : Type 0} (meaning : M → Meaning S) (n : Contents M) (until gvt 
 
   post_other : (c : ℕ) → c < length ps → IsOther (act (network_of meaning n) until (shown ps mail columns gvt) (Post c)).0
   unfolding act
-  post_other c near = let p = there ps c near in subst (λ (o : Option (Process S)). IsOther (theory.act_post w c o).0) (sym (process_at ps mail columns gvt c p.0 p.1)) tt
+  post_other c near = let p = present ps c near in subst (λ (o : Option (Process S)). IsOther (theory.act_post w c o).0) (sym (process_at ps mail columns gvt c p.0 p.1)) tt
 
   deliver_other : (q i : ℕ) (old : Held M S) (item : Item) → slice_get ps q ≡ Some old → slice_get (mail_of mail q) i ≡ Some item → IsOther (act (network_of meaning n) until (shown ps mail columns gvt) (Deliver q i)).0
   unfolding act
@@ -130,7 +131,7 @@ module _ {M S : Type 0} (meaning : M → Meaning S) (n : Contents M) (until gvt 
 
   harvest_other : (c : ℕ) → c < length ps → IsOther (act (network_of meaning n) until (shown ps mail columns gvt) (Harvest c)).0
   unfolding act
-  harvest_other c near = let p = there ps c near in subst (λ (o : Option (Process S)). IsOther (theory.act_harvest w c o).0) (sym (process_at ps mail columns gvt c p.0 p.1)) tt
+  harvest_other c near = let p = present ps c near in subst (λ (o : Option (Process S)). IsOther (theory.act_harvest w c o).0) (sym (process_at ps mail columns gvt c p.0 p.1)) tt
 
 module _ {M S : Type 0} {meaning : M → Meaning S} {n : Contents M} {until end gvt : ℕ} {ps : List (Held M S)} {mail : List (List Item)} {columns : List (List Record)} (h : IsHeld meaning n until end gvt ps mail columns) where
   pub step_exact : (c : ℕ) (old : Held M S) (e : StepRefused) → slice_get ps c ≡ Some old → next old.process < end → IsStop meaning old e

@@ -1,10 +1,10 @@
 -- The least commit line of the processes so far, and what columns merged up to it are.
 use Rattle.std.proofs.Common.{◌≡◌, ℕ, ◌+◌, ◌<◌, min, List, [], ◌∷◌, ◌++◌, length, map, take, ap, sym, ◌∙◌, arith}
 use Rattle.std.specs.Prelude.{slice_index_or, Result, Ok, Err, IfOk}
-use Rattle.std.specs.Global.{Global, Vec}
+use Rattle.std.specs.Global.{Vec}
 use Rattle.tw_atomic.specs.Atomic.{Meaning}
 use Rattle.tw_exec.specs.Running.{shown, IsHeld}
-use Rattle.tw_fossils.proofs.Joining.{sound_columns}
+use Rattle.tw_fossils.proofs.Sound.{sound_columns}
 use Rattle.tw_fossils.specs.Columns.{AreColumns}
 use Rattle.tw_laws.proofs.Merging.{least_line_law}
 use Rattle.tw_msgs.specs.declared.message.Item.{Item}

@@ -1,8 +1,8 @@
 -- What a rewind answers and makes of the world, where the code has found out what is the case; and that the columns of an executive rise, all before global virtual time.
-use Rattle.std.proofs.Common.{◌≡◌, ◌≢◌, ℕ, zero, suc, ◌==◌, ◌+◌, ◌&&◌, ◌<◌, List, [], ◌∷◌, length, map, filter, not, Some, true, false, refl, sym, ap, ◌∙◌, subst, arith}
+use Rattle.std.proofs.Common.{◌≡◌, ◌≢◌, ℕ, zero, suc, ◌==◌, ◌+◌, ◌<◌, List, [], ◌∷◌, length, map, not, Some, true, false, refl, sym, ap, ◌∙◌, subst, arith}
 use Rattle.std.specs.List.{AllByRecursion as Each}
-use Rattle.std.specs.Prelude.{nat_lt, slice_get, Ok, Err}
-use Rattle.std.proofs.lemmas.Bool.{and_parts, cond-true, cond-false, cond_both, eq-eqb, ne_eqb, ltb-true}
+use Rattle.std.specs.Prelude.{slice_get, Ok, Err}
+use Rattle.std.proofs.lemmas.Bool.{cond-true, cond-false, eq-eqb, ne_eqb}
 use Rattle.std.proofs.lemmas.Option.{get_or_from_slice_get, none-some, same_Some, slice_get_within}
 use Rattle.tw_atomic.specs.Atomic.{Meaning}
 use Rattle.std.proofs.lemmas.List.{length-map}
@@ -10,15 +10,16 @@ use Rattle.tw_exec.specs.Rewinding.{at_marks}
 use Rattle.tw_exec.specs.Running.{shown, IsHeld, IsOwn}
 use Rattle.tw_exec.proofs.Kept.{as_many_columns, cut_own}
 use Rattle.tw_exec.proofs.Marks.{each_cut, rewound_contents}
-use Rattle.tw_exec.proofs.Worlds.{process_at, there}
-use Rattle.tw_fossils.proofs.Joining.{sound_columns}
+use Rattle.tw_exec.proofs.Worlds.{process_at}
+use Rattle.tw_fossils.proofs.Sound.{sound_columns}
 use Rattle.tw_fossils.specs.Columns.{AreColumns, IsRising}
+use Rattle.tw_laws.proofs.Ready.{records_early}
 use Rattle.tw_laws.proofs.Rewinding.{rewind_keeps}
 use Rattle.tw_msgs.specs.declared.message.Item.{Item}
 use Rattle.tw_msgs.specs.declared.record.Record.{Record}
 use Rattle.tw_network.specs.Contents.{Contents, network_of}
 use Rattle.tw_process.specs.Process.{Held, with_cut}
-use Rattle.tw_theory.proofs.Elements.{each_weaker}
+use Rattle.tw_theory.proofs.Elements.{each_from_get, present}
 use Rattle.tw_theory.specs.Executive.{Committed, NoSuch, Undone, World}
 use Rattle.tw_theory.specs.Marks.{any_committed, rewind, rewound, rewound_steps}
 use Rattle.tw_theory.specs.Simulator.{records_before, sequential, up_to}
@@ -37,17 +38,6 @@ module _ {S : Type 0} (w : World S) (ss : List ℕ) where
   unfolding rewind
   taken same none = cond-false (not (length ss == length w.processes)) _ _ (ap not (eq-eqb (length ss) (length w.processes) same)) ∙ cond-false (any_committed w.gvt ss w.processes w.columns) _ _ none
 
-each_from_get : {X : Type 0} (P : X → Type 0) (xs : List X) → ((c : ℕ) (x : X) → slice_get xs c ≡ Some x → P x) → Each P xs
-each_from_get P [] h = tt
-each_from_get P (x ∷ xs) h = (h 0 x refl, each_from_get P xs (λ c y at. h (suc c) y at))
-
--- the records before a stamp of a list
-below : (c u : ℕ) (rs : List Record) → Each (λ r. r.stamp < u) (filter (λ r. (r.component == c) && nat_lt r.stamp u) rs)
-below c u [] = tt
-below c u (r ∷ rs) =
-    cond_both ((r.component == c) && nat_lt r.stamp u) (r ∷ filter (λ r. (r.component == c) && nat_lt r.stamp u) rs) (filter (λ r. (r.component == c) && nat_lt r.stamp u) rs) (Each (λ r. r.stamp < u))
-    (λ e. (ltb-true r.stamp u (and_parts (r.component == c) (nat_lt r.stamp u) e).1, below c u rs)) (λ e. below c u rs)
-
 rising_at : (b k : ℕ) (columns : List (List Record)) (column : List Record) → AreColumns b columns → slice_get columns k ≡ Some column → IsRising column
 rising_at b k [] column are at = absurd (none-some column at)
 rising_at b zero (first ∷ columns) column are at = subst IsRising (same_Some first column at) are.0.rising
@@ -59,13 +49,13 @@ module _ {M S : Type 0} {meaning : M → Meaning S} {n : Contents M} {until end 
     where
       one : (c : ℕ) (column : List Record) → slice_get columns c ≡ Some column → IsRising column × Each (λ (r : Record). r.stamp < gvt) column
       one c column at =
-          let p = there ps c (omega (arith, slice_get_within columns c column at, as_many_columns h)) in
+          let p = present ps c (omega (arith, slice_get_within columns c column at, as_many_columns h)) in
           let sound = h.sound.each c p.0.process (process_at ps mail columns gvt c p.0 p.1) in
           let net = network_of meaning n in
           let limit = up_to until p.0.process.line in
           let is : column ≡ records_before net until c p.0.process.line = sym (get_or_from_slice_get columns c column [] at) ∙ sound.column_is in
           let rs = (sequential net until).records in
-          let low = each_weaker (λ (r : Record). r.stamp < limit) (λ (r : Record). r.stamp < gvt) (λ r l. omega (arith, l, sound.line_le)) (filter (λ r. (r.component == c) && nat_lt r.stamp limit) rs) (below c limit rs) in
+          let low = records_early c limit gvt rs (omega (arith, sound.line_le)) in
           (rising_at 0 c columns column (sound_columns net until (shown ps mail columns gvt) h.network h.bound h.sound) at, subst (Each (λ (r : Record). r.stamp < gvt)) (sym is) low)
 
   -- processes that were cut at their marks, none of whose steps since then may be committed

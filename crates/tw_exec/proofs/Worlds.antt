@@ -1,9 +1,9 @@
 -- The world as an executive holds it: one of its processes, there or changed.
-use Rattle.std.proofs.Common.{◌≡◌, inl, inr, ℕ, ◌<◌, ◌≤◌, List, length, map, Some, None, sym, ap, ◌∙◌, arith}
+use Rattle.std.proofs.Common.{◌≡◌, ℕ, ◌≤◌, List, length, map, Some, None, sym, ap, ◌∙◌, arith}
 use Rattle.std.specs.Prelude.{slice_get, slice_set}
 use Rattle.std.specs.Option.{option_map}
 use Rattle.std.proofs.lemmas.List.{map-set, length-map, set-get_or}
-use Rattle.std.proofs.lemmas.Option.{slice_get-map, slice_get_past, slice_get_cases, get_or_from_slice_get}
+use Rattle.std.proofs.lemmas.Option.{slice_get-map, slice_get_past, get_or_from_slice_get}
 use Rattle.tw_exec.specs.Running.{shown}
 use Rattle.tw_msgs.specs.declared.message.Item.{Item}
 use Rattle.tw_msgs.specs.declared.record.Record.{Record}
@@ -28,12 +28,6 @@ module _ {M S : Type 0} (ps : List (Held M S)) (mail : List (List Item)) (column
       (sym (changed c new old.process (ap (λ (x : Held M S). x.process) same))
       ∙ ap (slice_set (map (λ (x : Held M S). x.process) ps) c) (sym (get_or_from_slice_get (map (λ (x : Held M S). x.process) ps) c old.process old.process (process_at c old at)))
       ∙ set-get_or (map (λ (x : Held M S). x.process) ps) c old.process)
-
-pub there : {X : Type 0} (xs : List X) (c : ℕ) → c < length xs → (x : X) × (slice_get xs c ≡ Some x)
-there xs c near = elim (slice_get_cases xs c).1 [
-  | inl l ↦ (l.0, l.2)
-  | inr l ↦ let past = l.0 in absurd (omega arith)
-]
 
 -- what is put back where it was
 pub set_back : {X : Type 0} (xs : List X) (c : ℕ) (x y : X) → slice_get xs c ≡ Some x → y ≡ x → slice_set xs c y ≡ xs

@@ -13,7 +13,7 @@
 //! | `acting` | `act`: an action, its answer ([`Done`]) or why it is refused ([`Refused`]) |
 //! | `marking` | `mark` and `rewind` ([`Mark`]); `replay`: a list of actions |
 //! | `chains` | `start`: what a chain is worked out from; `install`: the steps of a chain made here |
-//! | `traces` | `trace`: what all components have committed, merged |
+//! | `traces` | `trace`, `into_trace`: what all components have committed, merged |
 //! | `laws` | `inverse_law`, `committed_law`: what holds of every executive |
 #![tactic(auto)]
 
@@ -29,3 +29,4 @@ pub use executive::Executive;
 pub use marking::Mark;
 pub use refused::{Refused, StartRefused};
 pub use tw_actions::{Action, Done};
+pub use tw_vtime::OutOfMemory;

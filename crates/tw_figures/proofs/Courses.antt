@@ -10,6 +10,7 @@ use Rattle.std.proofs.lemmas.List.{map-append}
 use Rattle.std.proofs.lemmas.List.Elements.{filter-append, Contains-append_left, Contains-append_right}
 use Rattle.tw_msgs.specs.declared.record.Record.{Record}
 use Rattle.tw_vtime.specs.Stamps.{tick_of}
+use Rattle.tw_theory.proofs.Elements.{each_weaker}
 use Rattle.tw_figures.specs.Figures.{IsCourse, IsGreatest, IsLeast, busy_at, last_of, one_if_some, sum_over, up_to, value_at, value_of, values, words_after, words_at}
 use Rattle.tw_figures.specs.declared.course.Course.{Course}
 use Rattle.tw_figures.specs.declared.figure.Measure.{Measure}
@@ -19,10 +20,6 @@ use Rattle.tw_figures.specs.declared.figure.Measure.{Measure}
 pub each_more : {X : Type 0} (P : X → Type 0) (xs : List X) (x : X) → Each P xs → P x → Each P (xs ++ x ∷ [])
 each_more P [] x h p = (p, tt)
 each_more P (y ∷ ys) x h p = (h.0, each_more P ys x h.1 p)
-
-pub each_weaker : {X : Type 0} (P Q : X → Type 0) → ((x : X) → P x → Q x) → (xs : List X) → Each P xs → Each Q xs
-each_weaker P Q f [] h = tt
-each_weaker P Q f (x ∷ xs) h = (f x h.0, each_weaker P Q f xs h.1)
 
 last_end : {X : Type 0} (x : X) (xs : List X) (y : X) → last_of x (xs ++ y ∷ []) ≡ y
 last_end x [] y = refl

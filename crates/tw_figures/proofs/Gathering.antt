@@ -12,8 +12,8 @@ use Rattle.tw_vtime.specs.Stamps.{micro_of, never, tick_of}
 use Rattle.tw_figures.specs.Figures.{IsNext, IsSteady}
 use Rattle.tw_figures.specs.Gathered.{IsAboveMicrosteps, IsMember}
 use Rattle.tw_figures.specs.declared.member.Member.{Member}
-use Rattle.tw_figures.proofs.Courses.{each_end, each_more, each_weaker}
-use Rattle.tw_figures.proofs.Members.{each_filter}
+use Rattle.tw_figures.proofs.Courses.{each_end, each_more}
+use Rattle.tw_theory.proofs.Elements.{each-filter, each_weaker}
 
 -- ---- the records of a component
 
@@ -24,7 +24,7 @@ other_more : (c : ℕ) (rs : List Record) (r : Record) → r.component ≢ c →
 other_more c rs r is = filter-append (λ x. x.component == c) rs (r ∷ []) ∙ ap (λ l. of_component c rs ++ l) (cond-false (r.component == c) (r ∷ []) [] (ne_eqb r.component c is)) ∙ append-nil (of_component c rs)
 
 pub own_next : (c : ℕ) (rs : List Record) (r : Record) → IsNext rs r → IsNext (of_component c rs) r
-own_next c rs r next = each_filter (λ x. tick_of x.stamp ≤ tick_of r.stamp) (λ x. x.component == c) rs next
+own_next c rs r next = each-filter (λ x. tick_of x.stamp ≤ tick_of r.stamp) (λ x. x.component == c) rs next
 
 -- ---- the greatest microstep
 

@@ -1,24 +1,17 @@
 -- The records of a component and those of its transitions.
-use Rattle.std.proofs.Common.{◌≡◌, ◌∙◌, ℕ, ◌+◌, ◌<◌, ◌≤◌, List, [], ◌∷◌, ◌++◌, ℤ, Bool, true, false, cond, length, get_or, map, take, ap, sym, inl, inr, append-nil}
-use Rattle.std.specs.Prelude.{filter, ◌⊎◌}
-use Rattle.std.specs.List.{All, AllByRecursion as Each}
+use Rattle.std.proofs.Common.{◌≡◌, ◌∙◌, ℕ, ◌+◌, ◌<◌, ◌≤◌, List, [], ◌∷◌, ◌++◌, ℤ, true, false, length, get_or, map, take, ap, sym, inl, inr, append-nil}
+use Rattle.std.specs.Prelude.{◌⊎◌}
+use Rattle.std.specs.List.{All}
 use Rattle.std.proofs.lemmas.Bool.{cond-true, cond-false}
 use Rattle.std.proofs.lemmas.List.{map-append, take_more}
 use Rattle.std.proofs.lemmas.List.Elements.{All-append, All-cons, All-nil, filter-append}
 use Rattle.tw_msgs.specs.declared.record.Record.{Record}
 use Rattle.tw_msgs.specs.declared.record_kind.RecordKind.TheVariants.{Out, Int, Ext, Con}
 use Rattle.tw_vtime.specs.Stamps.{tick_of}
+use Rattle.tw_theory.proofs.Elements.{each-filter}
 use Rattle.tw_figures.specs.Figures.{IsCourse, IsNext, is_transition, transitions}
 use Rattle.tw_figures.specs.declared.course.Course.{Course}
 use Rattle.tw_figures.specs.declared.figure.Figure.{Figure}
-
-pub each_filter : {X : Type 0} (P : X → Type 0) (p : X → Bool) (xs : List X) → Each P xs → Each P (filter p xs)
-each_filter P p [] h = tt
-each_filter P p (x ∷ xs) h = go (p x) (each_filter P p xs h.1)
-  where
-    go : (b : Bool) → Each P (filter p xs) → Each P (cond b (x ∷ filter p xs) (filter p xs))
-    go true rest = (h.0, rest)
-    go false rest = rest
 
 -- a transition stands behind those before it, and an output among no transitions
 pub transition_more : (records : List Record) (r : Record) → is_transition r ≡ true → transitions (records ++ r ∷ []) ≡ transitions records ++ r ∷ []
@@ -34,7 +27,7 @@ no_output r is = ap (λ k. elim k [ Out ↦ false | Int ↦ true | Ext ↦ true 
 pub since_before : (start : List ℤ) (records : List Record) (r : Record) (courses : List Course) → IsNext records r → All (IsCourse start (transitions records)) courses
     → All (λ c. c.since ≤ tick_of r.stamp) courses
 since_before start records r courses next all = λ k d l.
-    (all k d l).since (tick_of r.stamp) (each_filter (λ x. tick_of x.stamp ≤ tick_of r.stamp) is_transition records next)
+    (all k d l).since (tick_of r.stamp) (each-filter (λ x. tick_of x.stamp ≤ tick_of r.stamp) is_transition records next)
 
 -- ---- one course more
 

@@ -1,2 +1,4 @@
-pub mod Joining
+pub mod Counting
 pub mod Oldest
+pub mod Sound
+pub mod Taking

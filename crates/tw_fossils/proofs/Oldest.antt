@@ -4,6 +4,7 @@ use Rattle.tw_process.specs.Process.{Held, left_by, oldest_of, with_history, wit
 use Rattle.tw_theory.specs.Contents.{records_of}
 use Rattle.tw_theory.specs.LocalRun.{Step}
 use Rattle.tw_theory.specs.Standing.{floor_after}
+use Rattle.tw_theory.proofs.Histories.{floor_push}
 
 -- the k-th step of a history
 pub record Oldest {S : Type 0} (h : List (Step S)) (k : ℕ) : Type 0 where
@@ -20,10 +21,6 @@ oldest_at (x ∷ h) (suc k) less =
     let o = oldest_at h k (omega (arith, less)) in
     let next : suc k + 1 ≡ suc (k + 1) = omega arith in
     record { step = o.step; rest = o.rest; split = o.split; dropped = ap (λ n. drop n (x ∷ h)) next ∙ o.dropped; taken = ap (λ n. take n (x ∷ h)) next ∙ ap (λ l. x ∷ l) o.taken }
-
-floor_push : {S : Type 0} (floor : ℕ) (steps : List (Step S)) (step : Step S) → floor_after floor (steps ++ step ∷ []) ≡ step.entry.stamp + 1
-floor_push floor [] step = refl
-floor_push floor (x ∷ steps) step = floor_push (x.entry.stamp + 1) steps step
 
 pub one_more : {M S : Type 0} (p : Held M S) (k : ℕ) → k < length p.process.history → without_oldest (without_first k p) ≡ without_first (k + 1) p
 one_more p k less =

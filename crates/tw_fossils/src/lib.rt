@@ -5,13 +5,16 @@
 //! - [`merge`]: the records of all columns before a stamp as one trace, by stamp and then component; [`into_trace`] does the same
 //!   with columns that are given up, and copies nothing.
 //!
-//! Each of them but the readers of a column can be refused for want of memory (4), and then leaves what it was given as it was.
+//! Each of them but the readers of a column can be refused for want of memory (4), and then leaves what it was given as it was, or
+//! hands it back.
 #![tactic(auto)]
 
 mod column;
+mod first;
 mod fossils;
 mod merging;
 
 pub use column::Column;
 pub use fossils::harvest;
 pub use merging::{into_trace, merge};
+pub use tw_vtime::OutOfMemory;

@@ -1,7 +1,7 @@
 -- How entries move up and down a heap.
-use Rattle.std.proofs.Common.{◌≡◌, ◌≢◌, ◌⊎◌, ℕ, ◌+◌, ◌-◌, ◌/◌, ◌%◌, ◌<◌, ◌≤◌, Bool, true, false, List, length, refl, sym, ap, subst, ◌∙◌, inl, inr, arith}
+use Rattle.std.proofs.Common.{◌≡◌, ◌≢◌, ◌⊎◌, ℕ, ◌+◌, ◌-◌, ◌/◌, ◌%◌, ◌<◌, ◌≤◌, true, false, List, length, sym, ap, subst, ◌∙◌, inl, inr, arith}
 use Rattle.std.specs.List.{SwappedAt}
-use Rattle.std.proofs.lemmas.Bool.{cases_eq}
+use Rattle.std.proofs.lemmas.Bool.{cases_eq, cases_Bool}
 use Rattle.tw_heap.specs.declared.entries.Entry.{Entry}
 use Rattle.tw_heap.specs.Entries.{is_before}
 use Rattle.tw_heap.specs.Heap.{no_entry, at, IsChild, InOrder, IsHeap, IsHeapAbove, IsHeapBelow}
@@ -9,10 +9,6 @@ use Rattle.tw_heap.proofs.EntryOrder.{entries_ordered}
 use Rattle.tw_heap.proofs.RisingLists.{asymmetric}
 
 -- ## The order of entries, where it does not hold
-
-test : (b : Bool) → (b ≡ true) ⊎ (b ≡ false)
-test true = inl refl
-test false = inr refl
 
 pub not_back : (x y : Entry) → is_before x y ≡ true → is_before y x ≡ false
 not_back x y less = asymmetric is_before entries_ordered x y less
@@ -22,7 +18,7 @@ not_itself x = entries_ordered.irreflexive x
 
 -- x is before y, and z is not
 pub not_less : (x y z : Entry) → is_before x y ≡ true → is_before z y ≡ false → is_before z x ≡ false
-not_less x y z less above = go (test (is_before z x))
+not_less x y z less above = go (cases_Bool (is_before z x))
   where
     go : (is_before z x ≡ true) ⊎ (is_before z x ≡ false) → is_before z x ≡ false
     go (inl sooner) = let never = sym (entries_ordered.transitive z x y sooner less) ∙ above in absurd (cc)
@@ -30,10 +26,10 @@ not_less x y z less above = go (test (is_before z x))
 
 -- z is not before y, nor y before x
 pub not_trans : (x y z : Entry) → is_before z y ≡ false → is_before y x ≡ false → is_before z x ≡ false
-not_trans x y z first second = go (test (is_before y z))
+not_trans x y z first second = go (cases_Bool (is_before y z))
   where
     go : (is_before y z ≡ true) ⊎ (is_before y z ≡ false) → is_before z x ≡ false
-    go (inl less) = not_less_left (test (is_before z x))
+    go (inl less) = not_less_left (cases_Bool (is_before z x))
       where
         not_less_left : (is_before z x ≡ true) ⊎ (is_before z x ≡ false) → is_before z x ≡ false
         not_less_left (inl sooner) = let never = sym (entries_ordered.transitive y z x less sooner) ∙ second in absurd (cc)
@@ -64,6 +60,10 @@ parent_of c some = by_rest (cases_eq ((c - 1) % 2) 0)
     by_rest (inl even) = inl (omega arith)
     by_rest (inr odd) = inr (omega arith)
 
+-- two places are in order if what stands there is
+ordered_as : (es : List Entry) (p c : ℕ) (x y : Entry) → at es p ≡ x → at es c ≡ y → is_before y x ≡ false → InOrder es p c
+ordered_as es p c x y is_x is_y order = ap (λ e. is_before e (at es p)) is_y ∙ ap (λ e. is_before y e) is_x ∙ order
+
 -- ## One step up
 
 module _ (es fs : List Entry) (k p : ℕ) (child : IsChild p k) (within : k < length es) (len : length fs ≡ length es) (swapped : SwappedAt es fs k p) (less : is_before (at es k) (at es p) ≡ true) (heap : IsHeapAbove es k) where
@@ -76,24 +76,21 @@ module _ (es fs : List Entry) (k p : ℕ) (child : IsChild p k) (within : k < le
   at_other : (j : ℕ) → j ≢ k → j ≢ p → at fs j ≡ at es j
   at_other j a b = swapped.2 j no_entry a b
 
-  both : (q c : ℕ) (x y : Entry) → at fs q ≡ x → at fs c ≡ y → is_before y x ≡ false → InOrder fs q c
-  both q c x y is_x is_y order = ap (λ e. is_before e (at fs q)) is_y ∙ ap (λ e. is_before y e) is_x ∙ order
-
   up_others : (q c : ℕ) → IsChild q c → c < length fs → c ≢ p → InOrder fs q c
   up_others q c is inside differs = by_child (cases_eq c k) (cases_eq q k) (cases_eq q p)
     where
       by_child : (c ≡ k) ⊎ (c ≢ k) → (q ≡ k) ⊎ (q ≢ k) → (q ≡ p) ⊎ (q ≢ p) → InOrder fs q c
       by_child (inl same) qk qp =
           let parent : q ≡ p = one_parent q p k (subst (λ j. IsChild q j) same is) child in
-          both q c (at es k) (at es p) (ap (at fs) parent ∙ at_p) (ap (at fs) same ∙ at_k) (not_back (at es k) (at es p) less)
+          ordered_as fs q c (at es k) (at es p) (ap (at fs) parent ∙ at_p) (ap (at fs) same ∙ at_k) (not_back (at es k) (at es p) less)
       by_child (inr other) (inl same) qp =
-          both q c (at es p) (at es c) (ap (at fs) same ∙ at_k) (at_other c other differs)
+          ordered_as fs q c (at es p) (at es c) (ap (at fs) same ∙ at_k) (at_other c other differs)
           (heap.around p c child (subst (λ j. IsChild j c) same is) (omega arith))
       by_child (inr other) (inr not_k) (inl same) =
-          both q c (at es k) (at es c) (ap (at fs) same ∙ at_p) (at_other c other differs)
+          ordered_as fs q c (at es k) (at es c) (ap (at fs) same ∙ at_p) (at_other c other differs)
           (not_less (at es k) (at es p) (at es c) less (heap.others p c (subst (λ j. IsChild j c) same is) (omega arith) other))
       by_child (inr other) (inr not_k) (inr not_p) =
-          both q c (at es q) (at es c) (at_other q not_k not_p) (at_other c other differs) (heap.others q c is (omega arith) other)
+          ordered_as fs q c (at es q) (at es c) (at_other q not_k not_p) (at_other c other differs) (heap.others q c is (omega arith) other)
 
   up_around : (q c : ℕ) → IsChild q p → IsChild p c → c < length fs → InOrder fs q c
   up_around q c is_p is_c inside =
@@ -103,9 +100,9 @@ module _ (es fs : List Entry) (k p : ℕ) (child : IsChild p k) (within : k < le
       let at_q : at fs q ≡ at es q = at_other q (λ e. absurd (omega arith)) (λ e. absurd (omega arith)) in
       let above = heap.others q p is_p (omega arith) (λ e. absurd (omega arith)) in
       elim (cases_eq c k) [
-        | inl same ↦ both q c (at es q) (at es p) at_q (ap (at fs) same ∙ at_k) above
+        | inl same ↦ ordered_as fs q c (at es q) (at es p) at_q (ap (at fs) same ∙ at_k) above
         | inr other ↦
-            both q c (at es q) (at es c) at_q (at_other c other (λ e. absurd (omega arith)))
+            ordered_as fs q c (at es q) (at es c) at_q (at_other c other (λ e. absurd (omega arith)))
             (not_trans (at es q) (at es p) (at es c) (heap.others p c is_c (omega arith) other) above)
       ]
 
@@ -124,26 +121,23 @@ up_done es k p child order heap q c is inside =
 -- ## One step down
 
 module _ (es fs : List Entry) (k c : ℕ) (child : IsChild k c) (within : c < length es) (len : length fs ≡ length es) (swapped : SwappedAt es fs k c) (less : is_before (at es c) (at es k) ≡ true) (first : (d : ℕ) → IsChild k d → d < length es → InOrder es c d) (heap : IsHeapBelow es k) where
-  down_both : (q d : ℕ) (x y : Entry) → at fs q ≡ x → at fs d ≡ y → is_before y x ≡ false → InOrder fs q d
-  down_both q d x y is_x is_y order = ap (λ e. is_before e (at fs q)) is_y ∙ ap (λ e. is_before y e) is_x ∙ order
-
   down_others : (q d : ℕ) → IsChild q d → d < length fs → q ≢ c → InOrder fs q d
   down_others q d is inside differs = by_parent (cases_eq q k) (cases_eq d c) (cases_eq d k)
     where
       by_parent : (q ≡ k) ⊎ (q ≢ k) → (d ≡ c) ⊎ (d ≢ c) → (d ≡ k) ⊎ (d ≢ k) → InOrder fs q d
       by_parent (inl same) (inl same_c) dk =
-          down_both q d (at es c) (at es k) (ap (at fs) same ∙ swapped.0 no_entry) (ap (at fs) same_c ∙ swapped.1 no_entry) (not_back (at es c) (at es k) less)
+          ordered_as fs q d (at es c) (at es k) (ap (at fs) same ∙ swapped.0 no_entry) (ap (at fs) same_c ∙ swapped.1 no_entry) (not_back (at es c) (at es k) less)
       by_parent (inl same) (inr other) dk =
           let above = child_above q d is in
-          down_both q d (at es c) (at es d) (ap (at fs) same ∙ swapped.0 no_entry) (swapped.2 d no_entry (λ e. absurd (omega arith)) other)
+          ordered_as fs q d (at es c) (at es d) (ap (at fs) same ∙ swapped.0 no_entry) (swapped.2 d no_entry (λ e. absurd (omega arith)) other)
           (first d (subst (λ j. IsChild j d) same is) (omega arith))
       by_parent (inr not_k) (inl same_c) dk =
           absurd (not_k (one_parent q k c (subst (λ j. IsChild q j) same_c is) child))
       by_parent (inr not_k) (inr other) (inl same_k) =
-          down_both q d (at es q) (at es c) (swapped.2 q no_entry not_k differs) (ap (at fs) same_k ∙ swapped.0 no_entry)
+          ordered_as fs q d (at es q) (at es c) (swapped.2 q no_entry not_k differs) (ap (at fs) same_k ∙ swapped.0 no_entry)
           (heap.around q c (subst (λ j. IsChild q j) same_k is) child within)
       by_parent (inr not_k) (inr other) (inr not_dk) =
-          down_both q d (at es q) (at es d) (swapped.2 q no_entry not_k differs) (swapped.2 d no_entry not_dk other)
+          ordered_as fs q d (at es q) (at es d) (swapped.2 q no_entry not_k differs) (swapped.2 d no_entry not_dk other)
           (heap.others q d is (omega arith) not_k)
 
   down_around : (q d : ℕ) → IsChild q c → IsChild c d → d < length fs → InOrder fs q d
@@ -151,7 +145,7 @@ module _ (es fs : List Entry) (k c : ℕ) (child : IsChild k c) (within : c < le
       let same : q ≡ k = one_parent q k c is_c child in
       let above = child_above c d is_d in
       let above_k = child_above k c child in
-      down_both q d (at es c) (at es d) (ap (at fs) same ∙ swapped.0 no_entry) (swapped.2 d no_entry (λ e. absurd (omega arith)) (λ e. absurd (omega arith)))
+      ordered_as fs q d (at es c) (at es d) (ap (at fs) same ∙ swapped.0 no_entry) (swapped.2 d no_entry (λ e. absurd (omega arith)) (λ e. absurd (omega arith)))
       (heap.others c d is_d (omega arith) (λ e. absurd (omega arith)))
 
   pub down_step : IsHeapBelow fs c

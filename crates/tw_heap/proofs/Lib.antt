@@ -4,3 +4,4 @@ pub mod EntriesByIndex
 pub mod HeapMoves
 pub mod HeapChanges
 pub mod EntriesRise
+pub mod Fronts

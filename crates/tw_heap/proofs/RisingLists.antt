@@ -2,16 +2,12 @@
 use Rattle.std.proofs.Common.{◌≡◌, ◌⊎◌, ℕ, zero, suc, ◌<◌, Bool, true, false, List, [], ◌∷◌, ◌++◌, length, get_or, set, cond, refl, sym, ap, ◌∙◌, inl, inr, arith}
 use Rattle.std.specs.List.{swap}
 use Rattle.std.specs.List.Sorted.{IsPermutation}
-use Rattle.std.proofs.lemmas.Bool.{cases_eq}
+use Rattle.std.proofs.lemmas.Bool.{cases_eq, cases_Bool}
 use Rattle.std.proofs.lemmas.List.{get_or-set_same, get_or-set_other, length-set}
 use Rattle.std.proofs.lemmas.List.Sorted.{IsPermutation-keeps}
 use Rattle.tw_heap.specs.Order.{IsStrictOrder, insert_by, sort_by}
 
 module _ {X : Type 0} (lt : X → X → Bool) (o : IsStrictOrder lt) where
-  test : (b : Bool) → (b ≡ true) ⊎ (b ≡ false)
-  test true = inl refl
-  test false = inr refl
-
   placed_past : (x y : X) (ys : List X) → lt y x ≡ true → insert_by lt x (y ∷ ys) ≡ y ∷ insert_by lt x ys
   placed_past x y ys less = rw less refl
 
@@ -20,21 +16,21 @@ module _ {X : Type 0} (lt : X → X → Bool) (o : IsStrictOrder lt) where
 
   -- y is not after x, and x is before z
   le_lt : (y x z : X) → lt x y ≡ false → lt x z ≡ true → lt y z ≡ true
-  le_lt y x z below less = go (test (lt y x))
+  le_lt y x z below less = go (cases_Bool (lt y x))
     where
       go : (lt y x ≡ true) ⊎ (lt y x ≡ false) → lt y z ≡ true
       go (inl before) = o.transitive y x z before less
       go (inr not_before) = rw (o.connected y x not_before below) less
 
   pub asymmetric : (x y : X) → lt x y ≡ true → lt y x ≡ false
-  asymmetric x y less = go (test (lt y x))
+  asymmetric x y less = go (cases_Bool (lt y x))
     where
       go : (lt y x ≡ true) ⊎ (lt y x ≡ false) → lt y x ≡ false
       go (inl more) = let both = sym (o.transitive x y x less more) ∙ o.irreflexive x in absurd (cc)
       go (inr not_more) = not_more
 
   both_here : (a b x : X) (l : List X) → lt x a ≡ false → lt x b ≡ false → insert_by lt a (b ∷ x ∷ l) ≡ insert_by lt b (a ∷ x ∷ l)
-  both_here a b x l here_a here_b = go (test (lt a b)) (test (lt b a))
+  both_here a b x l here_a here_b = go (cases_Bool (lt a b)) (cases_Bool (lt b a))
     where
       go : (lt a b ≡ true) ⊎ (lt a b ≡ false) → (lt b a ≡ true) ⊎ (lt b a ≡ false) → insert_by lt a (b ∷ x ∷ l) ≡ insert_by lt b (a ∷ x ∷ l)
       go (inl less) (inl more) = let never = sym (asymmetric a b less) ∙ more in absurd (cc)
@@ -43,14 +39,14 @@ module _ {X : Type 0} (lt : X → X → Bool) (o : IsStrictOrder lt) where
       go (inr not_less) (inr not_more) = rw (not_more, not_less, o.connected a b not_less not_more) refl
 
   pub placed_comm : (a b : X) (l : List X) → insert_by lt a (insert_by lt b l) ≡ insert_by lt b (insert_by lt a l)
-  placed_comm a b [] = go (test (lt a b)) (test (lt b a))
+  placed_comm a b [] = go (cases_Bool (lt a b)) (cases_Bool (lt b a))
     where
       go : (lt a b ≡ true) ⊎ (lt a b ≡ false) → (lt b a ≡ true) ⊎ (lt b a ≡ false) → insert_by lt a (b ∷ []) ≡ insert_by lt b (a ∷ [])
       go (inl less) (inl more) = let never = sym (asymmetric a b less) ∙ more in absurd (cc)
       go (inl less) (inr not_more) = rw (less, not_more) refl
       go (inr not_less) (inl more) = rw (more, not_less) refl
       go (inr not_less) (inr not_more) = rw (not_more, not_less, o.connected a b not_less not_more) refl
-  placed_comm a b (x ∷ l) = go (placed_comm a b l) (test (lt x a)) (test (lt x b))
+  placed_comm a b (x ∷ l) = go (placed_comm a b l) (cases_Bool (lt x a)) (cases_Bool (lt x b))
     where
       go : insert_by lt a (insert_by lt b l) ≡ insert_by lt b (insert_by lt a l) → (lt x a ≡ true) ⊎ (lt x a ≡ false) → (lt x b ≡ true) ⊎ (lt x b ≡ false) → insert_by lt a (insert_by lt b (x ∷ l)) ≡ insert_by lt b (insert_by lt a (x ∷ l))
       go rest (inl past_a) (inl past_b) =
@@ -84,7 +80,7 @@ module _ {X : Type 0} (lt : X → X → Bool) (o : IsStrictOrder lt) where
   taken_placed : (x : X) (l : List X) → taken x (insert_by lt x l) ≡ l
   unfolding taken
   taken_placed x [] = rw (o.irreflexive x) refl
-  taken_placed x (y ∷ l) = go (taken_placed x l) (test (lt y x))
+  taken_placed x (y ∷ l) = go (taken_placed x l) (cases_Bool (lt y x))
     where
       go : taken x (insert_by lt x l) ≡ l → (lt y x ≡ true) ⊎ (lt y x ≡ false) → taken x (insert_by lt x (y ∷ l)) ≡ y ∷ l
       go rest (inl past) = ap (taken x) (placed_past x y l past) ∙ rw past (ap (λ xs. y ∷ xs) rest)
@@ -125,7 +121,7 @@ module _ {X : Type 0} (lt : X → X → Bool) (o : IsStrictOrder lt) where
 
   least_placed : (x y : X) (l : List X) → lt y x ≡ false → IsLeast x l → IsLeast x (insert_by lt y l)
   least_placed x y [] above least = (above, tt)
-  least_placed x y (z ∷ l) above least = go (least_placed x y l above least.1) (test (lt z y))
+  least_placed x y (z ∷ l) above least = go (least_placed x y l above least.1) (cases_Bool (lt z y))
     where
       go : IsLeast x (insert_by lt y l) → (lt z y ≡ true) ⊎ (lt z y ≡ false) → IsLeast x (insert_by lt y (z ∷ l))
       go rest (inl past) = rw past (least.0, rest)

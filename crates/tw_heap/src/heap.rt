@@ -15,7 +15,7 @@ use tw_msgs::Message;
 #[derive(Drop)]
 pub struct EventHeap {
     // A binary heap: no entry is before its parent.
-    entries: Vec<Entry>,
+    pub(crate) entries: Vec<Entry>,
     // The place of each entry, under its index.
     places: Vec<usize>,
 }

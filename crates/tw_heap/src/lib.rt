@@ -9,8 +9,10 @@
 #![tactic(auto)]
 
 mod entries;
+mod front;
 mod heap;
 mod sifting;
 
 pub use entries::Entry;
 pub use heap::EventHeap;
+pub use tw_msgs::OutOfMemory;

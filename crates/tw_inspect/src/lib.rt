@@ -22,3 +22,4 @@ pub mod reports;
 pub use replies::{Reply, push_reply, replies_law};
 pub use reports::{components_law, describe, report};
 pub use tw_board::{Board, Publisher, Reader};
+pub use tw_vtime::OutOfMemory;

@@ -27,18 +27,14 @@ use Rattle.tw_theory.specs.Network.{Network, Fits, IsNetwork}
 use Rattle.tw_theory.specs.Simulator.{sequential, rounds, due_from, up_to, all_sent}
 use Rattle.tw_theory.specs.Soundness.{IsFor, IsSound}
 use Rattle.tw_theory.specs.Transitions.{Moment}
-use Rattle.tw_theory.proofs.Elements.{each_weaker}
+use Rattle.tw_theory.proofs.Elements.{each_weaker, present}
 use Rattle.tw_theory.proofs.Owing.{each_from_owed}
 use Rattle.tw_laws.specs.Ending.{ShowsFault}
 use Rattle.tw_laws.specs.History.{count, sum_below, AreInputs, AllPhaseOne, Holdings, StandsTo, sent_count, IsRunTo, IsFaulting}
 use Rattle.tw_laws.proofs.Changing.{each_from_least, process_from_least}
+use Rattle.tw_laws.proofs.History.Components.{sum_front}
 
 -- ---- sums over places
-
-sum_below-first : (f : ℕ → ℕ) (n : ℕ) → sum_below f (suc n) ≡ f 0 + sum_below (λ c. f (suc c)) n
-unfolding sum_below
-sum_below-first f zero = omega arith
-sum_below-first f (suc n) = omega (arith, sum_below-first f n)
 
 sum_below-add : (f g : ℕ → ℕ) (n : ℕ) → sum_below (λ c. f c + g c) n ≡ sum_below f n + sum_below g n
 unfolding sum_below
@@ -63,12 +59,7 @@ total_below : {X : Type 0} (f : X → ℕ) (g : ℕ → ℕ) (xs : List X) → (
     → sum_below g (length xs) ≡ total f xs
 unfolding sum_below
 total_below f g [] h = refl
-total_below f g (x ∷ xs) h = omega (arith, sum_below-first g (length xs), h 0 x refl, total_below f (λ c. g (suc c)) xs (λ c y e. h (suc c) y e))
-
-get_process : {X : Type 0} (xs : List X) (c : ℕ) → c < length xs → (x : X) × (slice_get xs c ≡ Some x)
-get_process [] c l = absurd (omega arith)
-get_process (x ∷ xs) zero l = (x, refl)
-get_process (x ∷ xs) (suc c) l = get_process xs c (omega arith)
+total_below f g (x ∷ xs) h = omega (arith, sum_front g (length xs), h 0 x refl, total_below f (λ c. g (suc c)) xs (λ c y e. h (suc c) y e))
 
 -- ---- messages that are not there
 
@@ -177,7 +168,7 @@ all_phase_one net (m ∷ ms) h = (h.0.phase, all_phase_one net ms h.1)
 module _ {S : Type 0} (net : Network S) (until : ℕ) (ok : IsNetwork net) (w : World S) (h : IsSound net until w) where
   -- component c's process
   pub process_at : (c : ℕ) → c < length net.models → (p : Process S) × (slice_get w.processes c ≡ Some p)
-  process_at c l = get_process w.processes c (let n = h.processes in omega arith)
+  process_at c l = present w.processes c (let n = h.processes in omega arith)
 
   -- a message is nowhere in transit, nor owed
   record IsClear (m : Message) : Type 0 where

@@ -1,16 +1,16 @@
 -- How an executive cancels stays as it began.
-use Rattle.std.proofs.Common.{◌≡◌, ℕ, zero, suc, ◌-◌, ◌≤◌, min, List, [], ◌∷◌, length, drop, not, Option, Some, None, Result, Ok, Err, refl, ap, ◌∙◌, arith}
+use Rattle.std.proofs.Common.{◌≡◌, ℕ, zero, suc, ◌-◌, ◌≤◌, min, List, [], ◌∷◌, length, drop, Bool, true, false, cond, not, Option, Some, None, Result, Ok, Err, refl, ap, ◌∙◌, arith}
 use Rattle.std.specs.Prelude.{slice_get, slice_set, nat_lt, ◌==◌}
 use Rattle.std.specs.List.{AllByRecursion as Each}
-use Rattle.std.proofs.lemmas.Bool.{cond_both}
+use Rattle.std.proofs.lemmas.Bool.{cond_both, ltb-false}
 use Rattle.tw_atomic.specs.Atomic.{Meaning}
 use Rattle.tw_msgs.specs.Messages.{has}
 use Rattle.tw_msgs.specs.declared.message.Item.{Item}
 use Rattle.tw_msgs.specs.declared.message.Message.{Message}
 use Rattle.tw_msgs.specs.declared.message.Sign.{Sign}
 use Rattle.tw_msgs.specs.declared.message.Sign.TheVariants.{Positive, Anti}
-use Rattle.tw_vtime.specs.Stamps.{stamp, never}
-use Rattle.tw_theory.specs.Bundles.{least_stamp, least_owed}
+use Rattle.tw_vtime.specs.Stamps.{stamp, never, is_overdue}
+use Rattle.tw_theory.specs.Bundles.{least_stamp, least_owed, overdue}
 use Rattle.tw_theory.specs.Contents.{Process, Cancel, Aggressive, Lazy, next, owed_after, owed_undone, unsent_by, consumed_by, steps_from, with_step, with_outgoing, settled_as, settle, back_to_first, cut, harvested, Received, receive, receive_signed}
 use Rattle.tw_theory.specs.Executive.{World, Answer, Action, Post, Deliver, Back, Raise, Harvest, act, act_step, act_post, act_deliver, act_back, act_harvest, if_made, mail_of, least_next, least_mail}
 use Rattle.tw_theory.specs.LocalRun.{Made, NoStep}
@@ -116,9 +116,14 @@ cancel_stays = record {
 
 -- ---- the least stamp when all is posted and delivered
 
-owed_later : (s : ℕ) (owed : List Message) → s ≤ never → Each (λ m. s ≤ m.stamp - 1) owed → s ≤ least_owed owed
-owed_later s [] top h = top
-owed_later s (m ∷ owed) top h = let rest = owed_later s owed top h.1 in let here = h.0 in omega arith
+owed_later : (s : ℕ) (owed : List Message) → overdue s owed ≡ [] → min s never ≤ least_owed owed
+owed_later s [] none = omega arith
+owed_later s (m ∷ owed) none = go (is_overdue m.stamp s) refl (λ k. owed_later s owed k) none
+  where
+    go : (b : Bool) → is_overdue m.stamp s ≡ b → (overdue s owed ≡ [] → min s never ≤ least_owed owed) → cond b (m ∷ overdue s owed) (overdue s owed) ≡ []
+        → min s never ≤ least_owed (m ∷ owed)
+    go true is rest k = absurd (cc k)
+    go false is rest k = let later = ltb-false (m.stamp - 1) s is in omega (arith, later, rest k)
 
 own_top : {S : Type 0} (ps : List (Process S)) → least_own ps ≤ never
 own_top [] = omega arith
@@ -132,14 +137,9 @@ next_own : {S : Type 0} (ps : List (Process S)) → Each IsSwept ps → least_ne
 next_own [] h = refl
 next_own (p ∷ ps) h =
     let none : least_stamp p.outgoing ≡ never = ap least_stamp h.0.outgoing in
-    let later : Each (λ m. min (next p) never ≤ m.stamp - 1) p.owed = weaker p.owed h.0.owed in
-    let owed = owed_later (min (next p) never) p.owed (omega arith) later in
+    let owed = owed_later (next p) p.owed h.0.owed in
     let top = own_top ps in
     omega (arith, none, owed, next_own ps h.1)
-  where
-    weaker : (ms : List Message) → Each (λ m. next p ≤ m.stamp - 1) ms → Each (λ m. min (next p) never ≤ m.stamp - 1) ms
-    weaker [] k = tt
-    weaker (m ∷ ms) k = (let l = k.0 in omega arith, weaker ms k.1)
 
 pub swept_least : {S : Type 0} → SweptLeast S
 swept_least {S} w h mail = let top = own_top w.processes in omega (arith, next_own w.processes h, mail_top w.mail mail)

@@ -26,10 +26,6 @@ pub least_from_each : (g : ℕ) (items : List Item) → g ≤ never → Each (λ
 least_from_each g [] top h = top
 least_from_each g (i ∷ items) top h = let rest = least_from_each g items top h.1 in omega (arith, h.0)
 
-pub least_mail_top : (mail : List (List Item)) → least_mail mail ≤ never
-least_mail_top [] = omega arith
-least_mail_top (box ∷ mail) = omega (arith, least_mail_top mail)
-
 pub box_from_least : (g : ℕ) (mail : List (List Item)) (c : ℕ) → g ≤ least_mail mail → g ≤ least_stamp (mail_of mail c)
 box_from_least g [] c l = l
 box_from_least g (box ∷ mail) zero l = omega arith
@@ -54,7 +50,8 @@ least_next-set g (x ∷ ps) zero q l a b d = omega arith
 least_next-set g (x ∷ ps) (suc c) q l a b d = let rest = least_next-set g ps c q (omega arith) a b d in omega arith
 
 module _ {S : Type 0} (net : Network S) (until : ℕ) where
-  other_mail : (gvt c : ℕ) (column : List Record) (mail mail' : List Item) (p : Process S) → IsSoundProcess net until gvt c column mail p
+  -- another mailbox, of items for this component
+  pub other_mail : (gvt c : ℕ) (column : List Record) (mail mail' : List Item) (p : Process S) → IsSoundProcess net until gvt c column mail p
       → Each (λ i. IsFor net c i.message) mail' → IsSoundProcess net until gvt c column mail' p
   other_mail gvt c column mail mail' p h m = record {
     column_is = h.column_is;

@@ -1,7 +1,7 @@
 -- When a rewind is refused.
 use Rattle.std.proofs.Common.{◌≡◌, ℕ, zero, suc, ◌≤◌, ◌<◌, List, [], ◌∷◌, ◌++◌, length, Bool, true, false, cond, not, ◌&&◌, ◌||◌, true≢false, Some, refl, sym, ap, ◌∙◌, subst, arith, ⊎_elim}
 use Rattle.std.specs.Prelude.{slice_get, ◌==◌, ◌≢◌, nat_lt, nat_le, Ok, Err}
-use Rattle.std.proofs.lemmas.Bool.{and_parts, or_cases, or_left, or_right, leb-true, le-leb, ltb-true, lt-ltb, eq-eqb, ne_eqb, cases_Bool}
+use Rattle.std.proofs.lemmas.Bool.{and_parts, and_from, or_cases, or_left, or_right, leb-true, le-leb, ltb-true, lt-ltb, eq-eqb, ne_eqb, cases_Bool}
 use Rattle.std.proofs.lemmas.Option.{same_Some, none-some}
 use Rattle.tw_msgs.specs.declared.record.Record.{Record}
 use Rattle.tw_theory.specs.Contents.{Process, records_of}
@@ -19,15 +19,12 @@ between_at s g (r ∷ rs) e =
     (λ later. let found = between_at s g rs later in (suc found.0, found.1, found.2, found.3, found.4))
     (or_cases (nat_le s r.stamp && nat_lt r.stamp g) (any_between s g rs) e)
 
-both : {a b : Bool} → a ≡ true → b ≡ true → (a && b) ≡ true
-both e f = λ i. e i && f i
-
 at_between : (s g : ℕ) (rs : List Record) (i : ℕ) (r : Record) → slice_get rs i ≡ Some r → s ≤ r.stamp → r.stamp < g → any_between s g rs ≡ true
 at_between s g [] i r at l k = absurd (none-some r at)
 at_between s g (x ∷ rs) zero r at l k =
     let same : x ≡ r = same_Some x r at in
     let e = ap (λ (y : Record). y.stamp) same in
-    or_left (nat_le s x.stamp && nat_lt x.stamp g) (any_between s g rs) (both (le-leb s x.stamp (omega (arith, e))) (lt-ltb x.stamp g (omega (arith, e))))
+    or_left (nat_le s x.stamp && nat_lt x.stamp g) (any_between s g rs) (and_from (nat_le s x.stamp) (nat_lt x.stamp g) (le-leb s x.stamp (omega (arith, e))) (lt-ltb x.stamp g (omega (arith, e))))
 at_between s g (x ∷ rs) (suc i) r at l k = or_right (nat_le s x.stamp && nat_lt x.stamp g) (any_between s g rs) (at_between s g rs i r at l k)
 
 in_left : (s g : ℕ) (xs ys : List Record) → any_between s g xs ≡ true → any_between s g (xs ++ ys) ≡ true

@@ -2,7 +2,7 @@
 use Rattle.std.proofs.Common.{◌≡◌, ℕ, suc, ◌+◌, ◌<◌, ◌≤◌, List, [], ◌∷◌, ◌++◌, take, drop, Bool, true, false, cond, refl, sym, ap, ◌∙◌, subst, arith, append_assoc, take-append-drop}
 use Rattle.std.specs.Prelude.{nat_lt}
 use Rattle.std.specs.List.{AllByRecursion as Each}
-use Rattle.std.proofs.lemmas.Bool.{ltb-true, ltb-false}
+use Rattle.std.proofs.lemmas.Bool.{ltb-false}
 use Rattle.std.proofs.lemmas.List.{take_all}
 use Rattle.tw_msgs.specs.Counting.{total}
 use Rattle.tw_msgs.specs.Messages.{has, Sorted}
@@ -19,6 +19,7 @@ use Rattle.tw_theory.specs.Network.{Network, Fits, IsNetwork}
 use Rattle.tw_theory.specs.Soundness.{AllBefore, IsFor, IsSoundProcess}
 use Rattle.tw_theory.specs.Transitions.{Moment}
 use Rattle.tw_theory.proofs.Elements.{each_parts, each_weaker}
+use Rattle.tw_theory.proofs.Histories.{kept_before}
 use Rattle.tw_theory.proofs.Owing.{each-undone, each-unsent, anti-undone, positive-undone, total-unsent, each_from_owed, owed_from_each}
 use Rattle.tw_theory.proofs.Steps.{local_step_follows}
 use Rattle.tw_theory.proofs.TakingBack.{consumed_by-append, sent_by-append}
@@ -29,15 +30,6 @@ use Rattle.tw_laws.proofs.Sends.{IsSentAt, local_step_sends}
 use Rattle.tw_laws.proofs.Stepping.{all_odd, inputs_ascending}
 
 -- ---- the steps before a stamp
-
-pub kept_before : {S : Type 0} (s : ℕ) (steps : List (Step S)) → AllBefore s (take (steps_before s steps) steps)
-kept_before s [] = tt
-kept_before s (x ∷ steps) = go (nat_lt x.entry.stamp s) refl (kept_before s steps)
-  where
-    go : (b : Bool) → nat_lt x.entry.stamp s ≡ b → AllBefore s (take (steps_before s steps) steps)
-        → AllBefore s (take (cond b (suc (steps_before s steps)) 0) (x ∷ steps))
-    go true e h = (ltb-true x.entry.stamp s e, h)
-    go false e h = tt
 
 pub dropped_not_before : {S : Type 0} (s : ℕ) (steps : List (Step S)) → NotBefore s (drop (steps_before s steps) steps)
 dropped_not_before s [] = tt
@@ -69,14 +61,6 @@ module _ {S : Type 0} (net : Network S) (ok : IsNetwork net) (c : ℕ) where
       let f = local_step_follows net c from all h.0 h.1 in
       let here = subst (λ s. Each (IsSentAt net s) h.0.step.sent) (sym f.stamp_is) (local_step_sends net ok c from all h.0 h.1) in
       (subst (λ step. Each (IsSentAt net step.entry.stamp) step.sent) h.2 here, leads_sends h.0.after h.0.left steps now pending h.3)
-
-  pub leads_consumes : (from : Moment S) (all : List Message) (steps : List (Step S)) (now : Moment S) (pending : List Message)
-      → Leads net c from all steps now pending → Each (λ step. Each (λ m. m.stamp ≡ step.entry.stamp) step.consumed) steps
-  leads_consumes from all [] now pending h = tt
-  leads_consumes from all (x ∷ steps) now pending h =
-      let f = local_step_follows net c from all h.0 h.1 in
-      let here = subst (λ s. Each (λ m. m.stamp ≡ s) h.0.step.consumed) (sym f.stamp_is) f.consumed_at in
-      (subst (λ step. Each (λ m. m.stamp ≡ step.entry.stamp) step.consumed) h.2 here, leads_consumes h.0.after h.0.left steps now pending h.3)
 
   pub leads_from : (g : ℕ) (from : Moment S) (all : List Message) (steps : List (Step S)) (now : Moment S) (pending : List Message)
       → Leads net c from all steps now pending → Ascending all → Each (λ m. phase_of m.stamp ≡ 1) all → g ≤ next_of from all → AllFrom g steps

@@ -24,11 +24,13 @@ use Rattle.tw_theory.specs.LocalRun.{Step}
 use Rattle.tw_theory.specs.Network.{Network, IsNetwork}
 use Rattle.tw_theory.specs.Soundness.{AllBefore, IsFor, IsSoundProcess, IsSound}
 use Rattle.tw_theory.proofs.Elements.{each-append, each_parts, each_weaker, each-place, each-without, each-remove, each-get}
+use Rattle.tw_theory.proofs.Leasts.{least_mail_top}
 use Rattle.tw_theory.proofs.MessageOrder.{first_of_place, first_of_without, sorted_join, sorted_right}
+use Rattle.tw_theory.proofs.Runs.{leads_consumes}
 use Rattle.tw_theory.proofs.Totals.{total-set, total-remove}
 use Rattle.tw_laws.proofs.Cancelling.{received, undone}
-use Rattle.tw_laws.proofs.Changing.{each_from_least, least_from_each, least_mail_top, box_from_least, least_mail-set, process_from_least, replaced_sound}
-use Rattle.tw_laws.proofs.Cutting.{IsCutOf, cut_sound, none_from, leads_consumes}
+use Rattle.tw_laws.proofs.Changing.{each_from_least, least_from_each, box_from_least, least_mail-set, other_mail, process_from_least, replaced_sound}
+use Rattle.tw_laws.proofs.Cutting.{IsCutOf, cut_sound, none_from}
 use Rattle.tw_laws.proofs.Runs.{leads_other, in_order}
 use Rattle.tw_laws.proofs.Stepping.{all_odd, inputs_ascending, get_box}
 
@@ -58,7 +60,7 @@ module _ {S : Type 0} (net : Network S) (until : ℕ) (ok : IsNetwork net) (boun
       → Sorted ms → Each (IsFor net c) ms → ((m : Message) → has m p.waiting ≡ true → has m ms ≡ true → ⊥)
       → IsSoundProcess net until gvt c column mail (with_pending p ms)
   pending_sound p ms h before up belong apart =
-      let consumed = consumed_before (first_stamp ms) p.history before (leads_consumes net ok c h.from (inputs p) p.history p.now p.pending h.stands) in
+      let consumed = consumed_before (first_stamp ms) p.history before (leads_consumes net c h.from (inputs p) p.history p.now p.pending h.stands) in
       let old = each_parts (IsFor net c) (consumed_by p.history) p.pending h.for_inputs in
       record {
         column_is = h.column_is;
@@ -204,7 +206,7 @@ module _ {S : Type 0} (net : Network S) (until : ℕ) (ok : IsNetwork net) (boun
       let q = cut m.stamp p in
       let k = given_cut p m g in
       let is_input : has m (inputs q) ≡ true = ap (has m) k.inputs ∙ has-append m (consumed_by p.history) p.pending ∙ or_left _ _ e in
-      let consumed = consumed_before m.stamp q.history k.before (leads_consumes net ok c k.sound.from (inputs q) q.history q.now q.pending k.sound.stands) in
+      let consumed = consumed_before m.stamp q.history k.before (leads_consumes net c k.sound.from (inputs q) q.history q.now q.pending k.sound.stands) in
       ⊎_elim (λ h. absurd (absent m (consumed_by q.history) consumed h)) (λ h. h) (or_cases _ _ (sym (has-append m (consumed_by q.history) q.pending) ∙ is_input))
 
   message_changed : (p : Process S) (m : Message) → IsGiven p m → IsChanged p (receive_message p m).1 (record { sign = Positive; message = m })
@@ -231,25 +233,6 @@ module _ {S : Type 0} (net : Network S) (until : ℕ) (ok : IsNetwork net) (boun
   received_changed p Anti m g = anti_changed p m g
 
 module _ {S : Type 0} (net : Network S) (until : ℕ) (ok : IsNetwork net) (bound : until ≤ max_tick) where
-  mail_sound : (gvt c : ℕ) (column : List Record) (mail mail' : List Item) (p : Process S) → IsSoundProcess net until gvt c column mail p
-      → Each (λ i. IsFor net c i.message) mail' → IsSoundProcess net until gvt c column mail' p
-  mail_sound gvt c column mail mail' p h m = record {
-    column_is = h.column_is;
-    from = h.from;
-    from_is = h.from_is;
-    stands = h.stands;
-    sorted = h.sorted;
-    within = h.within;
-    apart = h.apart;
-    for_inputs = h.for_inputs;
-    for_waiting = h.for_waiting;
-    for_mail = m;
-    fit_outgoing = h.fit_outgoing;
-    fit_owed = h.fit_owed;
-    line_le = h.line_le;
-    line_le_fault = h.line_le_fault;
-  }
-
   pub deliver_sound : (w : World S) (q i : ℕ) (o : Option (Process S)) (x : Option Item) → IsSound net until w → slice_get w.processes q ≡ o
       → slice_get (mail_of w.mail q) i ≡ x → IsSound net until (act_deliver w q i o x).1
   deliver_sound w q i None x h at is = h
@@ -267,7 +250,7 @@ module _ {S : Type 0} (net : Network S) (until : ℕ) (ok : IsNetwork net) (boun
       let same : mail_of mail q ≡ remove box i = get_or-set_same w.mail q (remove box i) [] near in
       let for_new = subst (Each (λ j. IsFor net q j.message)) (sym same) for_rest in
       let given : IsGiven net until ok bound w.gvt q (slice_index_or w.columns q []) (mail_of mail q) p item.message = record {
-        sound = mail_sound w.gvt q _ box (mail_of mail q) p sound for_new;
+        sound = other_mail net until w.gvt q _ box (mail_of mail q) p sound for_new;
         belongs = each-get (λ j. IsFor net q j.message) box i item is sound.for_mail;
         stamp = each-get (λ j. w.gvt ≤ j.message.stamp) box i item is stamps;
         next = old.0;

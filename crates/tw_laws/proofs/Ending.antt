@@ -2,9 +2,8 @@
 use Rattle.std.proofs.Common.{◌≡◌, ℕ, zero, suc, ◌+◌, ◌<◌, ◌≤◌, List, [], ◌∷◌, Bool, true, false, cond, not, ◌&&◌, true≢false, Option, Some, None, Result, Ok, Err, refl, sym, ap, ◌∙◌, subst, arith, ⊎_elim}
 use Rattle.std.specs.Prelude.{slice_get, filter, ◌==◌, nat_lt, ◌≢◌}
 use Rattle.std.specs.List.{AllByRecursion as Each}
-use Rattle.std.proofs.lemmas.Bool.{and_parts, eq-eqb, eqb-true, ne_eqb, leb-true, le-leb, ltb-true, lt-ltb, cond_both, cases_Bool}
+use Rattle.std.proofs.lemmas.Bool.{and_parts, and_from, eq-eqb, eqb-true, ne_eqb, leb-true, le-leb, ltb-true, lt-ltb, cond_both, cases_Bool}
 use Rattle.std.proofs.lemmas.Option.{same_Some, none-some}
-use Rattle.tw_msgs.specs.declared.message.Item.{Item}
 use Rattle.tw_msgs.specs.declared.message.Message.{Message}
 use Rattle.tw_vtime.specs.Stamps.{stamp, max_tick, phase_of}
 use Rattle.tw_vtime.specs.declared.limits.Limit.{Limit}
@@ -16,6 +15,8 @@ use Rattle.tw_theory.specs.Network.{Network, IsNetwork}
 use Rattle.tw_theory.specs.Outcomes.{RunState, Complete, Fault, Going, none_at, all_quiet, limit_of, fault_at, first_fault, all_past, state}
 use Rattle.tw_theory.specs.Simulator.{sequential, up_to}
 use Rattle.tw_theory.specs.Soundness.{IsSound}
+use Rattle.tw_theory.proofs.Elements.{empty_is}
+use Rattle.tw_theory.proofs.Mail.{empty_boxes, all_empty_is}
 use Rattle.tw_laws.specs.Ending.{ShowsFault, AllPast, HasAll, EndingLaw, StateLaw}
 use Rattle.tw_laws.proofs.History.Committed.{fault_stamp}
 use Rattle.tw_laws.proofs.History.Faults.{fault_law}
@@ -57,10 +58,6 @@ ending_law = record {
 
 -- ---- what the state says
 
-empty_is : {X : Type 0} (xs : List X) → is_empty xs ≡ true → xs ≡ []
-empty_is [] e = refl
-empty_is (x ∷ xs) e = absurd (true≢false (sym e))
-
 none_at_is : (s : ℕ) (ms : List Message) → none_at s ms ≡ true → Each (λ m. m.stamp ≢ s) ms
 none_at_is s [] e = tt
 none_at_is s (m ∷ ms) e =
@@ -70,10 +67,6 @@ none_at_is s (m ∷ ms) e =
     not-true : (b : Bool) → not b ≡ true → b ≡ false
     not-true true k = absurd (true≢false (sym k))
     not-true false k = refl
-
-empty_mail : (mail : List (List Item)) → all_empty mail ≡ true → Each (λ box. box ≡ []) mail
-empty_mail [] e = tt
-empty_mail (box ∷ mail) e = let parts = and_parts _ _ e in (empty_is box parts.0, empty_mail mail parts.1)
 
 quiet_at : {S : Type 0} (g : ℕ) (ps : List (Process S)) → all_quiet g ps ≡ true → (d : ℕ) (q : Process S) → slice_get ps d ≡ Some q
     → (q.outgoing ≡ []) × Each (λ m. m.stamp ≢ g) q.owed
@@ -162,25 +155,19 @@ module _ {S : Type 0} (net : Network S) (g : ℕ) where
 
 -- ---- and the other way round: what shows a fault is said to
 
-both : {a b : Bool} → a ≡ true → b ≡ true → (a && b) ≡ true
-both e f = λ i. e i && f i
-
 none_at_all : (s : ℕ) (ms : List Message) → Each (λ m. m.stamp ≢ s) ms → none_at s ms ≡ true
 none_at_all s [] h = refl
-none_at_all s (m ∷ ms) h = both (ap not (ne_eqb m.stamp s h.0)) (none_at_all s ms h.1)
-
-all_empty_is : (mail : List (List Item)) → Each (λ box. box ≡ []) mail → all_empty mail ≡ true
-all_empty_is [] h = refl
-all_empty_is (box ∷ mail) h = both (ap is_empty h.0) (all_empty_is mail h.1)
+none_at_all s (m ∷ ms) h = and_from _ _ (ap not (ne_eqb m.stamp s h.0)) (none_at_all s ms h.1)
 
 quiet_is : {S : Type 0} (g : ℕ) (ps : List (Process S)) → ((d : ℕ) (q : Process S) → slice_get ps d ≡ Some q → (q.outgoing ≡ []) × Each (λ m. m.stamp ≢ g) q.owed)
     → all_quiet g ps ≡ true
 quiet_is g [] h = refl
-quiet_is g (p ∷ ps) h = let here = h 0 p refl in both (both (ap is_empty here.0) (none_at_all g p.owed here.1)) (quiet_is g ps (λ d q at. h (suc d) q at))
+quiet_is g (p ∷ ps) h = let here = h 0 p refl in and_from _ _ (and_from _ _ (ap is_empty here.0) (none_at_all g p.owed here.1)) (quiet_is g ps (λ d q at. h (suc d) q at))
 
-all_past_is : {S : Type 0} (end : ℕ) (ps : List (Process S)) → ((d : ℕ) (q : Process S) → slice_get ps d ≡ Some q → end ≤ q.line) → all_past end ps ≡ true
+-- where no line is before the end
+pub all_past_is : {S : Type 0} (end : ℕ) (ps : List (Process S)) → ((d : ℕ) (q : Process S) → slice_get ps d ≡ Some q → end ≤ q.line) → all_past end ps ≡ true
 all_past_is end [] h = refl
-all_past_is end (p ∷ ps) h = both (le-leb end p.line (h 0 p refl)) (all_past_is end ps (λ d q at. h (suc d) q at))
+all_past_is end (p ∷ ps) h = and_from _ _ (le-leb end p.line (h 0 p refl)) (all_past_is end ps (λ d q at. h (suc d) q at))
 
 not_past : {S : Type 0} (end : ℕ) (ps : List (Process S)) → (((d : ℕ) (q : Process S) → slice_get ps d ≡ Some q → end ≤ q.line) → ⊥) → all_past end ps ≡ false
 not_past end ps going = ⊎_elim (λ e. absurd (going (λ d q at. past_at end ps e d q at))) (λ e. e) (cases_Bool (all_past end ps))
@@ -229,7 +216,7 @@ module _ {S : Type 0} (net : Network S) (until : ℕ) (w : World S) where
         before = ltb-true w.gvt (stamp until 0 0) two.1;
         odd = eqb-true (phase_of w.gvt) 1 three.1;
         outgoing = λ d q at. (quiet_at w.gvt w.processes one.0 d q at).0;
-        mail = empty_mail w.mail one.1;
+        mail = empty_boxes w.mail one.1;
         owed = λ d q at. (quiet_at w.gvt w.processes one.0 d q at).1;
         process = f.process;
         at = subst (λ k. slice_get w.processes k ≡ Some f.process) same f.at;
@@ -285,7 +272,7 @@ module _ {S : Type 0} (net : Network S) (until : ℕ) (w : World S) where
   unfolding state
   shows_fault c s limit going same f =
       let end = stamp until 0 0 in
-      let calm = both (both (both (quiet_is w.gvt w.processes (λ d q at. (f.outgoing d q at, f.owed d q at))) (all_empty_is w.mail f.mail)) (lt-ltb w.gvt end f.before)) (eq-eqb (phase_of w.gvt) 1 f.odd) in
+      let calm = and_from _ _ (and_from _ _ (and_from _ _ (quiet_is w.gvt w.processes (λ d q at. (f.outgoing d q at, f.owed d q at))) (all_empty_is w.mail f.mail)) (lt-ltb w.gvt end f.before)) (eq-eqb (phase_of w.gvt) 1 f.odd) in
       let zero_c : 0 + c ≡ c = omega arith in
       ap (λ b. cond b Complete (cond (all_quiet w.gvt w.processes && all_empty w.mail && nat_lt w.gvt end && (phase_of w.gvt == 1)) (first_fault net w.gvt 0 w.processes) Going)) (not_past end w.processes going)
       ∙ ap (λ b. cond b (first_fault net w.gvt 0 w.processes) Going) calm

@@ -7,16 +7,15 @@ use Rattle.std.proofs.lemmas.Bool.{lt-ltb, le-ltb, cases_lt, or_right}
 use Rattle.std.proofs.lemmas.List.{get_or-set_same, get_or-set_other}
 use Rattle.tw_msgs.specs.Counting.{total}
 use Rattle.tw_msgs.specs.Messages.{has, Sorted}
-use Rattle.tw_msgs.specs.declared.record.Record.{Record}
 use Rattle.tw_msgs.proofs.MessageLists.{has-append}
 use Rattle.tw_msgs.proofs.Totals.{total-append}
 use Rattle.tw_vtime.specs.Stamps.{stamp, max_tick}
-use Rattle.tw_theory.specs.Balance.{issued, held, all_consumed, consumed_in}
+use Rattle.tw_theory.specs.Balance.{issued, held, all_consumed}
 use Rattle.tw_theory.specs.Contents.{Process, inputs, consumed_by, sent_by, before_all, steps_before, harvested, records_of}
 use Rattle.tw_theory.specs.Executive.{World, Action, Post, Deliver, Back, Raise, Harvest, act, replay, act_harvest, mail_of}
 use Rattle.tw_theory.specs.LocalRun.{Step, Leads}
 use Rattle.tw_theory.specs.Network.{Network, IsNetwork}
-use Rattle.tw_theory.specs.Simulator.{sequential, rounds, due_from, up_to, records_before, moment_at, all_sent, sent_in}
+use Rattle.tw_theory.specs.Simulator.{sequential, rounds, due_from, up_to, records_before, moment_at, all_sent}
 use Rattle.tw_theory.specs.Soundness.{AllBefore, IsFor, IsSoundProcess, Cancels, IsSound, new_world}
 use Rattle.tw_theory.proofs.Elements.{each_parts, each_weaker, each-get, get_of_set}
 use Rattle.tw_theory.proofs.MessageOrder.{sorted_right}
@@ -30,6 +29,7 @@ use Rattle.tw_laws.proofs.Cancelling.{each-set}
 use Rattle.tw_laws.proofs.Changing.{process_from_least, least_next-set}
 use Rattle.tw_laws.proofs.Cutting.{all_before_parts}
 use Rattle.tw_laws.proofs.History.Committed.{committed_history}
+use Rattle.tw_laws.proofs.History.Counts.{all_sent-append, all_consumed-append}
 use Rattle.tw_laws.proofs.Recorded.{leads_recorded}
 use Rattle.tw_laws.proofs.Runs.{leads_split}
 use Rattle.tw_laws.proofs.AtGvt.{held_by, history_of, run_to, stands_at, stands_at-now}
@@ -42,14 +42,6 @@ steps_before_end g end (x ∷ steps) h =
     (λ l. ap (λ b. cond b (suc (steps_before (min g end) steps)) 0) (lt-ltb x.entry.stamp (min g end) (let k = h.0 in omega arith) ∙ sym (lt-ltb x.entry.stamp g l)) ∙ ap (λ n. cond (nat_lt x.entry.stamp g) (suc n) 0) (steps_before_end g end steps h.1))
     (λ l. ap (λ b. cond b (suc (steps_before (min g end) steps)) 0) (le-ltb x.entry.stamp (min g end) (omega arith)) ∙ sym (ap (λ b. cond b (suc (steps_before g steps)) 0) (le-ltb x.entry.stamp g l)))
     (cases_lt x.entry.stamp g)
-
-all_sent-append : {S : Type 0} (net : Network S) (xs ys : List Record) → all_sent net (xs ++ ys) ≡ all_sent net xs ++ all_sent net ys
-all_sent-append net [] ys = refl
-all_sent-append net (x ∷ xs) ys = ap (λ l. sent_in net x ++ l) (all_sent-append net xs ys) ∙ sym (append_assoc (sent_in net x) (all_sent net xs) (all_sent net ys))
-
-all_consumed-append : (xs ys : List Record) → all_consumed (xs ++ ys) ≡ all_consumed xs ++ all_consumed ys
-all_consumed-append [] ys = refl
-all_consumed-append (x ∷ xs) ys = ap (λ l. consumed_in x ++ l) (all_consumed-append xs ys) ∙ sym (append_assoc (consumed_in x) (all_consumed xs) (all_consumed ys))
 
 module _ {S : Type 0} (law : CommittedHistory S) (net : Network S) (until : ℕ) (ok : IsNetwork net) (bound : until ≤ max_tick) where
   harvest_sound : (w : World S) (c : ℕ) (o : Option (Process S)) → IsSound net until w → slice_get w.processes c ≡ o

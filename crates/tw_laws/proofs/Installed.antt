@@ -3,7 +3,7 @@ use Rattle.std.proofs.Common.{◌≡◌, ℕ, zero, suc, ◌+◌, ◌<◌, ◌�
 use Rattle.std.specs.Prelude.{◌==◌, take, drop, slice_get, slice_set, Ok, Err}
 use Rattle.std.specs.List.{AllByRecursion as Each}
 use Rattle.std.proofs.lemmas.Bool.{cond-true, cond-false, cond_both, eqb-true, eqb-false, lt-ltb}
-use Rattle.std.proofs.lemmas.List.{take-append-drop, set-set, append-nil}
+use Rattle.std.proofs.lemmas.List.{take-append-drop, length-take-le, set-set, append-nil}
 use Rattle.tw_atomic.specs.Atomic.{Meaning}
 use Rattle.tw_msgs.specs.declared.message.Message.{Message}
 use Rattle.tw_vtime.specs.Stamps.{stamp, phase_of}
@@ -17,13 +17,12 @@ use Rattle.tw_theory.specs.Network.{Network}
 use Rattle.tw_theory.specs.Soundness.{AllBefore}
 use Rattle.tw_theory.specs.Transitions.{Moment}
 use Rattle.tw_theory.proofs.Agreeing.{step_taken, same_step, agrees_more, front_more}
-use Rattle.tw_theory.proofs.Elements.{each_parts}
+use Rattle.tw_theory.proofs.Elements.{each_parts, set_same}
 use Rattle.tw_theory.proofs.Steps.{front-behind}
 use Rattle.tw_laws.specs.Chains.{steps_of_one, answers_of, IsStepped, InstallLaw}
 use Rattle.tw_laws.proofs.Cutting.{all_before_parts}
 use Rattle.tw_laws.proofs.Inverse.{set_here}
 use Rattle.tw_laws.proofs.Runs.{leads_split}
-use Rattle.tw_laws.proofs.Swept.{set_same}
 
 -- messages to one component, of one stamp, with the same items are the same
 front_is : (c s : ℕ) (ms : List Message) → Each (λ m. m.to ≡ c) ms → front s ms ≡ messages_for c s (items_of (front s ms))
@@ -118,11 +117,6 @@ module _ {S : Type 0} (net : Network S) (until : ℕ) (model : Meaning S) (start
             ∙ ap (λ (x : Step S). p.history ++ (x ∷ own_steps net start.component steps)) (own.consumed to own_to ∙ ap (own_step net start.component) leads.2);
       }
 
-length_take : {X : Type 0} (n : ℕ) (xs : List X) → n ≤ length xs → length (take n xs) ≡ n
-length_take zero xs l = refl
-length_take (suc n) [] l = absurd (omega arith)
-length_take (suc n) (x ∷ xs) l = ap suc (length_take n xs (omega arith))
-
 module _ {S : Type 0} (net : Network S) (until : ℕ) (model : Meaning S) (r : SoloRun S) (home : IsHome net model r.start) (run : IsSoloRun model r) where
   -- the beginning of a chain
   first_steps : (n : ℕ) → Leads (alone model r.start) r.start.component r.start.now r.start.messages (take n r.steps) (before_all (drop n r.steps) r.after) (consumed_by (drop n r.steps) ++ r.left)
@@ -146,7 +140,7 @@ module _ {S : Type 0} (net : Network S) (until : ℕ) (model : Meaning S) (r : S
       let first = first_steps (suc n) in
       let start_is : p.now ≡ r.start.now = begins r.steps l takes in
       let is = taken_as net until model r.start home bound 0 (take (suc n) r.steps) w r.start.now r.start.messages _ _ p q first.0 first.1 start_is there takes in
-      let size = length_take (suc n) r.steps l in
+      let size = length-take-le (suc n) r.steps l in
       record {
         world = ap (λ k. replay net until w (steps_of_one r.start.component k)) (sym size) ∙ is.world;
         answers = ap (λ k. Rattle.tw_theory.specs.Executive.answers net until w (steps_of_one r.start.component k)) (sym size) ∙ is.answers;

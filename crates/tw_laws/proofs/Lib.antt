@@ -48,6 +48,8 @@ pub mod Ready
 pub mod Running
 pub mod Agreeing
 pub mod Installed
+-- the order of couplings
+pub mod Alike
 -- the theorem of the whole, and all laws on concrete networks
 pub mod TimeWarp
 pub mod Three

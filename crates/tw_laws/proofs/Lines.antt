@@ -1,8 +1,7 @@
 -- The simulator's fault stands before the end of the run, and no line passes it; gvt never falls.
 use Rattle.std.proofs.Common.{◌≡◌, ℕ, ◌<◌, ◌≤◌, List, [], ◌∷◌, Option, Some, None, Result, Ok, Err, subst, arith, slice_get}
-use Rattle.std.specs.Prelude.{◌==◌, ◌≢◌, nat_lt}
-use Rattle.std.proofs.lemmas.Bool.{eq-eqb, cond_both}
-use Rattle.tw_msgs.specs.Bags.{Bag}
+use Rattle.std.specs.Prelude.{◌≢◌, nat_lt}
+use Rattle.std.proofs.lemmas.Bool.{cond_both}
 use Rattle.tw_msgs.specs.declared.message.Item.{Item}
 use Rattle.tw_vtime.specs.Stamps.{stamp, max_tick, phase_of}
 use Rattle.tw_vtime.specs.declared.limits.Limit.{Limit}
@@ -10,32 +9,24 @@ use Rattle.tw_theory.specs.Contents.{Process, next}
 use Rattle.tw_theory.specs.Executive.{World, Action, Post, Deliver, Back, Raise, Harvest, Answer, act, replay, act_step, act_post, act_deliver, act_back, act_harvest, if_made, mail_of}
 use Rattle.tw_theory.specs.LocalRun.{Made, NoStep}
 use Rattle.tw_theory.specs.Network.{Network, IsNetwork}
-use Rattle.tw_theory.specs.Simulator.{Moves, Stays, sequential}
+use Rattle.tw_theory.specs.Simulator.{sequential}
 use Rattle.tw_theory.specs.Soundness.{new_world, IsSound}
-use Rattle.tw_theory.specs.Transitions.{Moment, output}
 use Rattle.tw_laws.specs.Committed.{LinesLaw, SoundLines}
 use Rattle.tw_laws.proofs.Harvesting.{acts_soundly, replay_sound}
-use Rattle.tw_laws.proofs.History.Clock as clocked
-use Rattle.tw_laws.proofs.History.Clock.{NoLimit, act_if, clock_step, clock}
+use Rattle.tw_laws.proofs.History.Clock.{NoLimit}
 use Rattle.tw_laws.proofs.History.Committed.{extent}
+use Rattle.tw_laws.proofs.History.RoundBags.{even_quiet}
 use Rattle.tw_laws.proofs.AtGvt.{all_phase_one}
 use Rattle.tw_laws.proofs.Starting.{start_sound}
 
 module _ {S : Type 0} (net : Network S) where
-  -- no limit is met at an output stamp
-  even_calm : (c s : ℕ) (bag : Bag) (o : Option (Moment S)) → phase_of s ≡ 0 → NoLimit (act_if net c s bag o)
-  unfolding NoLimit act_if clocked.act
-  even_calm c s bag None even = tt
-  even_calm c s bag (Some now) even =
-      rw (eq-eqb (phase_of s) 0 even) (cond_both (now.due == s) (Moves (output net c now s)) Stays (NoLimit {S = S}) (λ e. tt) (λ e. tt))
-
   fault_within : (until : ℕ) → IsNetwork net → until ≤ max_tick → (b s : ℕ) (limit : Limit) → (sequential net until).fault ≡ Some (b, s, limit)
       → s < stamp until 0 0
   unfolding NoLimit
   fault_within until ok bound b s limit q =
       let x = extent net until (all_phase_one net net.inputs ok.inputs) bound in
       let f = x.1.fault (b, s, limit) q in
-      let calm : phase_of x.0 ≢ 0 = λ even. subst NoLimit f.2 (even_calm b x.0 _ _ even) in
+      let calm : phase_of x.0 ≢ 0 = λ even. subst NoLimit f.2 (even_quiet net b x.0 _ _ even) in
       let within = x.1.within in
       let same = f.0 in
       let not_end : x.0 ≢ stamp until 0 0 = λ e. calm (omega arith) in

@@ -31,7 +31,8 @@ trace-before : (g : ℕ) (rs : List Record) → IsTrace rs → IsTrace (before g
 trace-before g [] h = tt
 trace-before g (r ∷ rs) h = cond_both (nat_lt r.stamp g) (r ∷ before g rs) (before g rs) IsTrace (λ e. (each-before (Precedes r) g rs h.0, trace-before g rs h.1)) (λ e. trace-before g rs h.1)
 
-none_before : (g : ℕ) (rs : List Record) → Each (λ r. g ≤ r.stamp) rs → before g rs ≡ []
+-- where none stands before g
+pub none_before : (g : ℕ) (rs : List Record) → Each (λ r. g ≤ r.stamp) rs → before g rs ≡ []
 none_before g [] h = refl
 none_before g (r ∷ rs) h = cond-false (nat_lt r.stamp g) _ _ (le-ltb r.stamp g h.0) ∙ none_before g rs h.1
 

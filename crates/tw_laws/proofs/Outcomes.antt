@@ -1,8 +1,8 @@
 -- What the outcome of a run says.
 use Rattle.std.proofs.Common.{◌≡◌, get_or, ℕ, suc, ◌<◌, ◌≤◌, List, [], ◌∷◌, length, false, Some, None, refl, sym, ap, ◌∙◌, subst, arith, ⊎_elim}
-use Rattle.std.specs.Prelude.{slice_get, slice_set, filter, nat_lt, ◌==◌, ◌&&◌, ◌≢◌}
+use Rattle.std.specs.Prelude.{slice_get, slice_set, nat_lt, ◌==◌, ◌≢◌}
 use Rattle.std.specs.List.{AllByRecursion as Each}
-use Rattle.std.proofs.lemmas.Bool.{cond-true, cond-false, cond_both, and_parts, ltb-true, lt-ltb, cases_lt, cases_eq, ne_eqb, eq-eqb}
+use Rattle.std.proofs.lemmas.Bool.{cond-true, cond-false, lt-ltb, cases_lt, cases_eq, ne_eqb, eq-eqb}
 use Rattle.std.proofs.lemmas.List.{get_or-set_same, get_or-set_other, get_or_past}
 use Rattle.std.proofs.lemmas.Option.{same_Some, none-some, slice_get-get_or, slice_get_cases}
 use Rattle.tw_msgs.specs.Counting.{total}
@@ -21,6 +21,7 @@ use Rattle.tw_laws.specs.Outcome.{OutcomeLaw}
 use Rattle.tw_laws.proofs.Ending.{state_law}
 use Rattle.tw_laws.proofs.History.Rounds.{Reached, Running, Faulted, rounds_reach}
 use Rattle.tw_laws.proofs.Merging.{merging_law}
+use Rattle.tw_laws.proofs.Ready.{records_early}
 use Rattle.tw_laws.proofs.AtGvt.{all_phase_one}
 use Rattle.tw_laws.proofs.Traces.{sequential_trace}
 
@@ -90,12 +91,6 @@ length_parts (r ∷ rs) columns h =
         other : d ≢ r.component → (r.component == d) ≡ false
         other ne = ne_eqb r.component d (λ e. ne (sym e))
 
-filter_before : (c s g : ℕ) (rs : List Record) → s ≤ g → Each (λ r. r.stamp < g) (filter (λ r. (r.component == c) && nat_lt r.stamp s) rs)
-filter_before c s g [] l = tt
-filter_before c s g (r ∷ rs) l =
-    cond_both ((r.component == c) && nat_lt r.stamp s) _ _ (Each (λ r. r.stamp < g)) (λ e. (let k = ltb-true r.stamp s (and_parts (r.component == c) (nat_lt r.stamp s) e).1 in omega arith, filter_before c s g rs l))
-    (λ e. filter_before c s g rs l)
-
 module _ {S : Type 0} (net : Network S) (until : ℕ) (w : World S) (h : IsSound net until w) (g : ℕ) (late : up_to until w.gvt ≤ g) where
   column_before : (c : ℕ) → before g (column_of w.columns c) ≡ column_of w.columns c
   column_before c = ⊎_elim there past (slice_get_cases w.processes c).1
@@ -105,7 +100,7 @@ module _ {S : Type 0} (net : Network S) (until : ℕ) (w : World S) (h : IsSound
       there (p, l, at, same) =
           let s = h.each c p at in
           let k = s.line_le in
-          subst (λ column. before g column ≡ column) (sym s.column_is) (all_before g (records_before net until c p.line) (filter_before c (up_to until p.line) g (sequential net until).records (omega arith)))
+          subst (λ column. before g column ≡ column) (sym s.column_is) (all_before g (records_before net until c p.line) (records_early c (up_to until p.line) g (sequential net until).records (omega arith)))
 
       past : (length w.processes ≤ c) × (slice_get w.processes c ≡ None) → before g (column_of w.columns c) ≡ column_of w.columns c
       past (l, none) =

@@ -1,7 +1,7 @@
 -- What a cut of a sound process takes back: in its history steps stand in the order of their stamps.
 use Rattle.std.proofs.Common.{◌≡◌, ℕ, ◌≤◌, List, [], ◌∷◌, ◌++◌, take, drop, sym, ap, ◌∙◌, subst, arith, append_assoc, take-append-drop}
 use Rattle.std.specs.List.{AllByRecursion as Each}
-use Rattle.tw_laws.proofs.Cutting.{AllFrom, dropped_not_before, kept_before, leads_from}
+use Rattle.tw_laws.proofs.Cutting.{AllFrom, dropped_not_before, leads_from}
 use Rattle.tw_laws.proofs.Inverse.{NotBefore}
 use Rattle.tw_laws.proofs.Runs.{in_order, leads_split}
 use Rattle.tw_laws.proofs.Stepping.{all_odd, inputs_ascending}
@@ -10,6 +10,7 @@ use Rattle.tw_msgs.specs.declared.message.Item.{Item}
 use Rattle.tw_msgs.specs.declared.message.Message.{Message}
 use Rattle.tw_msgs.specs.declared.record.Record.{Record}
 use Rattle.tw_theory.proofs.Elements.{each_parts}
+use Rattle.tw_theory.proofs.Histories.{kept_before}
 use Rattle.tw_theory.proofs.Steps.{local_step_follows}
 use Rattle.tw_theory.proofs.TakingBack.{consumed_by-append}
 use Rattle.tw_theory.specs.Bundles.{Ascending}

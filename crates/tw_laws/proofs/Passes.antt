@@ -4,7 +4,6 @@ use Rattle.std.specs.Prelude.{slice_get, slice_set, ◌&&◌, remove, Ok, Err}
 use Rattle.std.specs.List.{AllByRecursion as Each}
 use Rattle.std.proofs.lemmas.Bool.{cases_lt, cases_eq}
 use Rattle.std.proofs.lemmas.List.{length-map, length-append, drop_all, drop-set-lt, nil_from_length, get_or_past, get_or-set_same, get_or-set_other, set-set, set-get_or}
-use Rattle.std.proofs.lemmas.Option.{same_Some, none-some}
 use Rattle.tw_msgs.specs.Counting.{total}
 use Rattle.tw_msgs.specs.declared.message.Item.{Item}
 use Rattle.tw_vtime.specs.Stamps.{max_tick}
@@ -14,20 +13,10 @@ use Rattle.tw_theory.specs.Exchange.{is_empty, all_empty, all_idle, is_swept, wo
 use Rattle.tw_theory.specs.Executive.{World, Action, Post, Deliver, Answer, Posted, Received, act, act_post, act_deliver, mail_of, posted, replay, answers}
 use Rattle.tw_theory.specs.Network.{Network, IsNetwork, Fits}
 use Rattle.tw_theory.specs.Soundness.{Cancels, IsSound}
-use Rattle.tw_theory.proofs.Elements.{each_weaker}
+use Rattle.tw_theory.proofs.Elements.{each_weaker, present, drop_here}
 use Rattle.tw_laws.proofs.Harvesting.{acts_soundly, replay_sound}
 use Rattle.tw_laws.proofs.Stepping.{total-posted}
 use Rattle.tw_laws.proofs.Sweeping.{one_each, one_each_all, settle_fits, work_falls}
-
-drop_at : {X : Type 0} (xs : List X) (c : ℕ) (x : X) → slice_get xs c ≡ Some x → drop c xs ≡ x ∷ drop (suc c) xs
-drop_at [] c x e = absurd (none-some x e)
-drop_at (y ∷ xs) zero x e = ap (λ z. z ∷ xs) (same_Some y x e)
-drop_at (y ∷ xs) (suc c) x e = drop_at xs c x e
-
-pub present : {X : Type 0} (xs : List X) (c : ℕ) → c < length xs → (x : X) × (slice_get xs c ≡ Some x)
-present [] c l = absurd (omega arith)
-present (x ∷ xs) zero l = (x, refl)
-present (x ∷ xs) (suc c) l = present xs c (omega arith)
 
 -- what a post of a process puts into mailboxes
 abbrev pub out_of : {S : Type 0} → Process S → ℕ
@@ -71,7 +60,7 @@ module _ {S : Type 0} (net : Network S) (until : ℕ) where
         let sound = h.each c p there.1 in
         let near = each_weaker (λ i. Fits net i.message) (λ i. i.message.to < length w.mail) (λ i f. let l = f.to in let k = h.mail in omega arith) out (settle_fits (Fits net) p.cancel p sound.fit_outgoing sound.fit_owed) in
         let rest = are_posted n (suc c) w1 (acts_soundly net until w ok bound h (Post c)) (let l = ap length processes ∙ length-set w.processes c q in omega (arith, e, l)) in
-        let here : total out_of (drop c w.processes) ≡ out_of p + total out_of (drop (suc c) w.processes) = ap (total out_of) (drop_at w.processes c p there.1) in
+        let here : total out_of (drop c w.processes) ≡ out_of p + total out_of (drop (suc c) w.processes) = ap (total out_of) (drop_here w.processes c p there.1) in
         let later : total out_of (drop (suc c) w1.processes) ≡ total out_of (drop (suc c) w.processes) = ap (λ ps. total out_of (drop (suc c) ps)) processes ∙ ap (total out_of) (drop-set-lt (suc c) w.processes c q (omega arith)) in
         let fewer : work w1 + length out ≡ work w = work_falls.post net until w h c p there.1 in
         let more : total length w1.mail ≡ total length w.mail + length out =

@@ -27,7 +27,7 @@ use Rattle.tw_theory.specs.Standing.{IsTied, IsReady, CanTake, floor_after, IsOf
 use Rattle.tw_theory.specs.Transitions.{Moment, Move, output, if_within, moved, transition, turn, kind_of, due_of, first_due, start_moment}
 use Rattle.tw_theory.proofs.Elements.{each-place, each-without}
 use Rattle.tw_theory.proofs.MessageOrder.{ascending_of_sorted, first_of_place, first_of_without}
-use Rattle.tw_theory.proofs.Standing.{ready_turn, ready_output, ready_transition}
+use Rattle.tw_theory.proofs.Standing.{before_never, ready_turn, ready_output, ready_transition}
 use Rattle.tw_theory.proofs.Steps.{local_step_follows}
 use Rattle.tw_laws.specs.Standing.{StandingLaw, MayCome, ReceiveLaw}
 use Rattle.tw_laws.proofs.Changing.{box_from_least, each_from_least}
@@ -184,10 +184,6 @@ module _ {S : Type 0} (IsValid : S → Type 0) (model : Meaning S) (c : ℕ) (no
     refl,
   )
 
-  before_never : (ms : List Message) → Each (CanTake c) ms → Each (λ x. x.stamp < never) ms
-  before_never [] h = tt
-  before_never (x ∷ xs) h = (h.0.before_end, before_never xs h.1)
-
   pub withdrawn_ready : IsReadyFrom IsValid model c now (without m messages) ready.floor
   withdrawn_ready = (
     record {
@@ -195,7 +191,7 @@ module _ {S : Type 0} (IsValid : S → Type 0) (model : Meaning S) (c : ℕ) (no
       stands = ready.stands;
       sorted = without-Sorted m messages ready.sorted;
       takes = each-without (CanTake c) m messages ready.takes;
-      from = first_of_without ready.floor m messages (ascending_of_sorted messages (before_never messages ready.takes) ready.sorted) ready.from;
+      from = first_of_without ready.floor m messages (ascending_of_sorted messages (before_never c messages ready.takes) ready.sorted) ready.from;
     },
     refl,
   )
@@ -213,7 +209,8 @@ standing_law IsValid model keeps = record {
 
 -- ---- what may be received
 
-records_early : (c s g : ℕ) (rs : List Record) → s ≤ g → Each (λ r. r.stamp < g) (filter (λ r. (r.component == c) && nat_lt r.stamp s) rs)
+-- the records of a component before s stand before a later g too
+pub records_early : (c s g : ℕ) (rs : List Record) → s ≤ g → Each (λ r. r.stamp < g) (filter (λ r. (r.component == c) && nat_lt r.stamp s) rs)
 records_early c s g [] l = tt
 records_early c s g (r ∷ rs) l =
     cond_both ((r.component == c) && nat_lt r.stamp s) _ _ (Each (λ r. r.stamp < g)) (λ e. (let k = ltb-true r.stamp s (and_parts (r.component == c) (nat_lt r.stamp s) e).1 in omega arith, records_early c s g rs l))

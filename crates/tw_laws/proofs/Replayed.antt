@@ -6,6 +6,7 @@ use Rattle.tw_theory.specs.Executive.{World, Action, act, replay, answers}
 use Rattle.tw_theory.specs.Memory.{TakesMemory, TakenOf, one_if_taken}
 use Rattle.tw_theory.specs.Network.{Network}
 use Rattle.tw_theory.specs.Soundness.{IsSound}
+use Rattle.tw_theory.proofs.Board.{at_most_trans}
 use Rattle.tw_laws.specs.Board.{BoardLaw}
 use Rattle.tw_laws.specs.Committed.{HasCommitted, Grow}
 use Rattle.tw_laws.specs.Memory.{ReplayLaw}
@@ -54,9 +55,6 @@ replay_law {S} = record {
 }
 
 -- ---- the board
-
-at_most_trans : (a b c : Numbers) → AtMost a b → AtMost b c → AtMost a c
-at_most_trans a b c h k = let h0 = h.0 in let h1 = h.1 in let k0 = k.0 in let k1 = k.1 in (omega (arith, h0, k0), omega (arith, h1, k1))
 
 posted_is : (a b : Numbers) → AtMost a b → posted_after a b ≡ b
 posted_is (a, b) (c, d) h = let h0 = h.0 in let h1 = h.1 in let x : max a c ≡ c = omega (arith, h0) in let y : max b d ≡ d = omega (arith, h1) in λ i. (x i, y i)

@@ -16,9 +16,10 @@ use Rattle.tw_theory.specs.LocalRun.{Step}
 use Rattle.tw_theory.specs.Marks.{marks, rewound_steps, any_between, any_committed, rewound, rewind}
 use Rattle.tw_theory.specs.Network.{Network, IsNetwork}
 use Rattle.tw_theory.specs.Soundness.{IsSoundProcess, IsSound}
+use Rattle.tw_theory.proofs.Leasts.{least_mail_top}
 use Rattle.tw_laws.specs.Inverse.{RestoredAll, steps_of, IsRestored, InverseLaw, BackRestores}
 use Rattle.tw_laws.proofs.Cancelling.{rewound_cancels}
-use Rattle.tw_laws.proofs.Changing.{process_from_least, least_mail_top}
+use Rattle.tw_laws.proofs.Changing.{process_from_least}
 use Rattle.tw_laws.proofs.Cutting.{IsCutOf, cut_sound}
 use Rattle.tw_laws.proofs.Inverse.{ordered_inverse, ordered_back}
 use Rattle.tw_laws.proofs.Ordered.{IsOrdered, AllOrdered}

@@ -13,9 +13,9 @@ use Rattle.tw_theory.specs.Executive.{World, Answer, Undone, NoSuch, Committed, 
 use Rattle.tw_theory.specs.Marks.{any_committed, rewound, rewound_steps, rewind}
 use Rattle.tw_theory.proofs.Balancing.{transit}
 use Rattle.tw_theory.proofs.Cuts.{inputs_of_cut}
+use Rattle.tw_theory.proofs.Histories.{kept_before}
 use Rattle.tw_theory.proofs.Totals.{total-set}
 use Rattle.tw_laws.specs.Rewinding.{taken_back, all_owed, AllCancel, IsCutAt, IsRewound, RewindingLaw, IsOneCut, BackCuts}
-use Rattle.tw_laws.proofs.Cutting.{kept_before}
 use Rattle.tw_laws.proofs.Inverse.{set_here, set_there}
 use Rattle.tw_laws.proofs.Transit.{rewound_transit, dropped, cut_positive, cut_anti, cut_no_anti, cut_more_owed}
 

@@ -1,5 +1,5 @@
 -- A process whose run began where it was ready stays one, whatever it does.
-use Rattle.std.proofs.Common.{◌≡◌, ℕ, suc, ◌∙◌, ◌+◌, ◌<◌, ◌≤◌, List, [], ◌∷◌, ◌++◌, Ok, refl, sym, subst, arith, append-nil, append_assoc}
+use Rattle.std.proofs.Common.{◌≡◌, ℕ, suc, ◌∙◌, ◌+◌, ◌≤◌, List, [], ◌∷◌, ◌++◌, Ok, refl, sym, subst, arith}
 use Rattle.std.specs.Prelude.{take, drop, ◌==◌}
 use Rattle.std.specs.List.{AllByRecursion as Each}
 use Rattle.std.proofs.lemmas.Bool.{cond_both, eqb-true}
@@ -12,7 +12,7 @@ use Rattle.tw_msgs.specs.declared.message.Sign.{Sign}
 use Rattle.tw_msgs.specs.declared.message.Sign.TheVariants.{Positive, Anti}
 use Rattle.tw_msgs.proofs.MessageLists.{without-Sorted}
 use Rattle.tw_msgs.proofs.Messages.{place-Sorted, sorted_messages-Sorted}
-use Rattle.tw_vtime.specs.Stamps.{never, phase_of}
+use Rattle.tw_vtime.specs.Stamps.{phase_of}
 use Rattle.tw_theory.specs.Bundles.{first_stamp, addressed, Ascending}
 use Rattle.tw_theory.specs.Chains.{Start}
 use Rattle.tw_theory.specs.Contents.{Process, Cancel, Aggressive, Lazy, next, inputs, consumed_by, before_all, with_step, with_pending, back_to_first, steps_before, steps_from, cut, placed, removed, Received, receive_signed, settled_as, records_of}
@@ -21,29 +21,20 @@ use Rattle.tw_theory.specs.LocalRun.{Step, Made, Leads, local_step}
 use Rattle.tw_theory.specs.Network.{Network}
 use Rattle.tw_theory.specs.Soundness.{AllBefore}
 use Rattle.tw_theory.specs.Standing.{CanTake, IsOf, IsReadyFrom, IsRunning, floor_after, floor_of, floor_of_records}
-use Rattle.tw_theory.specs.Transitions.{Moment, start_moment}
+use Rattle.tw_theory.specs.Transitions.{start_moment}
 use Rattle.tw_theory.proofs.Cuts.{inputs_of_cut}
 use Rattle.tw_theory.proofs.Elements.{each-append, each_parts, each_weaker, each-place, each-without, each-sorted}
+use Rattle.tw_theory.proofs.Histories.{cut_before, floor_within}
 use Rattle.tw_theory.proofs.MessageOrder.{ascending_of_sorted, first_of_place, first_of_without, sorted_join, sorted_right}
+use Rattle.tw_theory.proofs.Runs.{leads_more, leads_consumes}
+use Rattle.tw_theory.proofs.Standing.{before_never}
 use Rattle.tw_theory.proofs.Steps.{local_step_follows}
-use Rattle.tw_theory.proofs.TakingBack.{consumed_by-append}
 use Rattle.tw_laws.specs.Standing.{RunningLaw}
-use Rattle.tw_laws.proofs.Cutting.{kept_before, none_from}
+use Rattle.tw_laws.proofs.Cutting.{none_from}
 use Rattle.tw_laws.proofs.Delivering.{before_weaker, before_both, consumed_before}
 use Rattle.tw_laws.proofs.Ready.{KeepsValid, start_ready, run_ready}
-use Rattle.tw_laws.proofs.Runs.{leads_more, leads_split, leads_other, in_order}
-
--- what steps made by itself consumed has their stamps
-consumed_then : {S : Type 0} (net : Network S) (c : ℕ) (from : Moment S) (all : List Message) (steps : List (Step S)) (now : Moment S) (pending : List Message)
-    → Leads net c from all steps now pending → Each (λ step. Each (λ m. m.stamp ≡ step.entry.stamp) step.consumed) steps
-consumed_then net c from all [] now pending h = tt
-consumed_then net c from all (x ∷ steps) now pending h =
-    let f = local_step_follows net c from all h.0 h.1 in
-    let here = subst (λ s. Each (λ m. m.stamp ≡ s) h.0.step.consumed) (sym f.stamp_is) f.consumed_at in
-    (subst (λ step. Each (λ m. m.stamp ≡ step.entry.stamp) step.consumed) h.2 here, consumed_then net c h.0.after h.0.left steps now pending h.3)
-
-before_never : (c : ℕ) (ms : List Message) → Each (CanTake c) ms → Each (λ m. m.stamp < never) ms
-before_never c ms h = each_weaker (CanTake c) (λ m. m.stamp < never) (λ m k. k.before_end) ms h
+use Rattle.tw_laws.proofs.Runs.{leads_split, leads_other, in_order}
+use Rattle.tw_laws.proofs.Stepping.{inputs_same}
 
 all_odd : (c : ℕ) (ms : List Message) → Each (CanTake c) ms → Each (λ m. phase_of m.stamp ≡ 1) ms
 all_odd c ms h = each_weaker (CanTake c) (λ m. phase_of m.stamp ≡ 1) (λ m k. k.phase) ms h
@@ -52,10 +43,6 @@ all_odd c ms h = each_weaker (CanTake c) (λ m. phase_of m.stamp ≡ 1) (λ m k.
 first_of_other : (s : ℕ) (xs ys zs : List Message) → s ≤ first_stamp (xs ++ ys) → (s ≤ first_stamp ys → s ≤ first_stamp zs) → s ≤ first_stamp (xs ++ zs)
 first_of_other s [] ys zs h f = f h
 first_of_other s (x ∷ xs) ys zs h f = h
-
-pub floor_within : {S : Type 0} (floor s : ℕ) (steps : List (Step S)) → floor ≤ s → AllBefore s steps → floor_after floor steps ≤ s
-floor_within floor s [] l h = l
-floor_within floor s (x ∷ steps) l h = floor_within (x.entry.stamp + 1) s steps (let k = h.0 in omega (arith, k)) h.1
 
 floor_of_steps : {S : Type 0} (floor : ℕ) (steps : List (Step S)) → floor_after floor steps ≡ floor_of_records floor (records_of steps)
 floor_of_steps floor [] = refl
@@ -68,9 +55,6 @@ floor_of_more floor (x ∷ xs) ys = floor_of_more (x.stamp + 1) xs ys
 module _ {S : Type 0} (IsValid : S → Type 0) (model : Meaning S) (net : Network S) (c floor : ℕ) where
   abbrev Running : Process S → Type 0
   Running p = IsRunning IsValid model net c floor p
-
-  inputs_same : (p : Process S) (made : Made S) → made.step.consumed ++ made.left ≡ p.pending → inputs p ≡ inputs (with_step p made)
-  inputs_same p made e = sym (rw (consumed_by-append p.history (made.step ∷ []), append-nil made.step.consumed, append_assoc (consumed_by p.history) made.step.consumed made.left, e) refl)
 
   pub step_runs : (p : Process S) (made : Made S) → Running p → local_step net c p.now p.pending ≡ Ok made → Running (with_step p made)
   step_runs p made h e =
@@ -111,7 +95,7 @@ module _ {S : Type 0} (IsValid : S → Type 0) (model : Meaning S) (net : Networ
   pending_runs p ms h before up takes first =
       let ready = h.ready.0 in
       let ascends = ascending_of_sorted (inputs p) (before_never c (inputs p) ready.takes) ready.sorted in
-      let consumed = consumed_before (first_stamp ms) p.history before (consumed_then net c h.from (inputs p) p.history p.now p.pending h.runs) in
+      let consumed = consumed_before (first_stamp ms) p.history before (leads_consumes net c h.from (inputs p) p.history p.now p.pending h.runs) in
       let old = each_parts (CanTake c) (consumed_by p.history) p.pending ready.takes in
       let low : floor ≤ first_stamp (consumed_by p.history ++ p.pending) = let is = h.ready.1 in let l = ready.from in omega (arith, is, l) in
       let is : floor ≤ first_stamp (consumed_by p.history ++ ms) = first_of_other floor (consumed_by p.history) p.pending ms low first in
@@ -146,17 +130,13 @@ module _ {S : Type 0} (IsValid : S → Type 0) (model : Meaning S) (net : Networ
       let first = before_weaker (next p) (first_stamp (without m p.pending)) p.history (λ k l. let f = first_of_without (suc k) m p.pending o.1 (omega arith) in f) o.0 in
       pending_runs p (without m p.pending) h first (without-Sorted m p.pending (sorted_right (consumed_by p.history) p.pending ready.sorted)) (each-without (CanTake c) m p.pending old.1) (λ l. first_of_without floor m p.pending o.1 l)
 
-  cut_keeps : (s : ℕ) (p : Process S) → AllBefore s (cut s p).history
-  unfolding back_to_first
-  cut_keeps s p = kept_before s p.history
-
   pub received_runs : (p : Process S) (sign : Sign) (m : Message) → Running p → CanTake c m → floor ≤ m.stamp → Running (receive_signed p sign m).1
   received_runs p Positive m h can late =
       cond_both (has m p.waiting) _ _ (λ (r : Received × Process S). Running r.1)
       (λ e. record { from = h.from; ready = h.ready; runs = h.runs })
       (λ e. cond_both (steps_from m.stamp p == 0) _ _ (λ (r : Received × Process S). Running r.1)
       (λ d. placed_runs p m h can late (none_from m.stamp p (eqb-true (steps_from m.stamp p) 0 d)))
-      (λ d. placed_runs (cut m.stamp p) m (cut_runs m.stamp p h) can late (cut_keeps m.stamp p)))
+      (λ d. placed_runs (cut m.stamp p) m (cut_runs m.stamp p h) can late (cut_before m.stamp p)))
   received_runs p Anti m h can late =
       cond_both (has m p.pending) _ _ (λ (r : Received × Process S). Running r.1)
       (λ e. removed_runs p m h)

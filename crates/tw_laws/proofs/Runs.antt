@@ -106,12 +106,6 @@ module _ {S : Type 0} (net : Network S) (c : ℕ) where
 
   -- ---- runs
 
-  pub leads_more : (from : Moment S) (all : List Message) (steps : List (Step S)) (now : Moment S) (pending : List Message) (made : Made S)
-      → Leads net c from all steps now pending → local_step net c now pending ≡ Ok made
-      → Leads net c from all (steps ++ made.step ∷ []) made.after made.left
-  leads_more from all [] now pending made h e = (made, subst₂ (λ x y. local_step net c x y ≡ Ok made) (sym h.0) (sym h.1) e, refl, (refl, refl))
-  leads_more from all (x ∷ steps) now pending made h e = (h.0, h.1, h.2, leads_more h.0.after h.0.left steps now pending made h.3 e)
-
   pub leads_start : (from : Moment S) (all : List Message) (steps : List (Step S)) (now : Moment S) (pending : List Message)
       → Leads net c from all steps now pending → (before_all steps now ≡ from) × (consumed_by steps ++ pending ≡ all)
   leads_start from all [] now pending h = (sym h.0, sym h.1)

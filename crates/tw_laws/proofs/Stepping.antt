@@ -15,24 +15,23 @@ use Rattle.tw_theory.specs.Balance.{issued, held}
 use Rattle.tw_theory.specs.Bundles.{positives, antis, overdue, first_stamp, least_stamp, least_owed, Ascending}
 use Rattle.tw_theory.specs.Contents.{Process, next, inputs, consumed_by, sent_by, Cancel, Aggressive, Lazy, sent_out, with_step, with_outgoing, settled_as, settle}
 use Rattle.tw_theory.specs.Executive.{World, Answer, act_step, act_post, if_made, mail_of, posted, least_mail}
-use Rattle.tw_theory.specs.LocalRun.{Step, Made, local_step, Leads, NoStep}
+use Rattle.tw_theory.specs.LocalRun.{Made, local_step, Leads, NoStep}
 use Rattle.tw_theory.specs.Network.{Network, Fits, IsNetwork}
-use Rattle.tw_theory.specs.Soundness.{AllBefore, IsFor, IsSoundProcess, IsSound}
+use Rattle.tw_theory.specs.Soundness.{IsFor, IsSoundProcess, IsSound}
 use Rattle.tw_theory.proofs.Elements.{each-append, each_weaker, each-positives, each-antis}
+use Rattle.tw_theory.proofs.Histories.{before_push}
+use Rattle.tw_theory.proofs.Leasts.{least_mail_top}
+use Rattle.tw_theory.proofs.Mail.{length-posted}
 use Rattle.tw_theory.proofs.MessageOrder.{ascending_of_sorted}
 use Rattle.tw_theory.proofs.Owing.{total-out, each-out, each-after, each-overdue, total-overdue, each_from_owed, owed_from_each}
+use Rattle.tw_theory.proofs.Runs.{leads_more}
 use Rattle.tw_theory.proofs.Steps.{local_step_follows}
 use Rattle.tw_theory.proofs.TakingBack.{consumed_by-append, sent_by-append}
 use Rattle.tw_theory.proofs.Totals.{positive-positives, anti-positives, positive-antis, anti-antis, total-set}
 use Rattle.tw_laws.proofs.Cancelling.{stepped, settled}
-use Rattle.tw_laws.proofs.Changing.{each_from_least, least_from_each, least_mail_top, box_from_least, least_mail-set, process_from_least, replaced_sound}
-use Rattle.tw_laws.proofs.Runs.{leads_more, in_order}
+use Rattle.tw_laws.proofs.Changing.{each_from_least, least_from_each, box_from_least, least_mail-set, process_from_least, replaced_sound}
+use Rattle.tw_laws.proofs.Runs.{in_order}
 use Rattle.tw_laws.proofs.Sends.{IsSentAt, local_step_sends}
-
-before-push : {S : Type 0} (s : ℕ) (steps : List (Step S)) (step : Step S) → AllBefore s steps → step.entry.stamp < s
-    → AllBefore s (steps ++ step ∷ [])
-before-push s [] step h l = (l, tt)
-before-push s (x ∷ steps) step h l = (h.0, before-push s steps step h.1 l)
 
 pub all_odd : {S : Type 0} (net : Network S) (c : ℕ) (ms : List Message) → Each (IsFor net c) ms → Each (λ m. phase_of m.stamp ≡ 1) ms
 all_odd net c ms h = each_weaker (IsFor net c) (λ m. phase_of m.stamp ≡ 1) (λ m f. f.fits.phase) ms h
@@ -40,10 +39,11 @@ all_odd net c ms h = each_weaker (IsFor net c) (λ m. phase_of m.stamp ≡ 1) (�
 pub inputs_ascending : {S : Type 0} (net : Network S) (c : ℕ) (ms : List Message) → Each (IsFor net c) ms → Sorted ms → Ascending ms
 inputs_ascending net c ms h up = ascending_of_sorted ms (each_weaker (IsFor net c) (λ m. m.stamp < never) (λ m f. f.fits.stamp) ms h) up
 
-module _ {S : Type 0} (net : Network S) (until : ℕ) (ok : IsNetwork net) (bound : until ≤ max_tick) where
-  inputs_same : (p : Process S) (made : Made S) → made.step.consumed ++ made.left ≡ p.pending → inputs p ≡ inputs (with_step p made)
-  inputs_same p made e = sym (rw (consumed_by-append p.history (made.step ∷ []), append-nil made.step.consumed, append_assoc (consumed_by p.history) made.step.consumed made.left, e) refl)
+-- a step has the same inputs before and after it: what it consumed was pending
+pub inputs_same : {S : Type 0} (p : Process S) (made : Made S) → made.step.consumed ++ made.left ≡ p.pending → inputs p ≡ inputs (with_step p made)
+inputs_same p made e = sym (rw (consumed_by-append p.history (made.step ∷ []), append-nil made.step.consumed, append_assoc (consumed_by p.history) made.step.consumed made.left, e) refl)
 
+module _ {S : Type 0} (net : Network S) (until : ℕ) (ok : IsNetwork net) (bound : until ≤ max_tick) where
   step_process : (gvt c : ℕ) (column : List Record) (mail : List Item) (p : Process S) (made : Made S) → IsSoundProcess net until gvt c column mail p
       → local_step net c p.now p.pending ≡ Ok made → next p < stamp until 0 0 → IsSoundProcess net until gvt c column mail (with_step p made)
   step_process gvt c column mail p made h e early =
@@ -56,7 +56,7 @@ module _ {S : Type 0} (net : Network S) (until : ℕ) (ok : IsNetwork net) (boun
         from_is = h.from_is;
         stands = subst (λ all. Leads net c h.from all (p.history ++ made.step ∷ []) made.after made.left) same (leads_more net c h.from (inputs p) p.history p.now p.pending made h.stands e);
         sorted = subst Sorted same h.sorted;
-        within = before-push (stamp until 0 0) p.history made.step h.within (omega (arith, f.stamp_is, early));
+        within = before_push (stamp until 0 0) p.history made.step h.within (omega (arith, f.stamp_is, early));
         apart = λ m waits is_input. h.apart m waits (ap (has m) same ∙ is_input);
         for_inputs = subst (Each (IsFor net c)) same h.for_inputs;
         for_waiting = h.for_waiting;
@@ -113,10 +113,6 @@ module _ {S : Type 0} (net : Network S) (until : ℕ) (ok : IsNetwork net) (boun
       (λ e. h)
 
 -- ---- posting
-
-length-posted : (mail : List (List Item)) (items : List Item) → length (posted mail items) ≡ length mail
-length-posted mail [] = refl
-length-posted mail (i ∷ items) = length-posted (slice_set mail i.message.to (mail_of mail i.message.to ++ i ∷ [])) items ∙ length-set mail i.message.to (mail_of mail i.message.to ++ i ∷ [])
 
 pub get_box : (mail : List (List Item)) (c : ℕ) → c < length mail → slice_get mail c ≡ Some (mail_of mail c)
 get_box [] c l = absurd (omega arith)

@@ -7,74 +7,47 @@ use Rattle.std.proofs.lemmas.Option.{same_Some, none-some, slice_get_within}
 use Rattle.std.proofs.lemmas.List.{drop_all, drop-set-lt, get_or-set_same}
 use Rattle.tw_msgs.specs.declared.message.Item.{Item}
 use Rattle.tw_msgs.specs.declared.message.Message.{Message}
-use Rattle.tw_vtime.specs.Stamps.{max_tick}
+use Rattle.tw_vtime.specs.Stamps.{max_tick, is_overdue}
 use Rattle.tw_theory.specs.Bundles.{antis, overdue, not_overdue}
 use Rattle.tw_theory.specs.Contents.{Process, Cancel, Aggressive, Lazy, next, settled_as, settle, with_outgoing, with_lists, harvested, steps_before}
 use Rattle.tw_theory.specs.Exchange.{is_empty, all_empty, all_idle, is_swept, work, posts, deliveries, pass, passes, harvests, sweep, IsTaken}
 use Rattle.tw_theory.specs.Executive.{World, Action, Deliver, Raise, Raised, Harvest, Harvested, Answer, with_process, with_mail, posted, act, act_post, act_deliver, act_harvest, mail_of, least_of, replay, answers}
 use Rattle.tw_theory.specs.Network.{Network, IsNetwork}
 use Rattle.tw_theory.specs.Soundness.{IsSound}
-use Rattle.tw_theory.proofs.Elements.{get_of_set, each-get}
+use Rattle.tw_theory.proofs.Elements.{get_of_set, each-get, present, set_same, empty_is}
+use Rattle.tw_theory.proofs.Mail.{empty_boxes, all_empty_is}
 use Rattle.tw_laws.specs.Cancelling.{IsSwept, least_own}
 use Rattle.tw_laws.specs.Exchange.{IsSweptAs, IsPassed, IsAfterSweep, SweepLaw, SweepSteps}
 use Rattle.tw_laws.proofs.Cancelling.{swept_least}
 use Rattle.tw_laws.proofs.Harvesting.{replay_sound}
-use Rattle.tw_laws.proofs.Passes.{present, replay-append, taken-append, is_pass, no_mail, left_to_do}
+use Rattle.tw_laws.proofs.Passes.{replay-append, taken-append, is_pass, no_mail, left_to_do}
 
 -- ---- what it says that an executive is swept
-
-empty_is : {X : Type 0} (xs : List X) → is_empty xs ≡ true → xs ≡ []
-empty_is [] e = refl
-empty_is (x ∷ xs) e = absurd (true≢false (sym e))
-
-none_overdue : (s : ℕ) (ms : List Message) → is_empty (overdue s ms) ≡ true → Each (λ m. s ≤ m.stamp - 1) ms
-none_overdue s [] e = tt
-none_overdue s (m ∷ ms) e = go (λ k. none_overdue s ms k) (nat_lt (m.stamp - 1) s) refl e
-  where
-    go : (is_empty (overdue s ms) ≡ true → Each (λ x. s ≤ x.stamp - 1) ms) → (b : Bool) → nat_lt (m.stamp - 1) s ≡ b → is_empty (cond b (m ∷ overdue s ms) (overdue s ms)) ≡ true
-        → (s ≤ m.stamp - 1) × Each (λ x. s ≤ x.stamp - 1) ms
-    go later true is k = absurd (true≢false (sym k))
-    go later false is k = (ltb-false (m.stamp - 1) s is, later k)
 
 idle_is : {S : Type 0} (ps : List (Process S)) → all_idle ps ≡ true → Each IsSwept ps
 idle_is [] e = tt
 idle_is (p ∷ ps) e =
     let parts = and_parts (is_empty p.outgoing && is_empty (overdue (next p) p.owed)) (all_idle ps) e in
     let more = and_parts (is_empty p.outgoing) (is_empty (overdue (next p) p.owed)) parts.0 in
-    (record { outgoing = empty_is p.outgoing more.0; owed = none_overdue (next p) p.owed more.1 }, idle_is ps parts.1)
-
-empty_boxes : (mail : List (List Item)) → all_empty mail ≡ true → Each (λ box. box ≡ []) mail
-empty_boxes [] e = tt
-empty_boxes (box ∷ mail) e = let parts = and_parts (is_empty box) (all_empty mail) e in (empty_is box parts.0, empty_boxes mail parts.1)
+    (record { outgoing = empty_is p.outgoing more.0; owed = empty_is (overdue (next p) p.owed) more.1 }, idle_is ps parts.1)
 
 means : {S : Type 0} (w : World S) → is_swept w ≡ true → IsSweptAs w
 means w e = let parts = and_parts (all_idle w.processes) (all_empty w.mail) e in record { processes = idle_is w.processes parts.0; mail = empty_boxes w.mail parts.1 }
 
 swept_none : {S : Type 0} (ps : List (Process S)) → Each IsSwept ps → all_idle ps ≡ true
 swept_none [] h = refl
-swept_none (p ∷ ps) h = ap₂ (λ a b. a && b) (ap₂ (λ (items : List Item) (ms : List Message). is_empty items && is_empty ms) h.0.outgoing (early (next p) p.owed h.0.owed)) (swept_none ps h.1)
-  where
-    early : (s : ℕ) (ms : List Message) → Each (λ m. s ≤ m.stamp - 1) ms → overdue s ms ≡ []
-    early s [] k = refl
-    early s (m ∷ ms) k = cond-false (nat_lt (m.stamp - 1) s) _ _ (le-ltb (m.stamp - 1) s k.0) ∙ early s ms k.1
-
-boxes_empty : (mail : List (List Item)) → Each (λ box. box ≡ []) mail → all_empty mail ≡ true
-boxes_empty [] h = refl
-boxes_empty (box ∷ mail) h = ap₂ (λ (b : List Item) r. is_empty b && r) h.0 (boxes_empty mail h.1)
+swept_none (p ∷ ps) h = ap₂ (λ a b. a && b) (ap₂ (λ (items : List Item) (ms : List Message). is_empty items && is_empty ms) h.0.outgoing h.0.owed) (swept_none ps h.1)
 
 -- ---- a pass over what is swept
 
-pub set_same : {X : Type 0} (xs : List X) (c : ℕ) (x : X) → slice_get xs c ≡ Some x → slice_set xs c x ≡ xs
-set_same [] c x e = refl
-set_same (y ∷ xs) zero x e = ap (λ z. z ∷ xs) (sym (same_Some y x e))
-set_same (y ∷ xs) (suc c) x e = ap (λ l. y ∷ l) (set_same xs c x e)
-
-none_due : (s : ℕ) (ms : List Message) → Each (λ m. s ≤ m.stamp - 1) ms → (overdue s ms ≡ []) × (not_overdue s ms ≡ ms)
-none_due s [] k = (refl, refl)
-none_due s (m ∷ ms) k =
-    let not : nat_lt (m.stamp - 1) s ≡ false = le-ltb (m.stamp - 1) s k.0 in
-    let rest = none_due s ms k.1 in
-    (cond-false (nat_lt (m.stamp - 1) s) _ _ not ∙ rest.0, cond-false (nat_lt (m.stamp - 1) s) _ _ not ∙ ap (λ l. m ∷ l) rest.1)
+all_stay : (s : ℕ) (ms : List Message) → overdue s ms ≡ [] → not_overdue s ms ≡ ms
+all_stay s [] none = refl
+all_stay s (m ∷ ms) none = go (is_overdue m.stamp s) (λ k. all_stay s ms k) none
+  where
+    go : (b : Bool) → (overdue s ms ≡ [] → not_overdue s ms ≡ ms) → cond b (m ∷ overdue s ms) (overdue s ms) ≡ []
+        → cond b (not_overdue s ms) (m ∷ not_overdue s ms) ≡ m ∷ ms
+    go true rest k = absurd (cc k)
+    go false rest k = ap (λ l. m ∷ l) (rest k)
 
 -- a swept process has nothing to post
 nothing_out : {S : Type 0} (p : Process S) → IsSwept p → settle p ≡ p
@@ -83,8 +56,7 @@ nothing_out p h = go p.cancel
     go : (k : Cancel) → settled_as k p ≡ p
     go Aggressive = refl
     go Lazy =
-        let due = none_due (next p) p.owed h.owed in
-        ap₂ (λ (ms : List Message) (owed : List Message). with_lists p (p.outgoing ++ antis ms) owed) due.0 due.1 ∙ ap (λ (items : List Item). with_outgoing p items) (append-nil p.outgoing)
+        ap₂ (λ (ms : List Message) (owed : List Message). with_lists p (p.outgoing ++ antis ms) owed) h.owed (all_stay (next p) p.owed h.owed) ∙ ap (λ (items : List Item). with_outgoing p items) (append-nil p.outgoing)
 
 module _ {S : Type 0} (net : Network S) (until : ℕ) (w : World S) (h : IsSweptAs w) where
   idle_post : (c : ℕ) (o : Option (Process S)) → slice_get w.processes c ≡ o → (act_post w c o).1 ≡ w
@@ -275,7 +247,7 @@ module _ {S : Type 0} (net : Network S) (until : ℕ) where
 pub sweep_law : {S : Type 0} → SweepLaw S
 sweep_law = record {
   means = means;
-  swept = λ w h. ap₂ (λ a b. a && b) (swept_none w.processes h.processes) (boxes_empty w.mail h.mail);
+  swept = λ w h. ap₂ (λ a b. a && b) (swept_none w.processes h.processes) (all_empty_is w.mail h.mail);
   passed = λ net until w ok bound h. passed net until ok bound w h;
   ends = λ net until w ok bound h. (is_done net until ok bound (work w) w h (omega arith)).swept;
   enough = λ net until w ok bound h n l. as_many net until ok bound n (work w) w h l (omega arith);

@@ -1,7 +1,8 @@
 -- How an executive cancels stays as it began; and what is owed does not hold gvt back where nothing owed is overdue.
-use Rattle.std.specs.Prelude.{ℕ, ◌-◌, ◌≤◌, ◌≡◌, min, List, [], ◌∷◌}
+use Rattle.std.specs.Prelude.{ℕ, ◌≡◌, min, List, [], ◌∷◌}
 use Rattle.std.specs.List.{AllByRecursion as Each}
 use Rattle.tw_vtime.specs.Stamps.{never}
+use Rattle.tw_theory.specs.Bundles.{overdue}
 use Rattle.tw_theory.specs.Contents.{Process, Cancel, next}
 use Rattle.tw_theory.specs.Executive.{World, Action, act, least_of}
 use Rattle.tw_theory.specs.Marks.{rewind}
@@ -21,7 +22,7 @@ least_own (p ∷ ps) = min (next p) (least_own ps)
 -- nothing outgoing, and nothing owed is overdue
 pub record IsSwept {S : Type 0} (p : Process S) : Type 0 where
   pub outgoing : p.outgoing ≡ []
-  pub owed : Each (λ m. next p ≤ m.stamp - 1) p.owed
+  pub owed : overdue (next p) p.owed ≡ []
 
 abbrev pub SweptLeast : Type 0 → Type 0
 SweptLeast S = (w : World S) → Each IsSwept w.processes → Each (λ box. box ≡ []) w.mail → least_of w ≡ least_own w.processes

@@ -3,6 +3,7 @@ pub mod Board
 pub mod Cancelling
 pub mod Chains
 pub mod Committed
+pub mod Couplings
 pub mod Driven
 pub mod Ending
 pub mod Exchange

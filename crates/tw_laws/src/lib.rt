@@ -14,6 +14,7 @@
 //! | [`chains`] | a chain is what its component does next; installing one is so many steps |
 //! | [`memory`] | how many nodes an action needs; what stays true where actions are left undone |
 //! | [`board`] | what the board shows was committed |
+//! | [`couplings`] | in which order a network's couplings stand is seen nowhere |
 //! | [`applied`] | all of it on concrete networks |
 //!
 //! The functions do nothing: their contracts are the laws, for states of any type, so for every model. The
@@ -27,6 +28,7 @@ pub mod board;
 pub mod cancellation;
 pub mod chains;
 pub mod commitment;
+pub mod couplings;
 pub mod endings;
 pub mod headline;
 pub mod inversion;

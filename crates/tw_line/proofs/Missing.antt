@@ -3,9 +3,9 @@ use Rattle.std.proofs.Common.{◌≡◌, ◌∙◌, ℕ, List, ap, arith, bytes_
 use Rattle.std.specs.Prelude.{Option, Some, None, find, is_some, option_and_then, option_map, slice_get, true}
 use Rattle.clap.specs.Values.{read_as}
 use Rattle.clap.specs.Walk.{row_text}
-use Rattle.clap.specs.Words.{Row, Text, first_of, one_of}
+use Rattle.clap.specs.Words.{Row, Text, first_of}
 use Rattle.tw_actions.specs.declared.cancel.Cancel.{Cancel}
-use Rattle.tw_line.specs.Lines.{HasNumber, IsCancelIn, IsDriverIn, IsFromIn, IsJobOf, IsPictureIn, IsRowsIn, IsSettingIn, IsUndriven}
+use Rattle.tw_line.specs.Lines.{HasNumber, IsCancelIn, IsDriverIn, IsFromIn, IsJobOf, IsPictureIn, IsRowsIn, IsSettingIn, IsUndriven, IsWorkersIn}
 use Rattle.tw_line.specs.declared.jobs.Driver.{Driver}
 use Rattle.tw_line.specs.declared.jobs.Driver.TheVariants.{Script, Seed}
 use Rattle.tw_line.specs.declared.jobs.Job.{Job}
@@ -14,6 +14,8 @@ use Rattle.tw_line.specs.declared.jobs.Picture.{Picture}
 use Rattle.tw_line.specs.declared.jobs.Picture.TheVariants as of
 use Rattle.tw_line.specs.declared.jobs.Rows.{Rows}
 use Rattle.tw_line.specs.declared.jobs.Setting.{Setting}
+use Rattle.tw_line.specs.declared.jobs.Workers.{Workers}
+use Rattle.tw_line.specs.declared.jobs.Workers.TheVariants.{Auto, Count}
 
 -- with no script there are both a seed and a number of steps
 pub no_seeded : (rows : List Row) → first_of (codes "script") rows ≡ None
@@ -34,6 +36,12 @@ left_out_number rows id least most n none has = left_out_text (find (λ r. bytes
 no_driver : (rows : List Row) → IsUndriven rows → (d : Driver) → ¬ (IsDriverIn rows d)
 no_driver rows undriven (Script path) is = let bad : None ≡ Some path.now = sym undriven.0 ∙ is.0 in cc
 no_driver rows undriven (Seed seed steps) is = left_out_number rows (codes "seed") 0 18446744073709551615 seed undriven.1 is.1
+
+-- where it is neither left to the program nor a number in its range, there is no number of workers
+pub no_workers : (rows : List Row) → ¬ (first_of (codes "workers") rows ≡ Some (codes "auto"))
+    → ((n : ℕ) → ¬ (HasNumber (codes "workers") 1 64 rows n)) → (w : Workers) → ¬ (IsWorkersIn rows w)
+no_workers rows counted missing (Count n) is = missing n is
+no_workers rows counted missing Auto is = counted is
 
 -- where the option stands, its number says from when on
 pub no_from : (rows : List Row) → is_some (first_of (codes "from") rows) ≡ true

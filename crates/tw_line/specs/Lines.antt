@@ -25,6 +25,8 @@ use Rattle.tw_line.specs.declared.jobs.Rows.{Rows}
 use Rattle.tw_line.specs.declared.jobs.Rows.TheVariants.{Records, Items, Words}
 use Rattle.tw_line.specs.declared.jobs.Setting.{Setting}
 use Rattle.tw_line.specs.declared.jobs.View.{View}
+use Rattle.tw_line.specs.declared.jobs.Workers.{Workers}
+use Rattle.tw_line.specs.declared.jobs.Workers.TheVariants.{Count, Auto}
 
 -- ---- the command
 
@@ -43,6 +45,10 @@ preset_rule id least most left_out = record (number_rule id least most) { defaul
 -- an option that takes a text
 abbrev pub text_rule : Text → Rule
 text_rule id = record (new_rule id) { long = Some id; value_names = 1 }
+
+-- one that stands there as this text where the option is left out
+abbrev pub preset_text_rule : Text → Text → Rule
+preset_text_rule id left_out = record (text_rule id) { defaults = left_out ∷ [] }
 
 -- an option that takes no value: it is `true` where it stands on the line, and `false` where it is left out
 abbrev pub flag_rule : Text → Rule
@@ -75,13 +81,13 @@ stats_app = with_rule (told_app (codes "stats")) (flag_rule (codes "json"))
 abbrev pub table_app : App
 table_app = with_rule (with_rule (told_app (codes "table")) (flag_rule (codes "items"))) (flag_rule (codes "words"))
 
--- `run` and what its workers are set to: 2 workers, bursts of 16 steps and a window of 1000 ticks where it is left out,
+-- `run` and what its workers are set to: 2 workers, bursts of 64 steps and a window of all ticks where it is left out,
 -- and no word of how far it is
 abbrev pub set_app : App
 set_app = with_rule (with_rule (with_rule (with_rule (network_app (codes "run"))
-    (preset_rule (codes "workers") 1 64 (codes "2")))
-    (preset_rule (codes "burst") 1 256 (codes "16")))
-    (preset_rule (codes "window") 0 1099511627774 (codes "1000")))
+    (preset_text_rule (codes "workers") (codes "2")))
+    (preset_rule (codes "burst") 1 256 (codes "64")))
+    (preset_rule (codes "window") 0 1099511627774 (codes "1099511627774")))
     (flag_rule (codes "progress"))
 
 abbrev pub run_app : App
@@ -143,10 +149,15 @@ abbrev pub IsCancelIn : List Row → Cancel → Type 0
 IsCancelIn rows Aggressive = (first_of (codes "cancel") rows ≡ None) ⊎ (first_of (codes "cancel") rows ≡ Some (codes "aggressive"))
 IsCancelIn rows Lazy = first_of (codes "cancel") rows ≡ Some (codes "lazy")
 
+-- how many workers there are: a number in its range, or the word that leaves it to the program
+abbrev pub IsWorkersIn : List Row → Workers → Type 0
+IsWorkersIn rows (Count n) = HasNumber (codes "workers") 1 64 rows n
+IsWorkersIn rows Auto = first_of (codes "workers") rows ≡ Some (codes "auto")
+
 -- what the workers are set to, each number in its range, and whether the run tells how far it is
 abbrev pub IsSettingIn : List Row → Setting → Type 0
 IsSettingIn rows s =
-    HasNumber (codes "workers") 1 64 rows s.workers
+    IsWorkersIn rows s.workers
     × HasNumber (codes "burst") 1 256 rows s.burst
     × HasNumber (codes "window") 0 1099511627774 rows s.window
     × HasFlag (codes "progress") rows s.progress

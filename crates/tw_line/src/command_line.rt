@@ -1,17 +1,15 @@
 //! From the words of a line to a job.
 
-ghost use Rattle.std.specs.Prelude.{◌≡◌, [], codes, IfOk, IfErr, IfSome, IfNone, IsTrue, IsFalse, is_some, map, option_map, string_bytes};
+ghost use Rattle.std.specs.Prelude.{◌≡◌, ◌≢◌, [], Some, codes, false, IfOk, IfErr, IfSome, IfNone, IsTrue, IsFalse, is_some, map, option_map, string_bytes};
 ghost use Rattle.clap.specs.Words.{rows_of, found_of, first_of, fault_of, kind_of, subcommand_of, subcommand_rows_of};
-ghost use Rattle.tw_line.specs.Lines.{twarp_app, IsCancelIn, IsDriverIn, IsFromIn, IsPictureIn, IsRowsIn, IsSettingIn, IsUndriven, IsUnseen, IsJob, IsJobOf, HasFlag, HasNumber, IsReason, IsMadeOf};
+ghost use Rattle.tw_line.specs.Lines.{twarp_app, IsCancelIn, IsDriverIn, IsFromIn, IsPictureIn, IsRowsIn, IsSettingIn, IsUndriven, IsUnseen, IsWorkersIn, IsJob, IsJobOf, HasFlag, HasNumber, IsReason, IsMadeOf};
 
 use crate::commands::command;
-use crate::jobs::{
-    Driver, Job, MAX_BURST, MAX_STEPS, MAX_WORKERS, NoJob, Picture, Rows, Setting, View,
-};
+use crate::jobs::{Driver, Job, MAX_STEPS, NoJob, Picture, Rows, Setting, View, Workers};
 use clap::error::ErrorKind;
 use clap::{ArgMatches, Error};
 use std::alloc::Global;
-use tw_actions::Cancel;
+use tw_actions::{Cancel, MAX_BURST, MAX_WORKERS};
 use tw_vtime::MAX_TICK;
 
 /// A number among the options, in a range.
@@ -64,12 +62,32 @@ fn cancel_in(options: &ArgMatches<'_>) -> Option<Cancel>
     None
 }
 
+/// Whether the number of workers is left to the program.
+fn is_auto(options: &ArgMatches<'_>) -> bool
+    ensures yes { IsTrue result → first_of (codes "workers") (rows_of (found_of options.now)) ≡ Some (codes "auto") }
+    ensures no { result ≡ false → first_of (codes "workers") (rows_of (found_of options.now)) ≢ Some (codes "auto") }
+{
+    text_in(options, "workers") == Some("auto")
+}
+
+/// How many workers there are, among the options. Clap puts in what is left out.
+fn workers_in(options: &ArgMatches<'_>) -> Option<Workers>
+    ensures some { IfSome result (IsWorkersIn (rows_of (found_of options.now))) }
+    ensures none { IfNone result ((w : _) → ¬ (IsWorkersIn (rows_of (found_of options.now)) w)) }
+{
+    if is_auto(options) {
+        return Some(Workers::Auto);
+    }
+    let count = number_in(options, "workers", 1, MAX_WORKERS)?;
+    Some(Workers::Count(count))
+}
+
 /// What the workers are set to, among the options. Clap puts in what is left out.
 fn setting_in(options: &ArgMatches<'_>) -> Option<Setting>
     ensures some { IfSome result (IsSettingIn (rows_of (found_of options.now))) }
     ensures none { IfNone result ((s : _) → ¬ (IsSettingIn (rows_of (found_of options.now)) s)) }
 {
-    let workers = number_in(options, "workers", 1, MAX_WORKERS)?;
+    let workers = workers_in(options)?;
     let burst = number_in(options, "burst", 1, MAX_BURST)?;
     let window = number_in(options, "window", 0, MAX_TICK)?;
     let progress = flag_in(options, "progress");
@@ -324,8 +342,8 @@ fn no_job(error: Error) -> NoJob
 /// The job that a command line asks for. The first word is the program's name.
 ///
 /// The jobs are `demo`; `check NET`; `seq NET --until T`; `stats NET --until T` with `--json` or without; `table NET --until T`
-/// with `--items` or `--words` or neither; `run NET --until T` with `--workers N` (1 to 64), `--burst K` (1 to
-/// 256 steps) and `--window W` (0 to 1,099,511,627,774 ticks), which are 2, 16 and 1000 where they are left out;
+/// with `--items` or `--words` or neither; `run NET --until T` with `--workers N` (1 to 64) or `--workers auto`, `--burst K` (1 to
+/// 256 steps) and `--window W` (0 to 1,099,511,627,774 ticks), which are 2, 64 and 1,099,511,627,774 where they are left out;
 /// `play NET --until T` with what drives it, either `--script FILE` alone or both `--seed S` and `--steps N`; and
 /// `draw NET --until T`, either with what drives an executive, as `play`, or with what is seen of a run: `--from T0` (0 to
 /// 1,099,511,627,774 ticks, 0 where it is left out), `--only NAMES` and `--figure NAME`. `run`, `play` and a driven `draw`

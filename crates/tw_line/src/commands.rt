@@ -3,16 +3,17 @@
 ghost use Rattle.std.specs.Prelude.{◌≡◌, IfOk, codes, false};
 ghost use Rattle.clap.specs.Words.{app_of, rule_of};
 ghost use Rattle.clap.specs.declared.builder.command.Command.TheViews.{out-Command};
-ghost use Rattle.tw_line.specs.Lines.{flag_rule, net_rule, number_rule, text_rule, until_rule, alone_app, cancelled_app, check_app, demo_app, draw_app, driven_app, first_app, network_app, play_app, preset_rule, run_app, seen_app, seq_app, set_app, stats_app, table_app, told_app, twarp_app};
+ghost use Rattle.tw_line.specs.Lines.{flag_rule, net_rule, number_rule, text_rule, until_rule, alone_app, cancelled_app, check_app, demo_app, draw_app, driven_app, first_app, network_app, play_app, preset_rule, preset_text_rule, run_app, seen_app, seq_app, set_app, stats_app, table_app, told_app, twarp_app};
 
 use crate::help::{
     CHECK_END, DEMO_END, DRAW_END, PLAY_END, RUN_END, SEQ_END, STATS_END, TABLE_END, TWARP_END,
     VERSION,
 };
-use crate::jobs::{MAX_BURST, MAX_STEPS, MAX_WORKERS};
+use crate::jobs::MAX_STEPS;
 use clap::builder::ValueParser;
 use clap::{Arg, ArgAction, Command};
 use std::alloc::{AllocError, Global};
+use tw_actions::MAX_BURST;
 use tw_vtime::MAX_TICK;
 
 /// The path of the network file, which stands on the line with no name of its own.
@@ -57,6 +58,14 @@ fn text<'a>(alloc: Global, id: &'a str, value_name: &'a str) -> Arg<'a>
     ensures local { result.global ≡ false }
 {
     Arg::new(alloc, id).long(id).value_name(value_name)
+}
+
+/// A text, which stands there as this one where the option is left out.
+fn preset_text<'a>(alloc: Global, id: &'a str, value_name: &'a str, left_out: &'a str) -> Arg<'a>
+    ensures rule { rule_of result ≡ preset_text_rule id.entry.now left_out.entry.now }
+    ensures local { result.global ≡ false }
+{
+    text(alloc, id, value_name).default_value(left_out)
 }
 
 /// An option that takes no value, and stands on the line or not.
@@ -197,28 +206,28 @@ fn table_command<'a>(alloc: Global) -> Result<Command<'a>, AllocError>
 }
 
 fn workers<'a>(alloc: Global) -> Arg<'a>
-    ensures rule { rule_of result ≡ preset_rule (codes "workers") 1 64 (codes "2") }
+    ensures rule { rule_of result ≡ preset_text_rule (codes "workers") (codes "2") }
     ensures local { result.global ≡ false }
 {
-    preset(alloc, "workers", "N", 1, MAX_WORKERS, "2").help(
-        "How many threads work, 1 to 64; the trace is the same for all of them",
+    preset_text(alloc, "workers", "N", "2").help(
+        "How many threads work, 1 to 64; or auto: one for each processor where that pays, and else the run is made in order; the trace is the same",
     )
 }
 
 fn burst<'a>(alloc: Global) -> Arg<'a>
-    ensures rule { rule_of result ≡ preset_rule (codes "burst") 1 256 (codes "16") }
+    ensures rule { rule_of result ≡ preset_rule (codes "burst") 1 256 (codes "64") }
     ensures local { result.global ≡ false }
 {
-    preset(alloc, "burst", "K", 1, MAX_BURST, "16").help(
+    preset(alloc, "burst", "K", 1, MAX_BURST, "64").help(
         "The most steps of one component that a worker computes at a time, 1 to 256",
     )
 }
 
 fn window<'a>(alloc: Global) -> Arg<'a>
-    ensures rule { rule_of result ≡ preset_rule (codes "window") 0 1099511627774 (codes "1000") }
+    ensures rule { rule_of result ≡ preset_rule (codes "window") 0 1099511627774 (codes "1099511627774") }
     ensures local { result.global ≡ false }
 {
-    preset(alloc, "window", "W", 0, MAX_TICK, "1000").help(
+    preset(alloc, "window", "W", 0, MAX_TICK, "1099511627774").help(
         "How many ticks after gvt a component may still make a step, 0 to 1099511627774",
     )
 }

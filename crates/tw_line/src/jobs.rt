@@ -11,12 +11,6 @@ use tw_vtime::Refusal;
 /// The most actions that a seed may be asked for.
 pub(crate) const MAX_STEPS: u64 = 1_000_000;
 
-/// The most workers that a run may be asked for.
-pub(crate) const MAX_WORKERS: u64 = 64;
-
-/// The longest burst that a run may be asked for, in steps.
-pub(crate) const MAX_BURST: u64 = 256;
-
 /// What the program is asked to do.
 #[derive(Debug, Drop)]
 pub enum Job<'a> {
@@ -92,11 +86,20 @@ pub enum Job<'a> {
     },
 }
 
+/// How many workers a run has.
+#[derive(Clone, Copy, Debug, PartialEq, Eq)]
+pub enum Workers {
+    /// So many threads work, 1 to 64.
+    Count(u64),
+    /// The program chooses: it goes on in order where threads would cost more than they bring, else a thread works for each processor.
+    Auto,
+}
+
 /// How many workers a run has, how far they work ahead, and whether it tells how far it is. The trace is the same for all of them.
 #[derive(Clone, Copy, Debug, PartialEq, Eq)]
 pub struct Setting {
-    /// How many threads work, 1 to 64.
-    pub workers: u64,
+    /// How many threads work.
+    pub workers: Workers,
     /// The most steps of one component that a worker computes at a time, 1 to 256.
     pub burst: u64,
     /// How many ticks after gvt a component may still make a step, 0 to 1,099,511,627,774.

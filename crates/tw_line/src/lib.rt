@@ -12,4 +12,4 @@ mod help;
 pub mod jobs;
 
 pub use command_line::job;
-pub use jobs::{Driver, Job, NoJob, Picture, Rows, Setting, View};
+pub use jobs::{Driver, Job, NoJob, Picture, Rows, Setting, View, Workers};

@@ -113,14 +113,6 @@ has_is m (e ∷ l) = go (same_message m e.1.message) (has_is m l)
     go true rest = refl
     go false rest = rest
 
-pub without_absent : (m : Message) (ms : List Message) → has m ms ≡ false → without m ms ≡ ms
-without_absent m [] none = refl
-without_absent m (n ∷ ms) none = go (same_message m n) (without_absent m ms) none
-  where
-    go : (b : Bool) → (has m ms ≡ false → without m ms ≡ ms) → (b || has m ms) ≡ false → cond b ms (n ∷ without m ms) ≡ n ∷ ms
-    go true rest h = absurd (cc)
-    go false rest h = ap (λ l. n ∷ l) (rest h)
-
 -- ---- Among entries
 
 pub entry_has : (m : Message) (index : ℕ) (es : List Entry) → entry_of index es ≡ Some (record { key = m; index = index }) → has m (map message_of es) ≡ true

@@ -80,7 +80,3 @@ bag_back s n c n_is sorted =
       sorted = subst (λ l. Sorted l) (sym pending) sorted;
       same = λ i. record { pending = pending i; consumed = (ap (λ j. take j (c.consumed ++ f)) k ∙ take_at c.consumed f (length c.consumed) refl) i; sent = c.sent; outgoing = c.outgoing; waiting = c.waiting; owed = c.owed; room = c.room; spare = c.spare };
     }
-
-pub sorted_right : (xs ys : List Message) → Sorted (xs ++ ys) → Sorted ys
-sorted_right [] ys sorted = sorted
-sorted_right (x ∷ xs) ys sorted = sorted_right xs ys sorted.1

@@ -2,6 +2,7 @@
 use Rattle.std.proofs.Common.{◌≡◌, ◌≢◌, ℕ, ◌+◌, ◌-◌, ◌==◌, ◌<◌, ◌≤◌, nat_le, true, List, [], ◌∷◌, ◌++◌, length, map, drop, Option, Some, None, is_some, cond, refl, sym, ap, subst, ◌∙◌, inl, inr, arith, length-append, append-nil}
 use Rattle.std.proofs.lemmas.Bool.{cases_eq}
 use Rattle.std.proofs.lemmas.List.{map-append}
+use Rattle.std.proofs.lemmas.Option.{same_Some}
 use Rattle.std.specs.Map.{lookup}
 use Rattle.tw_pool.specs.Lists.{list_at, item_of, IsLive, first_of, backward, without as without_node, with_item_last, AreDistinct}
 use Rattle.tw_pool.proofs.ListsSeen.{stands, lookup_lacks, lookup_found}
@@ -137,14 +138,11 @@ pub record Restoring (lists : List Nodes) (heap : Events) (index : ℕ) (item : 
   pub below : index < heap.top
   pub vacant : entry_of index heap.entries ≡ None
 
-some_item : {T : Type 0} (x y : T) (o : Option T) → o ≡ Some x → o ≡ Some y → x ≡ y
-some_item x y o is also = let both = sym is ∙ also in cc
-
 pub restoring : (lists : List Nodes) (heap : Events) (index : ℕ) (item : Item) → IsKept lists heap → length lists ≡ 6 → AreDistinct lists → Some index ≡ first_of (list_at (backward lists) 1) → item_of index lists ≡ Some item → Restoring lists heap index item
 restoring lists heap index item kept six distinct is got =
     let at = last_of lists 1 index (sym is) in
     let found = item_is lists index 1 at.item at.before [] distinct (omega (arith, six)) at.split in
-    let same : at.item ≡ item = some_item at.item item (item_of index lists) found got in
+    let same : at.item ≡ item = same_Some at.item item (sym found ∙ got) in
     let alone = distinct 1 at.before index at.item [] at.split in
     record {
       before = at.before;

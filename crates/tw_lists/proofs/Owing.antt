@@ -1,6 +1,6 @@
 -- Owed nodes: sent again, counted, and posted.
-use Rattle.std.proofs.Common.{◌≡◌, ℕ, zero, suc, ◌+◌, ◌-◌, ◌<◌, ◌≤◌, nat_le, nat_lt, Bool, true, false, ◌||◌, List, [], ◌∷◌, ◌++◌, length, map, take, drop, Option, Some, None, cond, refl, sym, ap, ap₂, subst, ◌∙◌, arith, length-append, append-nil, append_assoc, add-one, drop-drop, take_all, length-drop, IfSome, IsSome}
-use Rattle.std.proofs.lemmas.List.{map-append}
+use Rattle.std.proofs.Common.{◌≡◌, ℕ, zero, suc, ◌+◌, ◌-◌, ◌<◌, ◌≤◌, nat_le, Bool, true, false, ◌||◌, List, [], ◌∷◌, ◌++◌, length, map, take, drop, Option, Some, None, cond, refl, sym, ap, ap₂, subst, ◌∙◌, arith, length-append, append-nil, append_assoc, add-one, drop-drop, take_all, length-drop, IfSome, IsSome}
+use Rattle.std.proofs.lemmas.List.{map-append, drop_all}
 use Rattle.std.proofs.lemmas.Bool.{cond-true, cond-false, le-leb, lt-leb}
 use Rattle.tw_pool.specs.Lists.{list_at, item_of, IsLive, first_of, next_of, without as without_node, with_item_last, AreDistinct}
 use Rattle.tw_pool.proofs.ListsByIndex.{moved, item_is, next_is}
@@ -12,21 +12,23 @@ use Rattle.tw_msgs.specs.declared.message.Item.{Item}
 use Rattle.tw_msgs.proofs.Messages.{same_message_is}
 use Rattle.tw_msgs.proofs.MessageLists.{total-without}
 use Rattle.tw_msgs.proofs.Totals.{total-append}
+use Rattle.tw_vtime.specs.Stamps.{is_overdue}
 use Rattle.tw_theory.specs.Bundles.{anti, positive, positives, antis, sent_anew, still_owed, overdue, not_overdue}
 use Rattle.tw_theory.specs.Contents.{Cancel, Lazy, sent_out, owed_after}
+use Rattle.tw_theory.proofs.Elements.{head_same, tail_same}
 use Rattle.tw_theory.proofs.Owing.{anew-append, still-append, out-append, after-append}
 use Rattle.tw_lists.specs.Lists.{Lists, with_sent_again, with_overdue_posted, with_all_sent}
 use Rattle.tw_lists.specs.Nodes.{contents, spare_of, IsKept, AreOf, index_of, overdue_nodes, not_overdue_nodes, IsSettled, IsPosted}
 use Rattle.tw_lists.specs.Lists.{Nodes, message_at, item_at}
 use Rattle.tw_lists.proofs.Finding.{found_at}
-use Rattle.tw_lists.proofs.Signs.{head_same, tail_same, are_cons, are_push, are_out}
+use Rattle.tw_lists.proofs.Signs.{are_cons, are_push, are_out}
 use Rattle.tw_lists.proofs.Sends.{Changed, changed_kept, changed_contents}
 
 -- ---- Lists of anti-messages
 
 antis_overdue : (s : ℕ) (l : Nodes) → AreOf anti l → AreOf anti (overdue_nodes s l) × AreOf anti (not_overdue_nodes s l)
 antis_overdue s [] is = (refl, refl)
-antis_overdue s (x ∷ l) is = go (nat_lt (x.1.message.stamp - 1) s) (antis_overdue s l (tail_same is))
+antis_overdue s (x ∷ l) is = go (is_overdue x.1.message.stamp s) (antis_overdue s l (tail_same is))
   where
     go : (b : Bool) → AreOf anti (overdue_nodes s l) × AreOf anti (not_overdue_nodes s l) → AreOf anti (cond b (x ∷ overdue_nodes s l) (overdue_nodes s l)) × AreOf anti (cond b (not_overdue_nodes s l) (x ∷ not_overdue_nodes s l))
     go true rest = (are_cons anti x (overdue_nodes s l) (head_same is) rest.0, rest.1)
@@ -182,7 +184,7 @@ take_more {A = A} k l x r is = go k l is
 
 overdue-append : (s : ℕ) (xs ys : Nodes) → (overdue_nodes s (xs ++ ys) ≡ overdue_nodes s xs ++ overdue_nodes s ys) × (not_overdue_nodes s (xs ++ ys) ≡ not_overdue_nodes s xs ++ not_overdue_nodes s ys)
 overdue-append s [] ys = (refl, refl)
-overdue-append s (x ∷ xs) ys = go (nat_lt (x.1.message.stamp - 1) s) (overdue-append s xs ys)
+overdue-append s (x ∷ xs) ys = go (is_overdue x.1.message.stamp s) (overdue-append s xs ys)
   where
     go : (b : Bool) → (overdue_nodes s (xs ++ ys) ≡ overdue_nodes s xs ++ overdue_nodes s ys) × (not_overdue_nodes s (xs ++ ys) ≡ not_overdue_nodes s xs ++ not_overdue_nodes s ys)
         → (cond b (x ∷ overdue_nodes s (xs ++ ys)) (overdue_nodes s (xs ++ ys)) ≡ cond b (x ∷ overdue_nodes s xs) (overdue_nodes s xs) ++ overdue_nodes s ys)
@@ -227,7 +229,7 @@ next_owed lists now s k index six distinct at first = go (drop k l) refl
         }
 
 pub settled_more : (lists now later : List Nodes) (s k index : ℕ) → length lists ≡ 6 → AreDistinct now → IsSettled s k lists now → (next : NextOwed lists now s k index) → IsPosted s index next.item now later → IsSettled s (k + 1) lists later
-settled_more lists now later s k index six distinct at next posted = go (nat_lt (next.item.message.stamp - 1) s) refl
+settled_more lists now later s k index six distinct at next posted = go (is_overdue next.item.message.stamp s) refl
   where
     l : Nodes
     l = list_at lists 5
@@ -241,14 +243,14 @@ settled_more lists now later s k index six distinct at next posted = go (nat_lt 
     more : take (k + 1) l ≡ take k l ++ (index, next.item) ∷ []
     more = take_more k l (index, next.item) next.rest next.dropped
 
-    both : (t : Bool) → nat_lt (next.item.message.stamp - 1) s ≡ t → (overdue_nodes s (take (k + 1) l) ≡ b ++ cond t ((index, next.item) ∷ []) []) × (not_overdue_nodes s (take (k + 1) l) ≡ a ++ cond t [] ((index, next.item) ∷ []))
+    both : (t : Bool) → is_overdue next.item.message.stamp s ≡ t → (overdue_nodes s (take (k + 1) l) ≡ b ++ cond t ((index, next.item) ∷ []) []) × (not_overdue_nodes s (take (k + 1) l) ≡ a ++ cond t [] ((index, next.item) ∷ []))
     both t is =
         let parts = overdue-append s (take k l) ((index, next.item) ∷ []) in (
           ap (overdue_nodes s) more ∙ parts.0 ∙ ap (λ x. b ++ cond x ((index, next.item) ∷ []) []) is,
           ap (not_overdue_nodes s) more ∙ parts.1 ∙ ap (λ x. a ++ cond x [] ((index, next.item) ∷ [])) is,
         )
 
-    go : (t : Bool) → nat_lt (next.item.message.stamp - 1) s ≡ t → IsSettled s (k + 1) lists later
+    go : (t : Bool) → is_overdue next.item.message.stamp s ≡ t → IsSettled s (k + 1) lists later
     go true is =
         let move = moved now later 5 3 index next.item a next.rest (λ e. omega (arith, e)) (omega (arith, six, at.count)) (omega (arith, six, at.count)) distinct next.split (posted.due is) in
         let parts = both true is in
@@ -293,21 +295,13 @@ live_at (Some index) lists later same live = subst (λ o. IsSome o) (sym (same i
 
 overdue_messages : (s : ℕ) (l : Nodes) → (map message_at (overdue_nodes s l) ≡ overdue s (map message_at l)) × (map message_at (not_overdue_nodes s l) ≡ not_overdue s (map message_at l))
 overdue_messages s [] = (refl, refl)
-overdue_messages s (x ∷ l) = go (nat_lt (x.1.message.stamp - 1) s) (overdue_messages s l)
+overdue_messages s (x ∷ l) = go (is_overdue x.1.message.stamp s) (overdue_messages s l)
   where
     go : (b : Bool) → (map message_at (overdue_nodes s l) ≡ overdue s (map message_at l)) × (map message_at (not_overdue_nodes s l) ≡ not_overdue s (map message_at l))
         → (map message_at (cond b (x ∷ overdue_nodes s l) (overdue_nodes s l)) ≡ cond b (x.1.message ∷ overdue s (map message_at l)) (overdue s (map message_at l)))
         × (map message_at (cond b (not_overdue_nodes s l) (x ∷ not_overdue_nodes s l)) ≡ cond b (not_overdue s (map message_at l)) (x.1.message ∷ not_overdue s (map message_at l)))
     go true rest = (ap (λ z. x.1.message ∷ z) rest.0, rest.1)
     go false rest = (rest.0, ap (λ z. x.1.message ∷ z) rest.1)
-
-take_whole : {A : Type 0} (xs : List A) → take (length xs) xs ≡ xs
-take_whole [] = refl
-take_whole (x ∷ xs) = ap (λ l. x ∷ l) (take_whole xs)
-
-drop_whole : {A : Type 0} (xs : List A) → drop (length xs) xs ≡ []
-drop_whole [] = refl
-drop_whole (x ∷ xs) = drop_whole xs
 
 pub record Settled (lists now : List Nodes) (s room top top' : ℕ) (heap : Events) : Type 0 where
   pub kept : IsKept now heap
@@ -321,8 +315,8 @@ settled_kept lists now s room top top' heap kept at tops =
     let change : Changed lists now (list_at lists 2) (list_at lists 3 ++ over) left = record {
       count = at.count;
       sent_is = at.others 2 (λ e. omega (arith, e)) (λ e. omega (arith, e));
-      outgoing_is = at.outgoing_is ∙ ap (λ x. list_at lists 3 ++ overdue_nodes s x) (take_whole l);
-      owed_is = at.owed_is ∙ ap₂ (λ x y. not_overdue_nodes s x ++ y) (take_whole l) (drop_whole l) ∙ append-nil left;
+      outgoing_is = at.outgoing_is ∙ ap (λ x. list_at lists 3 ++ overdue_nodes s x) (take_all (length l) l (omega arith));
+      owed_is = at.owed_is ∙ ap₂ (λ x y. not_overdue_nodes s x ++ y) (take_all (length l) l (omega arith)) (drop_all (length l) l (omega arith)) ∙ append-nil left;
       others = λ k two three five. at.others k three five;
     } in
     let one = at.others 1 (λ e. omega (arith, e)) (λ e. omega (arith, e)) in

@@ -2,6 +2,7 @@
 use Rattle.std.proofs.Common.{◌≡◌, ℕ, zero, suc, List, [], ◌∷◌, ◌++◌, map, take, drop, refl, sym, ap, subst, ◌∙◌}
 use Rattle.tw_msgs.specs.declared.message.Item.{Item}
 use Rattle.tw_msgs.specs.declared.message.Message.{Message}
+use Rattle.tw_theory.proofs.Elements.{head_same, tail_same}
 use Rattle.tw_lists.specs.Lists.{Nodes, message_at, item_at}
 use Rattle.tw_lists.specs.Nodes.{AreOf}
 
@@ -14,12 +15,6 @@ pub map-drop : {A B : Type 0} (f : A → B) (n : ℕ) (xs : List A) → map f (d
 map-drop f zero xs = refl
 map-drop f (suc n) [] = refl
 map-drop f (suc n) (x ∷ xs) = map-drop f n xs
-
-pub head_same : {A : Type 0} {p q : A} {ps qs : List A} → p ∷ ps ≡ q ∷ qs → p ≡ q
-head_same e = cc
-
-pub tail_same : {A : Type 0} {p q : A} {ps qs : List A} → p ∷ ps ≡ q ∷ qs → ps ≡ qs
-tail_same e = cc
 
 module _ (f : Message → Item) where
   pub are_at : (l l' : Nodes) → l' ≡ l → AreOf f l → AreOf f l'

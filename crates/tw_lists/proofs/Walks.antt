@@ -1,14 +1,9 @@
 -- A list of nodes read one after another.
-use Rattle.std.proofs.Common.{◌≡◌, ℕ, ◌+◌, ◌<◌, ◌≤◌, ◌==◌, Bool, true, false, min, List, [], ◌∷◌, ◌++◌, map, drop, Some, cond, refl, sym, ap, ◌∙◌, arith, append_assoc}
-use Rattle.std.specs.Prelude.{nat_lt, take_while}
-use Rattle.std.specs.Ordering.{nat_cmp, is_le, is_lt, ord_min}
+use Rattle.std.proofs.Common.{◌≡◌, ℕ, ◌+◌, ◌<◌, ◌≤◌, ◌==◌, Bool, true, false, min, List, [], ◌∷◌, ◌++◌, map, drop, cond, refl, sym, ap, ◌∙◌, arith, append_assoc}
+use Rattle.std.specs.Prelude.{nat_lt}
+use Rattle.std.specs.Ordering.{nat_cmp, is_le}
 use Rattle.std.specs.declared.cmp.Ordering.TheVariants.{Less, Equal, Greater}
-use Rattle.std.proofs.lemmas.Bool.{lt-ltb, ltb-true, ltb-false, eqb-false}
-use Rattle.std.proofs.lemmas.List.Sums.{take_while-cons}
-use Rattle.tw_heap.specs.declared.entries.Entry.{Entry}
-use Rattle.tw_heap.specs.Entries.{message_of, first_of, without}
-use Rattle.tw_heap.proofs.EntriesByIndex.{behind_first, without-first}
-use Rattle.tw_msgs.specs.declared.message.Message.{Message}
+use Rattle.std.proofs.lemmas.Bool.{ltb-false, eqb-false}
 use Rattle.tw_msgs.specs.declared.message.Item.{Item}
 use Rattle.tw_theory.specs.Bundles.{least_owed, least_stamp}
 use Rattle.tw_vtime.specs.Stamps.{never}
@@ -29,9 +24,6 @@ pub least_top : (is : List Item) → min never (least_stamp is) ≡ least_stamp 
 least_top [] = omega arith
 least_top (i ∷ is) = let rest = least_top is in omega (arith, rest)
 
-pub least_below : (is : List Item) → least_stamp is ≤ never
-least_below is = omega (arith, least_top is)
-
 pub least_more : (l : Nodes) (k : ℕ) (node : ℕ × Item) (behind : Nodes) (least y whole : ℕ) → y ≡ min least node.1.message.stamp → drop k l ≡ node ∷ behind → drop (k + 1) l ≡ behind → min least (least_stamp (map item_at (drop k l))) ≡ whole
     → min y (least_stamp (map item_at (drop (k + 1) l))) ≡ whole
 least_more l k node behind least y whole is dropped rest all =
@@ -51,25 +43,3 @@ not_le m n is = go (nat_lt m n) refl (m == n) refl is
     go true l b e h = absurd (cc)
     go false l true e h = absurd (cc)
     go false l false e h = omega (arith, ltb-false m n l, eqb-false m n e)
-
-pub ord_min-is : (m n : ℕ) → ord_min nat_cmp m n ≡ min m n
-ord_min-is m n = go (nat_lt n m) refl (n == m) refl
-  where
-    go : (a : Bool) → nat_lt n m ≡ a → (b : Bool) → (n == m) ≡ b → cond (is_lt (cond a Less (cond b Equal Greater))) n m ≡ min m n
-    go true l b e = let k = ltb-true n m l in omega (arith, k)
-    go false l true e = let k = ltb-false n m l in omega (arith, k)
-    go false l false e = let k = ltb-false n m l in omega (arith, k)
-
-pub before_more : (s : ℕ) (e : Entry) (entries later : List Entry) (xs ys whole : List Message) → Some e ≡ first_of entries → e.key.stamp < s → later ≡ without e.index entries → ys ≡ xs ++ e.key ∷ []
-    → xs ++ take_while (λ (m : Message). nat_lt m.stamp s) (map message_of entries) ≡ whole
-    → ys ++ take_while (λ (m : Message). nat_lt m.stamp s) (map message_of later) ≡ whole
-before_more s e entries later xs ys whole first less later_is ys_is all =
-    let b = behind_first entries e first in
-    let rest : later ≡ b.rest = later_is ∙ ap (without e.index) b.split ∙ without-first e b.rest in
-    let t = lt-ltb e.key.stamp s less in
-    (λ i. ys_is i ++ take_while (λ (m : Message). nat_lt m.stamp s) (map message_of (rest i)))
-    ∙ append_assoc xs (e.key ∷ []) (take_while (λ (m : Message). nat_lt m.stamp s) (map message_of b.rest))
-    ∙ sym (ap (λ c. xs ++ cond c (e.key ∷ take_while (λ (m : Message). nat_lt m.stamp s) (map message_of b.rest)) []) t)
-    ∙ sym (ap (λ l. xs ++ l) (take_while-cons (λ (m : Message). nat_lt m.stamp s) e.key (map message_of b.rest)))
-    ∙ ap (λ l. xs ++ take_while (λ (m : Message). nat_lt m.stamp s) (map message_of l)) (sym b.split)
-    ∙ all

@@ -1,5 +1,5 @@
 -- How the six lists lie in a pool and a heap. No public clause cites this module.
-use Rattle.std.specs.Prelude.{ℤ, ◌≢◌, ◌++◌, take, drop, nat_lt, true, false, ◌≡◌, ℕ, ◌-◌, ◌<◌, ◌≤◌, nat_le, List, [], ◌∷◌, map, length, Option, Some, None, if◌then◌else◌}
+use Rattle.std.specs.Prelude.{ℤ, ◌≢◌, ◌++◌, take, drop, true, false, ◌≡◌, ℕ, ◌-◌, ◌<◌, ◌≤◌, nat_le, List, [], ◌∷◌, map, length, Option, Some, None, if◌then◌else◌}
 use Rattle.tw_pool.specs.Lists.{list_at, with_item_last, without}
 use Rattle.tw_heap.specs.declared.entries.Entry.{Entry}
 use Rattle.tw_heap.specs.Entries.{Events, message_of}
@@ -7,6 +7,7 @@ use Rattle.tw_msgs.specs.Messages.{same_message}
 use Rattle.tw_msgs.specs.declared.message.Message.{Message}
 use Rattle.tw_msgs.specs.declared.message.Item.{Item}
 use Rattle.tw_theory.specs.Bundles.{positive, anti, front, behind, items_of}
+use Rattle.tw_vtime.specs.Stamps.{is_overdue}
 use Rattle.tw_lists.specs.Lists.{Lists, Nodes, item_at, message_at, AreSame}
 
 -- for how many messages the heap has room beside n, if no index can be too great for it
@@ -55,11 +56,11 @@ pub record IsKept (lists : List Nodes) (heap : Events) : Type 0 where
 -- the nodes whose message was sent before s, and the others
 abbrev pub overdue_nodes : ℕ → Nodes → Nodes
 overdue_nodes s [] = []
-overdue_nodes s (node ∷ nodes) = if nat_lt (node.1.message.stamp - 1) s then node ∷ overdue_nodes s nodes else overdue_nodes s nodes
+overdue_nodes s (node ∷ nodes) = if is_overdue node.1.message.stamp s then node ∷ overdue_nodes s nodes else overdue_nodes s nodes
 
 abbrev pub not_overdue_nodes : ℕ → Nodes → Nodes
 not_overdue_nodes s [] = []
-not_overdue_nodes s (node ∷ nodes) = if nat_lt (node.1.message.stamp - 1) s then not_overdue_nodes s nodes else node ∷ not_overdue_nodes s nodes
+not_overdue_nodes s (node ∷ nodes) = if is_overdue node.1.message.stamp s then not_overdue_nodes s nodes else node ∷ not_overdue_nodes s nodes
 
 -- the first pending message is of this stamp, and carries this
 abbrev pub IsNext : ℕ → ℕ × ℤ → List Message → Type 0
@@ -83,8 +84,8 @@ pub record IsSettled (s n : ℕ) (lists now : List Nodes) : Type 0 where
 
 -- a node is in the outgoing list, if it is overdue
 pub record IsPosted (s index : ℕ) (item : Item) (lists now : List Nodes) : Type 0 where
-  pub due : nat_lt (item.message.stamp - 1) s ≡ true → now ≡ with_item_last (without index lists) 3 (index, item)
-  pub early : nat_lt (item.message.stamp - 1) s ≡ false → now ≡ lists
+  pub due : is_overdue item.message.stamp s ≡ true → now ≡ with_item_last (without index lists) 3 (index, item)
+  pub early : is_overdue item.message.stamp s ≡ false → now ≡ lists
 
 -- the first index in a list whose message equals m
 abbrev pub index_of : Message → Nodes → Option ℕ

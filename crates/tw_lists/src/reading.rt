@@ -56,20 +56,11 @@ impl EventLists {
         Ok(messages)
     }
 
-    /// The pending messages at the front that come before a stamp, in order.
+    /// The pending messages at the front that come before a stamp, in order. Where there are none, it takes no memory.
     pub fn pending_before(&self, stamp: Stamp) -> Result<Vec<Message>, AllocError>
         ensures { IfOk result (λ messages. messages.items ≡ take_while (λ m. nat_lt m.stamp stamp) self.now.pending) }
     {
-        let mut messages = Vec::new(self.alloc);
-        let mut rest = self.heap.copy()?;
-        while let Some(entry) = rest.first() {
-            if stamp <= entry.key.stamp {
-                break;
-            }
-            messages.push(entry.key)?;
-            rest.remove(entry.index);
-        }
-        Ok(messages)
+        self.heap.messages_before(stamp)
     }
 
     /// The outgoing items in order.

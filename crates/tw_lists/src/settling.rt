@@ -76,7 +76,7 @@ fn post_one(pool: &mut Pool<Item, 6>, index: usize, next: Stamp)
     ensures room { pool.new.room ≡ pool.old.room }
     ensures top { pool.new.top ≡ pool.old.top }
 {
-    if pool.get(index).message.stamp.pack().saturating_sub(1) < next.pack() {
+    if pool.get(index).message.stamp.is_overdue(next) {
         pool.relink(index, OUTGOING);
     }
 }

@@ -1,7 +1,6 @@
 -- What a text says is what the grammar gives it.
-use Rattle.std.proofs.Common.{◌≡◌, ◌≤◌, ◌∷◌, ℕ, List, Bool, true, false, refl, sym, subst, ap, ◌∙◌, arith}
-use Rattle.std.proofs.lemmas.Bool.{leb-true}
-use Rattle.std.proofs.lemmas.Bool.Decides.{nat_tests}
+use Rattle.std.proofs.Common.{◌≡◌, ◌≤◌, ◌∷◌, ℕ, List, Bool, true, false, refl, sym, subst, ap, ◌∙◌}
+use Rattle.std.proofs.lemmas.Bool.{leb-true, le-leb}
 use Rattle.std.proofs.lemmas.Option.{same_Some}
 use Rattle.std.specs.Prelude.{Option, Some, None, nat_le, option_and_then, option_map, if◌then◌else◌}
 use Rattle.tw_program_text.specs.declared.kinds.Kind.{Kind}
@@ -43,11 +42,8 @@ light_words many ws p = by (nat_le (weigh false ws) many) refl
 spelled_means : (many : ℕ) (ws : List Word) (p : Block) → spelled_program many ws ≡ Some p → Means 64 many ws p
 spelled_means many ws p h = let l = light_words many ws p h in sound 64 many ws p l.0 l.1
 
-small_test : (m n : ℕ) → m ≤ n → nat_le m n ≡ true
-small_test m n small = grind (arith, nat_tests)
-
 means_spelled : (many : ℕ) (ws : List Word) (p : Block) → Means 64 many ws p → spelled_program many ws ≡ Some p
-means_spelled many ws p h = rw (small_test (weigh false ws) many (light 64 many ws p h)) (again_means 64 many ws p h)
+means_spelled many ws p h = rw (le-leb (weigh false ws) many (light 64 many ws p h)) (again_means 64 many ws p h)
 
 -- ---- programs
 

@@ -2,7 +2,7 @@
 use Rattle.std.proofs.Common.{◌≡◌, ℕ, zero, suc, ◌-◌, ◌<◌, List, [], ◌∷◌, ◌++◌, length, take, map, replicate, Some, refl, sym, ap, ◌∙◌, arith}
 use Rattle.std.specs.Prelude.{Option, slice_get, slice_set, slice_index_or}
 use Rattle.std.specs.Option.{option_map}
-use Rattle.std.proofs.lemmas.List.{map-set, length-set, length-append, set-get_or, get_or-set_same}
+use Rattle.std.proofs.lemmas.List.{map-set, length-append, set-get_or, set-set, get_or-set_same}
 use Rattle.std.proofs.lemmas.Option.{slice_get-map, slice_get_read, get_or_from_slice_get}
 use Rattle.tw_msgs.specs.declared.message.Item.{Item}
 use Rattle.tw_mail.specs.Mail.{Held, Mail}
@@ -26,10 +26,6 @@ pub posted_more : (mail : List (List Item)) (is : List Item) (i : Item) → post
 posted_more mail [] i = refl
 posted_more mail (x ∷ is) i = posted_more (slice_set mail x.message.to (mail_of mail x.message.to ++ x ∷ [])) is i
 
-pub length-posted : (mail : List (List Item)) (is : List Item) → length (posted mail is) ≡ length mail
-length-posted mail [] = refl
-length-posted mail (x ∷ is) = length-posted (slice_set mail x.message.to (mail_of mail x.message.to ++ x ∷ [])) is ∙ length-set mail x.message.to _
-
 pub replicate_more : {X : Type 0} (n : ℕ) (x : X) → replicate n x ++ x ∷ [] ≡ replicate (suc n) x
 replicate_more zero x = refl
 replicate_more (suc n) x = ap (λ l. x ∷ l) (replicate_more n x)
@@ -37,11 +33,6 @@ replicate_more (suc n) x = ap (λ l. x ∷ l) (replicate_more n x)
 pub take_here : {X : Type 0} (xs ys : List X) → take (length xs) (xs ++ ys) ≡ xs
 take_here [] ys = refl
 take_here (x ∷ xs) ys = ap (λ l. x ∷ l) (take_here xs ys)
-
-set_set : {X : Type 0} (xs : List X) (q : ℕ) (a b : X) → slice_set (slice_set xs q a) q b ≡ slice_set xs q b
-set_set [] q a b = refl
-set_set (x ∷ xs) zero a b = refl
-set_set (x ∷ xs) (suc q) a b = ap (λ l. x ∷ l) (set_set xs q a b)
 
 pub taken_off : {X : Type 0} (xs : List X) (x : X) → take (length (xs ++ x ∷ []) - 1) (xs ++ x ∷ []) ≡ xs
 taken_off xs x = let n : length (xs ++ x ∷ []) - 1 ≡ length xs = omega (arith, length-append xs (x ∷ [])) in ap (λ k. take k (xs ++ x ∷ [])) n ∙ take_here xs (x ∷ [])
@@ -52,7 +43,7 @@ pushed_popped mail q i near m is =
     let box : mail_of m q ≡ mail_of mail q ++ i ∷ [] = ap (λ x. mail_of x q) is ∙ get_or-set_same mail q (mail_of mail q ++ i ∷ []) [] near in
     (λ t. slice_set (is t) q (take (length (box t) - 1) (box t)))
     ∙ ap (slice_set (slice_set mail q (mail_of mail q ++ i ∷ [])) q) (taken_off (mail_of mail q) i)
-    ∙ set_set mail q (mail_of mail q ++ i ∷ []) (mail_of mail q)
+    ∙ set-set mail q (mail_of mail q ++ i ∷ []) (mail_of mail q)
     ∙ set-get_or mail q []
 
 -- what was posted last leaves again

@@ -5,11 +5,8 @@ use Rattle.tw_mail.specs.Mail.{Held}
 use Rattle.tw_msgs.specs.declared.message.Item.{Item}
 use Rattle.tw_theory.specs.Bundles.{least_stamp}
 use Rattle.tw_theory.specs.Executive.{least_mail}
+use Rattle.tw_theory.proofs.Leasts.{least_stamp_top, least_mail_top}
 use Rattle.tw_vtime.specs.Stamps.{never}
-
-least_stamp_top : (items : List Item) → least_stamp items ≤ never
-least_stamp_top [] = omega arith
-least_stamp_top (i ∷ items) = omega (arith, least_stamp_top items)
 
 least_items : (n : ℕ) (items : List Item) → n ≤ never → fold (λ a i. min a i.message.stamp) n items ≡ min n (least_stamp items)
 least_items n [] top = omega arith
@@ -21,10 +18,6 @@ least_stamp_chain items = let e = least_items never items (omega arith) in omega
 least_boxes : (n : ℕ) (boxes : List Held) → n ≤ never → fold (λ a b. min a (least_stamp b.items)) n boxes ≡ min n (least_mail (map (λ b. b.items) boxes))
 least_boxes n [] top = omega arith
 least_boxes n (b ∷ boxes) top = let e = least_boxes (min n (least_stamp b.items)) boxes (omega arith) in omega arith
-
-least_mail_top : (mail : List (List Item)) → least_mail mail ≤ never
-least_mail_top [] = omega arith
-least_mail_top (box ∷ mail) = omega (arith, least_mail_top mail)
 
 pub least_boxes_chain : (boxes : List Held) → fold (λ a b. min a (least_stamp b.items)) never boxes ≡ least_mail (map (λ b. b.items) boxes)
 least_boxes_chain boxes = let e = least_boxes never boxes (omega arith) in omega (arith, e, least_mail_top (map (λ (b : Held). b.items) boxes))

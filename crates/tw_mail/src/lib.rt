@@ -12,3 +12,4 @@ mod mailbox;
 mod mailboxes;
 
 pub use mailboxes::Mailboxes;
+pub use tw_vtime::OutOfMemory;

@@ -2,6 +2,7 @@ pub mod BadModel
 pub mod Parameters
 pub mod Left
 pub mod Wraps
+pub mod Values
 pub mod Intake
 pub mod IntakeLaws
 pub mod Gen

@@ -1,6 +1,7 @@
 -- The models together: each acts on states of its own kind. A state of another kind is passive and silent, and no transition changes it.
 --     model_meaning m      the plain functions of a model
 --     IsModel m s      the numbers of a state of the model's own kind fit
+--     LiesInPlace s      a state that has no part on the heap
 --     model_residue, model_undone      what a turn keeps, and the state before it
 use Rattle.std.specs.Prelude.{ℕ, [], Option, Some, None, ⊤}
 use Rattle.tw_atomic.specs.Atomic.{Bag, Meaning}
@@ -78,6 +79,12 @@ IsModel Tally s = IfPart IsTally (tally_part s)
 IsModel (Relay r) s = IfPart (IsRelay r) (relay_part s)
 IsModel (Queue q) s = IfPart (IsQueue q) (queue_part s)
 IsModel (Hop h) s = IfPart (IsHop h) (hop_part s)
+
+-- a state all of which lies in place: to start or to copy one takes no memory
+abbrev pub LiesInPlace : State → Type 0
+LiesInPlace (OfRelay s) = ⊥
+LiesInPlace (OfQueue s) = ⊥
+LiesInPlace _ = ⊤
 
 -- what a turn keeps of the state before it
 abbrev pub model_residue : Model → Turn → State → Bag → Residue

@@ -1,6 +1,6 @@
 //! What relay and queue have in common: a bounded list of values that came, a count of those that
 //! found no room, and the remaining time while the list is not empty.
-ghost use Rattle.std.specs.Prelude.{◌≡◌, ◌-◌, ◌≤◌, ◌++◌, ◌∷◌, ◌↔◌, ℤ, pos, IsTrue, OnOk, OnErr, length, min};
+ghost use Rattle.std.specs.Prelude.{◌≡◌, ◌-◌, ◌≤◌, [], ◌++◌, ◌∷◌, ◌↔◌, ℤ, pos, IsTrue, OnOk, OnErr, length, min};
 ghost use Rattle.tw_models.specs.Intake.{accepted_values, dropped_before, left_after, left_before};
 ghost use Rattle.tw_models.specs.Left.{IsWithin};
 
@@ -81,8 +81,16 @@ pub(crate) fn copy_of<const ROOM: usize>(kept: &ArrayVec<i64, ROOM>) -> ArrayVec
     ensures { result.items ≡ kept.now.items }
 {
     let mut copy = ArrayVec::new();
+    refill(&mut copy, kept);
+    copy
+}
+
+/// Puts the same values into an empty list.
+pub(crate) fn refill<const ROOM: usize>(copy: &mut ArrayVec<i64, ROOM>, kept: &ArrayVec<i64, ROOM>)
+    requires { copy.old.items ≡ [] }
+    ensures { copy.new.items ≡ kept.now.items }
+{
     for value in kept.as_slice() {
         copy.push(*value);
     }
-    copy
 }

@@ -6,7 +6,9 @@
 //! specs/, in a file of its name; the calls are exactly these functions, and the laws of
 //! [`tw_atomic::Atomic`] are proved for each model and for [`Model`]. What can be computed backwards is
 //! computed backwards; the residues hold what a transition overwrites, and no state is copied. All
-//! states are of bounded size, so no transition takes memory: only `words` can be refused.
+//! states are of bounded size. [`State`] keeps those of relay and queue on the heap ([`OnHeap`]), each
+//! with room for all that it may ever hold: `start` and `copy` make that room, and no transition takes
+//! memory but that of a relay which keeps more than two values to take it back.
 //!
 //! Times are in ticks. Counts wrap at 2^64, sums at 64 bits with sign.
 #![tactic(auto)]
@@ -16,6 +18,7 @@ mod generator;
 mod hop;
 mod intake;
 mod model;
+mod on_heap;
 mod queue;
 mod relay;
 mod remaining;
@@ -26,6 +29,7 @@ pub use bad_model::BadModel;
 pub use generator::{Gen, GenState};
 pub use hop::{Hop, HopState};
 pub use model::{Model, Residue, State, alike_law};
+pub use on_heap::OnHeap;
 pub use queue::{Jobs, Queue, QueueResidue, QueueState};
 pub use relay::{Held, Relay, RelayResidue, RelayState};
 pub use tally::{Tally, TallyState};

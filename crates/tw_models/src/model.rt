@@ -1,12 +1,13 @@
 //! The five models as one type.
 ghost use Rattle.std.specs.Prelude.{◌≡◌, ◌≤◌, ◌<◌, ◌↔◌, ◌⊎◌, Ok, IsOk, IfOk, IfErr, IsErrOf};
 ghost use Rattle.tw_atomic.specs.Atomic.{AreAlike, CanTurn, turned};
-ghost use Rattle.tw_models.specs.Model.{model_meaning, model_undone};
+ghost use Rattle.tw_models.specs.Model.{LiesInPlace, model_meaning, model_undone};
 ghost use Rattle.tw_models.specs.declared.bad_model.BadModel.TheVariants.{BadPort, BadTick};
 
 use crate::bad_model::BadModel;
 use crate::generator::{Gen, GenState};
 use crate::hop::{Hop, HopState};
+use crate::on_heap::OnHeap;
 use crate::queue::{Queue, QueueResidue, QueueState};
 use crate::relay::{Relay, RelayResidue, RelayState};
 use crate::tally::{Tally, TallyState};
@@ -79,13 +80,14 @@ impl Model {
     }
 }
 
-/// A state of one of the models.
+/// A state of one of the models. A large one lies on the heap, so that a state of any of them takes
+/// no more room than a small one, 32 bytes.
 #[derive(Drop)]
 pub enum State {
     OfGen(GenState),
     OfTally(TallyState),
-    OfRelay(RelayState),
-    OfQueue(QueueState),
+    OfRelay(OnHeap<RelayState>),
+    OfQueue(OnHeap<QueueState>),
     OfHop(HopState),
 }
 
@@ -119,14 +121,15 @@ impl Atomic for Model {
     ghost undone = { model_undone };
 
     fn start(&self, alloc: Global) -> Result<State, AllocError>
-        ensures start { result ≡ Ok (model_meaning self.now).start }
+        ensures start { IfOk result (λ s. s ≡ (model_meaning self.now).start) }
         ensures valid_state { IfOk result (IsModel self.now) }
+        ensures in_place { LiesInPlace (model_meaning self.now).start → IsOk result }
     {
         Ok(match self {
             Model::Gen(model) => State::OfGen(model.start(alloc)?),
             Model::Tally => State::OfTally(Tally.start(alloc)?),
-            Model::Relay(model) => State::OfRelay(model.start(alloc)?),
-            Model::Queue(model) => State::OfQueue(model.start(alloc)?),
+            Model::Relay(model) => State::OfRelay(OnHeap::new(alloc, model.start(alloc)?)?),
+            Model::Queue(model) => State::OfQueue(OnHeap::new(alloc, model.start(alloc)?)?),
             Model::Hop(model) => State::OfHop(model.start(alloc)?),
         })
     }
@@ -135,8 +138,8 @@ impl Atomic for Model {
         match (self, state) {
             (Model::Gen(model), State::OfGen(state)) => model.ta(state),
             (Model::Tally, State::OfTally(state)) => Tally.ta(state),
-            (Model::Relay(model), State::OfRelay(state)) => model.ta(state),
-            (Model::Queue(model), State::OfQueue(state)) => model.ta(state),
+            (Model::Relay(model), State::OfRelay(state)) => model.ta(state.get()),
+            (Model::Queue(model), State::OfQueue(state)) => model.ta(state.get()),
             (Model::Hop(model), State::OfHop(state)) => model.ta(state),
             _ => None,
         }
@@ -156,8 +159,8 @@ impl Atomic for Model {
         match (self, state) {
             (Model::Gen(model), State::OfGen(state)) => model.output(state, outbox),
             (Model::Tally, State::OfTally(state)) => Tally.output(state, outbox),
-            (Model::Relay(model), State::OfRelay(state)) => model.output(state, outbox),
-            (Model::Queue(model), State::OfQueue(state)) => model.output(state, outbox),
+            (Model::Relay(model), State::OfRelay(state)) => model.output(state.get(), outbox),
+            (Model::Queue(model), State::OfQueue(state)) => model.output(state.get(), outbox),
             (Model::Hop(model), State::OfHop(state)) => model.output(state, outbox),
             _ => {}
         }
@@ -181,11 +184,11 @@ impl Atomic for Model {
                 Ok(Residue::TallyLast(last))
             }
             (Model::Relay(model), State::OfRelay(state)) => {
-                let parts = model.forward(alloc, state, turn, elapsed, bag)?;
+                let parts = model.forward(alloc, state.get_mut(), turn, elapsed, bag)?;
                 Ok(Residue::RelayParts(parts))
             }
             (Model::Queue(model), State::OfQueue(state)) => {
-                let parts = model.forward(alloc, state, turn, elapsed, bag)?;
+                let parts = model.forward(alloc, state.get_mut(), turn, elapsed, bag)?;
                 Ok(Residue::QueueParts(parts))
             }
             (Model::Hop(model), State::OfHop(state)) => {
@@ -216,10 +219,10 @@ impl Atomic for Model {
                 Tally.transition(alloc, state, turn, elapsed, bag)
             }
             (Model::Relay(model), State::OfRelay(state)) => {
-                model.transition(alloc, state, turn, elapsed, bag)
+                model.transition(alloc, state.get_mut(), turn, elapsed, bag)
             }
             (Model::Queue(model), State::OfQueue(state)) => {
-                model.transition(alloc, state, turn, elapsed, bag)
+                model.transition(alloc, state.get_mut(), turn, elapsed, bag)
             }
             (Model::Hop(model), State::OfHop(state)) => {
                 model.transition(alloc, state, turn, elapsed, bag)
@@ -244,10 +247,10 @@ impl Atomic for Model {
                 Tally.back(state, turn, elapsed, bag, last);
             }
             (Model::Relay(model), State::OfRelay(state), Residue::RelayParts(parts)) => {
-                model.back(state, turn, elapsed, bag, parts);
+                model.back(state.get_mut(), turn, elapsed, bag, parts);
             }
             (Model::Queue(model), State::OfQueue(state), Residue::QueueParts(parts)) => {
-                model.back(state, turn, elapsed, bag, parts);
+                model.back(state.get_mut(), turn, elapsed, bag, parts);
             }
             (Model::Hop(model), State::OfHop(state), _) => {
                 model.back(state, turn, elapsed, bag, ());
@@ -260,8 +263,8 @@ impl Atomic for Model {
         match (self, state) {
             (Model::Gen(model), State::OfGen(state)) => model.words(alloc, state, words),
             (Model::Tally, State::OfTally(state)) => Tally.words(alloc, state, words),
-            (Model::Relay(model), State::OfRelay(state)) => model.words(alloc, state, words),
-            (Model::Queue(model), State::OfQueue(state)) => model.words(alloc, state, words),
+            (Model::Relay(model), State::OfRelay(state)) => model.words(alloc, state.get(), words),
+            (Model::Queue(model), State::OfQueue(state)) => model.words(alloc, state.get(), words),
             (Model::Hop(model), State::OfHop(state)) => model.words(alloc, state, words),
             _ => Ok(()),
         }
@@ -271,22 +274,22 @@ impl Atomic for Model {
         match (one, other) {
             (State::OfGen(one), State::OfGen(other)) => one == other,
             (State::OfTally(one), State::OfTally(other)) => one == other,
-            (State::OfRelay(one), State::OfRelay(other)) => one.is_same(other),
-            (State::OfQueue(one), State::OfQueue(other)) => one.is_same(other),
+            (State::OfRelay(one), State::OfRelay(other)) => one.get().is_same(other.get()),
+            (State::OfQueue(one), State::OfQueue(other)) => one.get().is_same(other.get()),
             (State::OfHop(one), State::OfHop(other)) => one == other,
             _ => false,
         }
     }
 
     fn copy(&self, alloc: Global, state: &State) -> Result<State, AllocError>
-        ensures { result ≡ Ok state.now }
+        ensures copy { IfOk result (λ copy. copy ≡ state.now) }
+        ensures in_place { LiesInPlace state.now → IsOk result }
     {
-        let _ = alloc;
         Ok(match state {
             State::OfGen(state) => State::OfGen(*state),
             State::OfTally(state) => State::OfTally(*state),
-            State::OfRelay(state) => State::OfRelay(state.copied()),
-            State::OfQueue(state) => State::OfQueue(state.copied()),
+            State::OfRelay(state) => State::OfRelay(state.get().on_heap(alloc)?),
+            State::OfQueue(state) => State::OfQueue(state.get().on_heap(alloc)?),
             State::OfHop(state) => State::OfHop(*state),
         })
     }

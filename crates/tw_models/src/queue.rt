@@ -8,8 +8,9 @@ ghost use Rattle.tw_models.specs.declared.bad_model.BadModel.TheVariants.{BadTic
 
 use crate::bad_model::BadModel;
 use crate::intake::{
-    accept, copy_of, dropped_before, left_after, left_before, same_values, write_words,
+    accept, copy_of, dropped_before, left_after, left_before, refill, same_values, write_words,
 };
+use crate::on_heap::OnHeap;
 use arrayvec::ArrayVec;
 use std::alloc::{AllocError, Global};
 use std::marker::Model;
@@ -83,6 +84,20 @@ impl QueueState {
             dropped: self.dropped,
             left: self.left,
         }
+    }
+
+    /// An equal state on the heap. The only error is want of memory (4).
+    pub fn on_heap(&self, alloc: Global) -> Result<OnHeap<QueueState>, AllocError>
+        ensures { IfOk result (λ copy. copy ≡ self.now) }
+    {
+        let empty = QueueState {
+            jobs: ArrayVec::new(),
+            dropped: self.dropped,
+            left: self.left,
+        };
+        let mut copy = OnHeap::new(alloc, empty)?;
+        refill(&mut copy.get_mut().jobs, &self.jobs);
+        Ok(copy)
     }
 }
 

@@ -7,8 +7,9 @@ ghost use Rattle.tw_models.specs.declared.bad_model.BadModel.TheVariants.{BadTic
 
 use crate::bad_model::BadModel;
 use crate::intake::{
-    accept, copy_of, dropped_before, left_after, left_before, same_values, write_words,
+    accept, copy_of, dropped_before, left_after, left_before, refill, same_values, write_words,
 };
+use crate::on_heap::OnHeap;
 use crate::values::Values;
 use arrayvec::ArrayVec;
 use std::alloc::{AllocError, Global};
@@ -83,6 +84,20 @@ impl RelayState {
             dropped: self.dropped,
             left: self.left,
         }
+    }
+
+    /// An equal state on the heap. The only error is want of memory (4).
+    pub fn on_heap(&self, alloc: Global) -> Result<OnHeap<RelayState>, AllocError>
+        ensures { IfOk result (λ copy. copy ≡ self.now) }
+    {
+        let empty = RelayState {
+            held: ArrayVec::new(),
+            dropped: self.dropped,
+            left: self.left,
+        };
+        let mut copy = OnHeap::new(alloc, empty)?;
+        refill(&mut copy.get_mut().held, &self.held);
+        Ok(copy)
     }
 }
 
@@ -168,7 +183,7 @@ impl Atomic for Relay {
         bag: &[(u8, i64)],
     ) -> Result<RelayResidue, AllocError> {
         let mut accepted = 0;
-        let mut given = Values::none(alloc);
+        let mut given = Values::none();
         match turn {
             Turn::Int => {
                 given = Values::of(alloc, &state.held)?;

@@ -1,10 +1,10 @@
 -- Messages that are equal, and messages in order.
-use Rattle.std.proofs.Common.{◌≡◌, ◌↔◌, Bool, true, false, List, [], ◌∷◌, ◌&&◌, ◌==◌, refl, sym, ap, ◌∙◌, subst, if◌then◌else◌, eqb-true, eq-eqb}
+use Rattle.std.proofs.Common.{◌≡◌, ◌≤◌, ◌↔◌, Bool, true, false, List, [], ◌∷◌, ◌&&◌, ◌==◌, refl, sym, ap, ◌∙◌, subst, if◌then◌else◌, eqb-true, eq-eqb, ltb-true, ltb-false, ⊎_elim, arith}
 use Rattle.std.specs.Cmp.{then_total, on_total, nat_cmp_total, int_cmp_total}
 use Rattle.std.specs.Ordering.{is_le, int_eq}
 use Rattle.std.specs.declared.cmp.Ordering.TheVariants.{Less}
 use Rattle.std.specs.List.Sorted.{IsPermutation, IsSorted}
-use Rattle.std.proofs.lemmas.Bool.{and_parts, and_from}
+use Rattle.std.proofs.lemmas.Bool.{and_parts, and_from, or_cases, or_parts}
 use Rattle.std.specs.Bool.{Decides}
 use Rattle.std.proofs.lemmas.Bool.Decides.{Decides-int_eq, Decides-eqb, Decides-and, Decides-like, same_from_decides}
 use Rattle.tw_msgs.specs.declared.message.Message.{Message}
@@ -122,6 +122,13 @@ Sorted-from_IsSorted ms h = sorted ms (sorting.RisesBy-from_IsSorted messages_ra
 
 pub IsSorted-from_Sorted : (ms : List Message) → Sorted ms → IsSorted message_cmp ms
 IsSorted-from_Sorted ms h = sorting.IsSorted-from_RisesBy messages_rank ms (rises ms h)
+
+-- what is in order rises in stamps
+pub stamps_rise : (m n : Message) → at_or_before m n ≡ true → m.stamp ≤ n.stamp
+stamps_rise m n e = ⊎_elim (λ l. let k = ltb-true m.stamp n.stamp l in omega arith) (λ h. let k = eqb-true m.stamp n.stamp (and_parts _ _ h).0 in omega arith) (or_cases _ _ e)
+
+pub stamps_fall : (m n : Message) → at_or_before m n ≡ false → n.stamp ≤ m.stamp
+stamps_fall m n e = ltb-false m.stamp n.stamp (or_parts _ _ e).0
 
 pub place-first : (m : Message) (ms : List Message) → IsBeforeFirst m ms → place m ms ≡ m ∷ ms
 place-first m ms h = place-is m ms ∙ sorting.insert_leads messages_rank m ms (leads m ms h)

@@ -23,4 +23,5 @@ pub use counting::signed_count;
 pub use message::{Item, Message, Sign, message_order_law};
 pub use record::{Record, equality_law};
 pub use record_kind::RecordKind;
+pub use tw_vtime::OutOfMemory;
 pub use words::Words;

@@ -5,14 +5,13 @@ use Rattle.std.specs.List.Sorted.{IsPermutation, IsSorted}
 use Rattle.std.specs.Ordering.{nat_cmp, ordering_then, is_lt}
 use Rattle.std.proofs.lemmas.Bool.Decides.{nat_tests}
 use Rattle.std.proofs.lemmas.List.{get_or-map, length-map, get_or_default, append-nil}
-use Rattle.std.proofs.lemmas.List.Elements.{Contains-append_left, Contains-append_right, Contains-append_cases}
+use Rattle.std.proofs.lemmas.List.Elements.{All-contains, Contains-append_left, Contains-append_right, Contains-append_cases}
 use Rattle.std.proofs.lemmas.List.Sorted.{Contains-permutation, IsPermutation-sym, IsNonDecreasingBy-from_all_adjacent}
 use Rattle.tw_nested.specs.declared.tree.End.TheVariants.{Here, Part}
 use Rattle.tw_nested.specs.Tree.{Model, Link}
 use Rattle.tw_nested.specs.Reach.{Edge}
 use Rattle.tw_nested.specs.Paths.{edge_of, IsEdge, IsModel, IsLink}
 use Rattle.tw_nested.specs.Edges.{AreEdges, edges_in, edge_cmp}
-use Rattle.tw_nested.proofs.Leading.{held}
 
 pub Contains-map : {A B : Type 0} (f : A → B) (xs : List A) (x : A) → Contains xs x → Contains (map f xs) (f x)
 Contains-map f xs x at = (at.0, let l = at.1 in omega (arith, l, length-map xs f), get_or-map f xs at.0 x (f x) at.1 ∙ ap f at.2)
@@ -84,8 +83,8 @@ leads_up count m (Here, p, Here, q) sm sl = absurd sl.apart
 
 edge_up : (count : ℕ) (models : List Model) (e : Edge) → All (IsModel count) models → IsEdge count models e → LeadsUp count e
 edge_up count models e sound k =
-    let m = held (IsModel count) models k.model sound k.among in
-    let l = held (IsLink k.model) k.model.links k.link m.links k.held in
+    let m = All-contains (IsModel count) models k.model sound k.among in
+    let l = All-contains (IsLink k.model) k.model.links k.link m.links k.held in
     subst (LeadsUp count) k.is (leads_up count k.model k.link m l)
 
 first_rises : (a b : Edge) → is_lt (ordering_then (nat_cmp b.0 a.0) (nat_cmp b.1 a.1)) ≡ false → a.0 ≤ b.0

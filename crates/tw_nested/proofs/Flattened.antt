@@ -1,5 +1,5 @@
 -- The flat couplings of a tree: those that are reached along its ports are those along which its paths lead.
-use Rattle.std.proofs.Common.{◌≡◌, ◌≢◌, ℕ, ◌<◌, ◌+◌, List, [], length, sym, ap, ◌∙◌, subst, slice_index_or, suc, Result, Ok, Err}
+use Rattle.std.proofs.Common.{◌≡◌, ◌≢◌, ℕ, ◌+◌, List, [], sym, ap, ◌∙◌, subst, slice_index_or, suc, Result, Ok, Err}
 use Rattle.std.specs.List.{All}
 use Rattle.tw_nested.specs.Tree.{Parts, Link, Model, no_parts, coupled, size, atoms_from}
 use Rattle.tw_nested.specs.Flat.{Coupling, IsFlat, IsFlatSet, IsTooMany}
@@ -20,10 +20,6 @@ module _ {M : Type 0} (parts : Parts M) (links : List Link) (count : ℕ) (is : 
   sound : All (IsModel count) (all_models parts links)
   sound = models_sound parts links count is linked
 
-  -- an atom's range is not empty, and it is in the tree's
-  atom_range : (x : ℕ) → x < length (atoms_from 1 parts) → slice_index (atoms_from 1 parts) x < top 0 (coupled [] parts links no_parts) (slice_index (atoms_from 1 parts) x)
-  atom_range x lt = atom_ranged parts links x lt
-
   by_path : (k : Coupling) → IsFlat count edges (atoms_from 1 parts) k → IsCoupling parts links k
   by_path k f =
       let way = path_of count (all_models parts links) edges are.made are.known sound _ k.1 _ k.3 (atoms_below parts count is k.0 0 f.source) f.source_port (atoms_below parts count is k.2 0 f.destination) f.destination_port f.reached in
@@ -32,7 +28,7 @@ module _ {M : Type 0} (parts : Parts M) (links : List Link) (count : ℕ) (is : 
         source_port = f.source_port;
         destination = f.destination;
         destination_port = f.destination_port;
-        apart = λ same. not_to_itself (all_models parts links) 0 (0 + suc (size parts + 0)) (top 0 (coupled [] parts links no_parts)) (models_ranged parts links) linked (slice_index (atoms_from 1 parts) k.0) k.1 (slice_index (atoms_from 1 parts) k.2) k.3 (atom_range k.0 f.source) way (ap (slice_index (atoms_from 1 parts)) same);
+        apart = λ same. not_to_itself (all_models parts links) 0 (0 + suc (size parts + 0)) (top 0 (coupled [] parts links no_parts)) (models_ranged parts links) linked (slice_index (atoms_from 1 parts) k.0) k.1 (slice_index (atoms_from 1 parts) k.2) k.3 (atom_ranged parts links k.0 f.source) way (ap (slice_index (atoms_from 1 parts)) same);
         path = way;
       }
 

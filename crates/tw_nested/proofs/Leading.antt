@@ -2,14 +2,11 @@
 use Rattle.std.proofs.Common.{◌≡◌, ℕ, ◌<◌, List, length, refl, sym, ap, arith, subst, slice_index, ◌⊎◌, inl, inr}
 use Rattle.std.specs.List.{All, Contains}
 use Rattle.tw_nested.specs.declared.tree.End.TheVariants.{Here, Part}
+use Rattle.std.proofs.lemmas.List.Elements.{All-contains}
 use Rattle.tw_nested.specs.Tree.{Model, Link}
 use Rattle.tw_nested.specs.Reach.{Edge, Reaches, start, further}
 use Rattle.tw_nested.specs.Flat.{in_of, out_of}
 use Rattle.tw_nested.specs.Paths.{Outwards, at_once, leaving, Path, across, entering, IsEdge, IsModel, IsLink, source_of, destination_of}
-
--- what holds of all holds of what is among them
-pub held : {A : Type 0} (P : A → Type 0) (xs : List A) (x : A) → All P xs → Contains xs x → P x
-held P xs x all at = subst P at.2 (all at.0 x at.1)
 
 module _ (count : ℕ) (models : List Model) (edges : List Edge)
     (made : (e : Edge) → IsEdge count models e → Contains edges e)
@@ -113,8 +110,8 @@ module _ (count : ℕ) (models : List Model) (edges : List Edge)
   reached_by c p _ low port start = inl (record { part = c; port = p; is = refl; part_low = low; port_low = port; way = at_once })
   reached_by c p _ low port (further b v r at) =
       let e = known (b, v) at in
-      let m = held (IsModel count) models e.model sound e.among in
-      let k = held (IsLink e.model) e.model.links e.link m.links e.held in
+      let m = All-contains (IsModel count) models e.model sound e.among in
+      let k = All-contains (IsLink e.model) e.model.links e.link m.links e.held in
       let before = subst (λ w. Out c p w ⊎ In c p w) (sym (ap (λ (f : Edge). f.0) e.is)) (reached_by c p b low port r) in
       subst (λ w. Out c p w ⊎ In c p w) (ap (λ (f : Edge). f.1) e.is) (step c p e.model e.link e.among e.held m k before)
 

@@ -1,20 +1,13 @@
 -- The numbers of parts: each above that of the model around it, and below how many there are.
-use Rattle.std.proofs.Common.{◌≡◌, ℕ, ◌<◌, ◌≤◌, ◌+◌, List, [], ◌∷◌, arith, zero, suc}
+use Rattle.std.proofs.Common.{◌≡◌, ℕ, ◌<◌, ◌≤◌, ◌+◌, List, [], ◌∷◌, arith, suc}
 use Rattle.std.specs.List.{All}
-use Rattle.std.proofs.lemmas.List.Elements.{All-append}
+use Rattle.std.proofs.lemmas.List.Elements.{All-append, All-cons, All-nil}
 use Rattle.tw_nested.specs.Tree.{Parts, Link, Model, no_parts, atom, coupled, size, numbers, atoms_from, coupled_from, model_at}
 use Rattle.tw_nested.specs.Paths.{IsModel}
 use Rattle.tw_nested.specs.Whole.{all_models, AreLinked}
 
 abbrev pub Between : ℕ → ℕ → ℕ → Type 0
 Between low high c = (low ≤ c) × (c < high)
-
-pub All-cons : {A : Type 0} (P : A → Type 0) (x : A) (xs : List A) → P x → All P xs → All P (x ∷ xs)
-All-cons P x xs p all zero d lt = p
-All-cons P x xs p all (suc i) d lt = all i d (omega (arith, lt))
-
-pub All-nil : {A : Type 0} (P : A → Type 0) → All P []
-All-nil P i d lt = absurd (omega (arith, lt))
 
 pub wider : (low high low' high' : ℕ) (xs : List ℕ) → low' ≤ low → high ≤ high' → All (Between low high) xs → All (Between low' high') xs
 wider low high low' high' xs a b all i d lt = let p = (all i d lt).0 in let q = (all i d lt).1 in (omega (arith, a, p), omega (arith, b, q))

@@ -1,5 +1,5 @@
 -- One pass along couplings that rise finds all that is reached.
-use Rattle.std.proofs.Common.{◌≡◌, ◌≢◌, ℕ, ◌<◌, ◌≤◌, ◌+◌, Bool, true, false, List, length, refl, sym, ap, ◌∙◌, arith, subst, slice_index_or, slice_set, ◌⊎◌, inl, inr, true≢false, replicate}
+use Rattle.std.proofs.Common.{◌≡◌, ◌≢◌, ℕ, ◌<◌, ◌≤◌, ◌+◌, Bool, true, false, List, length, sym, ap, ◌∙◌, arith, subst, slice_index_or, slice_set, ◌⊎◌, inl, inr, true≢false, replicate}
 use Rattle.std.specs.List.{Contains}
 use Rattle.std.proofs.lemmas.List.{get_or-set_same, get_or-set_other, get_or_default, length-replicate, get_or-replicate}
 use Rattle.std.proofs.lemmas.Bool.{cases_eq, cases_lt}
@@ -37,10 +37,6 @@ older seen w v at = go (cases_eq v w)
     go : (v ≡ w) ⊎ (v ≢ w) → (v ≡ w) ⊎ Seen seen v
     go (inl e) = inl e
     go (inr n) = inr (sym (get_or-set_other seen w v true false n) ∙ at)
-
-true_or_false : (b : Bool) → (b ≡ true) ⊎ (b ≡ false)
-true_or_false true = inl refl
-true_or_false false = inr refl
 
 same_at : (edges : List Edge) (i : ℕ) (d e : Edge) → i < length edges → slice_index_or edges i d ≡ slice_index_or edges i e
 same_at edges i d e lt = get_or_default edges i d e lt

@@ -1,15 +1,13 @@
 -- Each part's number and those of all within it are a range of their own, so no path leads from an atom to itself.
-use Rattle.std.proofs.Common.{◌≡◌, ◌≢◌, ℕ, ◌<◌, ◌≤◌, ◌+◌, List, [], ◌∷◌, length, sym, ◌∙◌, arith, subst, slice_index, slice_index_or, ◌⊎◌, inl, inr, zero, suc, true, false, nat_lt, if◌then◌else◌}
+use Rattle.std.proofs.Common.{◌≡◌, ◌≢◌, ℕ, ◌<◌, ◌≤◌, ◌+◌, List, [], ◌∷◌, length, sym, ◌∙◌, arith, subst, slice_index, slice_index_or, ◌⊎◌, inl, inr, zero, suc, nat_lt, if◌then◌else◌}
 use Rattle.std.specs.List.{All, AllPairs, Contains}
-use Rattle.std.proofs.lemmas.Bool.{cond-true, cond-false, cases_lt}
-use Rattle.std.proofs.lemmas.Bool.Decides.{nat_tests}
-use Rattle.std.proofs.lemmas.List.Elements.{All-append}
+use Rattle.std.proofs.lemmas.Bool.{cond-true, cond-false, cases_lt, lt-ltb, le-ltb}
+use Rattle.std.proofs.lemmas.List.Elements.{All-append, All-contains, All-cons, All-nil}
 use Rattle.tw_nested.specs.declared.tree.End.TheVariants.{Part}
 use Rattle.tw_nested.specs.Tree.{Parts, Link, Model, no_parts, atom, coupled, size, numbers, atoms_from, coupled_from, model_at}
 use Rattle.tw_nested.specs.Paths.{IsPart, IsLink, Outwards, at_once, leaving, Path, across, entering}
 use Rattle.tw_nested.specs.Whole.{all_models}
-use Rattle.tw_nested.proofs.Leading.{held}
-use Rattle.tw_nested.proofs.Numbers.{All-cons, All-nil, numbers_between, atoms_between}
+use Rattle.tw_nested.proofs.Numbers.{numbers_between, atoms_between}
 
 -- the number past those of part x and of all within it, where the first of these parts has number n
 abbrev pub top : {M : Type 0} → ℕ → Parts M → ℕ → ℕ
@@ -17,27 +15,21 @@ top n no_parts x = x + 1
 top n (atom name m rest) x = if nat_lt x (n + 1) then n + 1 else top (n + 1) rest x
 top n (coupled name inner links rest) x = if nat_lt x (n + 1) then n + 1 + size inner else if nat_lt x (n + 1 + size inner) then top (n + 1) inner x else top (n + 1 + size inner) rest x
 
-is_below : (a b : ℕ) → a < b → nat_lt a b ≡ true
-is_below a b lt = grind (arith, nat_tests)
-
-is_not_below : (a b : ℕ) → b ≤ a → nat_lt a b ≡ false
-is_not_below a b le = grind (arith, nat_tests)
-
 top_of_atom : {M : Type 0} (n : ℕ) (name : List ℕ) (m : M) (rest : Parts M) → top n (atom name m rest) n ≡ n + 1
-top_of_atom n name m rest = cond-true _ _ _ (is_below n (n + 1) (omega arith))
+top_of_atom n name m rest = cond-true _ _ _ (lt-ltb n (n + 1) (omega arith))
 
 top_after_atom : {M : Type 0} (n : ℕ) (name : List ℕ) (m : M) (rest : Parts M) (x : ℕ) → n + 1 ≤ x → top n (atom name m rest) x ≡ top (n + 1) rest x
-top_after_atom n name m rest x le = cond-false _ _ _ (is_not_below x (n + 1) le)
+top_after_atom n name m rest x le = cond-false _ _ _ (le-ltb x (n + 1) le)
 
 module _ {M : Type 0} (n : ℕ) (name : List ℕ) (inner : Parts M) (links : List Link) (rest : Parts M) where
   top_of_coupled : top n (coupled name inner links rest) n ≡ n + 1 + size inner
-  top_of_coupled = cond-true _ _ _ (is_below n (n + 1) (omega arith))
+  top_of_coupled = cond-true _ _ _ (lt-ltb n (n + 1) (omega arith))
 
   top_within : (x : ℕ) → n + 1 ≤ x → x < n + 1 + size inner → top n (coupled name inner links rest) x ≡ top (n + 1) inner x
-  top_within x le lt = cond-false _ _ _ (is_not_below x (n + 1) le) ∙ cond-true _ _ _ (is_below x (n + 1 + size inner) lt)
+  top_within x le lt = cond-false _ _ _ (le-ltb x (n + 1) le) ∙ cond-true _ _ _ (lt-ltb x (n + 1 + size inner) lt)
 
   top_after : (x : ℕ) → n + 1 + size inner ≤ x → top n (coupled name inner links rest) x ≡ top (n + 1 + size inner) rest x
-  top_after x le = cond-false _ _ _ (is_not_below x (n + 1) (omega (arith, le))) ∙ cond-false _ _ _ (is_not_below x (n + 1 + size inner) le)
+  top_after x le = cond-false _ _ _ (le-ltb x (n + 1) (omega (arith, le))) ∙ cond-false _ _ _ (le-ltb x (n + 1 + size inner) le)
 
 -- ---- the parts of one model
 
@@ -149,7 +141,7 @@ module _ (models : List Model) (low high : ℕ) (f : ℕ → ℕ) (ranged : All 
   -- a part of a model is within it
   part_under : (m : Model) (i c : ℕ) → Contains models m → IsPart m i c → Under m.number c
   part_under m i c among is =
-      let r = held (IsRanged low high f) models m ranged among in
+      let r = All-contains (IsRanged low high f) models m ranged among in
       let e = is.1 in
       let a : m.number < slice_index m.parts i = r.above i 0 is.0 in
       let b : slice_index m.parts i < f (slice_index m.parts i) = r.ranges.some i 0 is.0 in
@@ -174,8 +166,8 @@ module _ (models : List Model) (low high : ℕ) (f : ℕ → ℕ) (ranged : All 
 
   crossing : (c p d q : ℕ) → c < f c → Path models c p d q → Crossing c d
   crossing c p _ _ some (across d r e s way k) =
-      let m = held (IsRanged low high f) models k.model ranged k.among in
-      let l = held (IsLink k.model) k.model.links (Part k.source, r, Part k.destination, s) (held (λ m. All (IsLink m) m.links) models k.model linked k.among) k.link in
+      let m = All-contains (IsRanged low high f) models k.model ranged k.among in
+      let l = All-contains (IsLink k.model) k.model.links (Part k.source, r, Part k.destination, s) (All-contains (λ m. All (IsLink m) m.links) models k.model linked k.among) k.link in
       let b : e < f e = subst (λ x. x < f x) k.destination_part.1 (m.ranges.some k.destination 0 k.destination_part.0) in
       let sp = k.source_part.1 in let dp = k.destination_part.1 in
       record {
@@ -227,6 +219,7 @@ atoms_ranged n (coupled name inner links rest) =
     (λ i d lt. (let b = atoms_between (n + 1) inner i d lt in let a = atoms_ranged (n + 1) inner i d lt in let f = top_within n name inner links rest _ b.0 b.1 in omega (arith, a, f)))
     (λ i d lt. (let b = atoms_between (n + 1 + size inner) rest i d lt in let a = atoms_ranged (n + 1 + size inner) rest i d lt in let f = top_after n name inner links rest _ b.0 in omega (arith, a, f)))
 
+-- an atom's range is not empty, and it is in the tree's
 pub atom_ranged : {M : Type 0} (parts : Parts M) (links : List Link) (x : ℕ) → x < length (atoms_from 1 parts) → slice_index (atoms_from 1 parts) x < top 0 (coupled [] parts links no_parts) (slice_index (atoms_from 1 parts) x)
 atom_ranged parts links x lt =
     let b = atoms_between 1 parts x 0 lt in

@@ -5,17 +5,12 @@ ghost use Rattle.std.specs.List.{All};
 ghost use Rattle.tw_nested.specs.Reach.{Reaches, Rises, IsWithin};
 ghost use Rattle.tw_nested.specs.Flat.{IsFlat, IsFlatSet, IsTooMany, IsCollected};
 
+use crate::limits::{MAX_COUPLINGS, PORTS};
 use crate::reach::{Edge, reached, sources};
 use std::alloc::{AllocError, AllocFailed, Global};
 
 /// A coupling of atoms: source, its port, destination, its port.
 pub type Coupling = (usize, u8, usize, u8);
-
-/// How many flat couplings there may be.
-const MAX_COUPLINGS: usize = 8192;
-
-/// How many ports a part has.
-const PORTS: usize = 16;
 
 /// Why there are no flat couplings.
 #[derive(Clone, Copy, Debug, PartialEq, Eq)]

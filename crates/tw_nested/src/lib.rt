@@ -5,6 +5,7 @@
 //! - [`flatten`]: the atoms of a tree in order, depth first, and the couplings along which its paths lead, each
 //!   once; its time and memory are bounded by the numbers of parts and couplings, and not by that of paths.
 //! - [`dismantle`]: lets a tree of any depth go.
+//! - [`MAX_COUPLINGS`], [`PORTS`]: the most couplings that a flat network may have, and how many ports a component has.
 //!
 //! It goes by numbers: each port of each part has two, for what the part puts out and for where it takes in, and
 //! each coupling of each model leads from one of them to a higher one. So one pass over the sorted couplings
@@ -14,10 +15,12 @@
 mod collect;
 mod edges;
 mod flattening;
+mod limits;
 mod reach;
 mod tables;
 pub mod tree;
 
 pub use collect::{Coupling, FlatRefused};
 pub use flattening::{Flat, flatten};
+pub use limits::{MAX_COUPLINGS, PORTS};
 pub use tree::{End, Link, Nested, Part, dismantle};

@@ -6,5 +6,6 @@ pub mod MachinesOfFile
 pub mod Making
 pub mod ManyAtoms
 pub mod Networks
+pub mod OneMeaning
 pub mod PartsInOrder
 pub mod TreeOfFile

@@ -3,6 +3,7 @@ pub mod Draft
 pub mod Meaning
 pub mod Numbering
 pub mod Numbers
+pub mod OneMeaning
 pub mod Refused
 pub mod Shape
 pub mod Tables

@@ -3,6 +3,7 @@
 //!
 //! - [`network_of_any_file`]: the network that a file of any format means, or the first fault in a fixed order.
 //! - [`network_of_file`]: the same of a file of format `tw-1` alone; one of another format has another shape.
+//! - [`meaning_law`]: there is at most one such network, but for the order of a tree's couplings, and at most one such fault.
 //! - [`FileRefused`]: that fault; it turns into the workspace's table of refusals by `From`.
 //!
 //! What a file of format `tw-1` means is a function of its bytes, in three steps: the JSON value that they write;
@@ -29,4 +30,4 @@ mod trees;
 
 pub use file::network_of_file;
 pub use refused::FileRefused;
-pub use trees::{formats_law, network_of_any_file};
+pub use trees::{formats_law, meaning_law, network_of_any_file};

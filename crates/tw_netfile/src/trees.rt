@@ -5,6 +5,7 @@ ghost use Rattle.tw_nested.specs.Tree.{models_in, parts_of};
 ghost use Rattle.tw_netfile.specs.Draft.{input_view, inputs_view};
 ghost use Rattle.tw_netfile.specs.Numbers.{number_of, numbered_input};
 ghost use Rattle.tw_netfile.specs.Meaning.{meaning_of};
+ghost use Rattle.tw_netfile.specs.OneMeaning.{MeansOne};
 ghost use Rattle.tw_netfile.specs.TreeDraft.{tree_view};
 ghost use Rattle.tw_netfile.specs.TreeShape.{TreeFile};
 ghost use Rattle.tw_netfile.specs.declared.refused.FileRefused.TheVariants.{BadShape};
@@ -66,6 +67,12 @@ pub fn network_of_any_file(alloc: Global, bytes: &[u8]) -> Result<Network<AnyMod
 /// No file is of both formats: for format `tw-1`, one that says a tree has another shape. It does nothing.
 pub fn formats_law()
     ensures { (bytes : List ℕ) (file : TreeFile) → tree_in bytes ≡ Some file → meaning_of bytes ≡ Err BadShape }
+{}
+
+/// The bytes of a file mean at most one network, but for the order of the couplings of a tree, and have at most one first
+/// fault; never both. It does nothing.
+pub fn meaning_law()
+    ensures { (bytes : List ℕ) → MeansOne bytes }
 {}
 
 // The first fault of a tree of too many atoms.

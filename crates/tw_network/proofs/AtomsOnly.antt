@@ -3,6 +3,7 @@ use Rattle.std.proofs.Common.{◌≡◌, ◌≢◌, ℕ, ◌+◌, ◌<◌, ◌�
 use Rattle.std.specs.List.{All, AllPairs, Contains, remove}
 use Rattle.std.specs.List.Sorted.{IsPermutation}
 use Rattle.std.specs.Option.{option_or}
+use Rattle.std.proofs.lemmas.Bool.{and_parts, leb-true}
 use Rattle.std.proofs.lemmas.List.{length-map, map-append}
 use Rattle.std.proofs.lemmas.List.Sorted.{Contains-permutation, IsPermutation-cons, IsPermutation-refl, IsPermutation-remove, IsPermutation-sym, IsPermutation-trans, length_permutation}
 use Rattle.tw_atomic.specs.Atomic.{Meaning}
@@ -17,7 +18,7 @@ use Rattle.tw_network.specs.Faults.{unless, first_of, count_fault, limit_fault, 
 use Rattle.tw_network.specs.TreeFaults.{IsTreeFault, in_tree, in_couplings, in_inputs, inner_fault, models_fault, link_end_fault, parts_fault, has_link, link_fault, links_fault, tree_count_fault, tree_fault}
 use Rattle.tw_network.specs.declared.refused.NetworkRefused.{NetworkRefused}
 use Rattle.tw_network.specs.declared.refused.NetworkRefused.TheVariants.{OutOfMemory, TooMany, DuplicateName, DuplicateRoute, BadTick}
-use Rattle.tw_network.proofs.NoFaults.{all_couplings, both, distinct_couplings, holds, neither, upto}
+use Rattle.tw_network.proofs.NoFaults.{all_couplings, distinct_couplings, holds, neither}
 use Rattle.std.proofs.Common.{Result, Ok, Err}
 use Rattle.std.specs.Result.{IfErr}
 use Rattle.tw_network.specs.FlatTrees.{IsFlatTree, IsSameNetwork}
@@ -163,7 +164,7 @@ no_more (x ∷ xs) ys apart all =
     omega (arith, ih, n)
 
 -- and all of them, where there are as many
-all_of : {A : Type 0} (xs ys : List A) → AllPairs (λ a b. a ≢ b) xs → All (λ y. Contains ys y) xs → length ys ≤ length xs → IsPermutation xs ys
+pub all_of : {A : Type 0} (xs ys : List A) → AllPairs (λ a b. a ≢ b) xs → All (λ y. Contains ys y) xs → length ys ≤ length xs → IsPermutation xs ys
 all_of [] [] apart all le = IsPermutation-refl []
 all_of [] (y ∷ ys) apart all le = absurd (omega (arith, le))
 all_of (x ∷ xs) ys apart all le =
@@ -297,8 +298,8 @@ module _ {M S : Type 0} (meaning : M → Meaning S) (cs : List (List ℕ × M)) 
   few_couplings : tree_fault meaning (all_atoms cs) (map link_between ks) inputs limit ≡ None → length ks ≤ 8192
   few_couplings e =
       let p = neither (count_fault (length cs) (length ks) (length inputs)) _ (sym same_tree_fault ∙ e) in
-      let b = both (nat_le (length cs) 1024 && nat_le (length ks) 8192) (nat_le (length inputs) 65536) (holds _ _ p.0) in
-      upto (length ks) 8192 (both (nat_le (length cs) 1024) (nat_le (length ks) 8192) b.0).1
+      let b = and_parts (nat_le (length cs) 1024 && nat_le (length ks) 8192) (nat_le (length inputs) 65536) (holds _ _ p.0) in
+      leb-true (length ks) 8192 (and_parts (nat_le (length cs) 1024) (nat_le (length ks) 8192) b.0).1
 
   pub same_fault : (f : NetworkRefused) → IsTreeFault meaning (all_atoms cs) (map link_between ks) inputs limit f → first_fault meaning cs ks inputs limit ≡ Some f
   same_fault f (in_tree _ e) = first_split ∙ ap (λ o. option_or o (inputs_fault (length cs) inputs)) (sym same_tree_fault ∙ e)

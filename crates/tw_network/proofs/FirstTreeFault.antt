@@ -13,7 +13,8 @@ use Rattle.tw_network.specs.TreeFaults.{IsTreeFault, in_tree, in_couplings, in_i
 use Rattle.tw_network.specs.declared.refused.NetworkRefused.{NetworkRefused}
 use Rattle.tw_network.specs.declared.refused.NetworkRefused.TheVariants.{OutOfMemory}
 use Rattle.tw_network.proofs.FirstFault.{after_none, at_some}
-use Rattle.tw_network.proofs.NoFaults.{both, holds, upto}
+use Rattle.tw_network.proofs.NoFaults.{holds}
+use Rattle.std.proofs.lemmas.Bool.{and_parts, leb-true}
 use Rattle.tw_theory.specs.Network.{Coupling}
 
 -- an error that is passed on
@@ -23,8 +24,8 @@ error_on P (Err e) f is at = λ ne. subst P (sym is) (at (λ same. ne (is ∙ sa
 
 pub counts_few : {M : Type 0} (parts : Parts M) (links : List Link) (inputs : ℕ) → None ≡ tree_count_fault parts links inputs → (is_few parts links ≡ true) × (inputs ≤ 65536)
 counts_few parts links inputs e =
-    let p = both (is_few parts links) (nat_le inputs 65536) (holds _ _ (sym e)) in
-    (p.0, upto inputs 65536 p.1)
+    let p = and_parts (is_few parts links) (nat_le inputs 65536) (holds _ _ (sym e)) in
+    (p.0, leb-true inputs 65536 p.1)
 
 module _ {M S : Type 0} (meaning : M → Meaning S) (parts : Parts M) (links : List Link) (inputs : List Input) (limit : ℕ) where
   pub tree_fault_of_counts : (f : NetworkRefused) → Some f ≡ tree_count_fault parts links (length inputs) → IsTreeFault meaning parts links inputs limit f

@@ -3,7 +3,7 @@ use Rattle.std.proofs.Common.{◌≡◌, ℕ, ◌<◌, ◌≤◌, Bool, true, fa
 use Rattle.std.specs.Global.{Global}
 use Rattle.std.specs.List.{list_any, position, position_or_len, Contains}
 use Rattle.std.specs.Str.{bytes_eq}
-use Rattle.std.proofs.lemmas.Bool.Decides.{nat_tests}
+use Rattle.std.proofs.lemmas.Bool.{ltb-true, ltb-false}
 use Rattle.std.proofs.lemmas.List.{get_or-map, length-map}
 use Rattle.std.proofs.lemmas.List.Sums.{fails_before_first, passes_at_first}
 use Rattle.std.proofs.lemmas.Slice.Eq.{bytes_eq-Decides}
@@ -21,12 +21,6 @@ text_itself text = (bytes_eq-Decides text text).1 refl
 same_text : (one other : List ℕ) → bytes_eq one other ≡ true → one ≡ other
 same_text one other = (bytes_eq-Decides one other).0
 
-below : (a b : ℕ) → nat_lt a b ≡ true → a < b
-below a b e = grind (arith, nat_tests)
-
-not_below : (a b : ℕ) → nat_lt a b ≡ false → b ≤ a
-not_below a b e = grind (arith, nat_tests)
-
 at_index : (texts : List (List ℕ)) (i : ℕ) (d : List ℕ) → i < length texts → slice_get texts i ≡ Some (slice_index_or texts i d)
 at_index [] i d lt = absurd (omega (arith, lt))
 at_index (t ∷ ts) zero d lt = refl
@@ -41,7 +35,7 @@ name_at_position name (k ∷ keys) i e = go (nat_lt (position_or_len (λ k. byte
     go true lt is =
         let q : String Global → Bool = λ k. bytes_eq name (string_bytes k) in
         let place = position_or_len q (k ∷ keys) in
-        let within : place < length (k ∷ keys) = below place (length (k ∷ keys)) lt in
+        let within : place < length (k ∷ keys) = ltb-true place (length (k ∷ keys)) lt in
         let here : place ≡ i = cc in
         let same = same_text name _ (passes_at_first q (k ∷ keys) k within) in
         let there = at_index (map string_bytes (k ∷ keys)) place name (omega (arith, within, length-map (k ∷ keys) string_bytes)) in
@@ -59,7 +53,7 @@ no_name_at_none name (k ∷ keys) e there = go (nat_lt (position_or_len (λ k. b
     go false lt is =
         let q : String Global → Bool = λ k. bytes_eq name (string_bytes k) in
         let place = position_or_len q (k ∷ keys) in
-        let past : length (k ∷ keys) ≤ place = not_below place (length (k ∷ keys)) lt in
+        let past : length (k ∷ keys) ≤ place = ltb-false place (length (k ∷ keys)) lt in
         let within : there.0 < length (k ∷ keys) = omega (arith, there.1, length-map (k ∷ keys) string_bytes) in
         let differs = fails_before_first q (k ∷ keys) there.0 k (omega (arith, within, past)) in
         let text = get_or-map string_bytes (k ∷ keys) there.0 k name within in

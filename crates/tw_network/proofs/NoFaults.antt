@@ -1,11 +1,12 @@
 -- What is true of lists in which there is no first fault: of each component, coupling and input, and of all of them together.
-use Rattle.std.proofs.Common.{◌≡◌, ◌≢◌, ℕ, ◌<◌, ◌≤◌, Bool, true, false, not, ◌&&◌, ◌||◌, ◌==◌, nat_lt, nat_le, List, [], ◌∷◌, ◌++◌, length, take, map, refl, sym, ap, ◌∙◌, subst, arith, Option, None, Some, slice_index_or, zero, suc, true≢false, append_assoc}
+use Rattle.std.proofs.Common.{◌≡◌, ◌≢◌, ℕ, ◌<◌, ◌≤◌, Bool, true, false, ◌==◌, nat_lt, nat_le, List, [], ◌∷◌, ◌++◌, length, take, map, refl, sym, ap, ◌∙◌, subst, arith, Option, None, Some, slice_index_or, zero, suc, true≢false, append_assoc}
 use Rattle.std.specs.List.{list_any, All, AllPairs, AllByRecursion as Each}
 use Rattle.std.specs.Option.{option_or, option_map_or}
 use Rattle.std.specs.Str.{bytes_eq}
+use Rattle.std.proofs.lemmas.Bool.{and_parts, or_parts, not-true, ltb-true, leb-true, eqb-false}
 use Rattle.std.proofs.lemmas.Bool.Decides.{nat_tests}
 use Rattle.std.proofs.lemmas.List.{append-nil, get_or-map, get_or-take, length-map, length-take-le}
-use Rattle.std.proofs.lemmas.List.Elements.{All-map}
+use Rattle.std.proofs.lemmas.List.Elements.{All-map, recursion_from_All}
 use Rattle.tw_atomic.specs.Atomic.{Meaning}
 use Rattle.tw_network.specs.Contents.{Contents, Input, IsCoupling, IsInput, IsWhole, StartsInTime, IsFlatName, alone, handed_in, is_name, message_of, models_of, names_of, network_of}
 use Rattle.tw_network.specs.Faults.{unless, first_of, first_fault, count_fault, limit_fault, component_fault, components_fault, end_fault, coupling_fault, couplings_fault, has_coupling, has_name, input_fault, inputs_fault, same_coupling, starts_in_time}
@@ -24,32 +25,11 @@ pub holds : (b : Bool) (f : NetworkRefused) → unless b f ≡ None → b ≡ tr
 holds true f e = refl
 holds false f e = absurd cc
 
-pub both : (a b : Bool) → (a && b) ≡ true → (a ≡ true) × (b ≡ true)
-both true b e = (refl, e)
-both false b e = absurd cc
-
-pub fails : (b : Bool) → not b ≡ true → b ≡ false
-fails true e = absurd cc
-fails false e = refl
-
-nor : (a b : Bool) → (a || b) ≡ false → (a ≡ false) × (b ≡ false)
-nor true b e = absurd cc
-nor false b e = (refl, e)
-
-pub below : (a b : ℕ) → nat_lt a b ≡ true → a < b
-below a b e = grind (arith, nat_tests)
-
-pub upto : (a b : ℕ) → nat_le a b ≡ true → a ≤ b
-upto a b e = grind (arith, nat_tests)
-
-pub apart : (a b : ℕ) → (a == b) ≡ false → a ≢ b
-apart a b e = grind (arith, nat_tests)
-
 -- what fails at all of a list fails at each of it
 pub not_any : {A : Type 0} (p : A → Bool) (xs : List A) → list_any p xs ≡ false → (i : ℕ) (d : A) → i < length xs → p (slice_index_or xs i d) ≡ false
 not_any p [] e i d lt = absurd (omega (arith, lt))
-not_any p (x ∷ xs) e zero d lt = (nor (p x) (list_any p xs) e).0
-not_any p (x ∷ xs) e (suc i) d lt = not_any p xs (nor (p x) (list_any p xs) e).1 i d (omega (arith, lt))
+not_any p (x ∷ xs) e zero d lt = (or_parts (p x) (list_any p xs) e).0
+not_any p (x ∷ xs) e (suc i) d lt = not_any p xs (or_parts (p x) (list_any p xs) e).1 i d (omega (arith, lt))
 
 same_itself : (k : Coupling) → same_coupling k k ≡ true
 same_itself k = grind (arith, nat_tests)
@@ -71,14 +51,14 @@ IsCoupling-no_fault : (count : ℕ) (k : Coupling) → end_fault count k ≡ Non
 IsCoupling-no_fault count k e =
     let p = neither _ _ e in
     let q = neither _ _ p.1 in
-    let ends = both (nat_lt k.0 count) (nat_lt k.2 count) (holds _ _ p.0) in
-    let ports = both (nat_le k.1 15) (nat_le k.3 15) (holds _ _ q.0) in
+    let ends = and_parts (nat_lt k.0 count) (nat_lt k.2 count) (holds _ _ p.0) in
+    let ports = and_parts (nat_le k.1 15) (nat_le k.3 15) (holds _ _ q.0) in
     record {
-      source = below k.0 count ends.0;
-      source_port = upto k.1 15 ports.0;
-      destination = below k.2 count ends.1;
-      destination_port = upto k.3 15 ports.1;
-      apart = apart k.0 k.2 (fails (k.0 == k.2) (holds _ _ q.1));
+      source = ltb-true k.0 count ends.0;
+      source_port = leb-true k.1 15 ports.0;
+      destination = ltb-true k.2 count ends.1;
+      destination_port = leb-true k.3 15 ports.1;
+      apart = eqb-false k.0 k.2 (not-true (k.0 == k.2) (holds _ _ q.1));
     }
 
 IsInput-no_fault : (count : ℕ) (i : Input) → input_fault count i ≡ None → IsInput count i
@@ -86,9 +66,9 @@ IsInput-no_fault count i e =
     let p = neither _ _ e in
     let q = neither _ _ p.1 in
     record {
-      tick = upto i.0 max_tick (holds _ _ q.1);
-      to = below i.1 count (holds _ _ p.0);
-      port = upto i.2 15 (holds _ _ q.0);
+      tick = leb-true i.0 max_tick (holds _ _ q.1);
+      to = ltb-true i.1 count (holds _ _ p.0);
+      port = leb-true i.2 15 (holds _ _ q.0);
     }
 
 pub StartsInTime-no_fault : {S : Type 0} (m : Meaning S) → starts_in_time m ≡ true → StartsInTime m
@@ -96,7 +76,7 @@ StartsInTime-no_fault m e = go (m.ta m.start) e
   where
     go : (o : Option ℕ) → option_map_or (λ ta. nat_le ta max_tick) o true ≡ true → (ta : ℕ) → o ≡ Some ta → ta ≤ max_tick
     go None h ta is = absurd cc
-    go (Some t) h ta is = let low : t ≤ max_tick = upto t max_tick h in let same : t ≡ ta = cc in omega (arith, low, same)
+    go (Some t) h ta is = let low : t ≤ max_tick = leb-true t max_tick h in let same : t ≡ ta = cc in omega (arith, low, same)
 
 -- ---- components
 
@@ -113,7 +93,7 @@ sound_component meaning components e i d lt =
     let q = neither _ _ p.1 in
     record {
       name = holds (is_name c.0) _ p.0;
-      new = fails (has_name (names_of (take i components)) c.0) (holds _ _ q.0);
+      new = not-true (has_name (names_of (take i components)) c.0) (holds _ _ q.0);
       starts = StartsInTime-no_fault (meaning c.1) (holds _ _ q.1);
     }
 
@@ -141,7 +121,7 @@ sound_coupling : (count : ℕ) (ks : List Coupling) → couplings_fault count ks
 sound_coupling count ks e i d lt =
     let k = slice_index_or ks i d in
     let p = neither _ _ (none_at_fault (coupling_fault count) [] ks e i d lt) in
-    (IsCoupling-no_fault count k p.0, fails (has_coupling (take i ks) k) (holds _ _ p.1))
+    (IsCoupling-no_fault count k p.0, not-true (has_coupling (take i ks) k) (holds _ _ p.1))
 
 pub distinct_couplings : (count : ℕ) (ks : List Coupling) → couplings_fault count ks ≡ None → AllPairs (λ a b. a ≢ b) ks
 distinct_couplings count ks e i j d lt within same =
@@ -161,16 +141,12 @@ Each-map-from_All : {A B : Type 0} (P : B → Type 0) (f : A → B) (xs : List A
 Each-map-from_All P f [] all = tt
 Each-map-from_All P f (x ∷ xs) all = (all 0 x (omega arith), Each-map-from_All P f xs (λ i d lt. all (suc i) d (omega (arith, lt))))
 
-Each-from_All : {A : Type 0} (P : A → Type 0) (xs : List A) → All P xs → Each P xs
-Each-from_All P [] all = tt
-Each-from_All P (x ∷ xs) all = (all 0 x (omega arith), Each-from_All P xs (λ i d lt. all (suc i) d (omega (arith, lt))))
-
 pub is_network : {M S : Type 0} (meaning : M → Meaning S) (n : Contents M) → All (IsCoupling (length n.models)) n.couplings → All (IsInput (length n.models)) n.inputs → IsNetwork (network_of meaning n)
 is_network meaning n couplings inputs =
     let count = length-map n.models meaning in
     record {
       inputs = Each-map-from_All (Fits (network_of meaning n)) message_of n.inputs (λ i d lt. fits i d (inputs i d lt) count);
-      couplings = Each-from_All (λ k. k.2 < length (map meaning n.models)) n.couplings (λ i d lt. let k = (couplings i d lt).destination in omega (arith, k, count));
+      couplings = recursion_from_All (λ k. k.2 < length (map meaning n.models)) n.couplings (λ i d lt. let k = (couplings i d lt).destination in omega (arith, k, count));
     }
   where
     fits : (i : ℕ) (d : Input) → IsInput (length n.models) (slice_index_or n.inputs i d) → length (map meaning n.models) ≡ length n.models → Fits (network_of meaning n) (message_of (slice_index_or n.inputs i d))
@@ -180,15 +156,15 @@ is_network meaning n couplings inputs =
       stamp = let t = good.tick in omega (arith, t);
     }
 
-is_whole : {M S : Type 0} (meaning : M → Meaning S) (components : List (List ℕ × M)) (couplings : List Coupling) (inputs : List Input) (micro_limit : ℕ) → first_fault meaning components couplings inputs micro_limit ≡ None → IsWhole meaning (handed_in components couplings inputs micro_limit)
+pub is_whole : {M S : Type 0} (meaning : M → Meaning S) (components : List (List ℕ × M)) (couplings : List Coupling) (inputs : List Input) (micro_limit : ℕ) → first_fault meaning components couplings inputs micro_limit ≡ None → IsWhole meaning (handed_in components couplings inputs micro_limit)
 is_whole {M} {S} meaning components couplings inputs micro_limit e =
     let p = neither _ _ e in
     let q = neither _ _ p.1 in
     let r = neither _ _ q.1 in
     let s = neither _ _ r.1 in
-    let counts = both _ _ (holds _ _ p.0) in
-    let less = both _ _ counts.0 in
-    let limits = both _ _ (holds _ _ q.0) in
+    let counts = and_parts _ _ (holds _ _ p.0) in
+    let less = and_parts _ _ counts.0 in
+    let limits = and_parts _ _ (holds _ _ q.0) in
     let n = length-map components (λ c. c.1) in
     let each_coupling : All (IsCoupling (length (models_of components))) couplings =
     subst (λ m. All (IsCoupling m) couplings) (sym n) (λ i d lt. (sound_coupling (length components) couplings s.0 i d lt).0) in
@@ -202,11 +178,11 @@ is_whole {M} {S} meaning components couplings inputs micro_limit e =
       couplings = each_coupling;
       coupled_once = distinct_couplings (length components) couplings s.0;
       inputs = each_input;
-      component_count = let low : length components ≤ 1024 = upto (length components) 1024 less.0 in omega (arith, low, n);
-      coupling_count = upto _ _ less.1;
-      input_count = upto _ _ counts.1;
-      some_microstep = upto _ _ limits.0;
-      microsteps = upto _ _ limits.1;
+      component_count = let low : length components ≤ 1024 = leb-true (length components) 1024 less.0 in omega (arith, low, n);
+      coupling_count = leb-true _ _ less.1;
+      input_count = leb-true _ _ counts.1;
+      some_microstep = leb-true _ _ limits.0;
+      microsteps = leb-true _ _ limits.1;
       network = is_network meaning (handed_in components couplings inputs micro_limit) each_coupling each_input;
     }
 

@@ -7,6 +7,7 @@ use Rattle.std.proofs.lemmas.Option.{get_or_from_slice_get, slice_get-map}
 use Rattle.tw_atomic.specs.Atomic.{Meaning}
 use Rattle.tw_network.specs.Contents.{Contents, IsCoupling, IsPlace, network_of}
 use Rattle.tw_network.specs.RouteIndex.{place_of}
+use Rattle.tw_theory.proofs.Routes.{each-insert_place}
 use Rattle.tw_theory.specs.Network.{Coupling, Destination, destinations, insert_destination, destination_at_or_before, model_of}
 
 -- ---- how many they are
@@ -28,11 +29,6 @@ places_few c port (k ∷ ks) =
 
 -- ---- where they are
 
-insert-each : (P : Destination → Type 0) (x : Destination) (ps : List Destination) → P x → Each P ps → Each P (insert_destination x ps)
-insert-each P x [] at each = (at, tt)
-insert-each P x (p ∷ ps) at each =
-    cond_both (destination_at_or_before x p) (x ∷ p ∷ ps) (p ∷ insert_destination x ps) (Each P) (λ e. (at, each)) (λ e. (each.0, insert-each P x ps at each.1))
-
 place_is : (count : ℕ) (k : Coupling) → IsCoupling count k → IsPlace count (place_of k)
 place_is count k is = record { known = is.destination; port = is.destination_port }
 
@@ -41,7 +37,7 @@ places_are count c port [] all = tt
 places_are count c port (k ∷ ks) all =
     let rest = places_are count c port ks (λ i d lt. all (suc i) d (omega (arith, lt))) in
     cond_both ((k.0 == c) && (k.1 == port)) (insert_destination (place_of k) (destinations c port ks)) (destinations c port ks) (Each (IsPlace count))
-    (λ e. insert-each (IsPlace count) (place_of k) (destinations c port ks) (place_is count k (all 0 k (omega arith))) rest)
+    (λ e. each-insert_place (IsPlace count) (place_of k) (destinations c port ks) (place_is count k (all 0 k (omega arith))) rest)
     (λ e. rest)
 
 -- ---- the model of a component that is there

@@ -1,23 +1,17 @@
 -- The destinations of a part: the couplings in order, between the start of the part and the start of the next.
-use Rattle.std.proofs.Common.{◌≡◌, ◌≢◌, ℕ, ◌+◌, ◌-◌, ◌*◌, ◌<◌, ◌≤◌, Bool, true, false, ◌&&◌, ◌==◌, nat_le, List, [], ◌∷◌, length, map, take, drop, refl, sym, ap, ◌∙◌, arith, slice_index, slice_range, zero, suc, if◌then◌else◌}
-use Rattle.std.specs.Cmp.{then_total, on_total, nat_cmp_total}
-use Rattle.std.specs.declared.cmp.Ordering.{Ordering}
-use Rattle.std.specs.Ordering.{is_le, nat_cmp, ordering_then}
+use Rattle.std.proofs.Common.{◌≡◌, ◌≢◌, ℕ, ◌+◌, ◌-◌, ◌*◌, ◌<◌, ◌≤◌, Bool, true, false, List, [], ◌∷◌, length, map, take, drop, refl, sym, ap, ◌∙◌, arith, slice_index, slice_range, zero, suc, if◌then◌else◌}
+use Rattle.std.specs.Ordering.{is_le}
 use Rattle.std.specs.List.{All}
 use Rattle.std.specs.List.Sorted.{IsSorted, IsPermutation}
 use Rattle.std.proofs.lemmas.Bool.{cond-true, cond-false}
 use Rattle.std.proofs.lemmas.Bool.Decides.{nat_tests}
 use Rattle.std.proofs.lemmas.List.{length-map}
-use Rattle.tw_msgs.proofs.Sorting.{RisesBy, LeadsBy, RisesBy-from_IsSorted, only_sorted, insert_by, sort_by, insert-comm, Ranks}
-use Rattle.tw_msgs.proofs.Orders.{lex_le, lex_exact, nat_cmp-exact, nat_le-is}
+use Rattle.tw_msgs.proofs.Sorting.{RisesBy, LeadsBy, RisesBy-from_IsSorted, only_sorted, insert_by, sort_by}
 use Rattle.tw_network.specs.Contents.{IsCoupling}
 use Rattle.tw_network.specs.RouteIndex.{coupling_cmp, part_of, place_of, IsStart, IsRouteIndex}
 use Rattle.tw_network.proofs.RouteOrder.{couplings_rank, number_of}
+use Rattle.tw_theory.proofs.Reordered.{is_of, placed, placed-comm}
 use Rattle.tw_theory.specs.Network.{Coupling, Destination, destinations, insert_destination, destination_at_or_before}
-
--- whether a coupling is of this port of this component
-abbrev is_of : ℕ → ℕ → Coupling → Bool
-is_of c port k = (k.0 == c) && (k.1 == port)
 
 -- ---- one coupling more
 
@@ -127,40 +121,6 @@ starts_rise (k ∷ ks) part (suc s) zero a b =
 starts_rise (k ∷ ks) part (suc s) (suc e) a b = let h = starts_rise ks part s e (start_of_rest k ks part s a) (start_of_rest k ks (part + 1) e b) in omega (arith, h)
 
 -- ---- the order of the couplings does not matter
-
-abbrev place_cmp : Destination → Destination → Ordering
-place_cmp x y = ordering_then (nat_cmp x.0 y.0) (nat_cmp x.1 y.1)
-
-places_rank : Ranks place_cmp
-places_rank = record {
-  total = then_total (on_total (λ x. x.0) nat_cmp_total) (on_total (λ x. x.1) nat_cmp_total);
-  exact = λ x y e. let p = lex_exact x.0 y.0 (nat_cmp x.1 y.1) e in let v = nat_cmp-exact x.1 y.1 p.1 in λ i. (p.0 i, v i);
-}
-
-place_order : (x y : Destination) → destination_at_or_before x y ≡ is_le (place_cmp x y)
-place_order x y = lex_le x.0 y.0 (nat_le x.1 y.1) (nat_cmp x.1 y.1) (nat_le-is x.1 y.1)
-
-insert_place-is : (x : Destination) (ys : List Destination) → insert_destination x ys ≡ insert_by place_cmp x ys
-insert_place-is x [] = refl
-insert_place-is x (y ∷ ys) = λ i. if place_order x y i then x ∷ y ∷ ys else y ∷ insert_place-is x ys i
-
--- the place of a coupling, where it is of the part
-abbrev placed : ℕ → ℕ → Coupling → List Destination → List Destination
-placed c port k ps = if is_of c port k then insert_destination (place_of k) ps else ps
-
-insert_place-comm : (x y : Destination) (ps : List Destination) → insert_destination x (insert_destination y ps) ≡ insert_destination y (insert_destination x ps)
-insert_place-comm x y ps =
-    insert_place-is x (insert_destination y ps) ∙ ap (insert_by place_cmp x) (insert_place-is y ps) ∙ insert-comm places_rank x y ps
-    ∙ sym (insert_place-is y (insert_destination x ps) ∙ ap (insert_by place_cmp y) (insert_place-is x ps))
-
-placed-comm : (c port : ℕ) (j k : Coupling) (ps : List Destination) → placed c port j (placed c port k ps) ≡ placed c port k (placed c port j ps)
-placed-comm c port j k ps = go (is_of c port j) (is_of c port k)
-  where
-    go : (a b : Bool) → (if a then insert_destination (place_of j) (if b then insert_destination (place_of k) ps else ps) else (if b then insert_destination (place_of k) ps else ps)) ≡ (if b then insert_destination (place_of k) (if a then insert_destination (place_of j) ps else ps) else (if a then insert_destination (place_of j) ps else ps))
-    go true true = insert_place-comm (place_of j) (place_of k) ps
-    go true false = refl
-    go false true = refl
-    go false false = refl
 
 places_inserted : (c port : ℕ) (k : Coupling) (ks : List Coupling) → destinations c port (insert_by coupling_cmp k ks) ≡ placed c port k (destinations c port ks)
 places_inserted c port k [] = refl

@@ -2,19 +2,19 @@
 use Rattle.std.proofs.Common.{◌≡◌, ◌≢◌, ℕ, ◌<◌, List, ◌∷◌, [], ◌++◌, length, refl, sym, ap, ◌∙◌, arith, subst, suc, zero, slice_index_or, Bool, true, false, None, append_assoc, true≢false, ◌||◌, map, String, string_bytes}
 use Rattle.std.specs.List.{All, AllPairs, Contains, list_all}
 use Rattle.std.specs.Str.{bytes_eq}
+use Rattle.std.proofs.lemmas.Bool.{and_parts, not-true}
 use Rattle.std.proofs.lemmas.List.{append-nil, map-append}
 use Rattle.std.proofs.lemmas.List.Kept.{AllPairs-cons}
 use Rattle.std.proofs.lemmas.Slice.Eq.{bytes_eq-Decides}
 use Rattle.std.specs.Global.{Global}
-use Rattle.tw_nested.proofs.Leading.{held}
-use Rattle.std.proofs.lemmas.List.Elements.{All-append, Contains-append_left, Contains-append_right, Contains-push}
+use Rattle.std.proofs.lemmas.List.Elements.{All-append, All-contains, All-cons, All-nil, Contains-append_left, Contains-append_right, Contains-push}
 use Rattle.tw_atomic.specs.Atomic.{Meaning}
 use Rattle.tw_nested.specs.Tree.{Parts, Link, no_parts, atom, coupled, flat_names}
 use Rattle.tw_network.specs.Contents.{IsFlatName, alone, within, is_name, is_name_byte}
 use Rattle.tw_network.specs.Faults.{has_name}
 use Rattle.tw_network.specs.TreeFaults.{inner_fault, parts_fault, part_name_fault, start_fault}
 use Rattle.tw_network.proofs.Names.{text_itself}
-use Rattle.tw_network.proofs.NoFaults.{neither, holds, both, fails, not_any}
+use Rattle.tw_network.proofs.NoFaults.{neither, holds, not_any}
 
 -- ---- names without dots, and what follows them
 
@@ -29,11 +29,11 @@ IsTail (b ∷ bs) = b ≡ 46
 no_dot : (bs : List ℕ) → list_all is_name_byte bs ≡ true → NoDot bs
 no_dot [] e = tt
 no_dot (b ∷ bs) e =
-    let p = both (is_name_byte b) (list_all is_name_byte bs) e in
+    let p = and_parts (is_name_byte b) (list_all is_name_byte bs) e in
     (λ same. true≢false (sym p.0 ∙ ap is_name_byte same), no_dot bs p.1)
 
 name_no_dot : (name : List ℕ) → is_name name ≡ true → NoDot name
-name_no_dot name e = no_dot name (both _ _ e).1
+name_no_dot name e = no_dot name (and_parts _ _ e).1
 
 same_head : (a b s t : List ℕ) → NoDot a → NoDot b → IsTail s → IsTail t → a ++ s ≡ b ++ t → a ≡ b
 same_head [] [] s t p q x y e = refl
@@ -54,13 +54,6 @@ same_rest (x ∷ p) a b e = let rest : p ++ a ≡ p ++ b = cc in same_rest p a b
 -- what comes before the names of a model's parts, and one of these
 join_assoc : (p name tail : List ℕ) → p ++ name ++ 46 ∷ [] ++ tail ≡ p ++ (name ++ 46 ∷ tail)
 join_assoc p name tail = append_assoc (p ++ name) (46 ∷ []) tail ∙ append_assoc p name (46 ∷ tail)
-
-pub all_cons : {A : Type 0} (P : A → Type 0) (x : A) (xs : List A) → P x → All P xs → All P (x ∷ xs)
-all_cons P x xs p all zero d lt = p
-all_cons P x xs p all (suc i) d lt = all i d (omega (arith, lt))
-
-pub all_nil : {A : Type 0} (P : A → Type 0) → All P []
-all_nil P i d lt = absurd (omega (arith, lt))
 
 all_weaker : {A : Type 0} (P Q : A → Type 0) (xs : List A) → ((x : A) → P x → Q x) → All P xs → All Q xs
 all_weaker P Q xs f all i d lt = f (slice_index_or xs i d) (all i d lt)
@@ -85,7 +78,7 @@ record IsNew (names : List (List ℕ)) (name : List ℕ) : Type 0 where
 is_new : (names : List (List ℕ)) (name : List ℕ) → part_name_fault names name ≡ None → IsNew names name
 is_new names name e =
     let p = neither _ _ e in
-    let absent = fails (has_name names name) (holds _ _ p.1) in
+    let absent = not-true (has_name names name) (holds _ _ p.1) in
     record {
       named = holds _ _ p.0;
       new = λ other at same. (let differs = not_any (bytes_eq name) names absent at.0 name at.1 in true≢false (sym (text_itself name) ∙ ap (bytes_eq name) (sym same ∙ sym (at_default names at.0 other name at.1 at.2)) ∙ differs));
@@ -137,10 +130,10 @@ module _ {M S : Type 0} (meaning : M → Meaning S) where
       subst IsFlatName (sym (join_assoc prefix name rest)) (leaves (name ++ 46 ∷ rest) (within name rest is at))
 
   pub flat_names_are : (prefix : List ℕ) (names : List (List ℕ)) (parts : Parts M) → LeavesFlat prefix → parts_fault meaning names parts ≡ None → inner_fault meaning parts ≡ None → All IsFlatName (flat_names prefix parts)
-  flat_names_are prefix names no_parts leaves e f = all_nil IsFlatName
+  flat_names_are prefix names no_parts leaves e f = All-nil IsFlatName
   flat_names_are prefix names (atom name m rest) leaves e f =
       let s = atom_sound names name m rest e in
-      all_cons IsFlatName (prefix ++ name) (flat_names prefix rest) (leaves name (alone name s.0.named)) (flat_names_are prefix (names ++ name ∷ []) rest leaves s.2 f)
+      All-cons IsFlatName (prefix ++ name) (flat_names prefix rest) (leaves name (alone name s.0.named)) (flat_names_are prefix (names ++ name ∷ []) rest leaves s.2 f)
   flat_names_are prefix names (coupled name inner links rest) leaves e f =
       let s = coupled_sound names name inner links rest e in
       let t = inner_sound name inner links rest f in
@@ -163,8 +156,8 @@ record Begins (prefix full : List ℕ) : Type 0 where
   is : full ≡ prefix ++ tail
 
 all_begin : {M : Type 0} (prefix : List ℕ) (parts : Parts M) → All (Begins prefix) (flat_names prefix parts)
-all_begin prefix no_parts = all_nil (Begins prefix)
-all_begin prefix (atom name m rest) = all_cons (Begins prefix) (prefix ++ name) (flat_names prefix rest) (record { tail = name; is = refl }) (all_begin prefix rest)
+all_begin prefix no_parts = All-nil (Begins prefix)
+all_begin prefix (atom name m rest) = All-cons (Begins prefix) (prefix ++ name) (flat_names prefix rest) (record { tail = name; is = refl }) (all_begin prefix rest)
 all_begin prefix (coupled name inner links rest) =
     All-append (Begins prefix) (flat_names (prefix ++ name ++ 46 ∷ []) inner) (flat_names prefix rest)
     (all_weaker (Begins (prefix ++ name ++ 46 ∷ [])) (Begins prefix) (flat_names (prefix ++ name ++ 46 ∷ []) inner) (λ full b. record { tail = name ++ 46 ∷ b.tail; is = b.is ∙ join_assoc prefix name b.tail }) (all_begin (prefix ++ name ++ 46 ∷ []) inner))
@@ -178,9 +171,9 @@ heads_within P prefix name inner at =
     (all_begin (prefix ++ name ++ 46 ∷ []) inner)
 
 all_heads : {M : Type 0} (P : List ℕ → Type 0) (prefix : List ℕ) (parts : Parts M) → AllNames P parts → All (HasHead P prefix) (flat_names prefix parts)
-all_heads P prefix no_parts all = all_nil (HasHead P prefix)
+all_heads P prefix no_parts all = All-nil (HasHead P prefix)
 all_heads P prefix (atom name m rest) all =
-    all_cons (HasHead P prefix) (prefix ++ name) (flat_names prefix rest) (record { head = name; tail = []; holds = all.0; is = ap (λ t. prefix ++ t) (sym (append-nil name)); tails = tt }) (all_heads P prefix rest all.1)
+    All-cons (HasHead P prefix) (prefix ++ name) (flat_names prefix rest) (record { head = name; tail = []; holds = all.0; is = ap (λ t. prefix ++ t) (sym (append-nil name)); tails = tt }) (all_heads P prefix rest all.1)
 all_heads P prefix (coupled name inner links rest) all =
     All-append (HasHead P prefix) (flat_names (prefix ++ name ++ 46 ∷ []) inner) (flat_names prefix rest) (heads_within P prefix name inner all.0) (all_heads P prefix rest all.1)
 
@@ -207,9 +200,9 @@ module _ {M S : Type 0} (meaning : M → Meaning S) where
       pairs_append (λ a b. a ≢ b) ((prefix ++ name) ∷ []) (flat_names prefix rest)
       (λ i j d lt within. absurd (omega (arith, lt, within)))
       (flat_names_distinct prefix (names ++ name ∷ []) rest s.2 f)
-      (all_cons (λ x. All (λ y. x ≢ y) (flat_names prefix rest)) (prefix ++ name) []
+      (All-cons (λ x. All (λ y. x ≢ y) (flat_names prefix rest)) (prefix ++ name) []
       (λ i d lt. heads_apart prefix name (prefix ++ name) (slice_index_or (flat_names prefix rest) i d) names s.0.named (record { head = name; tail = []; holds = refl; is = ap (λ t. prefix ++ t) (sym (append-nil name)); tails = tt }) (rests i d lt))
-      (all_nil (λ x. All (λ y. x ≢ y) (flat_names prefix rest))))
+      (All-nil (λ x. All (λ y. x ≢ y) (flat_names prefix rest))))
   flat_names_distinct prefix names (coupled name inner links rest) e f =
       let s = coupled_sound meaning names name inner links rest e in
       let t = inner_sound meaning name inner links rest f in
@@ -231,7 +224,7 @@ absent (x ∷ xs) y ys pairs = go (bytes_eq y x) refl (absent xs y ys (λ i j d 
     at = Contains-append_right xs (y ∷ ys) y (0, omega arith, refl)
 
     apart : x ≢ y
-    apart = held (λ z. x ≢ z) (xs ++ y ∷ ys) y (λ i d lt. pairs 0 (suc i) d (omega arith) (omega (arith, lt))) at
+    apart = All-contains (λ z. x ≢ z) (xs ++ y ∷ ys) y (λ i d lt. pairs 0 (suc i) d (omega arith) (omega (arith, lt))) at
 
     go : (b : Bool) → bytes_eq y x ≡ b → has_name xs y ≡ false → (bytes_eq y x || has_name xs y) ≡ false
     go true e rest = absurd (apart (sym ((bytes_eq-Decides y x).0 e)))

@@ -1,7 +1,8 @@
 -- What is true of a tree in which nothing is at fault, and of the network that is made of it.
 use Rattle.std.proofs.Common.{◌≡◌, ◌≢◌, ℕ, ◌+◌, ◌≤◌, List, ◌∷◌, [], ◌++◌, length, refl, sym, ap, arith, subst, slice_index_or, Bool, true, false, ◌&&◌, nat_le, None, length-append}
 use Rattle.std.specs.List.{All, AllPairs}
-use Rattle.std.proofs.lemmas.List.Elements.{All-append}
+use Rattle.std.proofs.lemmas.Bool.{and_parts, not-true, ltb-true, leb-true, eqb-false}
+use Rattle.std.proofs.lemmas.List.Elements.{All-append, All-cons, All-nil}
 use Rattle.tw_atomic.specs.Atomic.{Meaning}
 use Rattle.tw_nested.specs.declared.tree.End.{End}
 use Rattle.tw_nested.specs.declared.tree.End.TheVariants.{Here, Part}
@@ -11,8 +12,8 @@ use Rattle.tw_nested.specs.Whole.{AreLinked, AreCouplings}
 use Rattle.tw_network.specs.Contents.{Input, IsCoupling, IsWhole, IsFlatName, StartsInTime}
 use Rattle.tw_network.specs.Faults.{inputs_fault, limit_fault, starts_in_time}
 use Rattle.tw_network.specs.TreeFaults.{inner_fault, parts_fault, is_end, is_few, same_end, link_end_fault, link_fault, links_fault, models_fault}
-use Rattle.tw_network.proofs.NoFaults.{neither, holds, both, fails, below, upto, apart, none_at_fault, sound_input, is_network, StartsInTime-no_fault}
-use Rattle.tw_network.proofs.TreeNames.{flat_names_are, flat_names_distinct, all_cons, all_nil}
+use Rattle.tw_network.proofs.NoFaults.{neither, holds, none_at_fault, sound_input, is_network, StartsInTime-no_fault}
+use Rattle.tw_network.proofs.TreeNames.{flat_names_are, flat_names_distinct}
 use Rattle.tw_theory.specs.Network.{Coupling}
 use Rattle.tw_vtime.specs.Stamps.{max_microstep}
 
@@ -46,11 +47,11 @@ numbers-length n (coupled name inner links rest) = let ih = numbers-length (n + 
 -- no more parts than are few
 pub few_parts : {M : Type 0} (parts : Parts M) (links : List Link) → is_few parts links ≡ true → (size parts ≤ 2048) × (length (atoms_from 1 parts) ≤ 1024)
 few_parts parts links e =
-    let a = both (nat_le (levels parts) 16 && nat_le (length (models_in parts)) 1024 && nat_le (coupled_count parts) 1024) (nat_le (length links + link_count parts) 8192) e in
-    let b = both (nat_le (levels parts) 16 && nat_le (length (models_in parts)) 1024) (nat_le (coupled_count parts) 1024) a.0 in
-    let c = both (nat_le (levels parts) 16) (nat_le (length (models_in parts)) 1024) b.0 in
-    let atoms : length (models_in parts) ≤ 1024 = upto (length (models_in parts)) 1024 c.1 in
-    let models : coupled_count parts ≤ 1024 = upto (coupled_count parts) 1024 b.1 in
+    let a = and_parts (nat_le (levels parts) 16 && nat_le (length (models_in parts)) 1024 && nat_le (coupled_count parts) 1024) (nat_le (length links + link_count parts) 8192) e in
+    let b = and_parts (nat_le (levels parts) 16 && nat_le (length (models_in parts)) 1024) (nat_le (coupled_count parts) 1024) a.0 in
+    let c = and_parts (nat_le (levels parts) 16) (nat_le (length (models_in parts)) 1024) b.0 in
+    let atoms : length (models_in parts) ≤ 1024 = leb-true (length (models_in parts)) 1024 c.1 in
+    let models : coupled_count parts ≤ 1024 = leb-true (coupled_count parts) 1024 b.1 in
     let s = size-is parts in
     let l = atoms-length 1 parts in
     (omega (arith, s, atoms, models), omega (arith, l, atoms))
@@ -61,34 +62,34 @@ is_link : (is_root : Bool) (count : ℕ) (m : Model) → length m.parts ≡ coun
 is_link is_root count m long (a, p, b, q) e =
     let u = neither _ _ e in
     let v = neither _ _ u.1 in
-    let ends = both (is_end is_root count a) (is_end is_root count b) (holds _ _ u.0) in
-    let ports = both (nat_le p 15) (nat_le q 15) (holds _ _ v.0) in
-    let low : p ≤ 15 = upto p 15 ports.0 in
-    let high : q ≤ 15 = upto q 15 ports.1 in
+    let ends = and_parts (is_end is_root count a) (is_end is_root count b) (holds _ _ u.0) in
+    let ports = and_parts (nat_le p 15) (nat_le q 15) (holds _ _ v.0) in
+    let low : p ≤ 15 = leb-true p 15 ports.0 in
+    let high : q ≤ 15 = leb-true q 15 ports.1 in
     record {
       source = end a ends.0;
       source_port = omega (arith, low);
       destination = end b ends.1;
       destination_port = omega (arith, high);
-      apart = ends_apart a b (fails (same_end a b) (holds _ _ v.1));
+      apart = ends_apart a b (not-true (same_end a b) (holds _ _ v.1));
     }
   where
     end : (a : End) → is_end is_root count a ≡ true → IsEnd m a
     end Here at = tt
-    end (Part i) at = let lt = below i count at in omega (arith, lt, long)
+    end (Part i) at = let lt = ltb-true i count at in omega (arith, lt, long)
 
     ends_apart : (a b : End) → same_end a b ≡ false → AreApart a b
     ends_apart Here Here at = absurd cc
     ends_apart Here (Part j) at = tt
     ends_apart (Part i) Here at = tt
-    ends_apart (Part i) (Part j) at = apart i j at
+    ends_apart (Part i) (Part j) at = eqb-false i j at
 
 are_links : (is_root : Bool) (count : ℕ) (m : Model) → length m.parts ≡ count → (links : List Link) → links_fault is_root count links ≡ None → All (IsLink m) links
 are_links is_root count m long links e i d lt = is_link is_root count m long (slice_index_or links i d) (neither _ _ (none_at_fault (link_fault is_root count) [] links e i d lt)).0
 
 module _ {M S : Type 0} (meaning : M → Meaning S) where
   inner_linked : (n : ℕ) (parts : Parts M) → inner_fault meaning parts ≡ None → All (λ m. All (IsLink m) m.links) (coupled_from n parts)
-  inner_linked n no_parts e = all_nil (λ (m : Model). All (IsLink m) m.links)
+  inner_linked n no_parts e = All-nil (λ (m : Model). All (IsLink m) m.links)
   inner_linked n (atom name m rest) e = inner_linked (n + 1) rest e
   inner_linked n (coupled name inner links rest) e =
       let p = neither _ _ e in
@@ -96,7 +97,7 @@ module _ {M S : Type 0} (meaning : M → Meaning S) where
       let own = (neither (parts_fault meaning [] inner) (links_fault false (part_count inner) links) q.0).1 in
       All-append (λ (m : Model). All (IsLink m) m.links) (coupled_from (n + 1) inner) (model_at n (n + 1) inner links ∷ coupled_from (n + 1 + size inner) rest)
       (inner_linked (n + 1) inner q.1)
-      (all_cons (λ (m : Model). All (IsLink m) m.links) (model_at n (n + 1) inner links) (coupled_from (n + 1 + size inner) rest)
+      (All-cons (λ (m : Model). All (IsLink m) m.links) (model_at n (n + 1) inner links) (coupled_from (n + 1 + size inner) rest)
       (are_links false (part_count inner) (model_at n (n + 1) inner links) (numbers-length (n + 1) inner) links own)
       (inner_linked (n + 1 + size inner) rest p.1))
 
@@ -106,16 +107,16 @@ module _ {M S : Type 0} (meaning : M → Meaning S) where
       let own = (neither (parts_fault meaning [] parts) (links_fault true (part_count parts) links) p.0).1 in
       All-append (λ (m : Model). All (IsLink m) m.links) (coupled_from 1 parts) (model_at 0 1 parts links ∷ [])
       (inner_linked 1 parts p.1)
-      (all_cons (λ (m : Model). All (IsLink m) m.links) (model_at 0 1 parts links) [] (are_links true (part_count parts) (model_at 0 1 parts links) (numbers-length 1 parts) links own) (all_nil (λ (m : Model). All (IsLink m) m.links)))
+      (All-cons (λ (m : Model). All (IsLink m) m.links) (model_at 0 1 parts links) [] (are_links true (part_count parts) (model_at 0 1 parts links) (numbers-length 1 parts) links own) (All-nil (λ (m : Model). All (IsLink m) m.links)))
 
   -- ---- start states
 
   starts_of : (names : List (List ℕ)) (parts : Parts M) → parts_fault meaning names parts ≡ None → inner_fault meaning parts ≡ None → All (λ m. StartsInTime (meaning m)) (models_in parts)
-  starts_of names no_parts e f = all_nil (λ m. StartsInTime (meaning m))
+  starts_of names no_parts e f = All-nil (λ m. StartsInTime (meaning m))
   starts_of names (atom name m rest) e f =
       let p = neither _ _ e in
       let q = neither _ _ p.0 in
-      all_cons (λ m. StartsInTime (meaning m)) m (models_in rest) (StartsInTime-no_fault (meaning m) (holds (starts_in_time (meaning m)) _ q.1)) (starts_of (names ++ name ∷ []) rest p.1 f)
+      All-cons (λ m. StartsInTime (meaning m)) m (models_in rest) (StartsInTime-no_fault (meaning m) (holds (starts_in_time (meaning m)) _ q.1)) (starts_of (names ++ name ∷ []) rest p.1 f)
   starts_of names (coupled name inner links rest) e f =
       let p = neither _ _ e in
       let q = neither _ _ f in
@@ -148,7 +149,7 @@ module _ {M S : Type 0} (meaning : M → Meaning S) where
       let count : length models ≡ length (models_in parts) = ap length is_models in
       let each_coupling = couplings_sound parts links flat (length models) count couplings in
       let all_inputs = sound_input (length models) inputs each_input in
-      let bounds = both (nat_le 1 limit) (nat_le limit max_microstep) limits_hold in
+      let bounds = and_parts (nat_le 1 limit) (nat_le limit max_microstep) limits_hold in
       let atoms = (few_parts parts links few).1 in
       let n = names-length [] parts in let a = atoms-length 1 parts in let named = ap length is_names in
       record {
@@ -162,8 +163,8 @@ module _ {M S : Type 0} (meaning : M → Meaning S) where
         component_count = omega (arith, count, a, atoms);
         coupling_count = couplings.few;
         input_count = few_inputs;
-        some_microstep = upto 1 limit bounds.0;
-        microsteps = upto limit max_microstep bounds.1;
+        some_microstep = leb-true 1 limit bounds.0;
+        microsteps = leb-true limit max_microstep bounds.1;
         network = is_network meaning (record { names = names; models = models; couplings = flat; inputs = inputs; micro_limit = limit }) each_coupling all_inputs;
       }
     where

@@ -31,22 +31,14 @@ ghost use Rattle.tw_network.specs.Faults.{
   inputs_fault,
 };
 
+use crate::limits::{MAX_COMPONENTS, MAX_INPUTS, MAX_NAME, MAX_PORT};
 use crate::network::{Coupling, Input};
 use crate::refused::NetworkRefused;
 use indexmap::IndexSet;
 use std::alloc::{AllocError, Global};
 use tw_atomic::Atomic;
+use tw_nested::MAX_COUPLINGS;
 use tw_vtime::{MAX_MICROSTEP, MAX_TICK};
-
-pub const MAX_COMPONENTS: usize = 1024;
-
-pub const MAX_COUPLINGS: usize = 8192;
-
-pub const MAX_INPUTS: usize = 65536;
-
-const MAX_NAME: usize = 32;
-
-pub const MAX_PORT: u8 = 15;
 
 // Refuses too many of anything.
 pub fn check_counts(

@@ -6,13 +6,9 @@ ghost use Rattle.tw_nested.specs.Tree.{no_parts, part_view, parts_of};
 ghost use Rattle.tw_network.specs.Counts.{AreFewCounts, FitsAfter, IsCounted};
 ghost use Rattle.tw_network.specs.TreeFaults.{is_few, tree_count_fault};
 
-use crate::checks::{MAX_COMPONENTS, MAX_COUPLINGS, MAX_INPUTS};
+use crate::limits::{MAX_COMPONENTS, MAX_COUPLED, MAX_INPUTS, MAX_LEVELS};
 use crate::refused::NetworkRefused;
-use tw_nested::{Nested, Part};
-
-const MAX_LEVELS: usize = 16;
-
-const MAX_COUPLED: usize = 1024;
+use tw_nested::{MAX_COUPLINGS, Nested, Part};
 
 // What was met so far.
 #[derive(Clone, Copy)]

@@ -15,13 +15,13 @@ use crate::checks::{check_counts, check_couplings, check_inputs, checked_limit, 
 use crate::counts::check_tree_counts;
 use crate::naming::name_set;
 use crate::refused::NetworkRefused;
-use crate::routes::{PORTS, Routes};
+use crate::routes::Routes;
 use crate::tree_checks::check_models;
 use indexmap::IndexSet;
 use std::alloc::Global;
 use std::marker::Model;
 use tw_atomic::Atomic;
-use tw_nested::{Flat, Nested, dismantle, flatten};
+use tw_nested::{Flat, Nested, PORTS, dismantle, flatten};
 
 /// A coupling: source, its port, destination, its port.
 pub type Coupling = (usize, u8, usize, u8);

@@ -8,9 +8,7 @@ ghost use Rattle.tw_network.specs.RouteIndex.{IsRouteIndex, IsStart, coupling_cm
 
 use crate::network::{Coupling, Place};
 use std::alloc::{AllocError, Global};
-
-// How many ports a component has.
-pub const PORTS: usize = 16;
+use tw_nested::PORTS;
 
 // The places of all couplings, by source, port, destination and port, and where those of each source and
 // port begin.

@@ -17,7 +17,8 @@ ghost use Rattle.tw_network.specs.TreeFaults.{
   start_fault,
 };
 
-use crate::checks::{MAX_PORT, check_name, has_start_in_time};
+use crate::checks::{check_name, has_start_in_time};
+use crate::limits::MAX_PORT;
 use crate::refused::NetworkRefused;
 use indexmap::IndexSet;
 use std::alloc::Global;

@@ -12,7 +12,7 @@ use Rattle.tw_play.specs.declared.answer.Answer.{Answer}
 use Rattle.tw_script.specs.Schedules.{action_drawn, after as next_of, drawn}
 use Rattle.tw_script.specs.declared.command.Command.{Command}
 use Rattle.tw_script.specs.declared.command.Command.TheVariants.{Act}
-use Rattle.tw_texts.proofs.Portions.{appends_both}
+use Rattle.tw_texts.proofs.Portions.{appends_nothing, appends_both}
 use Rattle.tw_texts.specs.Traces.{MovesBytes}
 use Rattle.tw_texts.specs.declared.traces.NotWritten.{NotWritten}
 use Rattle.tw_texts.specs.declared.traces.NotWritten.TheVariants.{OutOfMemory, WriteFailed}
@@ -73,10 +73,6 @@ module _ {M S : Type 0} {meaning : M → Meaning S} {p : Played M S} {old : Opti
     played = w.played;
     written = told_short old now after w.text kept w.moved out;
   }
-
-pub appends_nothing : (o : Option (List ℕ)) → Appends o o []
-appends_nothing None = tt
-appends_nothing (Some x) = sym (append-nil x)
 
 pub nothing_moved : (o : Option (List ℕ)) (gathered : List ℕ) → gathered ≡ [] → MovesBytes o o [] gathered
 nothing_moved o gathered is = ([], appends_nothing o, is)

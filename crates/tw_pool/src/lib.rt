@@ -17,3 +17,4 @@ mod refused;
 
 pub use lists::{LIVE_LIMIT, Pool};
 pub use refused::PoolRefused;
+pub use tw_vtime::OutOfMemory;

@@ -2,14 +2,12 @@
 use Rattle.std.proofs.Common.{◌≡◌, ℕ, zero, suc, ◌+◌, ◌<◌, ◌≤◌, List, [], ◌∷◌, ◌++◌, length, drop, cond, refl, sym, ap, ◌∙◌, arith, length-drop}
 use Rattle.std.specs.List.{AllByRecursion as Each, prefix_len}
 use Rattle.std.specs.Prelude.{nat_lt, take_while, slice_index_or, remove}
-use Rattle.std.proofs.lemmas.Bool.{cond_both}
 use Rattle.std.proofs.lemmas.List.Folds.{length-prefix_len}
 use Rattle.tw_atomic.specs.Atomic.{Bag, Meaning}
 use Rattle.tw_atomic.specs.declared.Turn.{Turn}
 use Rattle.tw_msgs.specs.declared.message.Message.{Message}
 use Rattle.tw_theory.specs.Bundles.{first_stamp}
 use Rattle.tw_theory.specs.Contents.{steps_before}
-use Rattle.tw_theory.specs.LocalRun.{Step}
 use Rattle.tw_theory.specs.Transitions.{Moment}
 use Rattle.tw_theory.proofs.Elements.{each_parts}
 use Rattle.tw_vtime.specs.Stamps.{never}
@@ -68,7 +66,3 @@ counted s (e ∷ es) a c = ap (λ n. cond (nat_lt e.step.done.stamp s) n 0) (let
 pub before_shown : {S R : Type 0} (s n : ℕ) (es seen : List (Entry S R)) (a c : List Message) → seen ≡ es → n ≡ length (take_while (λ e. nat_lt e.step.done.stamp s) seen) → n ≡ steps_before s (shown es a c)
 before_shown {S} {R} s n es seen a c same is =
     is ∙ length-prefix_len (λ (e : Entry S R). nat_lt e.step.done.stamp s) seen ∙ ap (prefix_len (λ (e : Entry S R). nat_lt e.step.done.stamp s)) same ∙ counted s es a c
-
-pub before_within : {S : Type 0} (s : ℕ) (steps : List (Step S)) → steps_before s steps ≤ length steps
-before_within s [] = omega arith
-before_within s (x ∷ steps) = let ih = before_within s steps in cond_both (nat_lt x.entry.stamp s) (suc (steps_before s steps)) 0 (λ n. n ≤ length (x ∷ steps)) (λ t. omega (arith, ih)) (λ t. omega arith)

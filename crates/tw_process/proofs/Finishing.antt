@@ -16,6 +16,7 @@ use Rattle.tw_theory.specs.LocalRun.{Step, Leads}
 use Rattle.tw_theory.specs.Network.{Network}
 use Rattle.tw_theory.specs.Transitions.{Moment}
 use Rattle.tw_theory.proofs.Agreeing.{step_taken, same_step}
+use Rattle.tw_theory.proofs.Elements.{head_same, tail_same}
 use Rattle.tw_vtime.specs.Stamps.{max_microstep}
 use Rattle.tw_chain.specs.Kept as chain
 use Rattle.tw_chain.specs.Kept.{shown_all}
@@ -54,12 +55,6 @@ pub record Alike {S R : Type 0} (net : Network S) (c : ℕ) (way : Cancel) (xs y
   pub next : AreNext net c way xs lists → AreNext net c way ys lists
   pub after : after_steps net c way xs lists ≡ after_steps net c way ys lists
   pub counts : sent_counts net c xs ≡ sent_counts net c ys
-
-head_same : {A : Type 0} {p q : A} {ps qs : List A} → p ∷ ps ≡ q ∷ qs → p ≡ q
-head_same e = cc
-
-tail_same : {A : Type 0} {p q : A} {ps qs : List A} → p ∷ ps ≡ q ∷ qs → ps ≡ qs
-tail_same e = cc
 
 pub alike : {S R : Type 0} (net : Network S) (c : ℕ) (way : Cancel) (xs ys : List (KeptStep S R)) (lists : Lists) → shown_all xs ≡ shown_all ys → Alike net c way xs ys lists
 alike net c way [] [] lists same = record { next = λ h. h; after = refl; counts = refl }

@@ -1,4 +1,4 @@
--- The last step of a history, made and floor back.
+-- The last step of a history, made and taken back.
 use Rattle.std.proofs.Common.{◌≡◌, ◌≢◌, ℕ, suc, ◌+◌, ◌-◌, ◌<◌, ◌≤◌, List, [], ◌∷◌, ◌++◌, length, take, drop, Some, refl, sym, ap, subst, ◌∙◌, arith, length-append, append-nil, append_assoc, take-append-drop, length-take-le, length-drop, take_all}
 use Rattle.std.proofs.lemmas.List.{map_push, take-append-le, drop-append-le}
 use Rattle.std.proofs.lemmas.Option.{same_Some}
@@ -10,11 +10,12 @@ use Rattle.tw_atomic.specs.declared.Turn.{Turn}
 use Rattle.tw_msgs.specs.Messages.{Sorted}
 use Rattle.tw_msgs.specs.declared.message.Message.{Message}
 use Rattle.tw_theory.specs.Bundles.{first_stamp}
-use Rattle.tw_msgs.specs.declared.message.Item.{Item}
-use Rattle.tw_theory.specs.Contents.{Process, Cancel, Aggressive, Lazy, undo_last, back_to_first, before_all, consumed_by, sent_by, unsent_by, outgoing_undone, owed_undone}
+use Rattle.tw_theory.specs.Contents.{Process, Cancel, undo_last, back_to_first, before_all, consumed_by, sent_by, unsent_by, outgoing_undone, owed_undone}
 use Rattle.tw_theory.specs.LocalRun.{Step}
 use Rattle.tw_theory.specs.Transitions.{Moment}
 use Rattle.tw_theory.specs.Soundness.{AllBefore}
+use Rattle.tw_theory.proofs.Cuts.{nothing_back}
+use Rattle.tw_theory.proofs.Histories.{floor_push}
 use Rattle.tw_process.specs.declared.entry.Entry.{Entry}
 use Rattle.tw_lists.specs.Lists.{Lists, node_count as lists_count, restored, cancelled}
 use Rattle.tw_step.specs.Steps.{before_of, Linked, AllLinked}
@@ -30,10 +31,6 @@ use Rattle.tw_lists.proofs.Loops.{sorted_drop}
 -- ---- Steps that the component stood before
 
 module _ {S : Type 0} where
-  pub floor_last : (floor : ℕ) (steps : List (Step S)) (step : Step S) → floor_after floor (steps ++ step ∷ []) ≡ step.entry.stamp + 1
-  floor_last floor [] step = refl
-  floor_last floor (x ∷ steps) step = floor_last (x.entry.stamp + 1) steps step
-
   module _ (valid : S → Type 0) (m : Meaning S) where
     pub stood_more : (floor : ℕ) (steps : List (Step S)) (step : Step S) → Stood valid m floor steps → IsStanding valid m step.before (floor_after floor steps) → floor_after floor steps ≤ step.entry.stamp → Each (λ x. x.stamp ≡ step.entry.stamp) step.consumed → Stood valid m floor (steps ++ step ∷ [])
     stood_more floor [] step chain standing le at = (standing, le, at, tt)
@@ -57,7 +54,7 @@ first_at low s (x ∷ xs) ys less at le = let e = at.0 in omega (arith, e, less)
 
 -- ---- Taking back, on contents
 
--- the last step of contents, floor back
+-- the last step of contents, taken back
 pub undone_is : {S : Type 0} (p : Process S) (steps : List (Step S)) (step : Step S) → p.history ≡ steps ++ step ∷ []
     → undo_last p ≡ record p { now = step.before; pending = step.consumed ++ p.pending; history = steps; outgoing = outgoing_undone p.cancel p.outgoing step.sent; owed = owed_undone p.cancel p.owed step.sent }
 unfolding back_to_first
@@ -73,36 +70,6 @@ undone_is p steps step is =
       line = p.line;
       cancel = p.cancel;
     }
-
-nothing_outgoing : (k : Cancel) (out : List Item) → outgoing_undone k out [] ≡ out
-nothing_outgoing Aggressive out = append-nil out
-nothing_outgoing Lazy out = refl
-
-nothing_owed : (k : Cancel) (owed : List Message) → owed_undone k owed [] ≡ owed
-nothing_owed Aggressive owed = refl
-nothing_owed Lazy owed = append-nil owed
-
-pub nil_of_length : {A : Type 0} (xs : List A) → length xs ≡ 0 → xs ≡ []
-nil_of_length [] is = refl
-nil_of_length (x ∷ xs) is = absurd (omega (arith, is))
-
-take_whole : {A : Type 0} (xs : List A) → take (length xs) xs ≡ xs
-take_whole [] = refl
-take_whole (x ∷ xs) = ap (λ l. x ∷ l) (take_whole xs)
-
-drop_whole : {A : Type 0} (xs : List A) → drop (length xs) xs ≡ []
-drop_whole [] = refl
-drop_whole (x ∷ xs) = drop_whole xs
-
--- nothing is floor back
-pub nothing_back : {S : Type 0} (p : Process S) → back_to_first (length p.history) p ≡ p
-unfolding back_to_first
-nothing_back p =
-    let rest = drop_whole p.history in
-    let history = take_whole p.history in
-    let outgoing = ap (λ l. outgoing_undone p.cancel p.outgoing (unsent_by l)) rest ∙ nothing_outgoing p.cancel p.outgoing in
-    let owed = ap (λ l. owed_undone p.cancel p.owed (unsent_by l)) rest ∙ nothing_owed p.cancel p.owed in
-    λ i. record { now = before_all (rest i) p.now; pending = consumed_by (rest i) ++ p.pending; history = history i; waiting = p.waiting; outgoing = outgoing i; owed = owed i; line = p.line; cancel = p.cancel }
 
 pub nothing_undone : {S : Type 0} (p : Process S) → p.history ≡ [] → undo_last p ≡ p
 nothing_undone p none = ap (λ n. back_to_first n p) (omega (arith, ap length none)) ∙ nothing_back p
@@ -169,7 +136,7 @@ module _ {S R : Type 0} where
         ∙ shown_last es e a b x d a_is (omega (arith, consumed, length-drop k lists.consumed)) x_is (omega (arith, sent, length-drop n lists.sent)) in
         let all : a ++ (b ++ lists.pending) ≡ lists.consumed ++ lists.pending = sym (append_assoc a b lists.pending) ∙ ap (λ l. l ++ lists.pending) (take-append-drop k lists.consumed) in
         let last = stood_last valid m floor (shown es a x) (step_of e b d) (subst (λ l. Stood valid m floor l) history kept.stood) in
-        let low : e.step.done.stamp + 1 ≤ first_stamp lists.pending = subst (λ f. f ≤ first_stamp lists.pending) (ap (floor_after floor) history ∙ floor_last floor (shown es a x) (step_of e b d)) kept.from in
+        let low : e.step.done.stamp + 1 ≤ first_stamp lists.pending = subst (λ f. f ≤ first_stamp lists.pending) (ap (floor_after floor) history ∙ floor_push floor (shown es a x) (step_of e b d)) kept.from in
         let from = last.from in
         record {
           link = links.0;
@@ -204,7 +171,7 @@ module _ {S R : Type 0} where
         (λ j. shown (es ++ e ∷ []) (consumed j) (sent j)) ∙ shown_last es e old.consumed b old.sent d kept.consumed_is b_is kept.sent_is d_is in
         let all : lists.consumed ++ lists.pending ≡ old.consumed ++ old.pending =
         ap (λ l. l ++ lists.pending) consumed ∙ append_assoc old.consumed b lists.pending ∙ ap (λ l. old.consumed ++ l) pending in
-        let later : floor_after floor (shown (es ++ e ∷ []) lists.consumed lists.sent) ≡ e.step.done.stamp + 1 = ap (floor_after floor) history ∙ floor_last floor (shown es old.consumed old.sent) (step_of e b d) in
+        let later : floor_after floor (shown (es ++ e ∷ []) lists.consumed lists.sent) ≡ e.step.done.stamp + 1 = ap (floor_after floor) history ∙ floor_push floor (shown es old.consumed old.sent) (step_of e b d) in
         record {
           kept = record {
             linked = links_more es e now.state (subst (AllLinked undone (kept_of es)) (sym (ap (λ (x : Moment S). x.state) before_is)) kept.linked) link;

@@ -16,8 +16,8 @@ use Rattle.tw_vtime.specs.Advance.{advanced}
 use Rattle.tw_vtime.specs.Stamps.{never, phase_of, tick_of, max_microstep}
 use Rattle.tw_vtime.specs.declared.limits.Limit.{Limit}
 use Rattle.tw_theory.specs.Standing.{IsStanding, CanTake}
-use Rattle.tw_theory.proofs.Standing.{can_turn, after_output, after_transition}
-use Rattle.tw_process.proofs.Made.{first_odd, each_before_end}
+use Rattle.tw_theory.proofs.Standing.{before_never, can_turn, after_output, after_transition}
+use Rattle.tw_process.proofs.Made.{first_odd}
 use Rattle.tw_theory.specs.Bundles.{positives}
 use Rattle.tw_theory.specs.Contents.{Cancel, sent_out, owed_after, with_step}
 use Rattle.tw_theory.proofs.Elements.{each_parts}
@@ -137,7 +137,7 @@ module _ {S R : Type 0} (net : Network S) (c : ℕ) (valid : S → Type 0) (m : 
       let low = kept.standing.from in
       let first = kept.from in
       let odd = first_odd c old.pending fit in
-      let later = f.strict (ascending_of_sorted old.pending (each_before_end c old.pending fit) sorted) (omega arith) odd in
+      let later = f.strict (ascending_of_sorted old.pending (before_never c old.pending fit) sorted) (omega arith) odd in
       let g = grown valid m undone c now made.after floor es e old (installing way made old) made.step.consumed made.step.sent kept row.before_is row.link refl refl row.consumed_is row.sent_is f.messages
       (omega (arith, low, first, stamp)) (subst (λ t. Each (λ x. x.stamp ≡ t) made.step.consumed) (sym stamp) f.consumed_at)
       (subst (λ t. IsStanding valid m made.after (t + 1)) (sym (ap (λ x. x.stamp) row.done_is)) standing) (omega (arith, later, stamp)) in

@@ -1,21 +1,20 @@
 -- A component's next step by itself, as the code makes it.
-use Rattle.std.proofs.Common.{◌≡◌, ℕ, ◌<◌, ◌+◌, ◌*◌, List, [], ◌∷◌, length, map, Some, Ok, Err, Result, IfErr, IsErrAnd, sym, ap, ◌∙◌, subst, arith, refl}
+use Rattle.std.proofs.Common.{◌≡◌, ℕ, ◌<◌, ◌+◌, ◌*◌, List, [], ◌∷◌, length, Some, Ok, Err, Result, IfErr, IsErrAnd, sym, ap, ◌∙◌, subst, arith, refl}
 use Rattle.std.specs.Prelude.{◌≢◌, nat_le, ◌==◌, slice_get}
 use Rattle.std.specs.List.{AllByRecursion as Each}
 use Rattle.std.proofs.lemmas.Bool.{cond-true, cond-false, eq-eqb, ne_eqb, lt-leb}
-use Rattle.std.proofs.lemmas.Option.{get_or_from_slice_get, slice_get-map}
-use Rattle.std.specs.Option.{option_map}
 use Rattle.tw_atomic.specs.Atomic.{Meaning}
 use Rattle.tw_atomic.specs.declared.Turn.{Turn}
 use Rattle.tw_msgs.specs.Bags.{Bag}
 use Rattle.tw_msgs.specs.declared.message.Message.{Message}
 use Rattle.tw_network.specs.Contents.{Contents, network_of}
+use Rattle.tw_network.proofs.Places.{model_at}
 use Rattle.tw_theory.specs.Bundles.{front, items_of, first_stamp}
 use Rattle.tw_theory.specs.Contents.{Cancel, sent_out}
 use Rattle.tw_theory.specs.LocalRun.{NothingDue as NothingIsDue, next_of, step_at, local_step, output_made, if_moved, transition_made}
 use Rattle.tw_theory.specs.Transitions.{Moment, output, transition}
 use Rattle.tw_theory.specs.Installing.{IsFullFor}
-use Rattle.tw_theory.specs.Network.{Network, model_of, routed}
+use Rattle.tw_theory.specs.Network.{Network, routed}
 use Rattle.tw_theory.proofs.Elements.{each_parts}
 use Rattle.tw_theory.proofs.MessageOrder.{sorted_right}
 use Rattle.tw_vtime.specs.Stamps.{never, phase_of}
@@ -56,17 +55,9 @@ pub local_nothing : {S : Type 0} (net : Network S) (c : ℕ) (now : Moment S) (p
 unfolding local_step step_at
 local_nothing net c now pending is = ap (step_at net c now pending) is
 
--- the model of a component that is there
-pub model_at : {M S : Type 0} (meaning : M → Meaning S) (n : Contents M) (c : ℕ) (m : M) (s : S) → slice_get n.models c ≡ Some m → model_of (network_of meaning n) c s ≡ meaning m
-model_at meaning n c m s e = get_or_from_slice_get (map meaning n.models) c (meaning m) _ (slice_get-map meaning n.models c ∙ ap (option_map meaning) e)
-
 pub first_odd : (c : ℕ) (ms : List Message) → Each (CanTake c) ms → phase_of (first_stamp ms) ≡ 1
 first_odd c [] h = omega arith
 first_odd c (m ∷ ms) h = h.0.phase
-
-pub each_before_end : (c : ℕ) (ms : List Message) → Each (CanTake c) ms → Each (λ m. m.stamp < never) ms
-each_before_end c [] h = tt
-each_before_end c (m ∷ ms) h = (h.0.before_end, each_before_end c ms h.1)
 
 -- what the refusal of the pool says of a step
 stop_as : {M S : Type 0} (meaning : M → Meaning S) (p : Held M S) (e : PoolRefused) → (e ≡ pool_refused.Full → IsFullFor (network_of meaning p.network) p.component p.process) → IsStop meaning p (of_pool e)

@@ -13,6 +13,7 @@ use Rattle.tw_theory.specs.Contents.{consumed_by}
 use Rattle.tw_theory.specs.LocalRun.{Step}
 use Rattle.tw_theory.specs.Transitions.{Moment}
 use Rattle.tw_theory.proofs.Elements.{each-append, each_parts, each-place, each-without, each_weaker}
+use Rattle.tw_theory.proofs.Standing.{before_never}
 use Rattle.tw_theory.proofs.MessageOrder.{first_of_place, first_of_without, sorted_join, sorted_right, ascending_of_sorted}
 use Rattle.tw_process.specs.declared.entry.Entry.{Entry}
 use Rattle.tw_lists.specs.Lists.{Lists, with_room, with_pending, without_pending}
@@ -35,10 +36,6 @@ module _ {S : Type 0} (valid : S → Type 0) (m : Meaning S) where
       each-append (λ y. y.stamp < high) x.consumed (consumed_by steps)
       (each_weaker (λ y. y.stamp ≡ x.entry.stamp) (λ y. y.stamp < high) (λ y is. omega (arith, is, grows)) x.consumed chain.2)
       (consumed_before (x.entry.stamp + 1) steps chain.3)
-
-each_end : (c : ℕ) (ms : List Message) → Each (CanTake c) ms → Each (λ x. x.stamp < 18446744073709551615) ms
-each_end c [] h = tt
-each_end c (x ∷ ms) h = (h.0.before_end, each_end c ms h.1)
 
 module _ {S R : Type 0} (valid : S → Type 0) (m : Meaning S) (undone : Turn → S → ℕ → Bag → R → S) (c : ℕ) (now : Moment S) (floor : ℕ) (es : List (Entry S R)) (old : Lists) (kept : IsKeptBy valid m undone c now floor es old) where
   -- other lists and rooms
@@ -80,7 +77,7 @@ module _ {S R : Type 0} (valid : S → Type 0) (m : Meaning S) (undone : Turn �
   withdrawn_kept x room spare =
       let fit = (each_parts (CanTake c) old.consumed old.pending kept.fit).1 in
       let sorted = sorted_right old.consumed old.pending kept.sorted in
-      pending_kept (without x old.pending) room spare (without-Sorted x old.pending sorted) (each-without (CanTake c) x old.pending fit) (first_of_without (floor_after floor (shown es old.consumed old.sent)) x old.pending (ascending_of_sorted old.pending (each_end c old.pending fit) sorted) kept.from)
+      pending_kept (without x old.pending) room spare (without-Sorted x old.pending sorted) (each-without (CanTake c) x old.pending fit) (first_of_without (floor_after floor (shown es old.consumed old.sent)) x old.pending (ascending_of_sorted old.pending (before_never c old.pending fit) sorted) kept.from)
 
 -- other lists, whatever the model is
 pub kept_with : {M S R : Type 0} (valid : M → S → Type 0) (meaning : M → Meaning S) (undone : M → Turn → S → ℕ → Bag → R → S) (network : NetworkContents M) (c : ℕ) (now : Moment S) (floor : ℕ) (es : List (Entry S R)) (old new goal : Lists) → IsKept valid meaning undone network c now floor es old

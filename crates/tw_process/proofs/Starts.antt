@@ -1,7 +1,6 @@
 -- A process at the start.
-use Rattle.std.proofs.Common.{◌≡◌, ℕ, ◌+◌, ◌<◌, ◌≤◌, inl, inr, List, [], ◌∷◌, ◌++◌, length, map, drop, Option, Some, None, refl, sym, ap, subst, ◌∙◌, arith, ⊎_elim, slice_index_or, add-one}
+use Rattle.std.proofs.Common.{◌≡◌, ℕ, ◌+◌, ◌<◌, List, [], ◌∷◌, ◌++◌, length, map, drop, refl, sym, ap, subst, ◌∙◌, arith, slice_index_or, add-one}
 use Rattle.std.proofs.Math.Seq.{drop-cons}
-use Rattle.std.proofs.lemmas.Bool.{cases_eq}
 use Rattle.std.specs.List.{AllByRecursion as Each}
 use Rattle.tw_atomic.specs.Atomic.{Meaning}
 use Rattle.tw_atomic.specs.Atomic.{Bag}
@@ -13,8 +12,8 @@ use Rattle.tw_process.specs.History.{IsKeptBy}
 use Rattle.tw_msgs.specs.declared.message.Message.{Message}
 use Rattle.tw_network.specs.Contents.{Input, message_of}
 use Rattle.tw_theory.specs.Bundles.{addressed}
-use Rattle.tw_theory.specs.Transitions.{Moment, start_moment, first_due}
-use Rattle.tw_theory.specs.Standing.{IsTied, IsStanding, CanTake}
+use Rattle.tw_theory.specs.Transitions.{Moment}
+use Rattle.tw_theory.specs.Standing.{IsStanding, CanTake}
 
 -- each message put at its place, one after another
 abbrev pub folded : List Message → List Message → List Message
@@ -31,23 +30,6 @@ folded_sorted (m ∷ ms) = folded_place m [] ms ∙ ap (place m) (folded_sorted 
 
 pub inputs_left : (c i : ℕ) (d : Input) (items : List Input) → i < length items → (p : List Message) → folded p (addressed c (map message_of (drop i items))) ≡ folded p (addressed c (message_of (slice_index_or items i d) ∷ map message_of (drop (i + 1) items)))
 inputs_left c i d items less p = ap (λ l. folded p (addressed c (map message_of l))) (drop-cons items i d less ∙ ap (λ n. slice_index_or items i d ∷ drop n items) (sym (add-one i)))
-
-start_tied : (ta : Option ℕ) → IsTied ta 0 (first_due ta)
-start_tied None = refl
-start_tied (Some a) = ⊎_elim (λ z. inl (z, omega (arith, z))) (λ n. inr (omega (arith, n), omega arith)) (cases_eq a 0)
-
-start_soon : (ta : Option ℕ) → ta ≡ Some 0 → first_due ta ≤ 0
-start_soon None e = absurd (cc e)
-start_soon (Some a) e = let z : a ≡ 0 = cc e in omega (arith, z)
-
-pub start_standing : {S : Type 0} (valid : S → Type 0) (m : Meaning S) → valid m.start → IsStanding valid m (start_moment m) 0
-start_standing valid m fits = record {
-  valid = fits;
-  last_is = omega arith;
-  tied = start_tied (m.ta m.start);
-  soon = start_soon (m.ta m.start);
-  from = omega arith;
-}
 
 pub start_kept : {S R : Type 0} (valid : S → Type 0) (m : Meaning S) (undone : Turn → S → ℕ → Bag → R → S) (c : ℕ) (now : Moment S) (lists : Lists) (all : List Message) → lists.pending ≡ sorted_messages all → Each (CanTake c) lists.pending → lists.consumed ≡ [] → lists.sent ≡ [] → IsStanding valid m now 0 → IsKeptBy {S = S} {R = R} valid m undone c now 0 [] lists
 start_kept valid m undone c now lists all pending fit consumed sent standing = record {

@@ -13,6 +13,7 @@ use Rattle.tw_theory.specs.Contents.{Cancel, Aggressive, Lazy, sent_out, owed_af
 use Rattle.tw_theory.specs.LocalRun.{Made, next_of, local_step, output_made, if_moved, transition_made}
 use Rattle.tw_theory.specs.Network.{Network, model_of, routed}
 use Rattle.tw_theory.specs.Transitions.{Moment, Move, output, transition}
+use Rattle.tw_network.proofs.Places.{model_at}
 use Rattle.tw_theory.proofs.Steps.{local_step_follows}
 use Rattle.tw_vtime.specs.Stamps.{never, phase_of, max_microstep}
 use Rattle.tw_step.specs.Steps.{IsOutput, IsTransition, Linked}
@@ -22,7 +23,7 @@ use Rattle.tw_process.specs.declared.entry.Entry.{Entry}
 use Rattle.tw_process.specs.History.{seen, IsKeptBy, IsKept}
 use Rattle.tw_process.specs.Process.{Held, IsStepped}
 use Rattle.tw_process.proofs.Installs.{installed, installing, IsRow}
-use Rattle.tw_process.proofs.Made.{model_at, local_transition, is_at, output_step}
+use Rattle.tw_process.proofs.Made.{local_transition, is_at, output_step}
 use Rattle.tw_process.proofs.Receipts.{others_kept}
 
 -- nothing is sent

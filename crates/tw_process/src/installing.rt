@@ -101,7 +101,7 @@ fn entry_of<S: Drop, R: Drop>(step: Step<S, R>, sent: usize) -> Entry<S, R>
 fn consumed_in(done: &Record) -> usize
     ensures { result ≡ consumed_count done.now }
 {
-    if done.stamp.pack() % 2 == 0 {
+    if done.stamp.is_output() {
         0
     } else {
         done.bag.len()

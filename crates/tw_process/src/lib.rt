@@ -38,3 +38,4 @@ mod undoing;
 pub use process::Process;
 pub use refused::StepRefused;
 pub use tw_actions::{Cancel, Finished, Stop};
+pub use tw_vtime::OutOfMemory;

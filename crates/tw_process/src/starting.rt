@@ -13,9 +13,7 @@ ghost use Rattle.tw_vtime.specs.Stamps.{max_tick};
 use std::alloc::{AllocError, Global};
 use tw_atomic::Atomic;
 use tw_lists::EventLists;
-use tw_msgs::Message;
-use tw_network::{Input, Network};
-use tw_vtime::Stamp;
+use tw_network::{Input, Network, message_of};
 
 /// The inputs of a component are pending. Of a network's at most 65,536 inputs the lists are never full.
 pub(crate) fn start_lists<M: Atomic>(
@@ -47,13 +45,7 @@ fn put_input(lists: &mut EventLists, input: &Input) -> Result<(), AllocError>
     ensures contents { OnOk result (lists.new ≡ with_room lists.new.room lists.new.spare (with_pending (message_of input.now) lists.old)) }
     ensures fits { OnOk result (FitsSigned w64 input.now.3) }
 {
-    let (tick, to, port, value) = *input;
-    let message = Message {
-        stamp: Stamp::new(tick, 0, 1).unwrap(),
-        port,
-        value,
-        to,
-    };
+    let message = message_of(input);
     match lists.reserve_pending() {
         Ok(()) => {
             lists.put_reserved(&message);

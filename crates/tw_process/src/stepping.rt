@@ -30,7 +30,7 @@ impl<M: Atomic> Process<M> {
         if stamp.is_end() {
             return Err(StepRefused::NothingDue);
         }
-        if stamp.phase() == 0 {
+        if stamp.is_output() {
             self.make_output(stamp)?;
             return Ok((stamp, RecordKind::Out));
         }

@@ -96,7 +96,7 @@ fn take_step<M: Atomic>(
     if next_stamp(lists, step.due) != step.done.stamp {
         return Err(Stop::Stale);
     }
-    if step.done.stamp.pack() % 2 == 0 {
+    if step.done.stamp.is_output() {
         return take_output(
             alloc, network, component, cancel, step, lists, history, counts,
         );

@@ -1,16 +1,16 @@
 -- What comes of an item, case by case.
-use Rattle.std.proofs.Common.{◌≡◌, ◌≢◌, ◌↔◌, ℕ, ◌≤◌, ◌==◌, ◌++◌, ◌∷◌, [], Bool, true, false, List, length, refl, ap, sym, subst, ◌∙◌, arith, Result, Ok, Err}
+use Rattle.std.proofs.Common.{◌≡◌, ◌≢◌, ◌↔◌, ℕ, ◌==◌, ◌++◌, ◌∷◌, [], Bool, true, false, length, refl, ap, sym, subst, ◌∙◌, arith, Result, Ok, Err}
 use Rattle.std.specs.Prelude.{cond}
-use Rattle.std.specs.Result.{OnErr, IsErr, IsErrAnd}
+use Rattle.std.specs.Result.{IsErr, IsErrAnd}
 use Rattle.std.proofs.lemmas.Bool.{cond-true, cond-false, eq-eqb, ne_eqb}
 use Rattle.tw_msgs.specs.Messages.{has, without}
 use Rattle.tw_msgs.specs.declared.message.Message.{Message}
 use Rattle.tw_theory.specs.Contents.{Process, Received, Placed, Straggler, Annihilated, Waiting, placed, removed, with_waiting, with_pending, receive_message, receive_anti, steps_from, steps_before, cut, back_to_first, consumed_by}
-use Rattle.tw_theory.specs.LocalRun.{Step}
 use Rattle.tw_theory.specs.Memory.{need_of_received}
 use Rattle.tw_process.specs.Process.{Held, IsFullBy, with_cleared, with_removed}
 use Rattle.tw_msgs.proofs.MessageLists.{without_absent}
-use Rattle.tw_process.proofs.Histories.{nothing_back}
+use Rattle.tw_theory.proofs.Cuts.{nothing_back}
+use Rattle.tw_theory.proofs.Histories.{before_within}
 
 module _ {S : Type 0} (p : Process S) (m : Message) where
   pub message_waits : has m p.waiting ≡ true → receive_message p m ≡ (Annihilated 0, with_waiting p (without m p.waiting))
@@ -60,18 +60,10 @@ module _ {S E A : Type 0} (p q : Process S) (n : ℕ) (full : E) (r : Result A E
   pub limit_given : {B : Type 0} (x : A) (y : B) → r ≡ Ok x → IsFullBy n p ↔ (Ok y ≡ Err full)
   limit_given x y was = (λ h. let refused = asked.0 h in absurd (cc (refused, was)), λ h. absurd (cc h))
 
-within : {S : Type 0} (s : ℕ) (steps : List (Step S)) → steps_before s steps ≤ length steps
-within s [] = omega arith
-within s (x ∷ steps) = go (Rattle.std.specs.Prelude.nat_lt x.entry.stamp s) (within s steps)
-  where
-    go : (b : Bool) → steps_before s steps ≤ length steps → Rattle.std.specs.Prelude.cond b (Rattle.std.specs.Prelude.suc (steps_before s steps)) 0 ≤ length (x ∷ steps)
-    go true h = omega (arith, h)
-    go false h = omega arith
-
 -- nothing to take back
 pub cut_none : {S : Type 0} (s : ℕ) (p : Process S) → steps_from s p ≡ 0 → cut s p ≡ p
 cut_none s p none =
-    let w = within s p.history in
+    let w = before_within s p.history in
     let all : steps_before s p.history ≡ length p.history = omega (arith, none, w) in
     ap (λ n. back_to_first n p) all ∙ nothing_back p
 
@@ -80,7 +72,3 @@ cleared_same p m none = ap (λ l. record p { process = with_waiting p.process l 
 
 pub removed_same : {M S : Type 0} (p : Held M S) (m : Message) → has m p.process.pending ≡ false → with_removed m p ≡ p
 removed_same p m none = ap (λ l. record p { process = with_pending p.process l }) (without_absent m p.process.pending none)
-
-pub on_err_always : {T E : Type 0} (P : Type 0) (r : Result T E) → P → OnErr r P
-on_err_always P (Ok x) h = tt
-on_err_always P (Err e) h = h

@@ -4,3 +4,4 @@ pub mod Drawing
 pub mod Named
 pub mod Saying
 pub mod Reading
+pub mod OneScript

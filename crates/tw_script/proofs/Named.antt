@@ -1,15 +1,15 @@
 -- No name of a network has a space in it.
 use Rattle.std.proofs.Common.{[], ◌≡◌, ◌<◌, ◌∷◌, ◌∙◌, ℕ, List, length, get_or, sym, ap, arith, true, true≢false}
 use Rattle.std.specs.List.{All}
+use Rattle.std.proofs.lemmas.Bool.{and_parts}
 use Rattle.std.proofs.lemmas.List.Sums.{AllPass-from_list_all}
-use Rattle.tw_network.proofs.NoFaults.{both}
 use Rattle.tw_network.specs.Contents.{IsFlatName, alone, within, is_name, is_name_byte}
 use Rattle.tw_script.proofs.Cuts.{free_append, free_cons}
 use Rattle.tw_script.specs.Words.{IsFree}
 
 name_free : (name : List ℕ) → is_name name ≡ true → IsFree 32 name
 name_free name h i l e =
-    let bytes = AllPass-from_list_all is_name_byte name (both _ _ h).1 in
+    let bytes = AllPass-from_list_all is_name_byte name (and_parts _ _ h).1 in
     true≢false (sym (bytes i 0 l) ∙ ap is_name_byte e)
 
 pub flat_name_free : (name : List ℕ) → IsFlatName name → IsFree 32 name

@@ -4,6 +4,7 @@ use Rattle.std.specs.Prelude.{Some, IfSome, slice_get, unwrap_or, ◌==◌, ◌-
 use Rattle.std.specs.List.{slice_split, AllByRecursion as Each}
 use Rattle.std.specs.Str.{IsUtf8}
 use Rattle.std.proofs.lemmas.Option.{none-some, slice_get_within}
+use Rattle.tw_theory.proofs.Elements.{each_from_get}
 use Rattle.tw_script.specs.Scripts.{AreSaid, nothing, skipped, said, IsFirst, IsFirstNoText, IsWrong, Says, ends_in_nothing, is_skipped, lines_of, lines_of_pieces, newline}
 use Rattle.tw_script.specs.declared.command.Command.{Command}
 
@@ -27,10 +28,6 @@ take_more [] i x h = absurd (none-some x h)
 take_more (y ∷ xs) zero x h = ap (λ z. z ∷ []) (some_is h)
 take_more (y ∷ xs) (suc i) x h = ap (λ l. y ∷ l) (take_more xs i x h)
 
-pub each_by : {A : Type 0} (P : A → Type 0) (xs : List A) → ((k : ℕ) (x : A) → slice_get xs k ≡ Some x → P x) → Each P xs
-each_by P [] h = record {}
-each_by P (x ∷ xs) h = (h zero x refl, each_by P xs (λ k y at. h (suc k) y at))
-
 -- ---- texts
 
 pub record AreTexts (lines texts : List (List ℕ)) (i : ℕ) : Type 0 where
@@ -46,7 +43,7 @@ texts_more lines texts i line h at is_text = record {
 pub all_texts : (lines texts : List (List ℕ)) (i : ℕ) → AreTexts lines texts i → length lines ≤ i → (texts ≡ lines) × Each IsUtf8 lines
 all_texts lines texts i h l = (
   h.texts_are ∙ take_all i lines l,
-  each_by IsUtf8 lines (λ k line at. h.utf8 k line (omega (arith, slice_get_within lines k line at, l)) at),
+  each_from_get IsUtf8 lines (λ k line at. h.utf8 k line (omega (arith, slice_get_within lines k line at, l)) at),
 )
 
 -- ---- commands
@@ -73,7 +70,7 @@ skipped_at names lines i line commands h at skips =
     subst (λ ls. AreSaid names ls commands) (sym (ap (λ n. take n lines) (add-one i) ∙ take_more lines i line at)) (skipped_more names (take i lines) commands line h skips)
 
 -- no line that says something, or is skipped, is wrong
-none_wrong : (names : List (List ℕ)) (lines : List (List ℕ)) (commands : List Command) → AreSaid names lines commands → (k : ℕ) (line : List ℕ) → slice_get lines k ≡ Some line → IsWrong names line → ⊥
+pub none_wrong : (names : List (List ℕ)) (lines : List (List ℕ)) (commands : List Command) → AreSaid names lines commands → (k : ℕ) (line : List ℕ) → slice_get lines k ≡ Some line → IsWrong names line → ⊥
 none_wrong names lines commands nothing k line at w = none-some line at
 none_wrong names lines commands (skipped first rest cs h t) zero line at w = true≢false (sym h ∙ ap is_skipped (some_is at) ∙ w.counts)
 none_wrong names lines commands (skipped first rest cs h t) (suc k) line at w = none_wrong names rest cs t k line at w

@@ -62,7 +62,7 @@ named names q name h = (slice_get_within names q name h, sym (get_or_from_slice_
 pub is_named : (names : List (List ℕ)) (q : ℕ) (name : List ℕ) → q < length names → name ≡ name_of names q → Contains names name
 is_named names q name l e = (q, l, get_or_from_slice_get names q (name_of names q) name (slice_get-get_or names q [] l) ∙ sym e)
 
-two_operands : (verb first second : List ℕ) → verb ++ (first ++ 32 ∷ second) ≡ verb ++ first ++ codes " " ++ second
+pub two_operands : (verb first second : List ℕ) → verb ++ (first ++ 32 ∷ second) ≡ verb ++ first ++ codes " " ++ second
 two_operands verb first second =
     ap (λ l. verb ++ l) (sym (append_assoc first (codes " ") second)) ∙ sym (append_assoc verb (first ++ codes " ") second) ∙ ap (λ l. l ++ second) (sym (append_assoc verb first (codes " ")))
 

@@ -1,10 +1,10 @@
 -- A text that is a stamp's is three numbers with dots between, or `end`.
 use Rattle.std.proofs.Common.{◌≡◌, ◌≢◌, ◌≤◌, ◌++◌, ◌∷◌, [], ◌∙◌, ◌+◌, ◌%◌, ℕ, List, codes, decimal, refl, sym, ap, arith, Bool, true, false, true≢false, eqb, Bor, ⊎_elim, append_assoc}
-use Rattle.std.proofs.lemmas.Bool.{ne_eqb}
+use Rattle.std.proofs.lemmas.Bool.{eqb-true, ne_eqb}
 use Rattle.std.specs.Prelude.{Option, Some, None, IfSome, IfNone, if◌then◌else◌, MatchOption}
 use Rattle.std.proofs.lemmas.Fmt.{decimal_by_steps, decimal_injective}
 use Rattle.std.proofs.lemmas.Str.Pattern.{split_after, IsSplitOnceResult}
-use Rattle.tw_script.proofs.Cuts.{free_append, free_cons, free_none}
+use Rattle.tw_script.proofs.Cuts.{cut_once, free_append, free_cons, free_none, no_cut}
 use Rattle.tw_script.specs.Words.{IsFree}
 use Rattle.tw_vtime.specs.Stamps.{never, stamp, stamp_text, tick_of, micro_of, phase_of, IsInRange, IsStamp}
 
@@ -74,3 +74,33 @@ in_range_by {t} {m} {p} {u} {n} {q} h a b c d e f = (
   omega (arith, h.1, decimal_injective m n (omega (arith, b)) (omega (arith, h.1)) e),
   omega (arith, h.2, decimal_injective p q (omega (arith, c)) (omega (arith, h.2)) f),
 )
+
+-- ---- a stamp is known by its text
+
+end_free : IsFree 46 (codes "end")
+end_free = free_cons 46 101 (110 ∷ 100 ∷ []) (λ e. omega (arith, e)) (free_cons 46 110 (100 ∷ []) (λ e. omega (arith, e)) (digit_free 100 (omega arith)))
+
+no_end : (s : ℕ) → text_by s false ≡ codes "end" → ⊥
+no_end s e = no_cut 46 (decimal (tick_of s)) (decimal (micro_of s) ++ 46 ∷ decimal (phase_of s)) (codes "end") (sym e ∙ regrouped (decimal (tick_of s)) (decimal (micro_of s)) (decimal (phase_of s))) end_free
+
+tick_fits : (s : ℕ) → eqb s never ≡ false → IsStamp s → tick_of s ≤ 1099511627774
+tick_fits s f h = ⊎_elim (λ l. l) (λ is. absurd (true≢false (sym (ap (λ n. eqb n never) is) ∙ f))) h
+
+parts_same : (s t : ℕ) → tick_of s ≤ 1099511627774 → tick_of t ≤ 1099511627774 → text_by s false ≡ text_by t false → s ≡ t
+parts_same s t l m e =
+    let written = sym (regrouped (decimal (tick_of s)) (decimal (micro_of s)) (decimal (phase_of s))) ∙ e ∙ regrouped (decimal (tick_of t)) (decimal (micro_of t)) (decimal (phase_of t)) in
+    let first = cut_once 46 (decimal (tick_of s)) _ (decimal (tick_of t)) _ (digits_free (tick_of s) (omega (arith, l))) (digits_free (tick_of t) (omega (arith, m))) written in
+    let second = cut_once 46 (decimal (micro_of s)) _ (decimal (micro_of t)) _ (digits_free (micro_of s) (omega arith)) (digits_free (micro_of t) (omega arith)) first.1 in
+    let tick : tick_of s ≡ tick_of t = decimal_injective (tick_of s) (tick_of t) (omega (arith, l)) (omega (arith, m)) first.0 in
+    let micro : micro_of s ≡ micro_of t = decimal_injective (micro_of s) (micro_of t) (omega arith) (omega arith) second.0 in
+    let phase : phase_of s ≡ phase_of t = decimal_injective (phase_of s) (phase_of t) (omega arith) (omega arith) second.1 in
+    omega (arith, tick, micro, phase)
+
+pub one_stamp : (s t : ℕ) → IsStamp s → IsStamp t → stamp_text s ≡ stamp_text t → s ≡ t
+one_stamp s t h g e = by (eqb s never) (eqb t never) refl refl
+  where
+    by : (b d : Bool) → eqb s never ≡ b → eqb t never ≡ d → s ≡ t
+    by true true x y = eqb-true s never x ∙ sym (eqb-true t never y)
+    by true false x y = absurd (no_end t (sym (ap (text_by t) y) ∙ sym e ∙ ap (text_by s) x))
+    by false true x y = absurd (no_end s (sym (ap (text_by s) x) ∙ e ∙ ap (text_by t) y))
+    by false false x y = parts_same s t (tick_fits s x h) (tick_fits t y g) (sym (ap (text_by s) x) ∙ e ∙ ap (text_by t) y)

@@ -2,3 +2,4 @@ pub mod Refusals
 pub mod Words
 pub mod Scripts
 pub mod Schedules
+pub mod OneScript

@@ -5,7 +5,8 @@
 //! nothing. A [`Schedule`] draws one action after another from the numbers of a seed, whatever the executive has come to.
 //!
 //! Contracts say what a script means by what is written, and not by how it is read: a line says a command where it is the
-//! line of that command (`line_of`).
+//! line of that command (`line_of`). It is the line of no other, so a text is the script of at most one list of
+//! commands ([`script_law`]).
 //!
 //! | File | Says |
 //! |---|---|
@@ -27,4 +28,4 @@ mod words;
 pub use command::Command;
 pub use refused::ScriptRefused;
 pub use schedule::Schedule;
-pub use script::commands_of_script;
+pub use script::{commands_of_script, script_law};

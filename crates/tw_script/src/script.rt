@@ -3,6 +3,7 @@
 ghost use Rattle.std.specs.Prelude.{◌≡◌, ◌==◌, ◌+◌, ◌<◌, IfOk, IfErr, OnOk, map};
 ghost use Rattle.std.specs.List.{slice_split, AllByRecursion as Each};
 ghost use Rattle.std.specs.Str.{IsUtf8};
+ghost use Rattle.tw_script.specs.OneScript.{ScriptLaw};
 ghost use Rattle.tw_script.specs.Scripts.{ends_in_nothing, lines_of, newline, AreSaid, IsNotText, IsScript, IsRefusedFor, SaysNothing};
 
 use crate::command::Command;
@@ -38,6 +39,12 @@ pub fn commands_of_script<M: Atomic>(
     let texts = texts_of(alloc, lines.as_slice())?;
     commands_of(alloc, texts.as_slice(), network)
 }
+
+/// Against the names of a network a text is the script of at most one list of commands, and is refused for at most one reason,
+/// with one first bad line; never both. It does nothing.
+pub fn script_law()
+    ensures { ScriptLaw }
+{}
 
 // The lines of a text.
 fn lines_of<'a>(alloc: Global, bytes: &'a [u8]) -> Result<Vec<&'a [u8]>, AllocError>

@@ -1,6 +1,5 @@
 -- What messages carry fits, and so do the bags that they make.
 use Rattle.std.proofs.Common.{◌≡◌, ℕ, ℤ, zero, suc, ◌+◌, ◌<◌, ◌==◌, List, [], ◌∷◌, ◌++◌, Some, replicate, slice_get, refl, subst, arith}
-use Rattle.std.specs.Prelude.{filter, ◌&&◌, Bool}
 use Rattle.std.specs.List.{AllByRecursion as Each}
 use Rattle.std.proofs.lemmas.Bool.{cond_both}
 use Rattle.tw_atomic.specs.Atomic.{FitsItem, FitsBag}
@@ -9,9 +8,10 @@ use Rattle.tw_msgs.specs.declared.message.Message.{Message}
 use Rattle.tw_seq.specs.Dealing.{dealt, Carried}
 use Rattle.tw_theory.specs.Bundles.{items_of, addressed}
 use Rattle.tw_theory.specs.Transitions.{Moment, output}
-use Rattle.tw_theory.specs.Network.{Network, Coupling, Destination, destination_at_or_before, insert_destination, destinations, routes, copies, routed}
+use Rattle.tw_theory.specs.Network.{Network, Destination, routes, copies, routed}
 use Rattle.tw_theory.specs.Simulator.{outputs, all_sent, sent_in}
 use Rattle.tw_theory.proofs.Elements.{each-append}
+use Rattle.tw_theory.proofs.Routes.{each-places}
 
 FitsBag-append : (one other : Bag) → FitsBag one → FitsBag other → FitsBag (one ++ other)
 FitsBag-append [] other f h = h
@@ -29,21 +29,7 @@ pub none_fits : (n : ℕ) → Each FitsBag (replicate n [])
 none_fits zero = tt
 none_fits (suc n) = (tt, none_fits n)
 
-pub each-filter : {X : Type 0} (P : X → Type 0) (test : X → Bool) (xs : List X) → Each P xs → Each P (filter test xs)
-each-filter P test [] h = tt
-each-filter P test (x ∷ xs) h = let rest = each-filter P test xs h.1 in cond_both (test x) (x ∷ filter test xs) (filter test xs) (Each P) (λ e. (h.0, rest)) (λ e. rest)
-
 -- ---- what outputs send
-
-each-insert_place : (P : Destination → Type 0) (x : Destination) (ys : List Destination) → P x → Each P ys → Each P (insert_destination x ys)
-each-insert_place P x [] p h = (p, tt)
-each-insert_place P x (y ∷ ys) p h = cond_both (destination_at_or_before x y) (x ∷ y ∷ ys) (y ∷ insert_destination x ys) (Each P) (λ e. (p, h)) (λ e. (h.0, each-insert_place P x ys p h.1))
-
-each-places : (P : Destination → Type 0) (c port : ℕ) (ks : List Coupling) → Each (λ k. P (k.2, k.3)) ks → Each P (destinations c port ks)
-each-places P c port [] h = tt
-each-places P c port (k ∷ ks) h =
-    let rest = each-places P c port ks h.1 in
-    cond_both ((k.0 == c) && (k.1 == port)) (insert_destination (k.2, k.3) (destinations c port ks)) (destinations c port ks) (Each P) (λ e. each-insert_place P (k.2, k.3) (destinations c port ks) h.0 rest) (λ e. rest)
 
 copies_carried : (s : ℕ) (item : ℕ × ℤ) (ps : List Destination) → FitsItem item → Each (λ place. place.1 < 256) ps → Each Carried (copies s item.1 ps)
 copies_carried s item [] f h = tt

@@ -2,6 +2,7 @@
 use Rattle.std.proofs.Common.{◌≡◌, ℕ, zero, suc, ◌+◌, ◌<◌, ◌≤◌, ◌==◌, List, [], ◌∷◌, ◌++◌, length, drop, refl, sym, ap, ◌∙◌, subst, ⊎_elim, arith, append_assoc, append-nil, eq-eqb, ne_eqb, slice_set, slice_index_or, ℤ, true}
 use Rattle.std.specs.Prelude.{◌≢◌}
 use Rattle.std.proofs.lemmas.Bool.{cases_eq, cond-true, cond-false, eqb-true}
+use Rattle.std.proofs.lemmas.List.{drop_more, drop_all}
 use Rattle.std.specs.List.{AllByRecursion as Each}
 use Rattle.tw_msgs.specs.Bags.{Bag}
 use Rattle.tw_msgs.specs.declared.message.Message.{Message}
@@ -10,7 +11,7 @@ use Rattle.tw_theory.specs.Bundles.{items_of, addressed}
 use Rattle.tw_theory.specs.Network.{Network, Destination, copies, routed, routes, IsNetwork, count_of}
 use Rattle.tw_theory.specs.Simulator.{with_stamp}
 use Rattle.tw_theory.proofs.Routes.{routes_lead}
-use Rattle.tw_seq.proofs.Places.{each_at, drop_next, drop_all}
+use Rattle.tw_seq.proofs.Places.{each_at}
 
 pub addressed-own : (c : ℕ) (m : Message) (ms : List Message) → m.to ≡ c → addressed c (m ∷ ms) ≡ m ∷ addressed c ms
 addressed-own c m ms e = cond-true (m.to == c) (m ∷ addressed c ms) (addressed c ms) (eq-eqb m.to c e)
@@ -74,11 +75,11 @@ pub input_taken : (s i : ℕ) (inputs : List Message) (bags all : List Bag) (m :
 input_taken s i inputs bags all m l at e h =
     let rest = drop (i + 1) inputs in
     let split : with_stamp s (drop i inputs) ≡ m ∷ with_stamp s rest =
-    ap (with_stamp s) (drop_next inputs i m l ∙ ap (λ x. x ∷ rest) (sym at)) ∙ with_stamp-own s m rest (eqb-true m.stamp s (sym e)) in
+    ap (with_stamp s) (drop_more inputs i m l ∙ ap (λ x. x ∷ rest) (sym at)) ∙ with_stamp-own s m rest (eqb-true m.stamp s (sym e)) in
     dealt_next bags m (with_stamp s rest) all (ap (dealt 0 bags) (sym split) ∙ h)
 
 pub inputs_all : (s i : ℕ) (inputs : List Message) (bags all : List Bag) → length inputs ≤ i → dealt 0 bags (with_stamp s (drop i inputs)) ≡ all → bags ≡ all
-inputs_all s i inputs bags all l h = sym (dealt-none 0 bags) ∙ ap (λ ms. dealt 0 bags (with_stamp s ms)) (sym (drop_all inputs i l)) ∙ h
+inputs_all s i inputs bags all l h = sym (dealt-none 0 bags) ∙ ap (λ ms. dealt 0 bags (with_stamp s ms)) (sym (drop_all i inputs l)) ∙ h
 
 -- ---- where an output goes
 
@@ -87,10 +88,10 @@ copy_to s v place = record { stamp = s; port = place.1; value = v; to = place.0 
 
 pub place_taken : (s : ℕ) (v : ℤ) (i : ℕ) (destinations : List Destination) (bags all : List Bag) (d : Destination) → i < length destinations → dealt 0 bags (copies s v (drop i destinations)) ≡ all → dealt 0 (dealt 0 bags (copy_to s v (slice_index_or destinations i d) ∷ [])) (copies s v (drop (i + 1) destinations)) ≡ all
 place_taken s v i destinations bags all d l h =
-    dealt_next bags (copy_to s v (slice_index_or destinations i d)) (copies s v (drop (i + 1) destinations)) all (ap (λ ps. dealt 0 bags (copies s v ps)) (sym (drop_next destinations i d l)) ∙ h)
+    dealt_next bags (copy_to s v (slice_index_or destinations i d)) (copies s v (drop (i + 1) destinations)) all (ap (λ ps. dealt 0 bags (copies s v ps)) (sym (drop_more destinations i d l)) ∙ h)
 
 pub places_all : (s : ℕ) (v : ℤ) (i : ℕ) (destinations : List Destination) (bags all : List Bag) → length destinations ≤ i → dealt 0 bags (copies s v (drop i destinations)) ≡ all → bags ≡ all
-places_all s v i destinations bags all l h = sym (dealt-none 0 bags) ∙ ap (λ ps. dealt 0 bags (copies s v ps)) (sym (drop_all destinations i l)) ∙ h
+places_all s v i destinations bags all l h = sym (dealt-none 0 bags) ∙ ap (λ ps. dealt 0 bags (copies s v ps)) (sym (drop_all i destinations l)) ∙ h
 
 -- the destinations of an item more
 pub item_taken : {S : Type 0} (net : Network S) (c s i : ℕ) (items : Bag) (bags after all : List Bag) (d : ℕ × ℤ) → i < length items → after ≡ dealt 0 bags (copies s (slice_index_or items i d).1 (routes net c (slice_index_or items i d).0)) → dealt 0 bags (routed net c s (drop i items)) ≡ all → dealt 0 after (routed net c s (drop (i + 1) items)) ≡ all
@@ -98,10 +99,10 @@ item_taken net c s i items bags after all d l e h =
     let item = slice_index_or items i d in
     ap (λ bs. dealt 0 bs (routed net c s (drop (i + 1) items))) e
     ∙ sym (dealt-append 0 bags (copies s item.1 (routes net c item.0)) (routed net c s (drop (i + 1) items)))
-    ∙ ap (λ is. dealt 0 bags (routed net c s is)) (sym (drop_next items i d l)) ∙ h
+    ∙ ap (λ is. dealt 0 bags (routed net c s is)) (sym (drop_more items i d l)) ∙ h
 
 pub items_all : {S : Type 0} (net : Network S) (c s i : ℕ) (items : Bag) (bags all : List Bag) → length items ≤ i → dealt 0 bags (routed net c s (drop i items)) ≡ all → bags ≡ all
-items_all net c s i items bags all l h = sym (dealt-none 0 bags) ∙ ap (λ is. dealt 0 bags (routed net c s is)) (sym (drop_all items i l)) ∙ h
+items_all net c s i items bags all l h = sym (dealt-none 0 bags) ∙ ap (λ is. dealt 0 bags (routed net c s is)) (sym (drop_all i items l)) ∙ h
 
 -- the receivers are components
 pub place_leads : {S : Type 0} (net : Network S) (c port i : ℕ) (destinations : List Destination) (d : Destination) → IsNetwork net → destinations ≡ routes net c port → i < length destinations → (slice_index_or destinations i d).0 < count_of net

@@ -1,48 +1,21 @@
 -- Inputs given in order give the same records and the same fault.
-use Rattle.std.proofs.Common.{◌≡◌, ℕ, zero, suc, ◌+◌, ◌-◌, ◌<◌, ◌==◌, min, List, [], ◌∷◌, ◌++◌, length, Bool, true, false, cond, Option, Some, None, nat_lt, refl, sym, ap, ◌∙◌, subst, arith}
+use Rattle.std.proofs.Common.{◌≡◌, ℕ, zero, suc, ◌+◌, ◌-◌, ◌==◌, min, List, [], ◌∷◌, ◌++◌, Bool, true, false, cond, Option, Some, None, nat_lt, refl, sym, ap, ◌∙◌, subst, arith}
 use Rattle.std.specs.Prelude.{filter, map}
-use Rattle.std.specs.List.{swap}
 use Rattle.std.specs.List.Sorted.{IsPermutation}
-use Rattle.std.proofs.lemmas.List.Sorted.{IsPermutation-refl, IsPermutation-cons, IsPermutation-keeps, IsPermutation-append_left, IsPermutation-append_right, IsPermutation-append_comm, IsPermutation-trans, IsPermutation-map}
-use Rattle.std.proofs.Common.{slice_index_or, slice_set}
+use Rattle.std.proofs.lemmas.List.Sorted.{IsPermutation-refl, IsPermutation-cons, IsPermutation-append_left, IsPermutation-append_right, IsPermutation-append_comm, IsPermutation-trans, IsPermutation-map}
 use Rattle.tw_msgs.specs.Bags.{sorted_bag}
 use Rattle.tw_msgs.specs.declared.message.Message.{Message}
 use Rattle.tw_msgs.specs.declared.record.Record.{Record}
 use Rattle.tw_msgs.proofs.Bags.{sorted_bag-permutation}
 use Rattle.tw_msgs.proofs.Messages.{sorted_messages-IsPermutation}
 use Rattle.tw_seq.specs.InOrder.{start_in_order, rounds_in_order}
+use Rattle.tw_theory.proofs.Reordered.{along_permutation}
 use Rattle.tw_theory.specs.Bundles.{items_of, addressed}
 use Rattle.tw_theory.specs.Transitions.{Moment}
 use Rattle.tw_theory.specs.Network.{Network}
 use Rattle.tw_theory.specs.Simulator.{Run, RoundTurn, round, round_end, round_time, rounds_from, rounds, start_run, sequential, turns, take_turn, after_output, first_stop, turn_records, turned_moments, outputs, all_sent, with_stamp, least_due, least_input}
 use Rattle.tw_vtime.specs.Stamps.{stamp}
 use Rattle.tw_vtime.specs.declared.limits.Limit.{Limit}
-
--- what an exchange of two neighbours keeps, every other order keeps
-module _ {X : Type 0} (R : List X → List X → Type 0)
-    (same : (xs : List X) → R xs xs)
-    (skip : (x : X) (xs ys : List X) → R xs ys → R (x ∷ xs) (x ∷ ys))
-    (turn : (x y : X) (xs : List X) → R (x ∷ y ∷ xs) (y ∷ x ∷ xs))
-    (chain : (xs ys zs : List X) → R xs ys → R ys zs → R xs zs) where
-  to_head : (l : List X) (j : ℕ) (x d : X) → j < length l → R (x ∷ l) (slice_index_or l j d ∷ slice_set l j x)
-  to_head [] j x d h = absurd (omega arith)
-  to_head (y ∷ l) zero x d h = turn x y l
-  to_head (y ∷ l) (suc j) x d h =
-      chain _ _ _ (turn x y l) (chain _ _ _ (skip y _ _ (to_head l j x d (omega arith))) (turn y (slice_index_or l j d) (slice_set l j x)))
-
-  exchanged : (l : List X) (i j : ℕ) (d : X) → i < length l → j < length l → R l (slice_set (slice_set l i (slice_index_or l j d)) j (slice_index_or l i d))
-  exchanged [] i j d p q = absurd (omega arith)
-  exchanged (x ∷ l) zero zero d p q = same (x ∷ l)
-  exchanged (x ∷ l) zero (suc j) d p q = to_head l j x d (omega arith)
-  exchanged (x ∷ l) (suc i) zero d p q = to_head l i x d (omega arith)
-  exchanged (x ∷ l) (suc i) (suc j) d p q = skip x _ _ (exchanged l i j d (omega arith) (omega arith))
-
-  swapped : (l : List X) (i j : ℕ) → i < length l → j < length l → R l (swap l i j)
-  swapped [] i j p q = same []
-  swapped (x ∷ l) i j p q = exchanged (x ∷ l) i j x p q
-
-  along_permutation : (xs ys : List X) → IsPermutation xs ys → R xs ys
-  along_permutation xs = IsPermutation-keeps xs (R xs) (same xs) (λ l i j p q h. chain xs l _ h (swapped l i j p q))
 
 least_permuted : (xs ys : List Message) → IsPermutation xs ys → least_input xs ≡ least_input ys
 least_permuted = along_permutation (λ xs ys. least_input xs ≡ least_input ys) (λ xs. refl) (λ x xs ys e. ap (min (x.stamp - 1)) e)

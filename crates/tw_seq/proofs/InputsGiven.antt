@@ -1,10 +1,10 @@
 -- Inputs given in order.
 use Rattle.std.proofs.Common.{◌≡◌, ℕ, ◌+◌, ◌-◌, ◌<◌, ◌≤◌, ◌==◌, List, [], ◌∷◌, length, drop, true, nat_lt, refl, sym, ap, ◌∙◌, arith, lt-ltb, le-ltb, ne_eqb, slice_index_or}
+use Rattle.std.proofs.lemmas.List.{drop_more}
 use Rattle.std.proofs.lemmas.Bool.{cond-true, cond-false, cond_both, eqb-true}
 use Rattle.tw_msgs.specs.declared.message.Message.{Message}
 use Rattle.tw_theory.specs.Bundles.{first_stamp, Ascending}
 use Rattle.tw_theory.specs.Simulator.{with_stamp, past_stamp, least_input}
-use Rattle.tw_seq.proofs.Places.{drop_next}
 
 -- an input of the stamp is not among those past it
 pub past_taken : (s i : ℕ) (inputs rest : List Message) (m : Message) → i < length inputs → m ≡ slice_index_or inputs i m → true ≡ (m.stamp == s) → past_stamp s (drop i inputs) ≡ rest → past_stamp s (drop (i + 1) inputs) ≡ rest
@@ -12,7 +12,7 @@ past_taken s i inputs rest m l at e h =
     let more = drop (i + 1) inputs in
     let same : m.stamp ≡ s = eqb-true m.stamp s (sym e) in
     let split : past_stamp s (drop i inputs) ≡ past_stamp s more =
-    ap (past_stamp s) (drop_next inputs i m l ∙ ap (λ x. x ∷ more) (sym at)) ∙ cond-false (nat_lt s m.stamp) (m ∷ past_stamp s more) (past_stamp s more) (le-ltb s m.stamp (omega (arith, same))) in
+    ap (past_stamp s) (drop_more inputs i m l ∙ ap (λ x. x ∷ more) (sym at)) ∙ cond-false (nat_lt s m.stamp) (m ∷ past_stamp s more) (past_stamp s more) (le-ltb s m.stamp (omega (arith, same))) in
     sym split ∙ h
 
 -- in order, all inputs are of a later stamp than s where the first is

@@ -1,9 +1,5 @@
 -- Times, and the least of them.
-use Rattle.std.proofs.Common.{◌≡◌, ℕ, zero, suc, ◌-◌, ◌<◌, ◌≤◌, List, [], ◌∷◌, Some, slice_get, sym, ap, ◌∙◌, arith}
-use Rattle.std.proofs.Common.{nat_cmp, is_lt, true, false, true≢false, ⊎_elim}
-use Rattle.std.specs.Cmp.{nat_cmp_is}
-use Rattle.std.specs.declared.cmp.Ordering.TheVariants.{Less, Equal, Greater}
-use Rattle.std.proofs.lemmas.Bool.{cases_eq, cases_lt}
+use Rattle.std.proofs.Common.{◌≡◌, ℕ, zero, suc, ◌-◌, ◌≤◌, List, [], ◌∷◌, Some, slice_get, ap, arith}
 use Rattle.tw_theory.specs.Transitions.{Moment}
 use Rattle.tw_theory.specs.Simulator.{least_due}
 use Rattle.tw_vtime.specs.Stamps.{never, stamp, tick_of, micro_of, phase_of}
@@ -16,15 +12,6 @@ pub due_least : {S : Type 0} (moments : List (Moment S)) (i : ℕ) (now : Moment
 due_least [] i now e = absurd (cc e)
 due_least (x ∷ moments) zero now e = let q : x ≡ now = cc e in let d = ap (λ m. m.due) q in omega (arith, d)
 due_least (x ∷ moments) (suc i) now e = let ih = due_least moments i now e in omega (arith, ih)
-
-pub before_tells : (a b : ℕ) → is_lt (nat_cmp a b) ≡ true → a < b
-before_tells a b e =
-    ⊎_elim (λ l. l)
-    (λ l. ⊎_elim (λ q. absurd (true≢false (sym e ∙ ap is_lt (sym (nat_cmp_is a b Equal q))))) (λ q. absurd (true≢false (sym e ∙ ap is_lt (sym (nat_cmp_is a b Greater (omega (arith, l, q))))))) (cases_eq a b))
-    (cases_lt a b)
-
-pub after_tells : (a b : ℕ) → is_lt (nat_cmp a b) ≡ false → b ≤ a
-after_tells a b e = ⊎_elim (λ l. absurd (true≢false (ap is_lt (nat_cmp_is a b Less l) ∙ e))) (λ l. l) (cases_lt a b)
 
 -- the output of a transition's time comes right before it
 pub output_before : (s : ℕ) → phase_of s ≡ 1 → stamp (tick_of s) (micro_of s) 0 ≡ s - 1

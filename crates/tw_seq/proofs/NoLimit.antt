@@ -15,9 +15,8 @@ use Rattle.tw_theory.specs.Transitions.{Moment, Move, start_moment, first_due, o
 use Rattle.tw_vtime.specs.Advance.{advanced, next_microstep, later_tick}
 use Rattle.tw_vtime.specs.Stamps.{max_tick, never, stamp, tick_of, micro_of, phase_of}
 use Rattle.tw_vtime.specs.declared.limits.Limit.{Limit}
-use Rattle.tw_theory.proofs.Elements.{each_weaker}
+use Rattle.tw_theory.proofs.Elements.{each-filter, each_weaker}
 use Rattle.tw_atomic.specs.Waiting.{Waits, ComesBefore, AlwaysWaits}
-use Rattle.tw_seq.proofs.CarriedFits.{each-filter}
 use Rattle.tw_seq.specs.InTime.{EndsInTime}
 
 -- ---- one component

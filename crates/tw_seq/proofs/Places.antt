@@ -1,7 +1,6 @@
 -- The element at a place of a list.
-use Rattle.std.proofs.Common.{◌≡◌, ℕ, zero, suc, ◌+◌, ◌<◌, ◌≤◌, List, [], ◌∷◌, length, map, drop, sym, ap, ◌∙◌, arith, add-one, slice_index_or, drop-cons, take, ◌++◌, Vec}
-use Rattle.std.specs.List.{All, AllByRecursion as Each}
-use Rattle.std.proofs.Math.ListN.{drop_of_length-le}
+use Rattle.std.proofs.Common.{◌≡◌, ℕ, zero, suc, ◌<◌, List, [], ◌∷◌, length, map, drop, sym, ap, ◌∙◌, arith, slice_index_or, take, ◌++◌, Vec}
+use Rattle.std.specs.List.{AllByRecursion as Each}
 use Rattle.std.proofs.Math.Seq.{take-append_seam}
 use Rattle.std.specs.Vec.{with_items}
 
@@ -10,22 +9,11 @@ each_at P [] i d l h = absurd (omega (arith, l))
 each_at P (x ∷ xs) zero d l h = h.0
 each_at P (x ∷ xs) (suc i) d l h = each_at P xs i d (omega (arith, l)) h.1
 
--- what is left from place i on
-pub drop_next : {X : Type 0} (xs : List X) (i : ℕ) (d : X) → i < length xs → drop i xs ≡ slice_index_or xs i d ∷ drop (i + 1) xs
-drop_next xs i d l = rw add-one (drop-cons xs i d l)
-
-pub drop_all : {X : Type 0} (xs : List X) (i : ℕ) → length xs ≤ i → drop i xs ≡ []
-drop_all xs i l = drop_of_length-le xs l
-
 -- a vector whose elements were all written
 pub all_written : {X Z : Type 0} (v : Vec X Z) (ws : List X) → length ws ≡ length v.items → (with_items v ws).items ≡ ws
 all_written v ws e =
     let n : v.len ≡ length ws = v.ok.0 ∙ sym e in
     ap (λ k. take k (ws ++ drop (length ws) v.items)) n ∙ take-append_seam ws (drop (length ws) v.items)
-
-pub each_of_all : {X : Type 0} (P : X → Type 0) (xs : List X) → All P xs → Each P xs
-each_of_all P [] h = tt
-each_of_all P (x ∷ xs) h = (h 0 x (omega arith), each_of_all P xs (λ k d l. h (suc k) d (omega (arith, l))))
 
 -- of the first elements, one more
 pub each_more : {X : Type 0} (P : X → Type 0) (xs : List X) (i : ℕ) (d : X) → i < length xs → Each P (take i xs) → P (slice_index_or xs i d) → Each P (take (suc i) xs)

@@ -1,12 +1,12 @@
 -- The rounds still to be made complete the run whose inputs are given in order.
-use Rattle.std.proofs.Common.{◌≡◌, ℕ, zero, suc, ◌+◌, ◌<◌, ◌≤◌, Some, None, nat_lt, refl, sym, ap, ◌∙◌, ⊎_elim, arith, lt-ltb, le-ltb}
-use Rattle.std.proofs.lemmas.Bool.{cond-true, cond-false}
+use Rattle.std.proofs.Common.{◌≡◌, ℕ, zero, suc, ◌+◌, ◌<◌, ◌≤◌, Some, None, refl, sym, ap, ◌∙◌, ⊎_elim, arith}
 use Rattle.tw_atomic.specs.Atomic.{Meaning}
 use Rattle.tw_network.specs.Contents.{Contents, network_of}
 use Rattle.tw_seq.specs.InOrder.{start_in_order, rounds_in_order}
 use Rattle.tw_seq.specs.Invariant.{IsUnderway}
 use Rattle.tw_theory.specs.Network.{Network}
 use Rattle.tw_theory.specs.Simulator.{Run, round, round_time, rounds_from}
+use Rattle.tw_theory.proofs.Rounds.{from_round, from_rest}
 use Rattle.tw_vtime.specs.Stamps.{max_tick, stamp, tick_of, phase_of}
 use Rattle.tw_vtime.specs.declared.limits.Limit.{Limit}
 use Rattle.tw_seq.specs.Parts.{Reaching}
@@ -15,13 +15,6 @@ use Rattle.tw_seq.proofs.RoundsKept.{next_round, underway_at}
 from_fault : {S : Type 0} (net : Network S) (bound n : ℕ) (run : Run S) (f : ℕ × ℕ × Limit) → rounds_from net bound n run (Some f) ≡ run
 from_fault net bound zero run f = refl
 from_fault net bound (suc n) run f = refl
-
-from_rest : {S : Type 0} (net : Network S) (bound n : ℕ) (run : Run S) → bound ≤ round_time run.at → rounds_from net bound n run None ≡ run
-from_rest net bound zero run l = refl
-from_rest net bound (suc n) run l = cond-false (nat_lt (round_time run.at) bound) _ _ (le-ltb (round_time run.at) bound l)
-
-from_round : {S : Type 0} (net : Network S) (bound n : ℕ) (run : Run S) → round_time run.at < bound → rounds_from net bound (suc n) run None ≡ rounds_from net bound n (round net run (round_time run.at)) (round net run (round_time run.at)).fault
-from_round net bound n run l = cond-true (nat_lt (round_time run.at) bound) _ _ (lt-ltb (round_time run.at) bound l)
 
 pub reaching_start : {M S : Type 0} (valid : M → S → Type 0) (meaning : M → Meaning S) (contents : Contents M) (bound : ℕ) (run : Run S) → run ≡ start_in_order (network_of meaning contents) → IsUnderway valid meaning contents 0 run → Reaching valid meaning contents bound run
 unfolding rounds_in_order

@@ -2,7 +2,7 @@
 use Rattle.std.proofs.Common.{◌≡◌, ℕ, zero, suc, ◌+◌, ◌-◌, ◌<◌, ◌≤◌, ◌==◌, ◌⊎◌, inl, inr, min, List, [], ◌∷◌, ◌++◌, length, Option, Some, None, nat_lt, replicate, slice_get, refl, sym, ap, ◌∙◌, subst, ⊎_elim, arith}
 use Rattle.std.specs.List.{All, AllByRecursion as Each}
 use Rattle.std.proofs.lemmas.List.{length-replicate}
-use Rattle.std.proofs.lemmas.List.Elements.{All-nil}
+use Rattle.std.proofs.lemmas.List.Elements.{All-nil, recursion_from_All}
 use Rattle.std.proofs.lemmas.Option.{same_Some, none-some}
 use Rattle.std.proofs.lemmas.Bool.{cond_both, cases_lt, ltb-true}
 use Rattle.tw_atomic.specs.Atomic.{Meaning, FitsBag, FitsOutput}
@@ -22,13 +22,12 @@ use Rattle.tw_theory.specs.Simulator.{take_turn, after_output, turns, first_stop
 use Rattle.tw_vtime.specs.Stamps.{never, phase_of}
 use Rattle.tw_vtime.specs.declared.limits.Limit.{Limit}
 use Rattle.tw_seq.proofs.SortedBags.{sorted_bag-FitsBag, FitsOutput-bag}
-use Rattle.tw_seq.proofs.CarriedFits.{each-filter, sent_carried, none_fits, dealt_fits}
+use Rattle.tw_seq.proofs.CarriedFits.{sent_carried, none_fits, dealt_fits}
 use Rattle.tw_seq.proofs.Dealt.{dealt-append}
 use Rattle.tw_seq.proofs.RoundOutputs.{output_is}
-use Rattle.tw_seq.proofs.Places.{each_of_all}
 use Rattle.tw_seq.proofs.Between.{between_at}
 use Rattle.tw_seq.proofs.LeastTimes.{due_least}
-use Rattle.tw_theory.proofs.Elements.{each_weaker}
+use Rattle.tw_theory.proofs.Elements.{each-filter, each_weaker}
 
 -- the turns with the bags that messages make
 turns_dealt : {S : Type 0} (net : Network S) (t c : ℕ) (moments : List (Moment S)) (ms : List Message) → turns_with net t c moments (dealt c (replicate (length moments) []) ms) ≡ turns net t ms c moments
@@ -174,7 +173,7 @@ pub bags_fit : {M S : Type 0} (valid : M → S → Type 0) (meaning : M → Mean
 bags_fit {M} {S} valid meaning contents t at run for_outputs inputs room first bags fits ports under m i f k b =
     let net : Network S = network_of meaning contents in
     let sent : Each Carried (all_sent net (outputs net t 0 run.at.moments)) =
-    sent_carried net (each_weaker (IsCoupling (length contents.models)) (λ k. k.3 < 256) (λ k p. let q = p.destination_port in omega (arith, q)) contents.couplings (each_of_all (IsCoupling (length contents.models)) contents.couplings ports)) t 0 run.at.moments
+    sent_carried net (each_weaker (IsCoupling (length contents.models)) (λ k. k.3 < 256) (λ k p. let q = p.destination_port in omega (arith, q)) contents.couplings (recursion_from_All (IsCoupling (length contents.models)) contents.couplings ports)) t 0 run.at.moments
     (λ c now e.
     let found = model_there contents.models run.at.moments c now under.moments.size e in
     let stands = under.moments.each c found.0 now found.1 e in

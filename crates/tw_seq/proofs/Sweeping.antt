@@ -1,5 +1,5 @@
 -- A sweep over some components in rising order: between two of them it passes over the others.
-use Rattle.std.proofs.Common.{◌≡◌, ℕ, zero, suc, ◌+◌, ◌-◌, ◌<◌, ◌≤◌, List, [], ◌∷◌, length, Some, slice_get, slice_index, refl, sym, ap, ◌∙◌, subst, add-one, ⊎_elim, arith}
+use Rattle.std.proofs.Common.{◌≡◌, ℕ, zero, suc, ◌+◌, ◌-◌, ◌<◌, ◌≤◌, List, length, slice_index, sym, ap, ◌∙◌, subst, add-one, ⊎_elim, arith}
 use Rattle.std.specs.List.{All, Contains}
 use Rattle.std.specs.List.Sorted.{IsStrictlyIncreasing}
 use Rattle.std.proofs.lemmas.Bool.{cases_eq, cases_lt}
@@ -29,11 +29,6 @@ onward_more cs k = ap (onward cs) (add-one k) ∙ sym (add-one (slice_index cs k
 pub onward_within : (cs : List ℕ) (n k : ℕ) → All (λ c. c < n) cs → k ≤ length cs → onward cs k ≤ n
 onward_within cs n zero h l = omega arith
 onward_within cs n (suc k) h l = h k 0 (omega (arith, l))
-
-pub at_place : {X : Type 0} (xs : List X) (i : ℕ) → i < length xs → (x : X) × (slice_get xs i ≡ Some x)
-at_place [] i l = absurd (omega (arith, l))
-at_place (x ∷ xs) zero l = (x, refl)
-at_place (x ∷ xs) (suc i) l = at_place xs i (omega (arith, l))
 
 module _ (cs : List ℕ) (up : IsStrictlyIncreasing cs) where
   rising_places : (i j : ℕ) → i ≤ j → j < length cs → slice_index cs i ≤ slice_index cs j

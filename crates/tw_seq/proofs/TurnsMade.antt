@@ -15,7 +15,7 @@ use Rattle.tw_theory.specs.Simulator.{RoundTurn, Stays, Moves, Stops, take_turn,
 use Rattle.tw_vtime.specs.Stamps.{max_tick, max_microstep, tick_of, phase_of}
 use Rattle.tw_vtime.specs.declared.limits.Limit.{Limit}
 use Rattle.tw_seq.proofs.Between.{can_turn, turned_between}
-use Rattle.tw_seq.proofs.RoundOutputs.{model_is}
+use Rattle.tw_network.proofs.Places.{model_at}
 
 pub stays_turn : {S : Type 0} (net : Network S) (c s : ℕ) (at : Moment S) (imminent : Bool) (bag : Bag) → imminent ≡ false → bag ≡ [] → take_turn net c at s imminent bag ≡ Stays
 stays_turn net c s at imminent bag idle none = λ i. take_turn net c at s (idle i) (none i)
@@ -74,7 +74,7 @@ module _ {S : Type 0} (valid : S → Type 0) (model : Meaning S) (t : ℕ) (now 
 module _ {M S : Type 0} (meaning : M → Meaning S) (contents : Contents M) (c t : ℕ) (model : M) (now : Moment S) (bag : Bag)
     (found : slice_get contents.models c ≡ Some model) (some : (now.due == t) ≡ false → bag ≢ []) where
   home : IsAt (network_of meaning contents) (meaning model) (record { component = c; micro_limit = contents.micro_limit })
-  home = record { model_is = λ s. model_is meaning contents c model s found; limit_is = refl }
+  home = record { model_is = λ s. model_at meaning contents c model s found; limit_is = refl }
 
   abbrev turn_taken : RoundTurn S
   turn_taken = take_turn (network_of meaning contents) c (after_output (network_of meaning contents) c now t) (t + 1) (now.due == t) bag

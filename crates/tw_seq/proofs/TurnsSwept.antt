@@ -1,7 +1,7 @@
 -- The transitions of a round, component by component.
 use Rattle.std.proofs.Common.{◌≡◌, ℕ, ℤ, suc, ◌+◌, ◌<◌, ◌≤◌, ◌==◌, inl, inr, false, append-nil, ne_eqb, List, [], ◌∷◌, ◌++◌, length, drop, take, Option, Some, slice_get, slice_set, slice_index, slice_index_or, replicate, refl, sym, ap, ap₂, ◌∙◌, subst, ⊎_elim, arith, add-one, append_assoc}
 use Rattle.std.proofs.Math.Seq.{take-suc-set}
-use Rattle.std.proofs.lemmas.List.{drop-set-lt, set-get_or}
+use Rattle.std.proofs.lemmas.List.{drop_more, drop-set-lt, set-get_or}
 use Rattle.std.specs.Prelude.{◌≢◌}
 use Rattle.std.proofs.lemmas.Option.{get_or_from_slice_get}
 use Rattle.tw_atomic.specs.Atomic.{Meaning}
@@ -17,11 +17,10 @@ use Rattle.tw_theory.specs.Transitions.{Moment}
 use Rattle.tw_theory.specs.Network.{Network}
 use Rattle.tw_theory.specs.Simulator.{RoundTurn, Stays, take_turn, after_output, turn_records, turned_moments, first_stop}
 use Rattle.tw_vtime.specs.declared.limits.Limit.{Limit}
-use Rattle.tw_theory.proofs.Elements.{get_of_set}
+use Rattle.tw_theory.proofs.Elements.{get_of_set, present}
 use Rattle.tw_vtime.specs.Stamps.{max_tick, tick_of, phase_of}
-use Rattle.tw_seq.proofs.Places.{drop_next}
 use Rattle.tw_seq.proofs.Between.{stays_between}
-use Rattle.tw_seq.proofs.Sweeping.{along, at_place, onward, onward_within, onward_next, none_between, none_after}
+use Rattle.tw_seq.proofs.Sweeping.{along, onward, onward_within, onward_next, none_between, none_after}
 use Rattle.tw_seq.proofs.TurnsMade.{stays_turn}
 
 same_head : {X : Type 0} (x y : X) (xs ys : List X) → x ∷ xs ≡ y ∷ ys → x ≡ y
@@ -32,10 +31,10 @@ same_tail x y xs ys e = cc e
 
 -- of two lists that are the same from place i on
 pub same_here : {X : Type 0} (xs ys : List X) (i : ℕ) (d : X) → drop i xs ≡ drop i ys → i < length xs → i < length ys → slice_index_or xs i d ≡ slice_index_or ys i d
-same_here xs ys i d e l m = same_head _ _ _ _ (sym (drop_next xs i d l) ∙ e ∙ drop_next ys i d m)
+same_here xs ys i d e l m = same_head _ _ _ _ (sym (drop_more xs i d l) ∙ e ∙ drop_more ys i d m)
 
 pub same_later : {X : Type 0} (xs ys : List X) (i : ℕ) (d : X) → drop i xs ≡ drop i ys → i < length xs → i < length ys → drop (i + 1) xs ≡ drop (i + 1) ys
-same_later xs ys i d e l m = same_tail _ _ _ _ (sym (drop_next xs i d l) ∙ e ∙ drop_next ys i d m)
+same_later xs ys i d e l m = same_tail _ _ _ _ (sym (drop_more xs i d l) ∙ e ∙ drop_more ys i d m)
 
 -- a write at place i changes nothing after it
 pub later_set : {X : Type 0} (xs ys : List X) (i : ℕ) (x d : X) → drop i xs ≡ drop i ys → i < length xs → i < length ys → drop (i + 1) (slice_set xs i x) ≡ drop (i + 1) ys
@@ -44,7 +43,7 @@ later_set xs ys i x d e l m = drop-set-lt (i + 1) xs i x (omega arith) ∙ same_
 -- the turn of component i, and those after it
 pub rest_next : {S : Type 0} (net : Network S) (t i : ℕ) (old : List (Moment S)) (bags : List Bag) (d : Moment S) (b : Bag) → i < length old → i < length bags → turns_with net t i (drop i old) (drop i bags) ≡ take_turn net i (after_output net i (slice_index_or old i d) t) (t + 1) ((slice_index_or old i d).due == t) (sorted_bag (slice_index_or bags i b)) ∷ turns_with net t (i + 1) (drop (i + 1) old) (drop (i + 1) bags)
 rest_next net t i old bags d b l m =
-    ap₂ (λ x y. turns_with net t i x y) (drop_next old i d l) (drop_next bags i b m)
+    ap₂ (λ x y. turns_with net t i x y) (drop_more old i d l) (drop_more bags i b m)
     ∙ ap (λ n. take_turn net i (after_output net i (slice_index_or old i d) t) (t + 1) ((slice_index_or old i d).due == t) (sorted_bag (slice_index_or bags i b)) ∷ turns_with net t n (drop (i + 1) old) (drop (i + 1) bags)) (sym (add-one i))
 
 -- it met no limit
@@ -110,7 +109,7 @@ module _ {S : Type 0} (net : Network S) (t i : ℕ) (old moments : List (Moment 
       let rest = turns_with net t (i + 1) (drop (i + 1) old) (drop (i + 1) bags0) in
       let here = same_here moments old i d later l l0 in
       let turned : turned_moments (drop i old) (turns_with net t i (drop i old) (drop i bags0)) ≡ new ∷ turned_moments (drop (i + 1) old) rest =
-      ap₂ (λ x y. turned_moments x y) (drop_next old i d l0) rest_seen
+      ap₂ (λ x y. turned_moments x y) (drop_more old i d l0) rest_seen
       ∙ turned_next what new (slice_index_or old i d) (drop (i + 1) old) rest h (λ s. k s ∙ here) in
       ap (λ xs. xs ++ turned_moments (drop (i + 1) old) rest) (ap (λ n. take n (slice_set moments i new)) (add-one i) ∙ take-suc-set moments i new l)
       ∙ append_assoc (take i moments) (new ∷ []) (turned_moments (drop (i + 1) old) rest)
@@ -183,8 +182,8 @@ module _ {M S : Type 0} (valid : M → S → Type 0) (meaning : M → Meaning S)
   pub swept_passed : AllStand valid meaning contents.models t old → phase_of t ≡ 0 → tick_of t < max_tick → (HasTurn t old bags0 i → ⊥) → Swept valid meaning contents t old bags0 start (i + 1) moments bags records
   swept_passed stand even small none =
       let net = network_of meaning contents in
-      let now = at_place old i l0 in
-      let bag = at_place bags0 i m0 in
+      let now = present old i l0 in
+      let bag = present bags0 i m0 in
       let idle : now.0.due ≢ t = λ e. none (inl (now.0, now.1, e)) in
       let nothing : bag.0 ≡ [] = no_bag bag.0 (λ n. none (inr (bag.0, bag.1, n))) in
       let here : slice_index_or moments i now.0 ≡ now.0 = same_here moments old i now.0 swept.later l l0 ∙ get_or_from_slice_get old i now.0 now.0 now.1 in

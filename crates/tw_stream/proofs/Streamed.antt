@@ -1,6 +1,6 @@
 -- A run whose text is written round by round.
-use Rattle.std.proofs.Common.{◌≡◌, ◌++◌, ◌∙◌, ℕ, List, [], ◌∷◌, refl, sym, ap, subst, append_assoc, append-nil}
-use Rattle.std.specs.Prelude.{Option, None, Some, flat_map}
+use Rattle.std.proofs.Common.{◌≡◌, ◌++◌, ◌∙◌, ℕ, List, [], ◌∷◌, sym, ap, subst, append_assoc, append-nil}
+use Rattle.std.specs.Prelude.{Option}
 use Rattle.std.specs.Io.KnownBytes.{Appends}
 use Rattle.std.proofs.lemmas.Grind.{flat_map-append}
 use Rattle.tw_msgs.specs.declared.record.Record.{Record}
@@ -23,13 +23,6 @@ gathered names text name_of old (r ∷ records) new h =
       rest.0 ∙ h.1.0,
       rest.1 ∙ (λ i. h.1.1 i ++ trace_text (name_of (h.1.0 i)) records) ∙ append_assoc (text old) line (trace_text (name_of (names old)) records),
     )
-
-pub appends_nothing : (a : Option (List ℕ)) → Appends a a []
-appends_nothing None = tt
-appends_nothing (Some x) = sym (append-nil x)
-
-pub nothing_yet : (a : Option (List ℕ)) (all : List ℕ) → AppendsBeginning a a all
-nothing_yet a all = ([], all, appends_nothing a, refl)
 
 -- the writer and the lines that are gathered have the text of the records that were handed over
 pub moves_more : (name_of : ℕ → List ℕ) (a b c : Option (List ℕ)) (done more : List Record) (kept grown left : List ℕ)

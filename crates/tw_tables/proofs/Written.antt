@@ -1,6 +1,6 @@
 -- A table whose lines are written round by round.
-use Rattle.std.proofs.Common.{◌≡◌, ◌++◌, ◌∙◌, ℕ, List, [], ◌∷◌, refl, sym, ap, subst, append_assoc, append-nil}
-use Rattle.std.specs.Prelude.{Option, None, Some}
+use Rattle.std.proofs.Common.{◌≡◌, ◌++◌, ◌∙◌, ℕ, List, [], ◌∷◌, sym, ap, subst, append_assoc, append-nil}
+use Rattle.std.specs.Prelude.{Option}
 use Rattle.std.specs.Io.KnownBytes.{Appends}
 use Rattle.std.proofs.lemmas.Grind.{flat_map-append}
 use Rattle.tw_msgs.specs.declared.record.Record.{Record}
@@ -32,13 +32,6 @@ gathered names kinds text name_of old (r ∷ records) new h =
     )
 
 -- ---- the writer and what is kept for it: together they have a text
-
-pub appends_nothing : (a : Option (List ℕ)) → Appends a a []
-appends_nothing None = tt
-appends_nothing (Some x) = sym (append-nil x)
-
-pub nothing_yet : (a : Option (List ℕ)) (all : List ℕ) → AppendsBeginning a a all
-nothing_yet a all = ([], all, appends_nothing a, refl)
 
 pub moves_on : (a b c : Option (List ℕ)) (text added kept grown left : List ℕ) → MovesBytes a b text kept → grown ≡ kept ++ added → MovesBytes b c grown left → MovesBytes a c (text ++ added) left
 moves_on a b c text added kept grown left p is q = (

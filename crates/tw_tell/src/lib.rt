@@ -3,6 +3,7 @@
 //! - [`Listener`]: who hears it, after each round. [`Nobody`] does not listen.
 //! - [`Reached`]: how far a run is: the stamp of its latest record, and how many records there are.
 //! - [`advance_telling`]: a round, as [`tw_seq::advance`] makes it, of which the listener hears then; the receivers count ([`Counting`]).
+//! - [`try_out`]: the first rounds of a run, for as long as a [`Judge`] wants more of them; nothing of them is kept.
 //! - [`outcome_telling`]: the fault that ends a run, as [`tw_seq::outcome`] gives it, told while its rounds are made.
 #![tactic(auto)]
 
@@ -10,8 +11,10 @@ mod advancing;
 mod listener;
 mod outcome;
 mod reached;
+mod trial;
 
 pub use advancing::{Counting, advance_telling};
 pub use listener::{Listener, Nobody};
 pub use outcome::outcome_telling;
 pub use reached::Reached;
+pub use trial::{Judge, try_out};

@@ -1,10 +1,19 @@
 -- A writer and the lines that are gathered for it: together they have the lines of the items so far.
-use Rattle.std.proofs.Common.{◌≡◌, ◌∙◌, ◌++◌, ◌+◌, ◌<◌, ◌∷◌, [], ℕ, List, sym, ap, append_assoc, take, drop, get_or, length, append-nil}
+use Rattle.std.proofs.Common.{◌≡◌, ◌∙◌, ◌++◌, ◌+◌, ◌<◌, ◌∷◌, [], ℕ, List, refl, sym, ap, append_assoc, take, drop, get_or, length, append-nil}
 use Rattle.std.specs.Prelude.{Option, Some, None, flat_map}
 use Rattle.std.specs.Io.KnownBytes.{Appends}
 use Rattle.std.proofs.lemmas.List.{take_more, take-append-drop}
 use Rattle.std.proofs.lemmas.Grind.{flat_map-append}
 use Rattle.tw_texts.specs.Traces.{AppendsBeginning, MovesBytes}
+
+-- nothing is written
+pub appends_nothing : (a : Option (List ℕ)) → Appends a a []
+appends_nothing None = tt
+appends_nothing (Some x) = sym (append-nil x)
+
+-- it is a beginning of any text
+pub nothing_yet : (a : Option (List ℕ)) (all : List ℕ) → AppendsBeginning a a all
+nothing_yet a all = ([], all, appends_nothing a, refl)
 
 pub appends_both : (a b c : Option (List ℕ)) (bs cs : List ℕ) → Appends a b bs → Appends b c cs → Appends a c (bs ++ cs)
 appends_both None b c bs cs p q = tt

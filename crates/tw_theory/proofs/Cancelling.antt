@@ -6,6 +6,7 @@ use Rattle.tw_theory.specs.Contents.{Process, Aggressive, next, with_step, sent_
 use Rattle.tw_theory.specs.Executive.{least_next}
 use Rattle.tw_theory.specs.Laws.{AggressiveLaw}
 use Rattle.tw_theory.specs.LocalRun.{Made}
+use Rattle.tw_theory.proofs.Leasts.{least_next_top}
 
 module _ {S : Type 0} where
   step_is : (p : Process S) (made : Made S) → p.cancel ≡ Aggressive
@@ -26,12 +27,8 @@ module _ {S : Type 0} where
       let owed = ap (λ c. owed_undone c p.owed unsent) k in
       λ i. record p { now = before_all (drop n p.history) p.now; pending = consumed_by (drop n p.history) ++ p.pending; history = take n p.history; outgoing = out i; owed = owed i }
 
-  least_below : (ps : List (Process S)) → least_next ps ≤ never
-  least_below [] = omega arith
-  least_below (p ∷ ps) = omega (arith, least_below ps)
-
   least_is : (p : Process S) (ps : List (Process S)) → p.owed ≡ [] → least_next (p ∷ ps) ≡ min (min (next p) (least_stamp p.outgoing)) (least_next ps)
-  least_is p ps none = ap (λ l. min (min (min (next p) (least_stamp p.outgoing)) (least_owed l)) (least_next ps)) none ∙ dropped (next p) (least_stamp p.outgoing) (least_next ps) (least_below ps)
+  least_is p ps none = ap (λ l. min (min (min (next p) (least_stamp p.outgoing)) (least_owed l)) (least_next ps)) none ∙ dropped (next p) (least_stamp p.outgoing) (least_next ps) (least_next_top ps)
     where
       dropped : (a b c : ℕ) → c ≤ never → min (min (min a b) never) c ≡ min (min a b) c
       dropped a b c l = omega arith

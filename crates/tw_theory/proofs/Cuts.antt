@@ -2,7 +2,7 @@
 use Rattle.std.proofs.Common.{◌≡◌, ℕ, zero, suc, ◌<◌, ◌≤◌, min, List, [], ◌∷◌, ◌++◌, length, take, drop, Bool, true, false, cond, refl, sym, ap, ◌∙◌, arith, append_assoc, append-nil}
 use Rattle.std.specs.Prelude.{nat_lt}
 use Rattle.std.proofs.lemmas.Bool.{lt-ltb, le-ltb, ltb-true, ltb-false, cond-true, cond-false}
-use Rattle.std.proofs.lemmas.List.{take-take}
+use Rattle.std.proofs.lemmas.List.{take-take, take_all, drop_all}
 use Rattle.tw_msgs.specs.declared.message.Item.{Item}
 use Rattle.tw_msgs.specs.declared.message.Message.{Message}
 use Rattle.tw_theory.specs.Contents.{Process, Cancel, Aggressive, Lazy, before_all, consumed_by, unsent_by, outgoing_undone, owed_undone, back_to_first, steps_before, cut, inputs}
@@ -13,11 +13,12 @@ use Rattle.tw_theory.specs.Transitions.{Moment}
 use Rattle.tw_theory.proofs.Owing.{undone-append, unsent-append}
 use Rattle.tw_theory.proofs.TakingBack.{consumed_by-append}
 
-nothing_outgoing : (k : Cancel) (out : List Item) → outgoing_undone k out [] ≡ out
+-- nothing unsent adds nothing
+pub nothing_outgoing : (k : Cancel) (out : List Item) → outgoing_undone k out [] ≡ out
 nothing_outgoing Aggressive out = append-nil out
 nothing_outgoing Lazy out = refl
 
-nothing_owed : (k : Cancel) (owed : List Message) → owed_undone k owed [] ≡ owed
+pub nothing_owed : (k : Cancel) (owed : List Message) → owed_undone k owed [] ≡ owed
 nothing_owed Aggressive owed = refl
 nothing_owed Lazy owed = append-nil owed
 
@@ -51,7 +52,8 @@ module _ {S : Type 0} where
 
   -- ---- which steps are kept
 
-  steps_before-all : (s : ℕ) (steps : List (Step S)) → AllBefore s steps → steps_before s steps ≡ length steps
+  -- where all stand before s
+  pub steps_before-all : (s : ℕ) (steps : List (Step S)) → AllBefore s steps → steps_before s steps ≡ length steps
   steps_before-all s [] h = refl
   steps_before-all s (x ∷ steps) h = cond-true (nat_lt x.entry.stamp s) _ _ (lt-ltb x.entry.stamp s h.0) ∙ ap suc (steps_before-all s steps h.1)
 
@@ -87,19 +89,12 @@ module _ {S : Type 0} where
 
   -- ---- cuts
 
-  take_whole : (steps : List (Step S)) → take (length steps) steps ≡ steps
-  take_whole [] = refl
-  take_whole (x ∷ steps) = ap (λ xs. x ∷ xs) (take_whole steps)
-
-  drop_whole : (steps : List (Step S)) → drop (length steps) steps ≡ []
-  drop_whole [] = refl
-  drop_whole (x ∷ steps) = drop_whole steps
-
-  nothing_back : (p : Process S) → back_to_first (length p.history) p ≡ p
+  -- nothing is taken back
+  pub nothing_back : (p : Process S) → back_to_first (length p.history) p ≡ p
   unfolding back_to_first
   nothing_back p =
-      let rest = drop_whole p.history in
-      let history = take_whole p.history in
+      let rest = drop_all (length p.history) p.history (omega arith) in
+      let history = take_all (length p.history) p.history (omega arith) in
       let outgoing = ap (λ l. outgoing_undone p.cancel p.outgoing (unsent_by l)) rest ∙ nothing_outgoing p.cancel p.outgoing in
       let owed = ap (λ l. owed_undone p.cancel p.owed (unsent_by l)) rest ∙ nothing_owed p.cancel p.owed in
       λ i. record { now = before_all (rest i) p.now; pending = consumed_by (rest i) ++ p.pending; history = history i; waiting = p.waiting; outgoing = outgoing i; owed = owed i; line = p.line; cancel = p.cancel }

@@ -4,14 +4,9 @@ use Rattle.std.proofs.lemmas.Bool.{and_parts, or_cases, or_parts, eqb-true, ltb-
 use Rattle.std.specs.List.{AllByRecursion as Each}
 use Rattle.tw_msgs.specs.Messages.{same_message, at_or_before, place, without, sorted_messages, IsBeforeFirst, Sorted}
 use Rattle.tw_msgs.specs.declared.message.Message.{Message}
+use Rattle.tw_msgs.proofs.Messages.{stamps_fall, stamps_rise}
 use Rattle.tw_vtime.specs.Stamps.{never}
 use Rattle.tw_theory.specs.Bundles.{first_stamp, Ascending}
-
-stamps_rise : (m n : Message) → at_or_before m n ≡ true → m.stamp ≤ n.stamp
-stamps_rise m n e = ⊎_elim (λ l. let k = ltb-true m.stamp n.stamp l in omega arith) (λ h. let k = eqb-true m.stamp n.stamp (and_parts _ _ h).0 in omega arith) (or_cases _ _ e)
-
-stamps_fall : (m n : Message) → at_or_before m n ≡ false → n.stamp ≤ m.stamp
-stamps_fall m n e = ltb-false m.stamp n.stamp (or_parts _ _ e).0
 
 pub first_of_place : (s : ℕ) (m : Message) (ms : List Message) → s ≤ m.stamp → s ≤ first_stamp ms → s ≤ first_stamp (place m ms)
 first_of_place s m [] a b = a

@@ -1,7 +1,7 @@
 -- Messages that are owed: what is sent anew, what is still owed, what is overdue; what a cut cancels at once and what it leaves owed.
-use Rattle.std.proofs.Common.{◌≡◌, ℕ, suc, ◌+◌, ◌-◌, ◌≤◌, List, [], ◌∷◌, ◌++◌, length, length-append, Bool, true, false, cond, refl, sym, ap, ◌∙◌, arith, append-nil, append_assoc}
-use Rattle.std.specs.Prelude.{nat_lt}
+use Rattle.std.proofs.Common.{◌≡◌, ℕ, suc, ◌+◌, ◌≤◌, List, [], ◌∷◌, ◌++◌, length, length-append, Bool, true, false, cond, refl, sym, ap, ◌∙◌, arith, append-nil, append_assoc}
 use Rattle.std.specs.List.{AllByRecursion as Each}
+use Rattle.std.proofs.lemmas.Bool.{cond_both}
 use Rattle.std.proofs.lemmas.List.{length-map, map-append}
 use Rattle.tw_msgs.specs.Counting.{when_positive, when_anti, total}
 use Rattle.tw_msgs.specs.Messages.{has, without}
@@ -9,7 +9,7 @@ use Rattle.tw_msgs.specs.declared.message.Item.{Item}
 use Rattle.tw_msgs.specs.declared.message.Message.{Message}
 use Rattle.tw_msgs.proofs.MessageLists.{total-without}
 use Rattle.tw_msgs.proofs.Totals.{total-append}
-use Rattle.tw_vtime.specs.Stamps.{never}
+use Rattle.tw_vtime.specs.Stamps.{never, is_overdue}
 use Rattle.tw_theory.specs.Bundles.{anti, antis, sent_anew, still_owed, overdue, not_overdue, least_owed}
 use Rattle.tw_theory.specs.Contents.{Cancel, Aggressive, Lazy, sent_out, owed_after, outgoing_undone, owed_undone, sent_by, unsent_by}
 use Rattle.tw_theory.specs.LocalRun.{Step}
@@ -53,13 +53,10 @@ still-append owed (m ∷ xs) ys = go (has m owed) (still-append (without m owed)
     go false h k = k
 
 module _ (P : Message → Type 0) where
-  anew_each : (b : Bool) (m : Message) (xs ys : List Message) → P m → Each P xs → Each P ys → Each P (cond b xs (m ∷ ys))
-  anew_each true m xs ys p h k = h
-  anew_each false m xs ys p h k = (p, k)
-
   pub each-anew : (owed ms : List Message) → Each P ms → Each P (sent_anew owed ms)
   each-anew owed [] h = tt
-  each-anew owed (m ∷ ms) h = anew_each (has m owed) m _ _ h.0 (each-anew (without m owed) ms h.1) (each-anew owed ms h.1)
+  each-anew owed (m ∷ ms) h =
+      cond_both (has m owed) (sent_anew (without m owed) ms) (m ∷ sent_anew owed ms) (Each P) (λ e. each-anew (without m owed) ms h.1) (λ e. (h.0, each-anew owed ms h.1))
 
   still_each : (b : Bool) (xs ys : List Message) → Each P xs → Each P ys → Each P (cond b xs ys)
   still_each true xs ys h k = h
@@ -71,7 +68,7 @@ module _ (P : Message → Type 0) where
 
   pub each-overdue : (s : ℕ) (owed : List Message) → Each P owed → Each P (overdue s owed) × Each P (not_overdue s owed)
   each-overdue s [] h = (tt, tt)
-  each-overdue s (m ∷ ms) h = go (nat_lt (m.stamp - 1) s) (each-overdue s ms h.1)
+  each-overdue s (m ∷ ms) h = go (is_overdue m.stamp s) (each-overdue s ms h.1)
     where
       go : (b : Bool) → Each P (overdue s ms) × Each P (not_overdue s ms)
           → Each P (cond b (m ∷ overdue s ms) (overdue s ms)) × Each P (cond b (not_overdue s ms) (m ∷ not_overdue s ms))
@@ -83,7 +80,7 @@ module _ (P : Message → Type 0) where
 pub total-overdue : (weight : Message → ℕ) (s : ℕ) (owed : List Message)
     → total weight (overdue s owed) + total weight (not_overdue s owed) ≡ total weight owed
 total-overdue weight s [] = refl
-total-overdue weight s (m ∷ ms) = go (nat_lt (m.stamp - 1) s) (total-overdue weight s ms)
+total-overdue weight s (m ∷ ms) = go (is_overdue m.stamp s) (total-overdue weight s ms)
   where
     go : (b : Bool) → total weight (overdue s ms) + total weight (not_overdue s ms) ≡ total weight ms
         → total weight (cond b (m ∷ overdue s ms) (overdue s ms)) + total weight (cond b (not_overdue s ms) (m ∷ not_overdue s ms)) ≡ weight m + total weight ms
@@ -92,7 +89,7 @@ total-overdue weight s (m ∷ ms) = go (nat_lt (m.stamp - 1) s) (total-overdue w
 
 pub length-overdue : (s : ℕ) (owed : List Message) → length (overdue s owed) + length (not_overdue s owed) ≡ length owed
 length-overdue s [] = refl
-length-overdue s (m ∷ ms) = go (nat_lt (m.stamp - 1) s) (length-overdue s ms)
+length-overdue s (m ∷ ms) = go (is_overdue m.stamp s) (length-overdue s ms)
   where
     go : (b : Bool) → length (overdue s ms) + length (not_overdue s ms) ≡ length ms
         → length (cond b (m ∷ overdue s ms) (overdue s ms)) + length (cond b (not_overdue s ms) (m ∷ not_overdue s ms)) ≡ suc (length ms)

@@ -16,7 +16,7 @@ use Rattle.tw_theory.specs.Bundles.{front, behind, items_of, messages_for, first
 use Rattle.tw_theory.specs.LocalRun.{next_of}
 use Rattle.tw_theory.specs.Standing.{IsTied, IsStanding, CanTake, IsReady}
 use Rattle.tw_theory.specs.Transitions.{Moment, due_of, turn}
-use Rattle.tw_theory.proofs.Elements.{each_parts}
+use Rattle.tw_theory.proofs.Elements.{each_parts, each_weaker}
 use Rattle.tw_theory.proofs.MessageOrder.{ascending_of_sorted, sorted_right}
 use Rattle.tw_theory.proofs.Steps.{front-behind, front_at, behind_strict}
 
@@ -52,6 +52,10 @@ pub sorted_left : (xs ys : List Message) → Sorted (xs ++ ys) → Sorted xs
 sorted_left [] ys h = tt
 sorted_left (x ∷ []) ys h = (tt, tt)
 sorted_left (x ∷ y ∷ xs) ys h = (h.0, sorted_left (y ∷ xs) ys h.1)
+
+-- what a component can take comes before the end
+pub before_never : (c : ℕ) (ms : List Message) → Each (CanTake c) ms → Each (λ m. m.stamp < never) ms
+before_never c ms h = each_weaker (CanTake c) (λ m. m.stamp < never) (λ m k. k.before_end) ms h
 
 fits_items : (c : ℕ) (ms : List Message) → Each (CanTake c) ms → FitsBag (items_of ms)
 fits_items c [] h = tt
@@ -226,9 +230,5 @@ module _ {S : Type 0} (IsValid : S → Type 0) (m : Meaning S) (c : ℕ) (now : 
         stands = after_transition IsValid m state s limit due valid top odd small adv;
         sorted = sorted_right (front s messages) (behind s messages) (subst Sorted (sym parts) ready.sorted);
         takes = (each_parts (CanTake c) (front s messages) (behind s messages) (subst (Each (CanTake c)) (sym parts) ready.takes)).1;
-        from = (let later = behind_strict s messages top (ascending_of_sorted messages (before_never messages ready.takes) ready.sorted) (omega (arith, is)) in omega (arith, later));
+        from = (let later = behind_strict s messages top (ascending_of_sorted messages (before_never c messages ready.takes) ready.sorted) (omega (arith, is)) in omega (arith, later));
       }
-    where
-      before_never : (ms : List Message) → Each (CanTake c) ms → Each (λ x. x.stamp < never) ms
-      before_never [] h = tt
-      before_never (x ∷ xs) h = (h.0.before_end, before_never xs h.1)

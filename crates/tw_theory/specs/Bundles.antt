@@ -3,13 +3,13 @@
 --     front s ms, behind s ms      the messages of stamp s at the front, and those behind them
 --     addressed c ms      the messages to component c
 --     sent_anew owed ms, still_owed owed ms      of messages to be sent those that none owed matches, and what is owed then
-use Rattle.std.specs.Prelude.{ℕ, ◌-◌, ◌≤◌, min, List, [], ◌∷◌, map, ◌==◌, nat_lt, if◌then◌else◌}
+use Rattle.std.specs.Prelude.{ℕ, ◌≤◌, min, List, [], ◌∷◌, map, ◌==◌, if◌then◌else◌}
 use Rattle.tw_msgs.specs.Bags.{Bag}
 use Rattle.tw_msgs.specs.Messages.{has, without}
 use Rattle.tw_msgs.specs.declared.message.Item.{Item}
 use Rattle.tw_msgs.specs.declared.message.Message.{Message}
 use Rattle.tw_msgs.specs.declared.message.Sign.TheVariants.{Positive, Anti}
-use Rattle.tw_vtime.specs.Stamps.{never}
+use Rattle.tw_vtime.specs.Stamps.{never, is_overdue}
 
 -- ---- messages in order
 
@@ -80,11 +80,11 @@ still_owed owed (m ∷ ms) = if has m owed then still_owed (without m owed) ms e
 -- those that an output before s sent, and the others: a message for the transition of a time is sent by the output of that time
 abbrev pub overdue : ℕ → List Message → List Message
 overdue s [] = []
-overdue s (m ∷ ms) = if nat_lt (m.stamp - 1) s then m ∷ overdue s ms else overdue s ms
+overdue s (m ∷ ms) = if is_overdue m.stamp s then m ∷ overdue s ms else overdue s ms
 
 abbrev pub not_overdue : ℕ → List Message → List Message
 not_overdue s [] = []
-not_overdue s (m ∷ ms) = if nat_lt (m.stamp - 1) s then not_overdue s ms else m ∷ not_overdue s ms
+not_overdue s (m ∷ ms) = if is_overdue m.stamp s then not_overdue s ms else m ∷ not_overdue s ms
 
 abbrev pub least_owed : List Message → ℕ
 least_owed [] = never

@@ -17,8 +17,7 @@ use Rattle.tw_figures.specs.Gathered.{IsGathered}
 use Rattle.tw_figures.specs.declared.course.Course.{Course}
 use Rattle.tw_figures.specs.declared.gatherer.Gatherer.{Gatherer}
 use Rattle.tw_figures.specs.declared.member.Member.{Member}
-use Rattle.tw_figures.proofs.Courses.{each_weaker}
-use Rattle.tw_figures.proofs.Members.{each_filter}
+use Rattle.tw_theory.proofs.Elements.{each-filter, each_weaker}
 use Rattle.tw_views.specs.Gathering.{BeforeEnd, run_ticks, start_words}
 
 -- a fault stands before the end of time, and behind all records
@@ -57,5 +56,5 @@ module _ {S : Type 0} (net : Network S) (until : ℕ) (ok : IsNetwork net) (boun
       let size = h.size in
       let start = slice_get-get_or (start_words net) k [] (omega (arith, size, l)) in
       let member = h.members k (get_or (start_words net) k []) (get_or gathered.members.items k d) start (slice_get-get_or gathered.members.items k d l) in
-      let own = each_filter (λ r. tick_of r.stamp ≤ ticks) (λ r. r.component == k) (sequential net until).records (within_ticks (sequential net until).fault refl) in
-      (member.courses j e m).since ticks (each_filter (λ r. tick_of r.stamp ≤ ticks) is_transition (of_component k (sequential net until).records) own)
+      let own = each-filter (λ r. tick_of r.stamp ≤ ticks) (λ r. r.component == k) (sequential net until).records (within_ticks (sequential net until).fault refl) in
+      (member.courses j e m).since ticks (each-filter (λ r. tick_of r.stamp ≤ ticks) is_transition (of_component k (sequential net until).records) own)

@@ -2,7 +2,8 @@
 --     stamp t m p      of tick t, microstep m and phase p: 0 for the output of that time, 1 for the transition
 --     never      after every other stamp
 --     tick_of s, micro_of s, phase_of s      the parts of a stamp
-use Rattle.std.specs.Prelude.{◌≡◌, ◌==◌, ◌+◌, ◌*◌, ◌/◌, ◌%◌, ◌<◌, ◌≤◌, ◌⊎◌, ◌++◌, ℕ, List, if◌then◌else◌, codes}
+--     is_overdue s next      whether what is sent for the transition at s was sent before `next`
+use Rattle.std.specs.Prelude.{◌≡◌, ◌==◌, ◌+◌, ◌-◌, ◌*◌, ◌/◌, ◌%◌, ◌<◌, ◌≤◌, ◌⊎◌, ◌++◌, ℕ, List, Bool, nat_lt, if◌then◌else◌, codes}
 use Rattle.std.specs.Fmt.{decimal}
 
 -- the greatest tick, 2^40 - 2
@@ -33,6 +34,10 @@ phase_of s = s % 2
 -- the numbers that are stamps: those of a tick in range, and the end
 abbrev pub IsStamp : ℕ → Type 0
 IsStamp s = (tick_of s ≤ max_tick) ⊎ (s ≡ never)
+
+-- whether the output of a transition's time stands before a stamp: it is the number before the transition's
+abbrev pub is_overdue : ℕ → ℕ → Bool
+is_overdue s next = nat_lt (s - 1) next
 
 -- the text of a stamp
 abbrev pub stamp_text : ℕ → List ℕ

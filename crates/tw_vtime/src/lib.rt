@@ -7,7 +7,8 @@
 //! next own step of a component after a transition, or the [`Limit`] that it would pass.
 //!
 //! The crate also begins the table of refusals of the whole workspace: every refusal of every crate
-//! turns into a [`Refusal`], which tells its number and its name.
+//! turns into a [`Refusal`], which tells its number and its name. [`OutOfMemory`] is another name of std's error of a refused request for
+//! memory (4), which every crate that asks for some hands on.
 //!
 //! No call takes memory.
 #![tactic(auto)]
@@ -19,3 +20,4 @@ pub mod stamps;
 pub use limits::{Limit, advance};
 pub use refusal::Refusal;
 pub use stamps::{MAX_MICROSTEP, MAX_TICK, Range, Stamp, order_law};
+pub use std::alloc::AllocError as OutOfMemory;

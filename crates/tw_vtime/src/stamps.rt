@@ -23,6 +23,7 @@ ghost use Rattle.tw_vtime.specs.Stamps.{
   micro_of,
   phase_of,
   IsStamp,
+  is_overdue,
   stamp_text,
   Parts,
   IsInRange,
@@ -193,6 +194,21 @@ impl Stamp {
         ensures in_range { result ≤ 1 }
     {
         (self.number & 1) as u8
+    }
+
+    /// Whether this is the output of its time: phase 0. The end is none.
+    pub fn is_output(self) -> bool
+        ensures { IsTrue result ↔ (phase_of self ≡ 0) }
+    {
+        self.number % 2 == 0
+    }
+
+    /// Whether a message of this stamp is overdue where its sender's next step is at `next`: the output of this time, which
+    /// would send it, stands before that.
+    pub fn is_overdue(self, next: Stamp) -> bool
+        ensures { result ≡ is_overdue self next }
+    {
+        self.number.saturating_sub(1) < next.number
     }
 
     /// The output of the same time, for a stamp that is not the end.

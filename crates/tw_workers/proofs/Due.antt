@@ -1,6 +1,5 @@
 -- An order that was given out is due: of a component of the network, of steps before the end tick.
-use Rattle.std.proofs.Common.{◌≡◌, ℕ, ◌<◌, ◌≤◌, ◌-◌, ◌==◌, min, length, Some, ap, arith}
-use Rattle.std.proofs.lemmas.Bool.{cond_both}
+use Rattle.std.proofs.Common.{◌≡◌, ℕ, ◌<◌, ◌≤◌, length, Some, ap, arith}
 use Rattle.std.specs.Prelude.{slice_get}
 use Rattle.tw_atomic.specs.Atomic.{Meaning}
 use Rattle.tw_theory.specs.Chains.{Start}
@@ -8,11 +7,11 @@ use Rattle.tw_theory.specs.Contents.{next}
 use Rattle.tw_theory.specs.Standing.{IsReady}
 use Rattle.tw_vtime.specs.Stamps.{max_microstep}
 use Rattle.tw_workers.specs.Ends.{IsDue}
-use Rattle.tw_workers.specs.Exchanged.{Exchanged, IsNearOrder, bound_at, near_bound, window_end}
+use Rattle.tw_workers.specs.Exchanged.{Exchanged, IsNearOrder, bound_at, near_bound}
 
 -- it never ends later than the window
 near_le : (reach bound next : ℕ) → near_bound reach bound next ≤ bound
-near_le reach bound next = cond_both (reach == 0) bound (min bound (window_end next (reach - 1))) (λ x. x ≤ bound) (λ none. omega arith) (λ some. omega arith)
+near_le reach bound next = omega arith
 
 pub drawn_due : {M S : Type 0} (valid : M → S → Type 0) (meaning : M → Meaning S) (window burst reach : ℕ) (x : Exchanged M S) (order : Start S) → IsNearOrder window burst reach x order
     → order.component < length x.executive.network.models

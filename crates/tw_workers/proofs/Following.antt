@@ -142,11 +142,6 @@ busy_put stamps b t = map-set is_out stamps b (Some t)
 pub busy_out : (stamps : List (Option ℕ)) (b : ℕ) → busy_in (slice_set stamps b None) ≡ slice_set (busy_in stamps) b true
 busy_out stamps b = map-set is_out stamps b None
 
-pub busy_past : {X : Type 0} (xs : List X) (b : ℕ) (x : X) → length xs ≤ b → slice_set xs b x ≡ xs
-busy_past [] b x past = refl
-busy_past (y ∷ xs) zero x past = absurd (omega (arith, past))
-busy_past (y ∷ xs) (suc b) x past = ap (λ l. y ∷ l) (busy_past xs b x (omega (arith, past)))
-
 -- what is free already is free again
 pub busy_again : (stamps : List (Option ℕ)) (b : ℕ) → b < length stamps → (slice_get stamps b ≡ Some None → ⊥) → slice_set (busy_in stamps) b false ≡ busy_in stamps
 busy_again [] b near free = refl

@@ -3,6 +3,7 @@ pub mod Indexing
 -- lists that agree but at one place
 pub mod SameBut
 -- what is marked follows the executive
+pub mod Looking
 pub mod Marking
 -- posts that do nothing, and deliveries of nothing
 pub mod Skipping

@@ -5,23 +5,18 @@ use Rattle.std.specs.Prelude.{◌&&◌, slice_get, slice_set}
 use Rattle.std.proofs.lemmas.Bool.{and_parts, cases_eq, cases_lt, true≢false}
 use Rattle.std.proofs.lemmas.List.{length-map, length-set, map-set}
 use Rattle.std.proofs.lemmas.Option.{none-some, same_Some, slice_get-get_or, slice_get-map, slice_get_within}
-use Rattle.tw_atomic.specs.Atomic.{Meaning}
-use Rattle.tw_exec.specs.Running.{IsSoundly, Running}
-use Rattle.tw_laws.proofs.Harvesting.{replay_sound}
 use Rattle.tw_laws.proofs.Inverse.{set_there}
 use Rattle.tw_msgs.specs.declared.message.Item.{Item}
-use Rattle.tw_network.specs.Contents.{network_of}
 use Rattle.tw_theory.specs.Contents.{Process}
 use Rattle.tw_theory.specs.Exchange.{all_empty, all_idle, is_empty, is_swept}
-use Rattle.tw_theory.specs.Executive.{Action, World, mail_of, posted}
+use Rattle.tw_theory.specs.Executive.{World, mail_of, posted}
 use Rattle.tw_vtime.specs.Stamps.{never}
 use Rattle.tw_workers.specs.Agenda.{AllLate, IsLeast, mark}
-use Rattle.tw_workers.specs.Queues.{AreMarked, AreMarkedBut, AreMarkedUpTo, IsAsLong, IsKept, IsKeptBut, IsSameBut, box_mark, marked, post_mark}
-use Rattle.tw_workers.specs.Sweeping.{is_idle, replayed}
+use Rattle.tw_workers.specs.Queues.{AreMarked, AreMarkedBut, AreMarkedUpTo, IsKept, IsKeptBut, IsSameBut, box_mark, marked, post_mark}
+use Rattle.tw_workers.specs.Sweeping.{is_idle}
 use Rattle.tw_workers.specs.declared.queues.Queues.{Queues}
 use Rattle.tw_workers.proofs.Following.{exact_but}
 use Rattle.tw_workers.proofs.Idle.{empty_all, idle_all}
-use Rattle.tw_workers.proofs.PassByPass.{mail_count, process_count}
 use Rattle.tw_workers.proofs.SameBut.{map_same_but, nothing_else, set_same}
 
 -- ## Marks that fall behind at one component
@@ -213,21 +208,3 @@ module _ {S : Type 0} where
       go : (b : Bool) → is_swept w ≡ b → b ≡ false
       go true e = let both = swept_clear queues w h e in absurd (true≢false (sym (some both.0 both.1) ∙ is))
       go false e = refl
-
--- ## How many there are
-
-sound_after : {M S : Type 0} (meaning : M → Meaning S) (done : List Action) (e e' : Running M S) → IsSoundly meaning e → e' ≡ replayed meaning done e → IsSoundly meaning e'
-sound_after meaning done e e' s is = subst (IsSoundly meaning) (sym is) (record { network = s.network; bound = s.bound; sound = replay_sound (network_of meaning e.network) e.until e.world done s.network s.bound s.sound })
-
--- as many as before, whatever the executive has done
-pub as_long : {M S : Type 0} (meaning : M → Meaning S) (done : List Action) (e e' : Running M S) (queues new : Queues) → IsSoundly meaning e → e' ≡ replayed meaning done e → IsKept queues e.world → IsKept new e'.world → IsAsLong queues new
-as_long meaning done e e' queues new s is kept kept' =
-    let s' = sound_after meaning done e e' s is in
-    let models : length e'.network.models ≡ length e.network.models = ap (λ x. length x.network.models) is in
-    let processes : length e'.world.processes ≡ length e.world.processes = process_count meaning e' s' ∙ models ∙ sym (process_count meaning e s) in
-    let mail : length e'.world.mail ≡ length e.world.mail = mail_count meaning e' s' ∙ models ∙ sym (mail_count meaning e s) in
-    record {
-      free = kept'.free.count ∙ processes ∙ sym kept.free.count;
-      posting = (marks_count new e'.world kept'.marks).0 ∙ processes ∙ sym (marks_count queues e.world kept.marks).0;
-      delivering = (marks_count new e'.world kept'.marks).1 ∙ mail ∙ sym (marks_count queues e.world kept.marks).1;
-    }

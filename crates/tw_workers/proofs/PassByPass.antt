@@ -3,7 +3,7 @@ use Rattle.std.proofs.Common.{◌≡◌, ℕ, ◌<◌, ◌≤◌, ◌++◌, ◌�
 use Rattle.std.proofs.lemmas.List.{length-map}
 use Rattle.tw_atomic.specs.Atomic.{Meaning}
 use Rattle.tw_exec.specs.Running.{IsSoundly, Running, after}
-use Rattle.tw_laws.proofs.Passes.{present}
+use Rattle.tw_theory.proofs.Elements.{present}
 use Rattle.tw_laws.proofs.Sweeping.{work_falls}
 use Rattle.tw_laws.proofs.Swept.{sweep_law, sweep_steps}
 use Rattle.tw_network.specs.Contents.{network_of}

@@ -40,8 +40,3 @@ then_same b xs ys zs first second = record {
   count = second.count ∙ first.count;
   others = λ d apart. second.others d apart ∙ first.others d apart;
 }
-
-pub set_twice : {X : Type 0} (xs : List X) (c : ℕ) (x y : X) → slice_set (slice_set xs c x) c y ≡ slice_set xs c y
-set_twice [] c x y = refl
-set_twice (z ∷ xs) zero x y = refl
-set_twice (z ∷ xs) (suc c) x y = ap (λ l. z ∷ l) (set_twice xs c x y)

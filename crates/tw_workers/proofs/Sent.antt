@@ -17,7 +17,10 @@ use Rattle.tw_workers.specs.contracts.desk.Desk.TheInside as desk_inside
 use Rattle.tw_workers.specs.contracts.queues.Queues as queues
 use Rattle.tw_workers.specs.contracts.running.Shared as shared
 use Rattle.tw_workers.specs.declared.desk.Given as given
-use Rattle.tw_workers.proofs.outcome.Outcome.TheSendSync as outcome_sent
+use Rattle.tw_actions.proofs.run_state.RunState.TheSendSync as state_sent
+use Rattle.tw_workers.proofs.crew.Crew.TheSendSync as crew_sent
+use Rattle.tw_workers.proofs.effort.Effort.TheSendSync as effort_sent
+use Rattle.tw_workers.proofs.effort.Undone.TheSendSync as undone_sent
 use Rattle.tw_workers.proofs.outcome.Setting.TheSendSync as setting_sent
 use Rattle.tw_workers.proofs.steering.Pace.TheSendSync as pace_sent
 use Rattle.tw_workers.proofs.steering.Window.TheSendSync as window_sent
@@ -32,7 +35,7 @@ agenda_send =
     search sendable
 
 queues_send : IsSend queues.the_row
-queues_send = let agenda = agenda_send in declared_send queues.the_type (agenda, (agenda, (agenda, (search sendable, tt))))
+queues_send = let agenda = agenda_send in declared_send queues.the_type (agenda, (agenda, (agenda, (agenda, (undone_sent.the_send, tt)))))
 
 pub exchange_send : (M S R : RattleType) (g : Ghosts M.Denot S.Denot R.Denot) → IsSend M → IsSync M → IsSend S → IsSend R → IsSend (exchange.the_row M S R g)
 exchange_send M S R g m y s r =
@@ -44,7 +47,7 @@ pub desk_send : (M H S R : RattleType) (g : Ghosts M.Denot S.Denot R.Denot) (giv
     → IsSend (desk.the_row M H S R g given)
 desk_send M H S R g given m y h s r =
     let exchange = exchange_send M S R g m y s r in
-    let outcome = outcome_sent.the_send in
+    let state = state_sent.the_send in
     let pace = pace_sent.the_send in
     let inside : IsSend (desk_inside.the_row M H S R g given) = declared_send (desk_inside.the_type M H S R g given) (
       send,
@@ -52,7 +55,13 @@ desk_send M H S R g given m y h s r =
         exchange,
         (
           setting_sent.the_send,
-          (search (sendable, crosses) depth 20, (window_sent.the_send, (search sendable, (search sendable, (search (sendable, crosses) depth 20, (search (sendable, crosses) depth 20, tt)))))),
+          (
+            search (sendable, crosses) depth 20,
+            (
+              window_sent.the_send,
+              (crew_sent.the_send, (effort_sent.the_send, (search sendable, (search sendable, (search sendable, (search (sendable, crosses) depth 20, (search (sendable, crosses) depth 20, tt))))))),
+            ),
+          ),
         ),
       ),
     ) in
@@ -63,5 +72,7 @@ pub shared_sync : (M H S R : RattleType) (g : Ghosts M.Denot S.Denot R.Denot) (g
 shared_sync M H S R g given m y h s r =
     let desk = desk_send M H S R g given m y h s r in
     let network = Arc-sync (network.the_row M S R g) (network_sent.the_send M S R g m) (network_sent.the_sync M S R g y) in
-    declared_sync (shared.the_type M H S R g given)
-    (search (sendable, crosses) depth 20, (search (sendable, crosses) depth 20, (network, (search sendable, (search (sendable, crosses) depth 20, tt)))))
+    declared_sync (shared.the_type M H S R g given) (
+      search (sendable, crosses) depth 20,
+      (search (sendable, crosses) depth 20, (search (sendable, crosses) depth 20, (network, (search sendable, (search (sendable, crosses) depth 20, tt))))),
+    )

@@ -7,7 +7,7 @@ use Rattle.std.proofs.lemmas.Option.{none-some, same_Some, slice_get-get_or, sli
 use Rattle.tw_atomic.specs.Atomic.{Meaning}
 use Rattle.tw_exec.specs.Running.{Running, after}
 use Rattle.tw_laws.proofs.Inverse.{set_here, set_there}
-use Rattle.tw_laws.proofs.Swept.{set_same}
+use Rattle.tw_theory.proofs.Elements.{empty_is, set_same}
 use Rattle.tw_msgs.specs.declared.message.Item.{Item}
 use Rattle.tw_msgs.specs.declared.message.Message.{Message}
 use Rattle.tw_network.specs.Contents.{network_of}
@@ -25,10 +25,6 @@ use Rattle.tw_workers.proofs.Idle.{less_but}
 use Rattle.tw_workers.proofs.Marking.{done_all, done_before, least_there}
 use Rattle.tw_workers.proofs.SameBut.{nothing_else, one_set, then_same}
 use Rattle.tw_workers.proofs.UnderWay.{begun, finished, joined, next_post, no_post, stepped}
-
-empty_is : {X : Type 0} (xs : List X) → is_empty xs ≡ true → xs ≡ []
-empty_is [] e = refl
-empty_is (x ∷ xs) e = absurd (true≢false (sym e))
 
 -- ## What is owed and not overdue
 

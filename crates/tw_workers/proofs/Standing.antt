@@ -1,12 +1,14 @@
 -- How a run stands, looked at component by component.
 use Rattle.std.proofs.Common.{◌≡◌, ◌≢◌, ◌⊎◌, ℕ, zero, suc, ◌<◌, ◌≤◌, min, Bool, true, false, List, [], ◌∷◌, length, not, cond, Option, None, Some, refl, sym, ap, ◌∙◌, inl, inr, arith}
-use Rattle.std.specs.Prelude.{◌&&◌, ◌==◌, drop, nat_le, nat_lt, slice_get}
-use Rattle.std.proofs.lemmas.Bool.{and_from, and_left, and_right, cases_eq, cases_lt, eq-eqb, le-leb, le-ltb, lt-leb, lt-ltb, ne_eqb}
+use Rattle.std.specs.Prelude.{◌&&◌, ◌==◌, nat_le, nat_lt, slice_get}
+use Rattle.std.proofs.lemmas.Bool.{and_from, and_left, and_right, cases_eq, cases_lt, eq-eqb, le-ltb, lt-leb, lt-ltb, ne_eqb}
+use Rattle.std.proofs.lemmas.List.{drop_all}
 use Rattle.std.proofs.lemmas.Option.{none-some, same_Some}
 use Rattle.tw_atomic.specs.Atomic.{Meaning}
 use Rattle.tw_exec.specs.Running.{Running}
 use Rattle.tw_msgs.specs.declared.message.Message.{Message}
 use Rattle.tw_network.specs.Contents.{network_of}
+use Rattle.tw_theory.proofs.Elements.{drop_here}
 use Rattle.tw_theory.specs.Bundles.{least_owed}
 use Rattle.tw_theory.specs.Contents.{Process, next}
 use Rattle.tw_theory.specs.Exchange.{all_empty}
@@ -17,10 +19,6 @@ use Rattle.tw_vtime.specs.declared.limits.Limit.{Limit}
 use Rattle.tw_workers.specs.States.{fault_from, is_quiet, limit_at, state_of}
 
 -- ## Whether all of them
-
-pub past_all : {S : Type 0} (end : ℕ) (ps : List (Process S)) → ((d : ℕ) (p : Process S) → slice_get ps d ≡ Some p → end ≤ p.line) → all_past end ps ≡ true
-past_all end [] all = refl
-past_all end (p ∷ ps) all = and_from (nat_le end p.line) (all_past end ps) (le-leb end p.line (all 0 p refl)) (past_all end ps (λ d q at. all (suc d) q at))
 
 pub past_not : {S : Type 0} (end : ℕ) (ps : List (Process S)) (d : ℕ) (p : Process S) → slice_get ps d ≡ Some p → p.line < end → all_past end ps ≡ false
 past_not end [] d p at early = absurd (none-some p at)
@@ -61,17 +59,6 @@ none_owed_at g (m ∷ ms) before from = elim (cases_eq m.stamp g) [
 
 -- ## The first fault
 
-drop_here : {X : Type 0} (xs : List X) (c : ℕ) (x : X) → slice_get xs c ≡ Some x → drop c xs ≡ x ∷ drop (suc c) xs
-drop_here [] c x at = absurd (none-some x at)
-drop_here (y ∷ xs) zero x at = ap (λ z. z ∷ xs) (same_Some y x at)
-drop_here (y ∷ xs) (suc c) x at = drop_here xs c x at
-
-drop_past : {X : Type 0} (xs : List X) (c : ℕ) → length xs ≤ c → drop c xs ≡ []
-drop_past [] zero past = refl
-drop_past [] (suc c) past = refl
-drop_past (x ∷ xs) zero past = absurd (omega (arith, past))
-drop_past (x ∷ xs) (suc c) past = drop_past xs c (omega (arith, past))
-
 module _ {M S : Type 0} (meaning : M → Meaning S) (e : Running M S) where
   pub fault_here : (c : ℕ) (p : Process S) (limit : Option Limit) → slice_get e.world.processes c ≡ Some p → limit ≡ limit_at meaning e c p
       → fault_from meaning c e ≡ fault_at c e.world.gvt limit (fault_from meaning (suc c) e)
@@ -80,7 +67,7 @@ module _ {M S : Type 0} (meaning : M → Meaning S) (e : Running M S) where
       ∙ ap (λ l. fault_at c e.world.gvt l (fault_from meaning (suc c) e)) (sym is)
 
   pub no_fault : (c : ℕ) → length e.world.processes ≤ c → fault_from meaning c e ≡ Going
-  no_fault c past = ap (first_fault (network_of meaning e.network) e.world.gvt c) (drop_past e.world.processes c past)
+  no_fault c past = ap (first_fault (network_of meaning e.network) e.world.gvt c) (drop_all c e.world.processes past)
 
   -- the next step of a component is at gvt, or elsewhere
   pub limit_here : (c : ℕ) (p : Process S) → next p ≡ e.world.gvt → limit_at meaning e c p ≡ limit_of (local_step (network_of meaning e.network) c p.now p.pending)

@@ -2,7 +2,7 @@
 use Rattle.std.proofs.Common.{◌≡◌, ℕ, zero, suc, ◌-◌, ◌<◌, ◌≤◌, true, List, [], ◌∷◌, ◌++◌, length, cond, Option, None, Some, refl, sym, ap, subst, ◌∙◌, arith}
 use Rattle.std.specs.Prelude.{IfErr, IfOk, IfSome, OnOk, Result, Ok, Err, nat_le, slice_get, slice_set, ◌==◌}
 use Rattle.std.proofs.lemmas.Bool.{eqb-true, le-ltb, lt-ltb}
-use Rattle.std.proofs.lemmas.List.{append-nil}
+use Rattle.std.proofs.lemmas.List.{append-nil, set-set}
 use Rattle.std.proofs.lemmas.Option.{none-some, same_Some}
 use Rattle.tw_atomic.specs.Atomic.{Meaning}
 use Rattle.tw_exec.specs.Actions.{reason}
@@ -13,6 +13,7 @@ use Rattle.tw_laws.proofs.Inverse.{back_is, set_here}
 use Rattle.tw_laws.proofs.Ordered.{AllOrdered, IsOrdered}
 use Rattle.tw_laws.proofs.Rewinding.{world_ordered}
 use Rattle.tw_network.specs.Contents.{network_of}
+use Rattle.tw_theory.proofs.Elements.{set_same}
 use Rattle.tw_theory.proofs.Steps.{IfOk-cond, local_step_follows}
 use Rattle.tw_theory.proofs.TakingBack.{undo_law}
 use Rattle.tw_theory.specs.Contents.{Aggressive, Cancel, Lazy, Process, back_to_first, cut, next, steps_before, undo_last, with_step}
@@ -29,7 +30,6 @@ use Rattle.tw_theory.specs.Transitions.{Move, Moment}
 use Rattle.tw_msgs.specs.declared.message.Message.{Message}
 use Rattle.tw_vtime.specs.Stamps.{never, phase_of, stamp}
 use Rattle.tw_vtime.specs.declared.limits.Limit.{Limit}
-use Rattle.tw_workers.proofs.SameBut.{set_twice}
 
 -- ## What a transition sends
 
@@ -91,11 +91,6 @@ ordered_at [] c p all at = absurd (none-some p at)
 ordered_at (q ∷ ps) zero p all at = subst IsOrdered (same_Some q p at) all.0
 ordered_at (q ∷ ps) (suc c) p all at = ordered_at ps c p all.1 at
 
-set_back : {X : Type 0} (xs : List X) (c : ℕ) (x : X) → slice_get xs c ≡ Some x → slice_set xs c x ≡ xs
-set_back [] c x at = absurd (none-some x at)
-set_back (y ∷ xs) zero x at = ap (λ z. z ∷ xs) (sym (same_Some y x at))
-set_back (y ∷ xs) (suc c) x at = ap (λ l. y ∷ l) (set_back xs c x at)
-
 no_refusal : (d : Done) (why : theory.Refusal) → ◌≡◌ {A = Answer} (Ok d) (Err why) → ⊥
 no_refusal d why is = cc
 
@@ -141,7 +136,7 @@ module _ {M S : Type 0} (meaning : M → Meaning S) (e : Running M S) (s : IsSou
           let n = Rattle.tw_theory.specs.Contents.steps_from e.world.gvt q in
           let past = (ordered_at e.world.processes c p (world_ordered (network_of meaning e.network) e.until e.world s.sound) at).past in
           let cut_is : cut e.world.gvt q ≡ p = ap (λ k. cut k q) (sym here) ∙ cut_again (network_of meaning e.network) c p made past (omega (arith, odd, here)) is in
-          let processes = set_twice e.world.processes c q (cut e.world.gvt q) ∙ ap (slice_set e.world.processes c) cut_is ∙ set_back e.world.processes c p at in
+          let processes = set-set e.world.processes c q (cut e.world.gvt q) ∙ ap (slice_set e.world.processes c) cut_is ∙ set_same e.world.processes c p at in
           (n, back_is (network_of meaning e.network) e.until w c e.world.gvt q (set_here e.world.processes c p q at) (omega arith) ∙ ap (λ ps. (Ok (Undone n), record e.world { processes = ps })) processes)
 
   restored_at : (d : Done) → answer meaning (Step c) e ≡ Ok d → (tried new : Running M S) (result : Result Done Why) → tried ≡ after meaning (Step c) e

@@ -2,10 +2,11 @@
 --     IsEnd meaning n until outcome      the sequential simulator ends so, with this trace
 --     trace_of outcome      its records
 --     IsEndOf meaning e outcome      so ends the run of an executive that has committed just these
+--     IsOver meaning e end      the run of an executive stands so, and all before its end is committed
 --     IsOnly given n until      what is given is of this network and this end tick
 --     IsDue valid meaning n until order      an order of a component of this network, of steps before this end tick
 --     IsMadeFor meaning undone n until prepareds      what was worked out from such an order
-use Rattle.std.specs.Prelude.{◌≡◌, ◌<◌, ◌≤◌, ℕ, List, length, Some, slice_get}
+use Rattle.std.specs.Prelude.{◌≡◌, ◌<◌, ◌≤◌, ℕ, List, length, Some, slice_get, true}
 use Rattle.atomic_table.specs.Seated.{TableId}
 use Rattle.tw_atomic.specs.Atomic.{AreAlike, Bag, Meaning}
 use Rattle.tw_atomic.specs.declared.Turn.{Turn}
@@ -15,9 +16,10 @@ use Rattle.tw_msgs.specs.declared.record.Record.{Record}
 use Rattle.tw_network.specs.Contents.{Contents, network_of}
 use Rattle.tw_theory.specs.Chains.{Chain, Start}
 use Rattle.tw_theory.specs.Outcomes as theory
-use Rattle.tw_theory.specs.Outcomes.{IsOutcome}
+use Rattle.tw_theory.specs.Outcomes.{IsOutcome, all_past}
 use Rattle.tw_theory.specs.Standing.{IsReady}
 use Rattle.tw_vtime.specs.Stamps.{max_microstep, stamp}
+use Rattle.tw_workers.specs.States.{state_of}
 use Rattle.tw_workers.specs.declared.outcome.Outcome.{Outcome}
 use Rattle.tw_workers.specs.declared.outcome.Outcome.TheVariants.{Complete, Fault}
 
@@ -34,6 +36,11 @@ pub record IsEndOf {M S : Type 0} (meaning : M → Meaning S) (e : Running M S) 
   pub end : IsEnd meaning e.network e.until outcome
   -- as many records are committed as its trace has
   pub committed : total length e.world.columns ≡ length (trace_of outcome)
+
+abbrev pub IsOver : {M S : Type 0} → (M → Meaning S) → Running M S → theory.RunState → Type 0
+IsOver meaning e theory.Complete = state_of meaning e ≡ theory.Complete
+IsOver meaning e (theory.Fault c s limit) = (state_of meaning e ≡ theory.Fault c s limit) × (all_past s e.world.processes ≡ true)
+IsOver meaning e theory.Going = ⊥
 
 -- ---- what workers know of each other's work
 

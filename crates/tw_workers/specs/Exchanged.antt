@@ -47,8 +47,9 @@ IsNext window x c = IsDrawn x.executive.until x.executive.world.gvt window x.bus
 abbrev pub window_end : ℕ → ℕ → ℕ
 window_end gvt window = if nat_le (tick_of gvt + window + 1) max_tick then stamp (tick_of gvt + window + 1) 0 0 else never
 
+-- the first stamp of the tick so many ticks after that of the next step, of the one after it at least; or the bound, where that is before it
 abbrev pub near_bound : ℕ → ℕ → ℕ → ℕ
-near_bound reach bound next = if reach == 0 then bound else min bound (window_end next (reach - 1))
+near_bound reach bound next = min bound (window_end next (reach - 1))
 
 abbrev pub near_burst : ℕ → ℕ → ℕ
 near_burst reach burst = if reach == 0 then min burst 1 else burst

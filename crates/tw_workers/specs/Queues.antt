@@ -1,14 +1,14 @@
 -- What is kept up beside an executive, so that no component has to be looked for.
 --     IsKept queues w      who is free, by next steps; who has something to post; which mailboxes hold something
 --     AreMarked queues w      the last two
---     IsAsLong old new      of as many components
+--     LooksSame w w'      the queues of the one are those of the other
 --     IsSameBut b xs ys      ys has as many elements as xs, and each but number b is the same
 --     IsElsewhereSame b w w'      so are the processes and the mailboxes of w'
 --     IsKeptBut b queues w, AreMarkedBut b queues w      all is kept but what is of component b
 --     AreMarkedUpTo n queues w      what is of the components below n is
 use Rattle.std.specs.Prelude.{◌≡◌, ◌≢◌, ◌<◌, ℕ, not, List, [], ◌∷◌, map, length, Option, Some, slice_get, slice_set}
 use Rattle.tw_msgs.specs.declared.message.Item.{Item}
-use Rattle.tw_theory.specs.Contents.{Process}
+use Rattle.tw_theory.specs.Contents.{Process, next}
 use Rattle.tw_theory.specs.Exchange.{is_empty}
 use Rattle.tw_theory.specs.Executive.{World}
 use Rattle.tw_workers.specs.Agenda.{mark}
@@ -36,11 +36,11 @@ abbrev pub marked : List (Option ℕ) → List Item → List (Option ℕ)
 marked marks [] = marks
 marked marks (i ∷ is) = marked (slice_set marks i.message.to (Some 0)) is
 
--- of as many components
-pub record IsAsLong (old new : Queues) : Type 0 where
-  pub free : length new.free ≡ length old.free
-  pub posting : length new.posting ≡ length old.posting
-  pub delivering : length new.delivering ≡ length old.delivering
+-- seen from the queues two worlds are the same: the same next steps, the same components idle, the same mail
+pub record LooksSame {S : Type 0} (w w' : World S) : Type 0 where
+  pub nexts : map next w'.processes ≡ map next w.processes
+  pub idle : map is_idle w'.processes ≡ map is_idle w.processes
+  pub mail : w'.mail ≡ w.mail
 
 -- ---- while something changes
 

@@ -3,22 +3,25 @@
 ghost use Rattle.std.specs.Prelude.{◌≡◌, ℕ, IfErr, IfOk, IfSome};
 ghost use Rattle.atomic_table.specs.Seated.{TableId};
 ghost use Rattle.tw_network.specs.Contents.{Contents};
-ghost use Rattle.tw_workers.specs.Ends.{IsDue, IsEndOf, IsMadeFor};
+ghost use Rattle.tw_workers.specs.Ends.{IsDue, IsOver, IsMadeFor};
 ghost use Rattle.tw_workers.specs.Further.{reached, IsSince};
 
+use crate::crew::{Crew, Seen};
+use crate::effort::Effort;
 use crate::exchange::Exchange;
 use crate::orders::{Order, Prepareds};
-use crate::outcome::{Outcome, Setting, find_outcome};
+use crate::outcome::{Setting, find_end};
 use crate::refused::SweepRefused;
 use crate::steering::{Ending, Pace, Window, tick_of};
 use std::alloc::Global;
 use std::marker::{Brand, Model, PhantomData};
+use tw_actions::RunState;
 use tw_atomic::Atomic;
 use tw_chain::Cause;
 use tw_exec::Executive;
 use tw_process::{Finished, Stop};
 
-// How many chains are handed in, at most, between two sweeps.
+// How many chains are handed in between two sweeps, at least; and as many as there are components, at each of which a sweep looks.
 const CHAINS_BETWEEN_SWEEPS: u64 = 64;
 
 /// What was handed in: a network, an end tick and a board, and how far the executive had come. Each run picks it, so that its workers
@@ -52,17 +55,22 @@ pub(crate) struct Desk<M: Atomic, H: Given<M>> {
     // How far each component may run ahead of its next step, and all of them of global virtual time.
     paces: Vec<Pace>,
     window: Window,
+    // Who works, and what the run has spent.
+    crew: Crew,
+    effort: Effort,
     // How many orders are given out and not yet handed in.
     out: u64,
     // How many chains were handed in since the last sweep.
     handed_in: u64,
-    end: Option<Result<Outcome, SweepRefused>>,
+    // After how many chains it is swept.
+    sweep_after: u64,
+    end: Option<Result<RunState, SweepRefused>>,
     of: PhantomData<H>,
 }
 
 impl<M: Atomic, H: Given<M>> Model for Desk<M, H> {
     ghost use Rattle.std.specs.Prelude.{IfOk, IfSome};
-    ghost use Rattle.tw_workers.specs.Ends.{IsEndOf};
+    ghost use Rattle.tw_workers.specs.Ends.{IsOver};
     ghost use Rattle.tw_workers.specs.Exchanged.{Exchanged};
     ghost use Rattle.tw_workers.specs.Further.{IsSince};
 
@@ -71,7 +79,7 @@ impl<M: Atomic, H: Given<M>> Model for Desk<M, H> {
     ghost view = { λ desk. desk.exchange };
 
     ghost invariant = { λ desk. H.is_given desk.exchange.executive.network desk.exchange.executive.until desk.exchange.publisher.board
-        × IfSome desk.end (λ end. IfOk end (IsEndOf M.meaning desk.exchange.executive))
+        × IfSome desk.end (λ end. IfOk end (IsOver M.meaning desk.exchange.executive))
         × IsSince H.is_begun desk.exchange.executive.world };
 }
 
@@ -89,7 +97,8 @@ impl<M: Atomic, H: Given<M>> Desk<M, H> {
     {
         let executive = exchange.executive();
         let window = Window::new(spread_of(executive), setting.window);
-        let Ok(paces) = Vec::from_elem(alloc, Pace::new(), executive.network().len()) else {
+        let components = executive.network().len();
+        let Ok(paces) = Vec::from_elem(alloc, Pace::new(), components) else {
             return Err(exchange);
         };
         Ok(Desk {
@@ -98,31 +107,90 @@ impl<M: Atomic, H: Given<M>> Desk<M, H> {
             setting,
             paces,
             window,
+            crew: Crew::new(),
+            effort: Effort::nothing(),
             out: 0,
             handed_in: 0,
+            sweep_after: CHAINS_BETWEEN_SWEEPS.max(components as u64),
             end: None,
             of: PhantomData,
         })
     }
 
-    /// The exchange after a run, and how the run ended.
-    pub(crate) fn into_parts(self) -> (Exchange<M>, Option<Result<Outcome, SweepRefused>>)
+    /// The exchange after a run, how the run ended, and what it spent.
+    pub(crate) fn into_parts(self) -> (Exchange<M>, Option<Result<RunState, SweepRefused>>, Effort)
         ensures given { H.is_given result.0.executive.network result.0.executive.until result.0.publisher.board }
-        ensures end { IfSome result.1 (λ end. IfOk end (IsEndOf M.meaning result.0.executive)) }
+        ensures end { IfSome result.1 (λ end. IfOk end (IsOver M.meaning result.0.executive)) }
         ensures since { IsSince H.is_begun result.0.executive.world }
     {
         let Desk {
             alloc: _,
-            exchange,
+            mut exchange,
             setting: _,
             paces: _,
             window: _,
+            crew: _,
+            mut effort,
             out: _,
             handed_in: _,
+            sweep_after: _,
             end,
             of: _,
         } = self;
-        (exchange, end)
+        effort.count_undone(exchange.take_undone());
+        (exchange, end, effort)
+    }
+
+    /// A worker comes to the run.
+    pub(crate) fn join(&mut self)
+        ensures { self.new ≡ self.old }
+    {
+        self.crew.join();
+    }
+
+    /// A worker goes to sleep.
+    pub(crate) fn fall_asleep(&mut self)
+        ensures { self.new ≡ self.old }
+    {
+        self.crew.fall_asleep();
+        self.effort.slept = self.effort.slept.saturating_add(1);
+    }
+
+    /// A worker has slept.
+    pub(crate) fn wake_up(&mut self)
+        ensures { self.new ≡ self.old }
+    {
+        self.crew.wake_up();
+    }
+
+    /// Whether a worker sleeps for which there is something to do.
+    pub(crate) fn wants_more_workers(&self) -> bool {
+        self.crew.has_sleeper() && self.has_order()
+    }
+
+    /// Whether a worker that saw this of the lock steps back.
+    pub(crate) fn step_back(&mut self, seen: Seen) -> bool
+        ensures { self.new ≡ self.old }
+    {
+        let steps_back = self.end.is_none() && self.crew.step_back(seen);
+        if steps_back {
+            self.effort.stepped_back = self.effort.stepped_back.saturating_add(1);
+        }
+        steps_back
+    }
+
+    /// One that stepped back works again.
+    pub(crate) fn come_back(&mut self)
+        ensures { self.new ≡ self.old }
+    {
+        self.crew.come_back();
+    }
+
+    /// Whether a worker that saw this of the lock calls one that stepped back.
+    pub(crate) fn call(&mut self, seen: Seen) -> bool
+        ensures { self.new ≡ self.old }
+    {
+        self.crew.call(seen)
     }
 
     /// Whether the run has ended.
@@ -140,13 +208,13 @@ impl<M: Atomic, H: Given<M>> Desk<M, H> {
         self.exchange.next(self.window.ticks()).is_some()
     }
 
-    /// Whether there were an order if a sweep let global virtual time rise, where nothing is in transit.
-    pub(crate) fn has_order_once_swept(&self) -> bool {
+    /// Whether there were an order if global virtual time rose, where nothing is in transit.
+    pub(crate) fn has_order_once_raised(&self) -> bool {
         let Some(first) = self.exchange.next(self.window.greatest()) else {
             return false;
         };
         let executive = self.exchange.executive();
-        let least = least_tick(executive);
+        let least = tick_of(self.exchange.least_next());
         if first >= executive.network().len() || least <= tick_of(executive.gvt()) {
             return false;
         }
@@ -184,13 +252,14 @@ impl<M: Atomic, H: Given<M>> Desk<M, H> {
     }
 
     // Looks at the component that comes next, and answers how far it may go. Where there is none, it is noted whether there were one
-    // in a wider window.
+    // in a wider window, which then becomes wider at once where little was lost.
     fn begin(&mut self) -> u64
         ensures { self.new ≡ self.old }
     {
         let Some(component) = self.exchange.next(self.window.ticks()) else {
             if self.out > 0 && self.exchange.next(self.window.greatest()).is_some() {
                 self.window.was_in_the_way();
+                self.window.steer();
             }
             return 0;
         };
@@ -210,23 +279,20 @@ impl<M: Atomic, H: Given<M>> Desk<M, H> {
     }
 
     /// Hands in what was worked out from an order, and passes on what was sent, so that no component runs ahead of a message on its
-    /// way to it; or sweeps where that is due: after every chain of which not all was made, and after so many chains. Once the run
-    /// has ended neither is done any more.
+    /// way to it; or sweeps where that is due, after so many chains. Once the run has ended neither is done any more.
     pub(crate) fn hand_in(&mut self, prepareds: Prepareds<M>)
         requires { (n : Contents M) (until : ℕ) (board : TableId) → H.is_given n until board → IsMadeFor M.meaning M.undone n until prepareds }
     {
+        let component = prepareds.component();
         let Some(stop) = self.take_in(prepareds) else {
             return;
         };
         match stop {
-            Stop::Ended(Cause::All) => {
-                if self.handed_in >= CHAINS_BETWEEN_SWEEPS {
-                    self.sweep();
-                } else {
-                    self.pass_on();
-                }
+            Stop::Ended(Cause::All) | Stop::Stale => self.go_on(),
+            Stop::Ended(Cause::Limit) => {
+                self.go_on();
+                self.look_at(component);
             }
-            Stop::Ended(Cause::Limit) | Stop::Stale => self.sweep(),
             Stop::Ended(Cause::OutOfMemory) | Stop::OutOfMemory => {
                 self.make_room(SweepRefused::OutOfMemory);
             }
@@ -234,19 +300,40 @@ impl<M: Atomic, H: Given<M>> Desk<M, H> {
         }
     }
 
-    // Hands in what was worked out from an order. Answers why it went no further, while the run goes on.
+    // Passes on what was sent, or sweeps where that is due.
+    fn go_on(&mut self) {
+        if self.handed_in >= self.sweep_after {
+            self.sweep();
+        } else {
+            self.pass_on();
+        }
+    }
+
+    // A component has met a limit: where nothing else comes before its next step, that is the end of the run.
+    fn look_at(&mut self, component: usize) {
+        self.raise();
+        let executive = self.exchange.executive();
+        if component < executive.network().len()
+            && executive.contents(component).next() == executive.gvt()
+        {
+            self.sweep_and_look();
+        }
+    }
+
+    // Hands in what was worked out from an order. Answers why it went no further. Once the run has ended nothing is handed in any more.
     fn take_in(&mut self, prepareds: Prepareds<M>) -> Option<Stop>
         requires { (n : Contents M) (until : ℕ) (board : TableId) → H.is_given n until board → IsMadeFor M.meaning M.undone n until prepareds }
     {
         self.out = self.out.saturating_sub(1);
         self.handed_in = self.handed_in.saturating_add(1);
+        if self.end.is_some() {
+            prepareds.give_up();
+            return None;
+        }
         let (component, made) = (prepareds.component(), prepareds.len());
         let Ok(finished) = self.exchange.finish(prepareds) else {
             return None;
         };
-        if self.end.is_some() {
-            return None;
-        }
         self.learn(component, made, finished);
         Some(finished.stop)
     }
@@ -280,6 +367,7 @@ impl<M: Atomic, H: Given<M>> Desk<M, H> {
             self.window.was_in_the_way();
         }
         let lost = ending.made.saturating_sub(ending.installed);
+        self.effort.count_chain(ending.installed, lost);
         self.window
             .count(ending.installed, lost, process.pending_len());
     }
@@ -298,26 +386,58 @@ impl<M: Atomic, H: Given<M>> Desk<M, H> {
     // virtual time no further, the run has ended.
     fn make_room(&mut self, why: SweepRefused) {
         let before = self.exchange.executive().gvt();
-        self.sweep();
+        self.sweep_and_look();
         if self.end.is_none() && self.exchange.executive().gvt() == before {
             self.end = Some(Err(why));
         }
     }
 
-    /// Sweeps, and looks whether the run has ended; nothing where it has.
-    pub(crate) fn sweep(&mut self) {
+    /// Raises global virtual time; nothing where the run has ended.
+    pub(crate) fn raise(&mut self) {
+        if self.end.is_some() {
+            return;
+        }
+        let _ = self.exchange.raise();
+    }
+
+    /// Sweeps, and looks whether the run has ended, be it in a fault; nothing where it has.
+    pub(crate) fn sweep_and_look(&mut self) {
+        self.commit();
+        self.look();
+    }
+
+    // Sweeps. Where global virtual time has come to the end tick, the run has ended.
+    fn sweep(&mut self) {
+        self.commit();
+        let executive = self.exchange.executive();
+        if tick_of(executive.gvt()) >= executive.until() {
+            self.look();
+        }
+    }
+
+    // Commits all that can be. Where that is refused, the run has ended.
+    fn commit(&mut self) {
         if self.end.is_some() {
             return;
         }
         self.handed_in = 0;
-        self.window.count(0, self.exchange.take_undone(), 0);
+        let undone = self.exchange.take_undone();
+        self.effort.count_undone(undone);
+        self.window.count(0, undone.steps, 0);
         self.window.steer();
         if let Err(refused) = self.exchange.sweep() {
             self.end = Some(Err(refused));
+        }
+    }
+
+    // Looks whether the run has ended. For that a component which stands at global virtual time may have to make its step there, to see
+    // whether it meets a limit.
+    fn look(&mut self) {
+        if self.end.is_some() {
             return;
         }
-        match find_outcome(self.alloc, &mut self.exchange) {
-            Ok(Some(outcome)) => self.end = Some(Ok(outcome)),
+        match find_end(&mut self.exchange) {
+            Ok(Some(end)) => self.end = Some(Ok(end)),
             Ok(None) => {}
             Err(_) => self.end = Some(Err(SweepRefused::OutOfMemory)),
         }

@@ -7,6 +7,7 @@ ghost use Rattle.tw_exec.specs.declared.refused.Refused.TheVariants as refusals;
 ghost use Rattle.tw_theory.specs.Memory.{TakesMemory};
 ghost use Rattle.tw_workers.specs.Exchanged.{IsNotAhead, with_executive};
 
+use crate::effort::Undone;
 use crate::keeping::{free_all, refresh_all};
 use crate::queues::Queues;
 use std::alloc::{AllocError, Global};
@@ -14,6 +15,7 @@ use std::marker::Model;
 use tw_atomic::Atomic;
 use tw_board::Publisher;
 use tw_exec::{Action, Done, Executive, Refused};
+use tw_vtime::Stamp;
 
 /// An executive that workers share, which of its components are given out to them, and the board's publisher. No more is posted
 /// than global virtual time and how many records are committed.
@@ -93,12 +95,20 @@ impl<M: Atomic> Exchange<M> {
         &self.executive
     }
 
-    // How many steps deliveries have taken back since this was last asked.
-    pub(crate) fn take_undone(&mut self) -> u64
+    // The least of the next steps of all components, as far as it is known; the end where there is none.
+    pub(crate) fn least_next(&self) -> Stamp {
+        match self.queues.standing.first() {
+            Some((next, _)) => next,
+            None => Stamp::END,
+        }
+    }
+
+    // What deliveries have taken back since this was last asked.
+    pub(crate) fn take_undone(&mut self) -> Undone
         ensures { self.new ≡ self.old }
     {
         let undone = self.queues.undone;
-        self.queues.undone = 0;
+        self.queues.undone = Undone::nothing();
         undone
     }
 

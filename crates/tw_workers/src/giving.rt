@@ -48,8 +48,8 @@ impl<M: Atomic> Exchange<M> {
         Ok(Some(Order { start }))
     }
 
-    /// Gives out the same component for less: where `reach` is 0, its order is for one step; else its steps stand, beside all that
-    /// [`draw`](Exchange::draw) says, less than `reach` ticks after that of its next step.
+    /// Gives out the same component for less: beside all that [`draw`](Exchange::draw) says, the steps of its order stand less than
+    /// `reach` ticks after that of its next step; where `reach` is 0, it is for that step alone.
     ///
     /// Refused as there; then nothing changes.
     pub fn draw_near(
@@ -166,14 +166,11 @@ fn window_end(gvt: Stamp, window: u64) -> Stamp
     Stamp::new(tick, 0, 0).unwrap_or(Stamp::END)
 }
 
-// The stamp before which the steps of an order stand that reaches so far from the component's next step: with a reach of 0 the bound.
+// The stamp before which the steps of an order stand that reaches so far from the component's next step.
 fn near_bound(reach: u64, bound: Stamp, next: Stamp) -> Stamp
     ensures { result ≡ near_bound reach bound next }
 {
-    if reach == 0 {
-        return bound;
-    }
-    bound.min(window_end(next, reach - 1))
+    bound.min(window_end(next, reach.saturating_sub(1)))
 }
 
 // How many steps an order is for that reaches so far: with a reach of 0 one at most.

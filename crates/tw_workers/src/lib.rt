@@ -2,8 +2,8 @@
 //!
 //! An [`Exchange`] gives out components ([`draw`](Exchange::draw)): a worker works out the next steps of one apart from it
 //! ([`compute`]), and hands them in ([`finish`](Exchange::finish)), where those that are the component's own next ones are made. From
-//! time to time [`settle`](Exchange::settle) posts and delivers all that is in transit, and a [`sweep`](Exchange::sweep) also commits,
-//! and then tells the board how far it came. Whoever calls in whatever order, the executive stays sound. Each call answers at once; none waits.
+//! time to time [`settle`](Exchange::settle) posts and delivers all that is in transit, [`raise`](Exchange::raise) lets global virtual
+//! time rise, and a [`sweep`](Exchange::sweep) does both and commits; the board is then told how far it came. Whoever calls in whatever order, the executive stays sound. Each call answers at once; none waits.
 //!
 //! | File | Calls |
 //! |---|---|
@@ -11,16 +11,18 @@
 //! | `orders` | [`Order`] and [`Prepareds`], which must be spent; `compute`, which takes no part of the exchange |
 //! | `gate` | [`Gate`]: told of each order before it is worked out |
 //! | `giving` | `draw`, `draw_near`, `next`, `finish`, `give_back` |
-//! | `sweeping` | `settle`, `sweep` |
+//! | `sweeping` | `settle`, `raise`, `sweep` |
 //! | `states` | `state`: whether the run is complete, or in a fault ([`State`]) |
 //!
 //! `queues` knows which component has the least next step, which have something to post and which mailboxes hold something, without
 //! looking at all of them (each an `agenda`), and is kept so (`keeping`); `posting` tells the board how far the executive came. `desk`
-//! is what lies under the lock of a run, and `steering` how far it lets components run ahead.
+//! is what lies under the lock of a run, `steering` how far it lets components run ahead, and `crew` who of its workers works; `effort` is what it spent.
 #![tactic(auto)]
 
 mod agenda;
+mod crew;
 mod desk;
+mod effort;
 pub mod exchange;
 mod gate;
 mod giving;
@@ -35,10 +37,12 @@ pub mod states;
 mod steering;
 mod sweeping;
 
+pub use effort::Effort;
 pub use exchange::Exchange;
 pub use gate::{Gate, Open};
 pub use orders::{Order, Prepareds, compute};
 pub use outcome::{Outcome, RunFault, Setting};
 pub use refused::{NoSuch, SweepRefused};
-pub use running::run;
+pub use running::{run, run_counted};
 pub use tw_actions::RunState as State;
+pub use tw_vtime::OutOfMemory;

@@ -62,6 +62,11 @@ impl<M: Atomic> Prepareds<M> {
         self.chain.component()
     }
 
+    // Lets the chain go: its run has ended.
+    pub(crate) fn give_up(self) {
+        let Prepareds { chain: _ } = self;
+    }
+
     /// How many steps there are.
     pub fn len(&self) -> usize
         ensures { result ≡ length self.now.run.steps }

@@ -1,8 +1,8 @@
 //! How a run is set, and how it ends.
 
-ghost use Rattle.std.specs.Prelude.{◌≡◌, IfOk, IfSome};
+ghost use Rattle.std.specs.Prelude.{◌≡◌, IfErr, IfOk, IfSome, IsTrue};
 ghost use Rattle.tw_vtime.specs.Stamps.{never};
-ghost use Rattle.tw_workers.specs.Ends.{IsEndOf};
+ghost use Rattle.tw_workers.specs.Ends.{IsEndOf, IsOver};
 ghost use Rattle.tw_workers.specs.States.{state_of};
 
 use crate::exchange::Exchange;
@@ -45,40 +45,53 @@ pub struct RunFault<M: Atomic> {
     pub executive: Executive<M>,
 }
 
-// The outcome of a run, if it has ended.
-pub(crate) fn find_outcome<M: Atomic>(
-    alloc: Global,
+// How a run has ended, where it has and all before its end is committed.
+pub(crate) fn find_end<M: Atomic>(
     exchange: &mut Exchange<M>,
-) -> Result<Option<Outcome>, AllocError>
-    ensures outcome { IfOk result (λ outcome. IfSome outcome (IsEndOf M.meaning exchange.old.executive)) }
+) -> Result<Option<RunState>, AllocError>
+    ensures end { IfOk result (λ end. IfSome end (IsOver M.meaning exchange.old.executive)) }
     ensures stays { exchange.new ≡ exchange.old }
 {
     let state = exchange.state()?;
-    outcome_at(alloc, exchange.executive(), state)
+    if is_over(exchange.executive(), &state) {
+        Ok(Some(state))
+    } else {
+        Ok(None)
+    }
 }
 
-// The outcome of a run that stands so, if it has ended and all before its end is committed.
-fn outcome_at<M: Atomic>(
+// Whether the run of an executive that stands so is over, and all before its end is committed.
+fn is_over<M: Atomic>(executive: &Executive<M>, state: &RunState) -> bool
+    requires { state.now ≡ state_of M.meaning executive.now }
+    ensures { IsTrue result → IsOver M.meaning executive.now state.now }
+{
+    match state {
+        RunState::Complete => true,
+        RunState::Fault(_, stamp, _) => all_past(executive, *stamp),
+        RunState::Going => false,
+    }
+}
+
+// The outcome of the run of an executive that is over, with the executive's own records. Where memory is refused it comes back.
+pub(crate) fn outcome_of<M: Atomic>(
     alloc: Global,
-    executive: &Executive<M>,
-    state: RunState,
-) -> Result<Option<Outcome>, AllocError>
-    requires { state ≡ state_of M.meaning executive.now }
-    ensures { IfOk result (λ outcome. IfSome outcome (IsEndOf M.meaning executive.now)) }
+    executive: Executive<M>,
+    end: RunState,
+) -> Result<Outcome, Executive<M>>
+    requires { IsOver M.meaning executive end }
+    ensures outcome { IfOk result (IsEndOf M.meaning executive) }
+    ensures handed_back { IfErr result (λ back. back ≡ executive) }
 {
     executive.facts();
-    match state {
-        RunState::Complete => {
-            let trace = executive.trace(alloc)?;
-            Ok(Some(Outcome::Complete(trace)))
-        }
+    let trace = match executive.into_trace(alloc) {
+        Ok(trace) => trace,
+        Err(failed) => return Err(failed.value),
+    };
+    match end {
+        RunState::Complete => Ok(Outcome::Complete(trace)),
         RunState::Fault(component, stamp, limit) => {
-            if !all_past(executive, stamp) {
-                return Ok(None);
-            }
-            let trace = executive.trace(alloc)?;
-            Ok(Some(Outcome::Fault(trace, component, stamp, limit)))
+            Ok(Outcome::Fault(trace, component, stamp, limit))
         }
-        RunState::Going => Ok(None),
+        RunState::Going => unreachable!(),
     }
 }

@@ -8,6 +8,7 @@ ghost use Rattle.tw_workers.specs.Exchanged.{busy_in};
 ghost use Rattle.tw_workers.specs.Queues.{box_mark, marked, post_mark, AreMarked, AreMarkedBut, IsKept, IsKeptBut};
 
 use crate::agenda::Agenda;
+use crate::effort::Undone;
 use crate::keeping::refresh;
 use crate::sweeping::is_idle;
 use std::alloc::{AllocError, Global};
@@ -25,8 +26,10 @@ pub(crate) struct Queues {
     pub(crate) posting: Agenda,
     /// The components whose mailboxes hold something, each at the start.
     pub(crate) delivering: Agenda,
-    /// How many steps deliveries have taken back, for those who steer by it.
-    pub(crate) undone: u64,
+    /// The components by their next steps, also those that are given out: for those who steer by it, and nothing stands on it.
+    pub(crate) standing: Agenda,
+    /// What deliveries have taken back, for those who steer by it.
+    pub(crate) undone: Undone,
 }
 
 impl Queues {
@@ -41,7 +44,8 @@ impl Queues {
             free: Agenda::new(alloc, count)?,
             posting: Agenda::new(alloc, count)?,
             delivering: Agenda::new(alloc, count)?,
-            undone: 0,
+            standing: Agenda::new(alloc, count)?,
+            undone: Undone::nothing(),
         })
     }
 
@@ -74,6 +78,7 @@ impl Queues {
         executive.facts();
         self.note_post(executive, component);
         self.note_box(executive, component);
+        self.note_standing(executive, component);
     }
 
     /// That of every component is.
@@ -87,6 +92,7 @@ impl Queues {
         for component in 0..executive.network().len() {
             self.note_post(executive, component);
             self.note_box(executive, component);
+            self.note_standing(executive, component);
         }
     }
 
@@ -113,6 +119,19 @@ impl Queues {
     {
         let empty = executive.mail(component).is_empty();
         self.delivering.mark(component, !empty);
+    }
+
+    // The next step of a component.
+    fn note_standing<M: Atomic>(&mut self, executive: &Executive<M>, component: usize)
+        requires { component < length executive.now.network.models }
+        ensures free { self.new.free ≡ self.old.free }
+        ensures posting { self.new.posting ≡ self.old.posting }
+        ensures delivering { self.new.delivering ≡ self.old.delivering }
+    {
+        if component < self.standing.len() {
+            self.standing
+                .put(component, executive.contents(component).next());
+        }
     }
 
     /// These items were posted: the mailboxes of their receivers hold something.

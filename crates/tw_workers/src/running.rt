@@ -4,15 +4,17 @@ ghost use Rattle.std.specs.Arc.{arc_value};
 ghost use Rattle.std.specs.Prelude.{◌≡◌, ◌≤◌, IfErr, IfOk, IfSome, IsErrAnd, Ok, length};
 ghost use Rattle.tw_theory.specs.Board.{numbers_of};
 ghost use Rattle.tw_vtime.specs.Stamps.{max_tick};
-ghost use Rattle.tw_workers.specs.Ends.{IsDue, IsEnd, IsEndOf, IsMadeFor, IsOnly, trace_of};
+ghost use Rattle.tw_workers.specs.Ends.{IsDue, IsEnd, IsEndOf, IsMadeFor, IsOnly, IsOver, trace_of};
 ghost use Rattle.tw_workers.specs.Exchanged.{IsNotAhead};
 ghost use Rattle.tw_workers.specs.Further.{reached, IsFurther, IsSince};
 
+use crate::crew::Looks;
 use crate::desk::{Desk, Given};
+use crate::effort::Effort;
 use crate::exchange::Exchange;
 use crate::gate::Gate;
 use crate::orders::{Order, Prepareds, compute};
-use crate::outcome::{Outcome, RunFault, Setting};
+use crate::outcome::{Outcome, RunFault, Setting, outcome_of};
 use crate::posting::post;
 use crate::refused::SweepRefused;
 use std::alloc::Global;
@@ -21,19 +23,30 @@ use std::marker::Brand;
 use std::sync::{Arc, Condvar, Mutex, MutexGuard, Wait};
 use std::thread;
 use std::thread::Threads;
+use tw_actions::RunState;
 use tw_atomic::Atomic;
 use tw_board::Publisher;
 use tw_exec::Executive;
 use tw_network::Network;
 
-// How often a worker looks whether the lock is free before it sleeps.
+// How often a worker looks whether the lock is free before it sleeps, and how long it pauses between two looks, so that those who
+// look do not slow down the one who has it.
 const LOOKS: u64 = 1_000;
+
+const PAUSE: u64 = 16;
+
+// How often a worker looks whether there is an order for it before it sleeps, and how long it pauses between two looks.
+const IDLE_LOOKS: u64 = 64;
+
+const IDLE_PAUSE: u64 = 64;
 
 // What the workers of a run share.
 struct Shared<M: Atomic, H: Given<M>> {
     desk: Mutex<Desk<M, H>>,
     // Something was handed in, or swept, or the run has ended.
     changed: Condvar,
+    // One that stepped back is called, or the run has ended.
+    called: Condvar,
     network: Arc<Network<M>>,
     until: u64,
     workers: u64,
@@ -75,38 +88,79 @@ where
     ensures count { IfOk result.0 (λ outcome. result.1.numbers.1 ≡ length (trace_of outcome)) }
     ensures numbers { IfErr result.0 (λ fault. result.1.numbers ≡ numbers_of fault.executive.world) }
 {
+    let (ended, publisher, _) = run_counted(rt, alloc, executive, setting, gate, publisher);
+    (ended, publisher)
+}
+
+/// Runs an executive as [`run`] does, and answers beside it what the run spent.
+pub fn run_counted<M: Atomic + Send + Sync, G: Gate + Sync, R: Threads + Wait + Sync>(
+    rt: &R,
+    alloc: Global,
+    executive: Executive<M>,
+    setting: Setting,
+    gate: &G,
+    publisher: Publisher,
+) -> (Result<Outcome, RunFault<M>>, Publisher, Effort)
+where
+    M::State: Send,
+    M::Residue: Send,
+    requires workers { (1 ≤ setting.workers) × (setting.workers ≤ 64) }
+    requires burst { (1 ≤ setting.burst) × (setting.burst ≤ 256) }
+    requires window { setting.window ≤ max_tick }
+    requires not_ahead { IsNotAhead publisher executive }
+    ensures outcome { IfOk result.0 (IsEnd M.meaning executive.network executive.until) }
+    ensures network { IfErr result.0 (λ fault. fault.executive.network ≡ executive.network) }
+    ensures until { IfErr result.0 (λ fault. fault.executive.until ≡ executive.until) }
+    ensures further { IfErr result.0 (λ fault. IsFurther (reached executive.world) (reached fault.executive.world)) }
+    ensures board { result.1.board ≡ publisher.board }
+    ensures count { IfOk result.0 (λ outcome. result.1.numbers.1 ≡ length (trace_of outcome)) }
+    ensures numbers { IfErr result.0 (λ fault. result.1.numbers ≡ numbers_of fault.executive.world) }
+{
+    let nothing = Effort::nothing();
     let Ok(network) = Arc::try_clone(executive.network()) else {
-        return given_up(SweepRefused::OutOfMemory, executive, publisher);
+        return given_up(SweepRefused::OutOfMemory, executive, publisher, nothing);
     };
     let exchange = match Exchange::new(alloc, executive, publisher) {
         Ok(exchange) => exchange,
         Err((executive, publisher, _)) => {
-            return given_up(SweepRefused::OutOfMemory, executive, publisher);
+            return given_up(SweepRefused::OutOfMemory, executive, publisher, nothing);
         }
     };
-    let (exchange, end) = run_given::<M, Brand, G, R>(rt, alloc, network, exchange, setting, gate);
+    let (exchange, end, effort) = run_given::<M, Brand, G, R>(
+        rt, alloc, network, exchange, setting, gate,
+    );
     let (executive, publisher) = exchange.into_parts();
     match end {
-        Some(Ok(outcome)) => ended(outcome, &executive, publisher),
-        Some(Err(why)) => given_up(why, executive, publisher),
-        None => given_up(SweepRefused::OutOfMemory, executive, publisher),
+        Some(Ok(end)) => ended(alloc, executive, end, publisher, effort),
+        Some(Err(why)) => given_up(why, executive, publisher, effort),
+        None => given_up(SweepRefused::OutOfMemory, executive, publisher, effort),
     }
 }
 
-// A run that has ended, and its publisher, which has posted just the executive's numbers.
+// A run that is over, and its publisher, which has posted just the executive's numbers. Where memory is refused for the trace it is
+// given up.
 fn ended<M: Atomic>(
-    outcome: Outcome,
-    executive: &Executive<M>,
+    alloc: Global,
+    executive: Executive<M>,
+    end: RunState,
     mut publisher: Publisher,
-) -> (Result<Outcome, RunFault<M>>, Publisher)
-    requires not_ahead { IsNotAhead publisher executive.now }
-    requires end { IsEndOf M.meaning executive.now outcome }
-    ensures ok { result.0 ≡ Ok outcome }
+    effort: Effort,
+) -> (Result<Outcome, RunFault<M>>, Publisher, Effort)
+    requires not_ahead { IsNotAhead publisher executive }
+    requires over { IsOver M.meaning executive end }
+    ensures end { IfOk result.0 (IsEndOf M.meaning executive) }
+    ensures err { IfErr result.0 (λ fault. fault.executive ≡ executive) }
     ensures board { result.1.board ≡ publisher.board }
-    ensures count { result.1.numbers.1 ≡ length (trace_of outcome) }
+    ensures numbers { result.1.numbers ≡ numbers_of executive.world }
 {
-    post(&mut publisher, executive);
-    (Ok(outcome), publisher)
+    post(&mut publisher, &executive);
+    match outcome_of(alloc, executive, end) {
+        Ok(outcome) => (Ok(outcome), publisher, effort),
+        Err(executive) => {
+            let why = SweepRefused::OutOfMemory;
+            (Err(RunFault { why, executive }), publisher, effort)
+        }
+    }
 }
 
 // A run that is given up, and its publisher, which has posted just the executive's numbers.
@@ -114,14 +168,15 @@ fn given_up<M: Atomic>(
     why: SweepRefused,
     executive: Executive<M>,
     mut publisher: Publisher,
-) -> (Result<Outcome, RunFault<M>>, Publisher)
+    effort: Effort,
+) -> (Result<Outcome, RunFault<M>>, Publisher, Effort)
     requires { IsNotAhead publisher executive }
     ensures err { IsErrAnd result.0 (λ fault. fault.executive ≡ executive) }
     ensures board { result.1.board ≡ publisher.board }
     ensures numbers { result.1.numbers ≡ numbers_of executive.world }
 {
     post(&mut publisher, &executive);
-    (Err(RunFault { why, executive }), publisher)
+    (Err(RunFault { why, executive }), publisher, effort)
 }
 
 // Runs what was handed in.
@@ -137,7 +192,7 @@ fn run_given<
     exchange: Exchange<M>,
     setting: Setting,
     gate: &G,
-) -> (Exchange<M>, Option<Result<Outcome, SweepRefused>>)
+) -> (Exchange<M>, Option<Result<RunState, SweepRefused>>, Effort)
 where
     M::State: Send,
     M::Residue: Send,
@@ -145,17 +200,18 @@ where
     requires begun { H.is_begun (reached exchange.executive.world) }
     requires only { IsOnly H.is_given (arc_value network) exchange.executive.until }
     ensures given { H.is_given result.0.executive.network result.0.executive.until result.0.publisher.board }
-    ensures end { IfSome result.1 (λ end. IfOk end (IsEndOf M.meaning result.0.executive)) }
+    ensures end { IfSome result.1 (λ end. IfOk end (IsOver M.meaning result.0.executive)) }
     ensures since { IsSince H.is_begun result.0.executive.world }
 {
     let until = exchange.executive().until();
     let desk = match Desk::new(alloc, exchange, setting) {
         Ok(desk) => desk,
-        Err(exchange) => return (exchange, None),
+        Err(exchange) => return (exchange, None, Effort::nothing()),
     };
     let shared: Shared<M, H> = Shared {
         desk: Mutex::new(desk),
         changed: Condvar::new(),
+        called: Condvar::new(),
         network,
         until,
         workers: setting.workers,
@@ -164,6 +220,7 @@ where
     let Shared {
         desk,
         changed: _,
+        called: _,
         network: _,
         until: _,
         workers: _,
@@ -207,13 +264,15 @@ where
 fn work<M: Atomic, H: Given<M>, G: Gate, R: Wait>(rt: &R, shared: &Shared<M, H>, gate: &G)
     requires { IsOnly H.is_given (arc_value shared.now.network) shared.now.until }
 {
-    let Some(mut order) = next_order(rt, shared, None) else {
+    let mut looks = Looks::new();
+    shared.desk.lock(rt).join();
+    let Some(mut order) = next_order(rt, shared, &mut looks, None) else {
         return;
     };
     for _ in rt.forever() {
         let model = shared.network.model(order.component());
         let prepareds = compute(order, model, gate);
-        let Some(next) = next_order(rt, shared, Some(prepareds)) else {
+        let Some(next) = next_order(rt, shared, &mut looks, Some(prepareds)) else {
             return;
         };
         order = next;
@@ -225,43 +284,102 @@ fn work<M: Atomic, H: Given<M>, G: Gate, R: Wait>(rt: &R, shared: &Shared<M, H>,
 fn next_order<M: Atomic, H: Given<M>, R: Wait>(
     rt: &R,
     shared: &Shared<M, H>,
+    looks: &mut Looks,
     done: Option<Prepareds<M>>,
 ) -> Option<Order<M>>
     requires only { IsOnly H.is_given (arc_value shared.now.network) shared.now.until }
     requires made { IfSome done (IsMadeFor M.meaning M.undone (arc_value shared.now.network) shared.now.until) }
     ensures { IfSome result (IsDue M.valid M.meaning (arc_value shared.now.network) shared.now.until) }
 {
-    let mut desk = lock_soon(rt, &shared.desk);
+    let mut desk = lock_soon(rt, &shared.desk, looks);
     if let Some(prepareds) = done {
         desk.hand_in(prepareds);
     }
+    desk = take_turns(rt, shared, looks, desk);
+    let mut idled = 0;
     for _ in rt.forever() {
         if desk.is_over() {
             shared.changed.notify_all();
+            shared.called.notify_all();
             return None;
         }
         if let Some(order) = desk.draw() {
-            if desk.has_order() {
+            if desk.wants_more_workers() {
                 shared.changed.notify_one();
             }
             return Some(order);
         }
-        if desk.is_idle() || desk.has_order_once_swept() {
-            desk.sweep();
+        if desk.has_order_once_raised() {
+            desk.raise();
+        } else if desk.is_idle() {
+            desk.sweep_and_look();
         } else {
-            desk = shared.changed.wait(rt, desk);
+            desk = wait_for_change(rt, shared, desk, idled);
+            idled = idled.saturating_add(1);
         }
     }
     unreachable!()
 }
 
+// Waits until something may have changed: looks again at first, and then sleeps.
+fn wait_for_change<'a, M: Atomic, H: Given<M>, R: Wait>(
+    rt: &R,
+    shared: &'a Shared<M, H>,
+    mut desk: MutexGuard<'a, Desk<M, H>>,
+    idled: u64,
+) -> MutexGuard<'a, Desk<M, H>> {
+    if idled < IDLE_LOOKS {
+        drop(desk);
+        pause(IDLE_PAUSE);
+        return lock_soon(rt, &shared.desk, &mut Looks::new());
+    }
+    desk.fall_asleep();
+    desk = shared.changed.wait(rt, desk);
+    desk.wake_up();
+    desk
+}
+
+// From time to time a worker looks at how often another one had the lock: it steps back where that was nearly always so, until it is
+// called, and calls one that stepped back where that was seldom so.
+fn take_turns<'a, M: Atomic, H: Given<M>, R: Wait>(
+    rt: &R,
+    shared: &'a Shared<M, H>,
+    looks: &mut Looks,
+    mut desk: MutexGuard<'a, Desk<M, H>>,
+) -> MutexGuard<'a, Desk<M, H>> {
+    let Some(seen) = looks.look_back() else {
+        return desk;
+    };
+    if desk.step_back(seen) {
+        // Those that sleep may be the only ones left.
+        shared.changed.notify_one();
+        desk = shared.called.wait(rt, desk);
+        desk.come_back();
+    } else if desk.call(seen) {
+        shared.called.notify_one();
+    }
+    desk
+}
+
 // Takes the lock. It looks a while before it sleeps: who holds it soon lets go.
-fn lock_soon<'a, T, R: Wait>(rt: &R, lock: &'a Mutex<T>) -> MutexGuard<'a, T> {
+fn lock_soon<'a, T, R: Wait>(rt: &R, lock: &'a Mutex<T>, looks: &mut Looks) -> MutexGuard<'a, T> {
+    if let Some(guard) = lock.try_lock() {
+        looks.note(false);
+        return guard;
+    }
+    looks.note(true);
     for _ in 0..LOOKS {
+        pause(PAUSE);
         if let Some(guard) = lock.try_lock() {
             return guard;
         }
-        spin_loop();
     }
     lock.lock(rt)
+}
+
+// Lets a moment pass.
+fn pause(length: u64) {
+    for _ in 0..length {
+        spin_loop();
+    }
 }

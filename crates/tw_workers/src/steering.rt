@@ -10,6 +10,9 @@ const GREATEST_NEED: u64 = 256;
 // How many steps there are between two looks at the window.
 const STEPS_BETWEEN_LOOKS: u64 = 256;
 
+// How many steps there are at least before a window that is in the way grows.
+const STEPS_BEFORE_GROWTH: u64 = 16;
+
 // From how many pending messages of a component on the window does not grow.
 const CROWD: usize = 4_096;
 
@@ -176,15 +179,16 @@ impl Window {
     }
 
     /// After so many steps the window becomes narrower where more than one in six was made in vain, and wider where less than one in
-    /// twelve was and it was in the way.
+    /// twelve was and it was in the way; wider much sooner, so that a window which began too narrow soon is not.
     pub(crate) fn steer(&mut self) {
         let all = self.well.saturating_add(self.lost);
-        if all < STEPS_BETWEEN_LOOKS {
+        let grows = self.in_the_way && self.lost < all / 12;
+        if all < STEPS_BETWEEN_LOOKS && !(grows && all >= STEPS_BEFORE_GROWTH) {
             return;
         }
         if self.lost > all / 6 {
             self.ticks /= if self.lost > self.well { 4 } else { 2 };
-        } else if self.lost < all / 12 && self.in_the_way && !self.crowded {
+        } else if grows && !self.crowded {
             self.ticks = self.ticks.saturating_mul(2).max(1).min(self.greatest);
         }
         self.well = 0;

@@ -5,16 +5,17 @@ ghost use Rattle.std.specs.Prelude.{◌≡◌, ◌<◌, [], IfErr, IfOk, IsOk, O
 ghost use Rattle.tw_exec.specs.Running.{after, answer};
 ghost use Rattle.tw_theory.specs.Board.{numbers_of};
 ghost use Rattle.tw_theory.specs.Exchange.{all_empty, deliveries, harvests, is_swept, posts};
-ghost use Rattle.tw_theory.specs.Executive.{mail_of, Post};
+ghost use Rattle.tw_theory.specs.Executive.{mail_of, Post, Raise};
 ghost use Rattle.tw_theory.specs.Memory.{TakesMemory};
 ghost use Rattle.tw_vtime.specs.Stamps.{never};
 ghost use Rattle.tw_workers.specs.Exchanged.{busy_in};
 ghost use Rattle.tw_workers.specs.Further.{reached, IsFurther};
-ghost use Rattle.tw_workers.specs.Queues.{IsAsLong, IsElsewhereSame, IsKept};
+ghost use Rattle.tw_workers.specs.Queues.{IsElsewhereSame, IsKept, LooksSame};
 ghost use Rattle.tw_workers.specs.Sweeping.{deliveries_from, is_idle, pass_of, passes_of, replayed, sweep_of, IsCutShort, IsUnderWay, IsWanting};
 
+use crate::effort::Undone;
 use crate::exchange::Exchange;
-use crate::keeping::{refresh, refresh_all};
+use crate::keeping::refresh;
 use crate::posting::post;
 use crate::queues::Queues;
 use crate::refused::SweepRefused;
@@ -60,12 +61,26 @@ impl<M: Atomic> Exchange<M> {
         ensures busy { self.new.busy ≡ self.old.busy }
     {
         self.executive.facts();
-        let swept = sweep_all(&mut self.executive, &mut self.queues);
-        refresh_all(&mut self.queues.free, &self.executive);
-        self.queues.note_all(&self.executive);
-        let gvt = swept?;
+        let gvt = sweep_all(&mut self.executive, &mut self.queues)?;
         post(&mut self.publisher, &self.executive);
         Ok(gvt)
+    }
+
+    /// Raises global virtual time, as the executive's own Raise does, and posts on the board how far it came. Nothing is committed.
+    /// Answers global virtual time.
+    ///
+    /// It takes no memory, and costs as many steps as there are components.
+    pub fn raise(&mut self) -> Stamp
+        ensures raised { self.new.executive ≡ after M.meaning Raise self.old.executive }
+        ensures gvt { result ≡ self.new.executive.world.gvt }
+        ensures further { IsFurther (reached self.old.executive.world) (reached self.new.executive.world) }
+        ensures posted { self.new.publisher ≡ record { board = self.old.publisher.board; numbers = numbers_of self.new.executive.world } }
+        ensures busy { self.new.busy ≡ self.old.busy }
+    {
+        self.executive.facts();
+        let _ = self.executive.act(Action::Raise);
+        post(&mut self.publisher, &self.executive);
+        self.executive.gvt()
     }
 }
 
@@ -78,7 +93,7 @@ fn sweep_all<M: Atomic>(
     ensures swept { OnOk result (executive.new ≡ replayed M.meaning (sweep_of M.meaning executive.old) executive.old) }
     ensures gvt { IfOk result (λ gvt. gvt ≡ executive.new.world.gvt) }
     ensures cut_short { IfErr result (IsCutShort M.meaning (sweep_of M.meaning executive.old) executive.old executive.new) }
-    ensures counts { IsAsLong queues.old queues.new }
+    ensures kept { IsKept queues.new executive.new.world }
     ensures busy { busy_in queues.new.free ≡ busy_in queues.old.free }
 {
     executive.facts();
@@ -260,7 +275,7 @@ fn deliver_box<M: Atomic>(
 fn deliver_to<M: Atomic>(
     executive: &mut Executive<M>,
     receiver: usize,
-    undone: &mut u64,
+    undone: &mut Undone,
 ) -> Result<(), SweepRefused>
     requires { receiver < length executive.old.network.models }
     ensures done { OnOk result (IsUnderWay M.meaning (deliveries_from receiver executive.old) (deliveries_from (suc receiver) executive.new) executive.old executive.new) }
@@ -272,7 +287,7 @@ fn deliver_to<M: Atomic>(
     executive.facts();
     while !executive.mail(receiver).is_empty() {
         let done = take(executive, Action::Deliver(receiver, 0))?;
-        *undone = undone.saturating_add(undone_by(&done));
+        undone.count(undone_by(&done));
         executive.facts();
     }
     Ok(())
@@ -282,6 +297,7 @@ fn deliver_to<M: Atomic>(
 fn harvest_all<M: Atomic>(executive: &mut Executive<M>) -> Result<(), SweepRefused>
     ensures done { OnOk result (executive.new ≡ replayed M.meaning (harvests 0 (length executive.old.world.processes)) executive.old) }
     ensures cut_short { IfErr result (IsCutShort M.meaning (harvests 0 (length executive.old.world.processes)) executive.old executive.new) }
+    ensures looks { LooksSame executive.old.world executive.new.world }
 {
     executive.facts();
     for component in 0..executive.network().len() {

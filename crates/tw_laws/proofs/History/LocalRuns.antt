@@ -19,18 +19,13 @@ use Rattle.tw_theory.specs.LocalRun.{Step, Made, NothingDue, output_made, if_mov
 use Rattle.tw_theory.specs.Network.{Network, model_of}
 use Rattle.tw_theory.specs.Simulator.{Stays, Moves, turn_of_result, take_turn, sent_in, all_sent}
 use Rattle.tw_theory.specs.Transitions.{Moment, Move, output, moved, if_within, transition, turn, due_of, kind_of}
+use Rattle.tw_msgs.proofs.Messages.{stamps_rise}
 use Rattle.tw_laws.specs.History.{AreInputs}
 use Rattle.tw_laws.proofs.History.Bags.{Past, past, insert_front}
 use Rattle.tw_laws.proofs.History.Clock.{arrived, bag_of, act, act_if, place_after, moment_after, record_after, NoLimit, alone, alone_step, AllFrom}
+use Rattle.tw_laws.proofs.History.GoingOn.{from_weaken}
 
 -- ---- messages in order
-
-stamps_in_order : (m n : Message) → at_or_before m n ≡ true → m.stamp ≤ n.stamp
-stamps_in_order m n e =
-    ⊎_elim
-    (λ a. let l = ltb-true m.stamp n.stamp a in omega (arith, l))
-    (λ a. let q = eqb-true m.stamp n.stamp (and_parts (m.stamp == n.stamp) _ a).0 in omega (arith, q))
-    (or_cases (nat_lt m.stamp n.stamp) _ e)
 
 ports_in_order : (m n : Message) → at_or_before m n ≡ true → m.stamp ≡ n.stamp → by_port (m.port, m.value) (n.port, n.value) ≡ true
 ports_in_order m n e same =
@@ -62,7 +57,7 @@ ports_in_order m n e same =
 -- those behind m are at or after any stamp that m is
 rest_from : (s : ℕ) (m : Message) (ms : List Message) → IsBeforeFirst m ms → s ≤ m.stamp → s ≤ never → s ≤ first_stamp ms
 rest_from s m [] b l n = n
-rest_from s m (k ∷ ks) b l n = let f = stamps_in_order m k b in omega (arith, f, l)
+rest_from s m (k ∷ ks) b l n = let f = stamps_rise m k b in omega (arith, f, l)
 
 arrived_skip : (c s : ℕ) (m : Message) (ms : List Message) → (s ≡ m.stamp → ⊥) → arrived c s (m ∷ ms) ≡ arrived c s ms
 unfolding arrived
@@ -403,10 +398,6 @@ steps_before_more g step steps l = cond-true (nat_lt step.entry.stamp g) _ _ (lt
 steps_before_none : {S : Type 0} (g : ℕ) (step : Step S) (steps : List (Step S)) → g ≤ step.entry.stamp → steps_before g (step ∷ steps) ≡ 0
 steps_before_none g step steps l = cond-false (nat_lt step.entry.stamp g) _ _ (le-ltb step.entry.stamp g l)
 
-from_later : (s t : ℕ) (xs : List Record) → t ≤ s → AllFrom s xs → AllFrom t xs
-from_later s t [] h a = tt
-from_later s t (x ∷ xs) h a = let l : s ≤ x.stamp = a.0 in (omega (arith, h, l), from_later s t xs h a.1)
-
 -- what the steps sent, and that they lie ahead
 pub record RunFacts {S : Type 0} (net : Network S) (s g : ℕ) (steps : List (Step S)) : Type 0 where
   pub sent : sent_by steps ≡ all_sent net (records_of steps)
@@ -428,14 +419,14 @@ leads_facts {S} net c heard g (step ∷ steps) s now pending now' pending' ahead
     step_facts made step e t one l facts =
         let at : step.entry.stamp ≡ t = sym (ap (λ x. x.entry.stamp) e) ∙ one.stamp in
         let sent : step.sent ≡ sent_in net step.entry = sym (ap (λ x. x.sent) e) ∙ one.sent ∙ ap (λ x. sent_in net x.entry) e in
-        let from : AllFrom s (records_of (step ∷ steps)) = (omega (arith, at, l), from_later (suc t) s (records_of steps) (omega (arith, l)) facts.from) in
+        let from : AllFrom s (records_of (step ∷ steps)) = (omega (arith, at, l), from_weaken (suc t) s (records_of steps) (omega (arith, l)) facts.from) in
         record {
           sent = ap (λ x. x ++ sent_by steps) sent ∙ ap (λ x. sent_in net step.entry ++ x) facts.sent;
           from = from;
           later =
               ⊎_elim
               (λ h. subst (λ n. AllFrom g (records_of (drop n (step ∷ steps)))) (sym (steps_before_more g step steps h)) facts.later)
-              (λ h. subst (λ n. AllFrom g (records_of (drop n (step ∷ steps)))) (sym (steps_before_none g step steps h)) (h, from_later (suc t) g (records_of steps) (omega (arith, at, h)) facts.from))
+              (λ h. subst (λ n. AllFrom g (records_of (drop n (step ∷ steps)))) (sym (steps_before_none g step steps h)) (h, from_weaken (suc t) g (records_of steps) (omega (arith, at, h)) facts.from))
               (cases_lt step.entry.stamp g);
         }
 

@@ -82,6 +82,7 @@ even_place net c t bag (Some now) p =
     (λ q. ap (moment_after now) (cond-false (now.due == t) _ _ q) ∙ sym (cond-false (now.due == t) _ _ q))
     (cases_Bool (now.due == t)))
 
+-- no limit is met at an output stamp
 pub even_quiet : {S : Type 0} (net : Network S) (c t : ℕ) (bag : Bag) (o : Option (Moment S)) → phase_of t ≡ 0 → NoLimit (act_if net c t bag o)
 unfolding act_if NoLimit
 even_quiet net c t bag None p = tt

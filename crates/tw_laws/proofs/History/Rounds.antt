@@ -15,6 +15,7 @@ use Rattle.tw_theory.specs.Simulator.{RoundTurn, Stays, Stops, start_moments, ta
 use Rattle.tw_theory.specs.Traces.{IsTrace}
 use Rattle.tw_theory.specs.Transitions.{Moment, first_due, start_moment}
 use Rattle.tw_theory.proofs.Elements.{each-append, each_weaker}
+use Rattle.tw_theory.proofs.Rounds.{from_round, from_rest}
 use Rattle.tw_laws.specs.History.{count, AllPhaseOne}
 use Rattle.tw_laws.proofs.History.Clock.{place_after, record_after, NoLimit, clock, clock_step}
 use Rattle.tw_laws.proofs.History.Components.{own, own-append, count-past_stamp}
@@ -342,13 +343,6 @@ from_fault : {S : Type 0} (net : Network S) (bound n : ℕ) (run : Run S) (f : �
 from_fault net bound zero run f = refl
 from_fault net bound (suc n) run f = refl
 
-from_round : {S : Type 0} (net : Network S) (bound n : ℕ) (run : Run S) → round_time run.at < bound
-    → rounds_from net bound (suc n) run None ≡ rounds_from net bound n (round net run (round_time run.at)) (round net run (round_time run.at)).fault
-from_round net bound n run l = cond-true (nat_lt (round_time run.at) bound) _ _ (lt-ltb (round_time run.at) bound l)
-
-from_rest : {S : Type 0} (net : Network S) (bound n : ℕ) (run : Run S) → bound ≤ round_time run.at → rounds_from net bound (suc n) run None ≡ run
-from_rest net bound n run l = cond-false (nat_lt (round_time run.at) bound) _ _ (le-ltb (round_time run.at) bound l)
-
 -- with fuel for the stamps that are left
 go : {S : Type 0} (net : Network S) (bound b : ℕ) → bound ≤ b → b ≤ bound + 1 → phase_of b ≡ 0 → b < never → (n s : ℕ) (run : Run S) → Stand net s run
     → s ≤ b → b ≤ s + (n + n) → Reached net b (rounds_from net bound n run None)
@@ -370,7 +364,7 @@ go {S} net bound b low high even top (suc n) s run at l m =
     fuel (first_stop 0 (turns_at net t run)) refl))
     (λ after.
     let within : b ≤ t = omega (arith, after, low, high, even, either, top) in
-    subst (Reached net b) (sym (from_rest net bound n run after)) (Running (stand_at net s b run at l within even)))
+    subst (Reached net b) (sym (from_rest net bound (suc n) run after)) (Running (stand_at net s b run at l within even)))
     (cases_lt t bound)
   where
     one_round : {S : Type 0} (net : Network S) (bound b n t : ℕ) (run : Run S) → Stand net t run → t + 1 < never → suc (suc t) ≤ b

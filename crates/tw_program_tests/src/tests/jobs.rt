@@ -8,7 +8,7 @@ use std::sync::Wait;
 use std::thread::Threads;
 use std::time::Clock;
 use tw_engine::{Exit, engine};
-use tw_line::{Driver, Job, Rows, Setting};
+use tw_line::{Driver, Job, Rows, Setting, Workers};
 use tw_process::Cancel;
 use tw_vtime::Refusal;
 
@@ -131,7 +131,7 @@ static JOBS: [Example; 9] = [
             until: 5,
             cancel: Cancel::Aggressive,
             setting: Setting {
-                workers: 2,
+                workers: Workers::Count(2),
                 burst: 16,
                 window: 1000,
                 progress: false,

@@ -118,10 +118,13 @@ r line 2.0.1 next 2.0.1 due end last 0.0 steps 0 pending 2 waiting 0 outgoing 0 
 t line 2.0.1 next 4.0.1 due end last 0.0 steps 0 pending 1 waiting 0 outgoing 0 owed 0 mail 0 | 0 0 0
 ";
 
-/// Sweeps the row after so many of these actions, and again.
+/// Settles the row after so many of these actions, and raises global virtual time, which commits nothing; then sweeps it, and again.
 fn assert_swept(rt: &impl Abort, alloc: Global, cancel: Cancel, count: usize, seen: &str) {
     let mut exchange = exchange_of(rt, alloc, cancel);
     act_all(rt, &mut exchange, &STRAGGLER[..count.min(8)]);
+    assert!(rt; exchange.settle().is_ok());
+    assert!(rt; exchange.raise() == stamp(rt, 2, 0, 1));
+    assert!(rt; exchange.executive().committed_len() == 0);
     for _ in 0..2 {
         assert!(rt; exchange.sweep() == Ok(stamp(rt, 2, 0, 1)));
         assert!(rt; exchange.state() == Ok(State::Going));

@@ -1,6 +1,6 @@
 use Rattle.std.proofs.Common.{◌≡◌, ◌∙◌, min, ap, map, sym}
 use Rattle.std.proofs.lemmas.List.{take_all}
-use Rattle.tw_lists.proofs.Walks.{ord_min-is}
+use Rattle.tw_vtime.proofs.Comparing.{ord_min-is}
 use Rattle.tw_theory.specs.Traces.{least_line}
 use Rattle.tw_exec.proofs.LeastLines.{line_more}
 use Rattle.tw_exec.proofs.traces.least_line.Goals as goal

@@ -1,11 +1,13 @@
--- The records of the columns so far that are before the line, and of this column those so far.
-use Rattle.std.proofs.Common.{◌≡◌, ◌++◌, take}
-use Rattle.tw_theory.specs.Traces.{before}
-use Rattle.tw_fossils.proofs.Joining.{joined}
+-- What was copied and what is left of the columns make them up.
+use Rattle.std.proofs.Common.{map, vec_len, vec_capacity}
+use Rattle.tw_fossils.specs.Merging.{IsMerging, IsReady, to_take}
 use Rattle.tw_fossils.proofs.merging.merge.Given as goal
 
-abbrev pub invariant-loop-column : goal.invariant-loop-column
-invariant-loop-column l = l.trace.items ≡ before l.line (joined (take l.column-index l.columns))
+abbrev pub invariant-loop-next : goal.invariant-loop-next
+invariant-loop-next l = record {
+  ready : IsReady l.line (map (λ rs. rs.now) l.left.items) l.heads.times (vec_len l.trace) (vec_capacity l.trace);
+  merging : IsMerging l.line l.columns (map (λ rs. rs.now) l.left.items) l.trace.items;
+}
 
-abbrev pub invariant-loop-record : goal.invariant-loop-record
-invariant-loop-record l = l.trace.items ≡ l.initial.trace.items ++ before l.line (take l.record-index l.record-items)
+abbrev pub decreases-loop-next : goal.decreases-loop-next
+decreases-loop-next l = to_take l.line (map (λ rs. rs.now) l.left.items)

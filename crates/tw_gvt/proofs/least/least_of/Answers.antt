@@ -1,7 +1,8 @@
 use Rattle.std.proofs.Common.{◌≡◌, ◌∙◌, min, ap, map, sym}
 use Rattle.std.proofs.lemmas.List.{take_all}
 use Rattle.tw_theory.specs.Executive.{least_next}
-use Rattle.tw_gvt.proofs.Leasts.{least_more, ord_min-is}
+use Rattle.tw_gvt.proofs.Leasts.{least_more}
+use Rattle.tw_vtime.proofs.Comparing.{ord_min-is}
 use Rattle.tw_gvt.proofs.least.least_of.Goals as goal
 
 pub loop-process-preserved : goal.loop-process-preserved

@@ -1,4 +1,4 @@
-use Rattle.tw_lists.proofs.Loops.{sorted_right}
+use Rattle.tw_theory.proofs.MessageOrder.{sorted_right}
 use Rattle.tw_theory.specs.Contents.{consumed_by}
 use Rattle.std.proofs.Common.{◌∙◌}
 use Rattle.tw_inspect.proofs.Parts.{both_of_all, described}

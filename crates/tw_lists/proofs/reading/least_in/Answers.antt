@@ -1,15 +1,14 @@
-use Rattle.std.proofs.Common.{◌≡◌, ◌+◌, ◌≤◌, drop, map, min, length, Option, Some, None, IfSome, ap, sym, subst, ◌∙◌, arith, drop_of_length-le}
+use Rattle.std.proofs.Common.{◌≡◌, ◌+◌, ◌≤◌, drop, map, min, length, None, IfSome, ap, sym, subst, ◌∙◌, arith, drop_of_length-le}
+use Rattle.std.proofs.lemmas.Option.{same_Some}
 use Rattle.tw_pool.specs.Lists.{list_at, first_of, IsLive}
+use Rattle.tw_vtime.proofs.Comparing.{ord_min-is}
 use Rattle.tw_theory.specs.Bundles.{least_stamp}
 use Rattle.tw_lists.specs.Lists.{item_at}
 use Rattle.tw_lists.proofs.Finding.{find_step, ended_first}
 use Rattle.tw_lists.proofs.Owing.{ended_owed}
-use Rattle.tw_lists.proofs.Walks.{least_more, least_end, least_top, ord_min-is}
+use Rattle.tw_lists.proofs.Walks.{least_more, least_end, least_top}
 use Rattle.tw_lists.proofs.reading.least_in.Goals.{in-Some, in_default}
 use Rattle.tw_lists.proofs.reading.least_in.Goals as goal
-
-same_item : {T : Type 0} (x y : T) (o : Option T) → o ≡ Some x → o ≡ Some y → y ≡ x
-same_item x y o is also = let both = sym is ∙ also in cc
 
 pub loop-init : goal.loop-init
 loop-init c = record {
@@ -27,7 +26,7 @@ loop-preserved c =
     elim c.match-at.branch [
       | in-Some w ↦
           let at = find_step lists c.args.list k w.in-Some.index c.lists_law.ensures.distinct (omega (arith, c.requires, c.lists_law.ensures.count)) (sym w.in-Some.is ∙ c.loop.invariant.at_is) in
-          let item = same_item at.item w.get.result.now _ at.got w.get.ensures in
+          let item = same_Some w.get.result.now at.item (sym w.get.ensures ∙ at.got) in
           record {
             at_is = w.at-is ∙ w.next-at.ensures.value ∙ at.next;
             all = least_more l k (w.in-Some.index, at.item) at.behind c.loop.least _ _ (w.least-is ∙ w.min-least.ensures ∙ ord_min-is c.loop.least w.get.result.now.message.stamp ∙ ap (λ x. min c.loop.least x.message.stamp) item) at.dropped at.behind_is c.loop.invariant.all;

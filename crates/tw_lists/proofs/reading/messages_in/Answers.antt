@@ -1,4 +1,5 @@
-use Rattle.std.proofs.Common.{◌≡◌, ◌+◌, ◌++◌, drop, map, Option, Some, None, IfSome, ap, sym, subst, ◌∙◌, arith}
+use Rattle.std.proofs.Common.{◌≡◌, ◌+◌, ◌++◌, drop, map, None, IfSome, ap, sym, subst, ◌∙◌, arith}
+use Rattle.std.proofs.lemmas.Option.{same_Some}
 use Rattle.tw_pool.specs.Lists.{list_at, first_of, IsLive}
 use Rattle.tw_lists.specs.Lists.{message_at}
 use Rattle.tw_lists.proofs.Finding.{find_step, ended_first}
@@ -6,9 +7,6 @@ use Rattle.tw_lists.proofs.Owing.{ended_owed}
 use Rattle.tw_lists.proofs.Walks.{read_more, read_end}
 use Rattle.tw_lists.proofs.reading.messages_in.Goals.{in-Some+in_ok-push, in_default}
 use Rattle.tw_lists.proofs.reading.messages_in.Goals as goal
-
-same_item : {T : Type 0} (x y : T) (o : Option T) → o ≡ Some x → o ≡ Some y → y ≡ x
-same_item x y o is also = let both = sym is ∙ also in cc
 
 pub loop-preserved : goal.loop-preserved
 loop-preserved c =
@@ -18,7 +16,7 @@ loop-preserved c =
     elim c.match-at.branch [
       | in-Some+in_ok-push w ↦
           let at = find_step lists c.args.list k w.in-Some.index c.lists_law.ensures.distinct (omega (arith, c.requires, c.lists_law.ensures.count)) (sym w.in-Some.is ∙ c.loop.invariant.at_is) in
-          let item = same_item at.item w.get.result.now _ at.got w.get.ensures in
+          let item = same_Some w.get.result.now at.item (sym w.get.ensures ∙ at.got) in
           record {
             at_is = w.at-is ∙ w.next-at.ensures.value ∙ at.next;
             all = ap (λ v. v ++ map message_at (drop (k + 1) l)) (ap (λ v. v.items) w.messages-is ∙ w.in_ok-push.ensures.items)

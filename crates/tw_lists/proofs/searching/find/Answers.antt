@@ -1,4 +1,5 @@
-use Rattle.std.proofs.Common.{◌≡◌, drop, Option, Some, None, IfSome, ap, sym, subst, ◌∙◌, arith}
+use Rattle.std.proofs.Common.{◌≡◌, drop, None, IfSome, ap, sym, subst, ◌∙◌, arith}
+use Rattle.std.proofs.lemmas.Option.{same_Some}
 use Rattle.tw_msgs.specs.Messages.{same_message}
 use Rattle.tw_msgs.proofs.Messages.{same_fields-is}
 use Rattle.tw_pool.specs.Lists.{list_at, first_of, IsLive}
@@ -6,14 +7,11 @@ use Rattle.tw_lists.proofs.Finding.{find_step, found_here, found_later, ended, e
 use Rattle.tw_lists.proofs.searching.find.Goals.{in-Some+else-eq, in_default}
 use Rattle.tw_lists.proofs.searching.find.Goals as goal
 
-same_item : {T : Type 0} (x y : T) (o : Option T) → o ≡ Some x → o ≡ Some y → x ≡ y
-same_item x y o is also = let both = sym is ∙ also in cc
-
 pub returns-then-eq : goal.returns-then-eq
 returns-then-eq c =
     let lists = c.args.pool.now.lists in
     let at = find_step lists c.args.list c.loop.counter c.in-Some.index c.lists_law.ensures.distinct (omega (arith, c.requires, c.lists_law.ensures.count)) (sym c.in-Some.is ∙ c.loop.invariant.at_is) in
-    let item = same_item at.item c.get.result.now _ at.got c.get.ensures in
+    let item = same_Some at.item c.get.result.now (sym at.got ∙ c.get.ensures) in
     let same : same_message c.args.message.now at.item.message ≡ c.eq.result = ap (λ x. same_message c.args.message.now x.message) item ∙ sym (c.eq.ensures ∙ same_fields-is c.get.result.now.message c.args.message.now) in
     sym (c.loop.invariant.still ∙ found_here c.args.message.now lists c.args.list c.loop.counter c.in-Some.index at (same ∙ c.if-eq.true))
 
@@ -25,7 +23,7 @@ loop-preserved c =
     elim c.match-at.branch [
       | in-Some+else-eq w ↦
           let at = find_step lists c.args.list k w.in-Some.index c.lists_law.ensures.distinct (omega (arith, c.requires, c.lists_law.ensures.count)) (sym w.in-Some.is ∙ c.loop.invariant.at_is) in
-          let item = same_item at.item w.get.result.now _ at.got w.get.ensures in
+          let item = same_Some at.item w.get.result.now (sym at.got ∙ w.get.ensures) in
           let same : same_message c.args.message.now at.item.message ≡ w.eq.result = ap (λ x. same_message c.args.message.now x.message) item ∙ sym (w.eq.ensures ∙ same_fields-is w.get.result.now.message c.args.message.now) in
           record {
             at_is = w.at-is ∙ w.next-at.ensures.value ∙ at.next;

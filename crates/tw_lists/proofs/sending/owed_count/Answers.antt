@@ -1,4 +1,5 @@
-use Rattle.std.proofs.Common.{◌≡◌, drop, map, Option, Some, None, IfSome, ap, sym, subst, ◌∙◌, arith}
+use Rattle.std.proofs.Common.{◌≡◌, drop, map, None, IfSome, ap, sym, subst, ◌∙◌, arith}
+use Rattle.std.proofs.lemmas.Option.{same_Some}
 use Rattle.tw_msgs.specs.Messages.{same_message}
 use Rattle.tw_msgs.specs.Counting.{total, one_at}
 use Rattle.tw_msgs.proofs.Messages.{same_fields-is}
@@ -9,9 +10,6 @@ use Rattle.tw_lists.proofs.Owing.{count_step, ended_owed}
 use Rattle.tw_lists.proofs.sending.owed_count.Goals.{in-Some, in_default}
 use Rattle.tw_lists.proofs.sending.owed_count.Goals as goal
 
-same_item : {T : Type 0} (x y : T) (o : Option T) → o ≡ Some x → o ≡ Some y → x ≡ y
-same_item x y o is also = let both = sym is ∙ also in cc
-
 pub loop-preserved : goal.loop-preserved
 loop-preserved c =
     let lists = c.args.pool.now.lists in
@@ -21,7 +19,7 @@ loop-preserved c =
     elim c.match-at.branch [
       | in-Some w ↦
           let at = find_step lists 5 k w.in-Some.index c.lists_law.ensures.distinct (omega (arith, c.lists_law.ensures.count)) (sym w.in-Some.is ∙ c.loop.invariant.at_is) in
-          let item = same_item at.item w.get.result.now _ at.got w.get.ensures in
+          let item = same_Some at.item w.get.result.now (sym at.got ∙ w.get.ensures) in
           let same : same_message m at.item.message ≡ w.eq.result = ap (λ x. same_message m x.message) item ∙ sym (w.eq.ensures ∙ same_fields-is w.get.result.now.message m) in
           let one = count_step m l k w.in-Some.index at.item at.behind at.dropped at.behind_is w.eq.result same in
           record {

@@ -1,4 +1,4 @@
-use Rattle.std.proofs.Common.{◌≡◌, ◌+◌, ◌++◌, take}
+use Rattle.std.proofs.Common.{◌≡◌, ◌++◌, take}
 use Rattle.tw_msgs.proofs.words.append_few.Given as goal
 
 abbrev pub invariant-loop-number : goal.invariant-loop-number

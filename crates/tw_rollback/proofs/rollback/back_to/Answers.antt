@@ -1,7 +1,9 @@
 use Rattle.std.proofs.Common.{◌≡◌, ◌+◌, length, ap, sym, subst, ◌∙◌, arith, List, [], ℕ}
 use Rattle.tw_process.specs.Process.{with_cut}
 use Rattle.tw_theory.specs.Contents.{steps_from}
-use Rattle.tw_rollback.proofs.Cutting.{OneBack, one_back, cut_done, before_later, no_history, is_less, is_not_less}
+use Rattle.std.proofs.lemmas.Map.Keys.{ge_from_not_lt}
+use Rattle.tw_vtime.proofs.Comparing.{lt_from_is_lt}
+use Rattle.tw_rollback.proofs.Cutting.{OneBack, one_back, cut_done, before_later, no_history}
 use Rattle.tw_process.specs.Process.{Held}
 use Rattle.tw_theory.specs.LocalRun.{Step}
 use Rattle.tw_theory.specs.Soundness.{AllBefore}
@@ -10,7 +12,7 @@ use Rattle.tw_rollback.proofs.rollback.back_to.Goals.{After-undo_last, After-his
 use Rattle.tw_rollback.proofs.rollback.back_to.Goals as goal
 
 back : (g : Over) (c : After-undo_last g) → OneBack c.args.stamp c.loop-last.process.process
-back g c = one_back c.args.stamp c.in-Some.last c.loop-last.process.process (sym c.in-Some.ensures.value) (is_not_less c.in-Some.last c.args.stamp (sym c.lt.ensures ∙ c.if-lt.false))
+back g c = one_back c.args.stamp c.in-Some.last c.loop-last.process.process (sym c.in-Some.ensures.value) (ge_from_not_lt c.in-Some.last c.args.stamp (sym c.lt.ensures ∙ c.if-lt.false))
 
 pub loop-last-preserved : goal.loop-last-preserved
 loop-last-preserved g c =
@@ -39,7 +41,7 @@ none_before s steps is = subst (λ l. AllBefore s l) (sym is) tt
 before : (g : Over) (c : After-history_len g) → AllBefore c.args.stamp c.loop-last.process.process.history
 before g c =
     elim c.match-last_stamp.branch [
-      | in-Some+then-lt w ↦ before_later (w.in-Some.last + 1) c.args.stamp c.loop-last.process.process.history (let less = is_less w.in-Some.last c.args.stamp (sym w.lt.ensures ∙ w.if-lt.true) in omega (arith, less)) w.in-Some.ensures.latest
+      | in-Some+then-lt w ↦ before_later (w.in-Some.last + 1) c.args.stamp c.loop-last.process.process.history (let less = lt_from_is_lt w.in-Some.last c.args.stamp (sym w.lt.ensures ∙ w.if-lt.true) in omega (arith, less)) w.in-Some.ensures.latest
       | in_default w ↦ none_before c.args.stamp c.loop-last.process.process.history (no_history c.loop-last.process.process.history (sym w.in_default.ensures.value))
     ]
 

@@ -3,7 +3,8 @@ use Rattle.tw_msgs.specs.Messages.{has}
 use Rattle.tw_theory.specs.Contents.{removed, cut, steps_from, consumed_by, receive_anti, with_waiting, Annihilated as annihilated}
 use Rattle.tw_theory.specs.Memory.{need_of_received}
 use Rattle.tw_process.specs.Process.{with_spare, with_removed, with_noted, with_cut}
-use Rattle.tw_rollback.proofs.Receiving.{removed_same, anti_consumed, anti_waits, anti_needs, limit_refused, limit_given, on_err_always}
+use Rattle.tw_process.proofs.Outcomes.{on_err_always}
+use Rattle.tw_rollback.proofs.Receiving.{removed_same, anti_consumed, anti_waits, anti_needs, limit_refused, limit_given}
 use Rattle.tw_rollback.proofs.rollback.receive_anti.Given.{Over}
 use Rattle.tw_rollback.proofs.rollback.receive_anti.Goals.{Else-withdraw}
 use Rattle.tw_rollback.proofs.rollback.receive_anti.Goals as goal

@@ -3,8 +3,9 @@ use Rattle.tw_msgs.specs.Messages.{has}
 use Rattle.tw_theory.specs.Contents.{placed, cut, steps_from, receive_message, Straggler as straggler}
 use Rattle.tw_theory.specs.Memory.{need_of_received}
 use Rattle.tw_process.specs.Process.{with_spare, with_placed, with_cut, CanCome}
-use Rattle.tw_rollback.proofs.Cutting.{floor_low, cut_before}
-use Rattle.tw_rollback.proofs.Receiving.{cleared_same, message_straggles, message_placed, message_needs, limit_refused, limit_given, cut_none, on_err_always}
+use Rattle.tw_theory.proofs.Histories.{floor_within, cut_before}
+use Rattle.tw_process.proofs.Outcomes.{on_err_always}
+use Rattle.tw_rollback.proofs.Receiving.{cleared_same, message_straggles, message_placed, message_needs, limit_refused, limit_given, cut_none}
 use Rattle.tw_rollback.proofs.rollback.receive_message.Given.{Over}
 use Rattle.tw_rollback.proofs.rollback.receive_message.Goals.{Else-clear_orphan, After-back_to-overtaken}
 use Rattle.tw_rollback.proofs.rollback.receive_message.Goals as goal
@@ -31,7 +32,7 @@ put_reserved-requires-clause-come g c =
     c.back_to-overtaken.ensures.cut ∙ ap (with_cut m.stamp) (c.reserve.ensures.contents ∙ ap (with_spare r.spare) (c.clear_orphan.ensures.contents ∙ ap (with_spare q.spare) (cleared_same p m none))) in
     subst (λ b. CanCome b m) (sym is) (record {
       fits = c.requires.fits;
-      after = floor_low p.floor m.stamp (cut m.stamp p.process).history c.requires.after (cut_before m.stamp p.process);
+      after = floor_within p.floor m.stamp (cut m.stamp p.process).history c.requires.after (cut_before m.stamp p.process);
     })
 
 pub returns-then-overtaken-eq0-clause-received : goal.returns-then-overtaken-eq0-clause-received

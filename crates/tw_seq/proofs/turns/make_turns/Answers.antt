@@ -1,7 +1,7 @@
 -- One component after another.
 use Rattle.std.proofs.Common.{◌≡◌, ◌+◌, ◌<◌, ◌∙◌, ◌++◌, ◌∷◌, [], refl, ap, sym, subst, arith, length, take, drop, slice_set, slice_index, slice_index_or, Some, append-nil, replicate}
 use Rattle.std.specs.List.{AllByRecursion as Each}
-use Rattle.std.proofs.lemmas.List.{take_all, set-get_or}
+use Rattle.std.proofs.lemmas.List.{take_all, drop_all, set-get_or}
 use Rattle.std.proofs.lemmas.Option.{slice_get-get_or, slice_get_within}
 use Rattle.tw_atomic.specs.Atomic.{FitsBag}
 use Rattle.tw_msgs.specs.declared.record.Record.{Record}
@@ -11,7 +11,7 @@ use Rattle.tw_seq.specs.Receiving.{Receives}
 use Rattle.tw_seq.specs.Turning.{Part, CanGoOn, part_of, turns_with}
 use Rattle.tw_theory.specs.Simulator.{turn_records, turned_moments, first_stop}
 use Rattle.tw_seq.proofs.Dues.{dues_set}
-use Rattle.tw_seq.proofs.Places.{drop_all, each_at, all_written}
+use Rattle.tw_seq.proofs.Places.{each_at, all_written}
 use Rattle.tw_seq.proofs.Received.{received_more}
 use Rattle.tw_seq.proofs.RoundOutputs.{transition_of}
 use Rattle.tw_seq.proofs.Sweeping.{onward, onward_more}
@@ -178,7 +178,7 @@ returns-clause-stop g c =
     let old = c.args.moments.now in
     let n = length old in
     let bags0 = c.as_mut_slice-bags.result.now in
-    sym (ap (λ ms. first_stop n (turns_with net c.args.time n ms (drop n bags0))) (drop_all old n (omega arith)))
+    sym (ap (λ ms. first_stop n (turns_with net c.args.time n ms (drop n bags0))) (drop_all n old (omega arith)))
     ∙ (final g (goal.at.returns-clause-stop g c).After-loop-component).stop
     ∙ ap (λ bs. first_stop 0 (turns_with net c.args.time 0 old bs)) c.as_mut_slice-bags.ensures.value
 
@@ -191,7 +191,7 @@ returns-clause-received g c none =
     let told = c.loop-component.invariant.told in
     subst (λ rs. Receives g.R.Receiver.takes c.args.receiver.now rs c.loop-component.receiver)
     (sym (append-nil told)
-    ∙ sym (ap (λ ms. told ++ turn_records (turns_with net c.args.time n ms (drop n bags0))) (drop_all old n (omega arith)))
+    ∙ sym (ap (λ ms. told ++ turn_records (turns_with net c.args.time n ms (drop n bags0))) (drop_all n old (omega arith)))
     ∙ (final g (goal.at.returns-clause-received g c).After-loop-component).recorded
     ∙ ap (λ bs. turn_records (turns_with net c.args.time 0 old bs)) c.as_mut_slice-bags.ensures.value)
     c.loop-component.invariant.received
@@ -206,7 +206,7 @@ returns-clause-moments g c _ =
     let size = c.loop-component.auto.moments in
     sym (append-nil moments)
     ∙ ap (λ ms. ms ++ []) (sym (take_all n moments (omega (arith, size))))
-    ∙ sym (ap (λ ms. take n moments ++ turned_moments ms (turns_with net c.args.time n ms (drop n bags0))) (drop_all old n (omega arith)))
+    ∙ sym (ap (λ ms. take n moments ++ turned_moments ms (turns_with net c.args.time n ms (drop n bags0))) (drop_all n old (omega arith)))
     ∙ (final g (goal.at.returns-clause-moments g c).After-loop-component).moved
     ∙ ap (λ bs. turned_moments old (turns_with net c.args.time 0 old bs)) c.as_mut_slice-bags.ensures.value
 

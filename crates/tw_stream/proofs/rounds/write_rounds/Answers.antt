@@ -1,16 +1,17 @@
 -- Round by round.
-use Rattle.std.proofs.Common.{◌≡◌, ◌++◌, ◌∙◌, ◌≤◌, List, [], refl, sym, ap, subst, append_assoc}
+use Rattle.std.proofs.Common.{◌≡◌, ◌++◌, ◌∙◌, List, [], sym, ap, subst, append_assoc}
 use Rattle.std.proofs.lemmas.Result.{on_ok_weaker, IfErr-weaker}
 use Rattle.tw_msgs.specs.declared.record.Record.{Record}
 use Rattle.tw_network.specs.Contents.{network_of}
 use Rattle.tw_seq.specs.Stepping.{IsStep}
 use Rattle.tw_seq.proofs.Parted.{part_begins}
+use Rattle.tw_texts.proofs.Portions.{appends_nothing, nothing_yet}
 use Rattle.tw_texts.specs.Texts.{trace_text}
 use Rattle.tw_texts.specs.Traces.{AppendsBeginning}
 use Rattle.tw_texts.specs.declared.traces.NotWritten.{NotWritten}
 use Rattle.tw_texts.specs.declared.traces.NotWritten.TheVariants.{OutOfMemory, WriteFailed}
 use Rattle.tw_theory.specs.Simulator.{sequential}
-use Rattle.tw_stream.proofs.Streamed.{text_more, nothing_yet, appends_nothing, gathered, moves_more, moved_begins, moved_whole}
+use Rattle.tw_stream.proofs.Streamed.{text_more, gathered, moves_more, moved_begins, moved_whole}
 use Rattle.tw_stream.proofs.rounds.write_rounds.Goals as goal
 use Rattle.tw_stream.proofs.rounds.write_rounds.Goals.{After-advance_telling}
 

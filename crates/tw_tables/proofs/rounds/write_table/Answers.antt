@@ -6,9 +6,10 @@ use Rattle.tw_network.specs.Contents.{network_of}
 use Rattle.tw_seq.specs.Stepping.{IsStep}
 use Rattle.tw_seq.proofs.Parted.{part_begins}
 use Rattle.tw_tables.specs.Tables.{head_text, rows_text, table_text}
+use Rattle.tw_texts.proofs.Portions.{appends_nothing}
 use Rattle.tw_texts.specs.Traces.{AppendsBeginning, MovesBytes}
 use Rattle.tw_theory.specs.Simulator.{sequential}
-use Rattle.tw_tables.proofs.Written.{appends_nothing, gathered, moved_begins, moved_whole, moves_on, rows_more, table_more}
+use Rattle.tw_tables.proofs.Written.{gathered, moved_begins, moved_whole, moves_on, rows_more, table_more}
 use Rattle.tw_tables.proofs.rounds.write_table.Goals as goal
 use Rattle.tw_tables.proofs.rounds.write_table.Goals.{After-advance_telling}
 

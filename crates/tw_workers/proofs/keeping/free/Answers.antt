@@ -1,7 +1,7 @@
 use Rattle.std.proofs.Common.{arith, sym, ap, subst, ◌∙◌}
-use Rattle.std.proofs.lemmas.List.{length-map}
+use Rattle.std.proofs.lemmas.List.{length-map, set_past}
 use Rattle.tw_workers.specs.Exchanged.{IsExact, busy_in, is_out}
-use Rattle.tw_workers.proofs.Following.{busy_past, busy_put, exact_put, exact_without, not_past}
+use Rattle.tw_workers.proofs.Following.{busy_put, exact_put, exact_without, not_past}
 use Rattle.tw_workers.proofs.keeping.free.Goals as goal
 
 pub returns-then-component-len-clause-exact : goal.returns-then-component-len-clause-exact
@@ -19,4 +19,4 @@ returns-else-component-len-clause-exact g c =
 
 pub returns-else-component-len-clause-free : goal.returns-else-component-len-clause-free
 returns-else-component-len-clause-free g c =
-    sym (busy_past (busy_in c.args.agenda.now) c.args.component _ (omega (arith, c.if-component-len.false, c.len.ensures, length-map c.args.agenda.now is_out)))
+    sym (set_past (busy_in c.args.agenda.now) c.args.component _ (omega (arith, c.if-component-len.false, c.len.ensures, length-map c.args.agenda.now is_out)))

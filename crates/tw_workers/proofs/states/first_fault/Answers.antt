@@ -1,6 +1,6 @@
 use Rattle.std.proofs.Common.{◌≡◌, ◌+◌, suc, Some, None, ap, sym, ◌∙◌, arith, length}
 use Rattle.std.specs.Prelude.{slice_get}
-use Rattle.tw_laws.proofs.Passes.{present}
+use Rattle.tw_theory.proofs.Elements.{present}
 use Rattle.tw_theory.specs.Outcomes.{Fault}
 use Rattle.tw_workers.proofs.Drawing.{if_there}
 use Rattle.tw_workers.proofs.PassByPass.{process_count}

@@ -1,4 +1,4 @@
-use Rattle.std.proofs.Common.{◌≡◌, ◌∷◌, length, ap, subst, refl, arith}
+use Rattle.std.proofs.Common.{◌≡◌, ◌∷◌, length, ap, subst, sym, refl, arith}
 use Rattle.std.proofs.lemmas.Result.{err_from_is_err_and}
 use Rattle.tw_atomic.specs.Atomic.{Meaning}
 use Rattle.tw_exec.specs.Running.{Running}
@@ -6,14 +6,14 @@ use Rattle.tw_network.specs.Contents.{network_of}
 use Rattle.tw_theory.specs.Exchange.{harvests}
 use Rattle.tw_theory.specs.Executive.{Raise}
 use Rattle.tw_workers.proofs.Following.{acts_on_none}
-use Rattle.tw_workers.proofs.Marking.{as_long}
+use Rattle.tw_workers.proofs.Looking.{kept_looks, raise_looks}
 use Rattle.tw_workers.proofs.Refusing.{raise_taken}
 use Rattle.tw_workers.proofs.PassByPass.{process_count}
-use Rattle.tw_workers.proofs.UnderWay.{begun, cut, cut_rest, cut_within, done_of, done_rest, joined, same_network, stepped}
-use Rattle.tw_workers.specs.Queues.{IsAsLong}
+use Rattle.tw_workers.proofs.UnderWay.{begun, cut, cut_rest, cut_within, done_rest, joined, same_network, stepped}
+use Rattle.tw_workers.specs.Queues.{IsKept, LooksSame}
 use Rattle.tw_workers.specs.Sweeping.{IsUnderWay, passes_of, replayed, sweep_of}
 use Rattle.tw_workers.proofs.sweeping.sweep_all.Given.{Over}
-use Rattle.tw_workers.proofs.sweeping.sweep_all.Goals.{After-settle_all, In_ok-take}
+use Rattle.tw_workers.proofs.sweeping.sweep_all.Goals.{In_ok-take}
 use Rattle.tw_workers.proofs.sweeping.sweep_all.Goals as goal
 
 pub returns-in_err-settle_all-clause-cut_short : goal.returns-in_err-settle_all-clause-cut_short
@@ -62,22 +62,21 @@ returns-in_err-harvest_all-clause-cut_short g c =
 pub returns-clause-swept : goal.returns-clause-swept
 returns-clause-swept g c = done_rest g.M.Atomic.meaning (harvests 0 (length c.take.new.executive.world.processes)) (raised g (goal.at.returns-clause-swept g c).In_ok-take) c.in_ok-harvest_all.ensures.done
 
--- as many components as before
-counts : (g : Over) (c : After-settle_all g) → IsAsLong c.args.queues.now c.settle_all.new.queues
-counts g c =
+-- once it is raised the queues see the same
+raised_kept : (g : Over) (c : In_ok-take g) → IsKept c.settle_all.new.queues c.take.new.executive.world
+raised_kept g c =
     let m = g.M.Atomic.meaning in
-    let e = c.args.executive.now in
-    let done = done_of m (passes_of m e) e c.settle_all.new.executive c.settle_all.result c.settle_all.ensures.settled c.settle_all.ensures.cut_short in
-    as_long m done.0 e c.settle_all.new.executive c.args.queues.now c.settle_all.new.queues c.facts.ensures done.1 c.requires c.settle_all.ensures.kept
+    let now = c.settle_all.new.executive in
+    let looks = subst (λ x. LooksSame now.world x.world) (sym c.in_ok-take.ensures.done) (raise_looks (network_of m now.network) now.until now.world) in
+    kept_looks c.settle_all.new.queues now.world c.take.new.executive.world c.settle_all.ensures.kept looks
 
-pub returns-in_err-settle_all-clause-counts : goal.returns-in_err-settle_all-clause-counts
-returns-in_err-settle_all-clause-counts g c = counts g (goal.at.returns-in_err-settle_all-clause-counts g c).After-settle_all
+pub returns-in_err-take-clause-kept : goal.returns-in_err-take-clause-kept
+returns-in_err-take-clause-kept g c = subst (λ x. IsKept c.settle_all.new.queues x.world) (sym c.in_err-take.ensures.stays) c.settle_all.ensures.kept
 
-pub returns-in_err-take-clause-counts : goal.returns-in_err-take-clause-counts
-returns-in_err-take-clause-counts g c = counts g (goal.at.returns-in_err-take-clause-counts g c).After-settle_all
+pub returns-in_err-harvest_all-clause-kept : goal.returns-in_err-harvest_all-clause-kept
+returns-in_err-harvest_all-clause-kept g c =
+    kept_looks c.settle_all.new.queues c.take.new.executive.world c.harvest_all.new.executive.world (raised_kept g (goal.at.returns-in_err-harvest_all-clause-kept g c).In_ok-take) c.harvest_all.ensures.looks
 
-pub returns-in_err-harvest_all-clause-counts : goal.returns-in_err-harvest_all-clause-counts
-returns-in_err-harvest_all-clause-counts g c = counts g (goal.at.returns-in_err-harvest_all-clause-counts g c).After-settle_all
-
-pub returns-clause-counts : goal.returns-clause-counts
-returns-clause-counts g c = counts g (goal.at.returns-clause-counts g c).After-settle_all
+pub returns-clause-kept : goal.returns-clause-kept
+returns-clause-kept g c =
+    kept_looks c.settle_all.new.queues c.take.new.executive.world c.harvest_all.new.executive.world (raised_kept g (goal.at.returns-clause-kept g c).In_ok-take) c.harvest_all.ensures.looks

@@ -4,7 +4,8 @@ use Rattle.std.specs.Prelude.{slice_set, Ok}
 use Rattle.std.proofs.lemmas.Option.{slice_get_read}
 use Rattle.tw_exec.specs.Running.{answer, after}
 use Rattle.tw_exec.proofs.Acts.{back_early, back_none}
-use Rattle.tw_exec.proofs.Comparing.{lt, not_lt}
+use Rattle.std.proofs.lemmas.Map.Keys.{ge_from_not_lt}
+use Rattle.tw_vtime.proofs.Comparing.{lt_from_is_lt}
 use Rattle.tw_exec.proofs.Kept.{IsActed, back_acted}
 use Rattle.tw_theory.specs.Executive.{Back, Undone}
 use Rattle.tw_exec.proofs.Exactly.{exact_known, exact_taken}
@@ -22,14 +23,14 @@ returns-then-component-len-clause-refused g c =
 pub returns-then-lt-clause-refused : goal.returns-then-lt-clause-refused
 returns-then-lt-clause-refused g c =
     ap (λ e. answer g.M.Atomic.meaning (Back c.args.component c.args.stamp) e) (sym c.self.view_is)
-    ∙ ap (λ x. x.0) (back_early g.M.Atomic.meaning (arc_value c.self.inside.network) c.self.inside.until c.self.inside.gvt c.self.inside.processes.items c.self.inside.mail.boxes c.self.inside.columns.items c.args.component c.args.stamp (omega (arith, c.if-component-len.false, c.len.ensures, c.self.inside.processes.ok.0)) (lt c.args.stamp c.self.inside.gvt (sym c.if-lt.ensures)))
+    ∙ ap (λ x. x.0) (back_early g.M.Atomic.meaning (arc_value c.self.inside.network) c.self.inside.until c.self.inside.gvt c.self.inside.processes.items c.self.inside.mail.boxes c.self.inside.columns.items c.args.component c.args.stamp (omega (arith, c.if-component-len.false, c.len.ensures, c.self.inside.processes.ok.0)) (lt_from_is_lt c.args.stamp c.self.inside.gvt (sym c.if-lt.ensures)))
 
 acted : (g : Over) (c : goal.After-self-1 g) → IsActed g.M.Atomic.meaning (arc_value c.self.inside.network) c.self.inside.until c.self.inside.end c.self.inside.gvt c.self.inside.gvt c.self.inside.processes.items (slice_set c.self.inside.processes.items c.args.component c.back_to-undone.new.process) c.self.inside.mail.boxes c.self.inside.mail.boxes c.self.inside.columns.items c.self.inside.columns.items (Back c.args.component c.args.stamp) (Ok (Undone c.back_to-undone.result))
 acted g c =
     let ps = c.self.inside.processes in
     let old = c.index_mut.result.now in
     let at = slice_get_read ps.items _ c.args.component old ps.ok.0 (omega (arith, c.if-component-len.false, c.len.ensures, c.self.inside.processes.ok.0)) c.index_mut.ensures.value in
-    let done = back_acted c.self.invariant.0 c.args.component c.args.stamp old c.back_to-undone.new.process at (not_lt c.args.stamp c.self.inside.gvt (sym c.if-lt.ensures)) c.back_to-undone.ensures.cut in
+    let done = back_acted c.self.invariant.0 c.args.component c.args.stamp old c.back_to-undone.new.process at (ge_from_not_lt c.args.stamp c.self.inside.gvt (sym c.if-lt.ensures)) c.back_to-undone.ensures.cut in
     subst (λ k. IsActed g.M.Atomic.meaning (arc_value c.self.inside.network) c.self.inside.until c.self.inside.end c.self.inside.gvt c.self.inside.gvt c.self.inside.processes.items (slice_set c.self.inside.processes.items c.args.component c.back_to-undone.new.process) c.self.inside.mail.boxes c.self.inside.mail.boxes c.self.inside.columns.items c.self.inside.columns.items (Back c.args.component c.args.stamp) (Ok (Undone k))) (sym c.back_to-undone.ensures.count) done
 
 pub invariant_of-self : goal.invariant_of-self

@@ -5,9 +5,10 @@ use Rattle.std.proofs.lemmas.Option.{slice_get_read}
 use Rattle.tw_exec.specs.Running.{IsHeld, shown}
 use Rattle.tw_exec.proofs.Installs.{installed_held, is_home, steps_made}
 use Rattle.tw_exec.proofs.Kept.{as_many_columns, columns_of_models}
-use Rattle.tw_exec.proofs.Worlds.{process_at, there}
+use Rattle.tw_exec.proofs.Worlds.{process_at}
 use Rattle.tw_laws.specs.Chains.{steps_of_one}
 use Rattle.tw_network.specs.Contents.{network_of}
+use Rattle.tw_theory.proofs.Elements.{present}
 use Rattle.tw_theory.specs.Chains.{IsHome}
 use Rattle.tw_theory.specs.Executive.{replay}
 use Rattle.tw_theory.specs.Installing.{IsInstalled}
@@ -42,7 +43,7 @@ home g c =
     let n = arc_value c.self.inside.network in
     let h = c.self.invariant.0 in
     let view = ap (λ e. e.network) c.self.view_is in
-    let m = there n.models c.args.component (omega (arith, c.if-component-len.false, c.len.ensures, c.self.inside.processes.ok.0, as_many_columns h, columns_of_models h)) in
+    let m = present n.models c.args.component (omega (arith, c.if-component-len.false, c.len.ensures, c.self.inside.processes.ok.0, as_many_columns h, columns_of_models h)) in
     is_home g.M.Atomic.meaning n m.0 (g.M.Atomic.meaning c.args.chain.model) c.args.chain.run.start (ap (slice_get n.models) c.requires.component ∙ m.1)
     (c.requires.alike m.0 (ap (λ x. slice_get x.models c.args.component) (sym view) ∙ m.1)).means
     (c.requires.limit ∙ ap (λ x. x.micro_limit) (sym view))

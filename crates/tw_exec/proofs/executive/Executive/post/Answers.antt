@@ -5,7 +5,7 @@ use Rattle.std.specs.Prelude.{slice_set, Ok, Err}
 use Rattle.std.proofs.lemmas.Option.{slice_get_read}
 use Rattle.std.proofs.lemmas.Result.{err_from_is_err_and}
 use Rattle.tw_exec.specs.Running.{AreExact, answer, after}
-use Rattle.tw_laws.proofs.Swept.{set_same}
+use Rattle.tw_theory.proofs.Elements.{set_same}
 use Rattle.tw_exec.specs.Running.{shown}
 use Rattle.tw_process.proofs.Outcomes.{on_err_always}
 use Rattle.tw_exec.proofs.Acts.{post_none}

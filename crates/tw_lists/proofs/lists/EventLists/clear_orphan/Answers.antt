@@ -3,7 +3,8 @@ use Rattle.tw_msgs.specs.Messages.{has}
 use Rattle.tw_pool.specs.Lists.{list_at}
 use Rattle.tw_lists.specs.Lists.{with_room, without_orphan}
 use Rattle.tw_lists.specs.Nodes.{spare_of}
-use Rattle.tw_lists.proofs.Finding.{has_is, without_absent}
+use Rattle.tw_msgs.proofs.MessageLists.{without_absent}
+use Rattle.tw_lists.proofs.Finding.{has_is}
 use Rattle.tw_lists.proofs.Comings.{Cleared, cleared_kept, found_live}
 use Rattle.tw_lists.proofs.lists.EventLists.clear_orphan.Goals.{After-take}
 use Rattle.tw_lists.proofs.lists.EventLists.clear_orphan.Goals as goal

@@ -3,7 +3,8 @@ use Rattle.tw_msgs.specs.Messages.{has}
 use Rattle.tw_pool.specs.Lists.{list_at}
 use Rattle.tw_lists.specs.Lists.{with_room, without_pending}
 use Rattle.tw_lists.specs.Nodes.{spare_of}
-use Rattle.tw_lists.proofs.Finding.{none_pending, without_absent}
+use Rattle.tw_msgs.proofs.MessageLists.{without_absent}
+use Rattle.tw_lists.proofs.Finding.{none_pending}
 use Rattle.tw_lists.proofs.Comings.{Withdrawn, withdrawn_kept, found_live, pending_entry}
 use Rattle.tw_lists.proofs.lists.EventLists.withdraw.Goals.{After-take}
 use Rattle.tw_lists.proofs.lists.EventLists.withdraw.Goals as goal

@@ -6,8 +6,9 @@ use Rattle.tw_msgs.specs.declared.message.Item.{Item}
 use Rattle.tw_mail.specs.Mail.{Mail, mail}
 use Rattle.tw_theory.specs.Executive.{mail_of, posted}
 use Rattle.tw_theory.proofs.Elements.{each-get}
+use Rattle.tw_theory.proofs.Mail.{length-posted}
 use Rattle.tw_mail.proofs.Changes.{one_more}
-use Rattle.tw_mail.proofs.Boxes.{posted_more, length-posted, pushed_popped, box_of_posted}
+use Rattle.tw_mail.proofs.Boxes.{posted_more, pushed_popped, box_of_posted}
 use Rattle.tw_mail.proofs.mailboxes.Mailboxes.post.Goals as goal
 
 abbrev boxes : Mail → List (List Item)

@@ -20,7 +20,7 @@ use Rattle.tw_process.specs.Installing.{AreNext, WhyNot, after_steps, entries_wi
 use Rattle.tw_process.specs.Process.{Held}
 use Rattle.tw_process.proofs.Finishing.{Whole, whole, not_begun}
 use Rattle.tw_process.proofs.Histories.{kept_at}
-use Rattle.tw_process.proofs.Made.{model_at}
+use Rattle.tw_network.proofs.Places.{model_at}
 use Rattle.tw_process.proofs.process.Process.install.Given.{Over}
 use Rattle.tw_process.proofs.process.Process.install.Goals.{After-push_entries, then-len-eq0, else-len-eq0}
 use Rattle.tw_process.proofs.process.Process.install.Goals as goal

@@ -10,7 +10,8 @@ use Rattle.tw_lists.specs.Lists.{restored}
 use Rattle.tw_process.specs.Process.{Held, with_spare, IsStepped, IsStop}
 use Rattle.tw_process.specs.Refusals.{of_turn}
 use Rattle.tw_process.proofs.Histories.{kept_at}
-use Rattle.tw_lists.proofs.Loops.{BagBack, bag_back, items_length, sorted_right}
+use Rattle.tw_theory.proofs.MessageOrder.{sorted_right}
+use Rattle.tw_lists.proofs.Loops.{BagBack, bag_back, items_length}
 use Rattle.tw_process.proofs.Made.{move_possible, stops}
 use Rattle.tw_process.proofs.Stepped.{Stepped, transition_stepped}
 use Rattle.tw_process.proofs.process.Process.make_transition.Given.{Over}

@@ -1,6 +1,7 @@
 use Rattle.std.proofs.Common.{◌≡◌, ◌≤◌, ap, sym, subst, ◌∙◌, length, refl}
 use Rattle.tw_theory.specs.Contents.{steps_before}
-use Rattle.tw_process.proofs.Commits.{before_shown, before_within}
+use Rattle.tw_theory.proofs.Histories.{before_within}
+use Rattle.tw_process.proofs.Commits.{before_shown}
 use Rattle.tw_process.proofs.process.Process.steps_before.Given.{Over}
 use Rattle.tw_process.proofs.process.Process.steps_before.Goals.{After-entries_before}
 use Rattle.tw_process.proofs.process.Process.steps_before.Goals as goal

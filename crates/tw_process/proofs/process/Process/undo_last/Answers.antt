@@ -1,12 +1,13 @@
 use Rattle.std.proofs.Common.{◌≡◌, ◌<◌, ◌≤◌, [], length, ap, sym, subst, ◌∙◌, rules, arith, append-nil}
 use Rattle.std.specs.Arc.{arc_value}
 use Rattle.std.specs.Prelude.{slice_get}
+use Rattle.std.proofs.lemmas.List.{nil_from_length}
 use Rattle.std.proofs.lemmas.Option.{slice_get_within}
 use Rattle.tw_theory.specs.Transitions.{Moment}
 use Rattle.tw_lists.specs.Lists.{cancelled}
 use Rattle.tw_process.specs.Process.{with_last_undone}
 use Rattle.tw_process.specs.History.{IsKeptBy, seen, shown}
-use Rattle.tw_process.proofs.Histories.{TakenBack, taken_back, shown_some, kept_at, nothing_undone, nil_of_length}
+use Rattle.tw_process.proofs.Histories.{TakenBack, taken_back, shown_some, kept_at, nothing_undone}
 use Rattle.tw_process.proofs.process.Process.undo_last.Given.{Over}
 use Rattle.tw_process.proofs.process.Process.undo_last.Goals.{After-model-model}
 use Rattle.tw_process.proofs.process.Process.undo_last.Goals as goal
@@ -66,7 +67,7 @@ returns-in_default-clause-undone g c =
     let inside = c.self.inside in
     let network = arc_value inside.network in
     let now = c.args.self.now in
-    let none : c.pop_back.new.self.items ≡ [] = nil_of_length c.pop_back.new.self.items (omega (arith, c.in_default.ensures.cases.1, c.pop_back.new.self.ok.0)) in
+    let none : c.pop_back.new.self.items ≡ [] = nil_from_length c.pop_back.new.self.items (omega (arith, c.in_default.ensures.cases.1, c.pop_back.new.self.ok.0)) in
     let same : c.pop_back.new.self.items ≡ inside.history.items = sym (c.in_default.ensures.items ∙ append-nil c.pop_back.new.self.items) in
     let history : now.process.history ≡ [] = sym (ap (λ p. p.process.history) c.self.view_is) ∙ ap (λ h. shown h inside.lists.consumed inside.lists.sent) (sym same ∙ none) in
     (λ i. seen network inside.component inside.moment inside.line inside.cancel inside.floor (same i) inside.lists)

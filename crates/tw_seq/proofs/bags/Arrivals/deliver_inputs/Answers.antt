@@ -2,13 +2,12 @@
 use Rattle.std.proofs.Common.{◌≡◌, ◌+◌, ◌<◌, ◌≤◌, ◌==◌, ◌∷◌, [], true, ap, sym, ◌∙◌, subst, arith, length, drop, true≢false, eq-eqb}
 use Rattle.std.specs.List.{AllByRecursion as Each}
 use Rattle.std.specs.Prelude.{◌≢◌}
-use Rattle.std.proofs.lemmas.List.{get_or_read}
+use Rattle.std.proofs.lemmas.List.{drop_more, get_or_read}
 use Rattle.tw_seq.specs.Dealing.{dealt}
 use Rattle.tw_theory.specs.Bundles.{Ascending, first_stamp}
 use Rattle.tw_theory.specs.Simulator.{with_stamp}
 use Rattle.tw_seq.proofs.Dealt.{dealt-none, length-dealt, input_taken, inputs_all}
 use Rattle.tw_seq.proofs.InputsGiven.{past_taken, later_none, later_all}
-use Rattle.tw_seq.proofs.Places.{drop_next}
 use Rattle.tw_seq.proofs.bags.Arrivals.deliver_inputs.Goals as goal
 use Rattle.tw_seq.proofs.bags.Arrivals.deliver_inputs.Goals.{After-index-inputs-next-in-loop-next, Else-eq}
 
@@ -16,7 +15,7 @@ use Rattle.tw_seq.proofs.bags.Arrivals.deliver_inputs.Goals.{After-index-inputs-
 split : (c : After-index-inputs-next-in-loop-next) → drop c.loop-next.next c.args.inputs.now ≡ c.index-inputs-next-in-loop-next.result ∷ drop (c.loop-next.next + 1) c.args.inputs.now
 split c =
     let m = c.index-inputs-next-in-loop-next.result in
-    drop_next c.args.inputs.now c.loop-next.next m c.loop-next-test.true ∙ ap (λ x. x ∷ drop (c.loop-next.next + 1) c.args.inputs.now) (sym c.index-inputs-next-in-loop-next.is)
+    drop_more c.args.inputs.now c.loop-next.next m c.loop-next-test.true ∙ ap (λ x. x ∷ drop (c.loop-next.next + 1) c.args.inputs.now) (sym c.index-inputs-next-in-loop-next.is)
 
 pub deliver-requires-clause-to : goal.deliver-requires-clause-to
 deliver-requires-clause-to c =
@@ -56,7 +55,7 @@ later c =
     let s = c.args.at in
     let m = c.index-inputs-next.result in
     let is = c.index-inputs-next.is in
-    let parts = drop_next inputs i m l ∙ ap (λ x. x ∷ drop (i + 1) inputs) (sym is) in
+    let parts = drop_more inputs i m l ∙ ap (λ x. x ∷ drop (i + 1) inputs) (sym is) in
     let le = (subst (Each (λ x. s ≤ x.stamp)) parts c.loop-next.invariant.from).0 in
     let ne : m.stamp ≢ s = λ e. true≢false (sym (eq-eqb m.stamp s e) ∙ ap (λ x. x.stamp == s) is ∙ sym c.if-eq.ensures) in
     subst (λ ms. s < first_stamp ms) (sym parts) (omega (arith, le, ne))

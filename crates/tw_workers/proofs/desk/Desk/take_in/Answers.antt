@@ -1,8 +1,8 @@
-use Rattle.tw_workers.proofs.Staying.{stays_standing}
+use Rattle.std.proofs.Common.{◌∙◌, sym}
+use Rattle.tw_workers.proofs.Staying.{installed_going, none_ended}
 use Rattle.tw_workers.proofs.desk.Desk.take_in.Goals as goal
 
 pub invariant_of-self-2 : goal.invariant_of-self-2
-invariant_of-self-2 g c = stays_standing g.M.Atomic.meaning g.H.Given.is_given g.H.Given.is_begun c.args.prepareds c.self.inside.exchange c.finish.new.self c.in-Ok.finished c.self.inside.end c.in-Ok.ensures.installed c.in-Ok.ensures.publisher c.in-Ok.ensures.further c.self.invariant
-
-pub invariant_of-self-then-is_some : goal.invariant_of-self-then-is_some
-invariant_of-self-then-is_some g c = stays_standing g.M.Atomic.meaning g.H.Given.is_given g.H.Given.is_begun c.args.prepareds c.self.inside.exchange c.finish.new.self c.in-Ok.finished c.self.inside.end c.in-Ok.ensures.installed c.in-Ok.ensures.publisher c.in-Ok.ensures.further c.self.invariant
+invariant_of-self-2 g c =
+    let s = installed_going g.M.Atomic.meaning g.H.Given.is_given g.H.Given.is_begun c.args.prepareds c.self.inside.exchange c.finish.new.self c.in-Ok.finished c.in-Ok.ensures.installed c.in-Ok.ensures.publisher c.in-Ok.ensures.further (c.self.invariant.0, c.self.invariant.2) in
+    (s.0, none_ended g.M.Atomic.meaning c.self.inside.end c.finish.new.self (sym c.is_some.ensures ∙ c.if-is_some.false), s.1)

@@ -1,6 +1,6 @@
 use Rattle.std.proofs.Common.{◌≡◌, ◌<◌, ap, ◌∙◌, length, arith}
 use Rattle.std.specs.Prelude.{slice_get, slice_set}
-use Rattle.tw_laws.proofs.Passes.{present}
+use Rattle.tw_theory.proofs.Elements.{present}
 use Rattle.tw_theory.specs.Executive.{mail_of}
 use Rattle.tw_workers.proofs.Drawing.{if_there}
 use Rattle.tw_workers.proofs.Marking.{marked_all, marked_next}
@@ -19,9 +19,9 @@ loop-component-preserved g c =
     let p = present w.processes k few in
     let posting = if_there (λ q. c.note_post.new.self.posting ≡ slice_set c.loop-component.self.posting k (post_mark q)) (slice_get w.processes k) p.0 p.1 c.note_post.ensures.posting in
     record {
-      marks = marked_next w k c.loop-component.self c.note_box.new.self p.0 c.loop-component.invariant.marks p.1 near (c.note_box.ensures.posting ∙ posting)
-          (c.note_box.ensures.delivering ∙ ap (λ l. slice_set l k (box_mark (mail_of w.mail k))) c.note_post.ensures.delivering);
-      free = c.note_box.ensures.free ∙ c.note_post.ensures.free ∙ c.loop-component.invariant.free;
+      marks = marked_next w k c.loop-component.self c.note_standing.new.self p.0 c.loop-component.invariant.marks p.1 near (c.note_standing.ensures.posting ∙ c.note_box.ensures.posting ∙ posting)
+          (c.note_standing.ensures.delivering ∙ c.note_box.ensures.delivering ∙ ap (λ l. slice_set l k (box_mark (mail_of w.mail k))) c.note_post.ensures.delivering);
+      free = c.note_standing.ensures.free ∙ c.note_box.ensures.free ∙ c.note_post.ensures.free ∙ c.loop-component.invariant.free;
     }
 
 pub returns-clause-marked : goal.returns-clause-marked

@@ -5,7 +5,7 @@ use Rattle.std.proofs.lemmas.List.{length-map}
 use Rattle.std.proofs.lemmas.Option.{slice_get-get_or, slice_get-map}
 use Rattle.tw_theory.specs.Executive.{mail_of}
 use Rattle.tw_workers.proofs.Drawing.{if_there}
-use Rattle.tw_laws.proofs.Passes.{present}
+use Rattle.tw_theory.proofs.Elements.{present}
 use Rattle.tw_workers.proofs.PassByPass.{mail_count, process_count}
 use Rattle.tw_workers.proofs.SameBut.{set_same}
 use Rattle.tw_workers.specs.Queues.{box_mark, post_mark}
@@ -38,7 +38,7 @@ returns-clause-marked g c =
     let near : k < length w.mail = omega (arith, c.requires.near, mail_count g.M.Atomic.meaning c.args.executive.now c.facts.ensures) in
     let posting = if_there (λ q. c.note_post.new.self.posting ≡ slice_set c.args.self.now.posting k (post_mark q)) (slice_get w.processes k) p.0 p.1 c.note_post.ensures.posting in
     record {
-      posting = c.note_box.ensures.posting ∙ posting ∙ set_same k (map post_mark w.processes) c.args.self.now.posting (post_mark p.0) c.requires.but.posting (slice_get-map post_mark w.processes k ∙ ap (option_map post_mark) p.1);
-      delivering = c.note_box.ensures.delivering ∙ ap (λ l. slice_set l k (box_mark (mail_of w.mail k))) c.note_post.ensures.delivering
+      posting = c.note_standing.ensures.posting ∙ c.note_box.ensures.posting ∙ posting ∙ set_same k (map post_mark w.processes) c.args.self.now.posting (post_mark p.0) c.requires.but.posting (slice_get-map post_mark w.processes k ∙ ap (option_map post_mark) p.1);
+      delivering = c.note_standing.ensures.delivering ∙ c.note_box.ensures.delivering ∙ ap (λ l. slice_set l k (box_mark (mail_of w.mail k))) c.note_post.ensures.delivering
           ∙ set_same k (map box_mark w.mail) c.args.self.now.delivering (box_mark (mail_of w.mail k)) c.requires.but.delivering (slice_get-map box_mark w.mail k ∙ ap (option_map box_mark) (slice_get-get_or w.mail k _ near));
     }

@@ -3,3 +3,5 @@ pub mod Driven
 pub mod Checked
 pub mod Viewed
 pub mod Drawn
+pub mod OneText
+pub mod Passing

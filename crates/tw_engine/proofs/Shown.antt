@@ -1,8 +1,7 @@
 -- From the text that is written to what it says of the bytes of the file.
 use Rattle.std.proofs.Common.{◌≡◌, ◌≤◌, ◌++◌, ◌∙◌, ℕ, List, [], length, refl, sym, ap, subst, append_assoc, arith, inl, inr}
-use Rattle.std.specs.Prelude.{Option, None, Some}
+use Rattle.std.specs.Prelude.{Option, None, Ok, Err}
 use Rattle.std.proofs.lemmas.Option.{slice_get_past}
-use Rattle.tw_vtime.specs.declared.limits.Limit.{Limit}
 use Rattle.tw_msgs.specs.declared.record.Record.{Record}
 use Rattle.tw_any_model.specs.declared.any_model.AnyModel.{AnyModel}
 use Rattle.tw_any_model.specs.AnyModel.{any_meaning}
@@ -10,10 +9,14 @@ use Rattle.tw_network.specs.Contents.{Contents, network_of}
 use Rattle.tw_theory.specs.Transitions.{output, moved, transition}
 use Rattle.tw_theory.specs.Simulator.{sequential, rounds, round}
 use Rattle.tw_netfile.specs.TreeMeaning.{IsMeaning}
+use Rattle.tw_texts.specs.Refusals.{not_written_refusal}
+use Rattle.tw_texts.specs.Texts.{trace_text}
 use Rattle.tw_texts.specs.Traces.{AppendsBeginning}
-use Rattle.tw_engine.specs.declared.exit.Exit.{Exit}
-use Rattle.tw_engine.specs.declared.exit.Exit.TheVariants.{Done, Bad, Fault, Limited, Want, NoWrite}
-use Rattle.tw_engine.specs.Runs.{IsDemo, IsMadeInOrder, IsRun, IsRunByWorkers, IsShown, IsWorked, demo_network, name_in, text_or_nothing, run_fault}
+use Rattle.tw_texts.specs.declared.traces.NotWritten.{NotWritten}
+use Rattle.tw_texts.specs.declared.traces.NotWritten.TheVariants.{OutOfMemory, WriteFailed}
+use Rattle.tw_engine.specs.Ends.{Fault, RunEnd, failed_of}
+use Rattle.tw_engine.specs.declared.failed.Failed.TheVariants.{Bad, Want, NoWrite}
+use Rattle.tw_engine.specs.Runs.{IsDemo, IsMadeInOrder, IsRun, IsRunByWorkers, IsShown, IsWorked, demo_network, fault_text, name_in, text_or_nothing, run_fault}
 
 pub no_name : (names : List (List ℕ)) (component : ℕ) → length names ≤ component → [] ≡ name_in names component
 no_name names component past = sym (ap text_or_nothing (slice_get_past names component past))
@@ -27,60 +30,53 @@ beginning_of_more old new text more b = (
   sym (append_assoc b.0 b.1 more) ∙ ap (λ l. l ++ more) b.3,
 )
 
-run_of_shown : (bytes : List ℕ) (until : ℕ) (n : Contents AnyModel) (exit : Exit) (old new : Option (List ℕ)) → IsMeaning bytes n
-    → IsShown n (sequential (network_of any_meaning n) until).records (run_fault n until) exit old new → IsRun bytes until exit old new
-run_of_shown bytes until n Done old new means shown = (n, means, shown)
-run_of_shown bytes until n Fault old new means shown = (n, means, shown)
-run_of_shown bytes until n (Limited line) old new means shown = absurd shown
-run_of_shown bytes until n (Bad why line) old new means shown = absurd shown
-run_of_shown bytes until n (Want why) old new means (is, inl keeps) = (is, inl keeps)
-run_of_shown bytes until n (Want why) old new means (is, inr begun) = (is, inr (n, means, begun))
-run_of_shown bytes until n NoWrite old new means shown = shown
+-- a text that is not written to its end
+pub text_short : (n : Contents AnyModel) (records : List Record) (fault : Option Fault) (why : NotWritten) (old new : Option (List ℕ))
+    → (why ≡ OutOfMemory → AppendsBeginning old new (trace_text (name_in n.names) records)) → IsShown n records fault (Err (failed_of (not_written_refusal why))) old new
+text_short n records fault OutOfMemory old new begun = (refl, inr (beginning_of_more old new (trace_text (name_in n.names) records) (fault_text n.names fault) (begun refl)))
+text_short n records fault WriteFailed old new begun = tt
 
--- what is shown of the records and the fault of the sequential run
-pub shown_run : (bytes : List ℕ) (until : ℕ) (n : Contents AnyModel) (records : List Record) (fault : Option (ℕ × ℕ × Limit)) (exit : Exit) (old new : Option (List ℕ))
-    → IsMeaning bytes n → records ≡ (sequential (network_of any_meaning n) until).records → fault ≡ run_fault n until
-    → IsShown n records fault exit old new → IsRun bytes until exit old new
-shown_run bytes until n records fault exit old new means all met shown =
-    run_of_shown bytes until n exit old new means
-    (subst (λ (rs : List Record). IsShown n rs (run_fault n until) exit old new) all
-    (subst (λ (f : Option (ℕ × ℕ × Limit)). IsShown n records f exit old new) met shown))
+run_of_shown : (bytes : List ℕ) (until : ℕ) (n : Contents AnyModel) (end : RunEnd) (old new : Option (List ℕ)) → IsMeaning bytes n
+    → IsShown n (sequential (network_of any_meaning n) until).records (run_fault n until) end old new → IsRun bytes until end old new
+run_of_shown bytes until n (Ok fault) old new means shown = (n, means, shown)
+run_of_shown bytes until n (Err (Bad why line)) old new means shown = absurd shown
+run_of_shown bytes until n (Err (Want why)) old new means (is, inl keeps) = (is, inl keeps)
+run_of_shown bytes until n (Err (Want why)) old new means (is, inr begun) = (is, inr (n, means, begun))
+run_of_shown bytes until n (Err NoWrite) old new means shown = shown
 
 -- the demonstration meets no limit
 demo_no_fault : run_fault demo_network 5 ≡ None
 unfolding sequential rounds round output moved transition
 demo_no_fault = refl
 
-none_is_some : (fault : ℕ × ℕ × Limit) → ◌≡◌ {A = Option (ℕ × ℕ × Limit)} None (Some fault) → ⊥
-none_is_some fault e = cc e
-
-demo_of_shown : (exit : Exit) (old new : Option (List ℕ))
-    → IsShown demo_network (sequential (network_of any_meaning demo_network) 5).records (run_fault demo_network 5) exit old new → IsDemo exit old new
-demo_of_shown Done old new shown = shown.1
-demo_of_shown Fault old new shown = none_is_some shown.0.0 (sym demo_no_fault ∙ shown.0.1)
-demo_of_shown (Limited line) old new shown = shown
-demo_of_shown (Bad why line) old new shown = shown
-demo_of_shown (Want why) old new shown = inl shown
-demo_of_shown NoWrite old new shown = shown
+demo_of_shown : (end : RunEnd) (old new : Option (List ℕ))
+    → IsShown demo_network (sequential (network_of any_meaning demo_network) 5).records (run_fault demo_network 5) end old new → IsDemo end old new
+demo_of_shown (Ok fault) old new shown = (shown.0 ∙ demo_no_fault, shown.1)
+demo_of_shown (Err (Bad why line)) old new shown = shown
+demo_of_shown (Err (Want why)) old new shown = inl shown
+demo_of_shown (Err NoWrite) old new shown = shown
 
 -- what a run in order writes of a file's network
-pub run_of_ordered : (bytes : List ℕ) (until : ℕ) (n : Contents AnyModel) (exit : Exit) (old new : Option (List ℕ)) → IsMeaning bytes n
-    → IsMadeInOrder n until exit old new → IsRun bytes until exit old new
-run_of_ordered bytes until n exit old new means (inl shown) = run_of_shown bytes until n exit old new means shown
-run_of_ordered bytes until n exit old new means (inr late) =
-    subst (λ (e : Exit). IsRun bytes until e old new) (sym late.0) (late.2, refl, inl (refl, late.1))
+pub run_of_ordered : (bytes : List ℕ) (until : ℕ) (n : Contents AnyModel) (end : RunEnd) (old new : Option (List ℕ)) → IsMeaning bytes n
+    → IsMadeInOrder n until end old new → IsRun bytes until end old new
+run_of_ordered bytes until n end old new means (inl shown) = run_of_shown bytes until n end old new means shown
+run_of_ordered bytes until n (Ok fault) old new means (inr late) = absurd late.0
+run_of_ordered bytes until n (Err why) old new means (inr late) =
+    subst (λ w. IsRun bytes until (Err w) old new) (sym late.0.0) (late.1, refl, inl (refl, late.0.1))
 
 -- what workers write of it
-pub run_of_worked : (bytes : List ℕ) (until : ℕ) (n : Contents AnyModel) (exit : Exit) (old new : Option (List ℕ)) → IsMeaning bytes n
-    → IsWorked n until exit old new → IsRunByWorkers bytes until exit old new
-run_of_worked bytes until n exit old new means (inl ordered) = inl (run_of_ordered bytes until n exit old new means ordered)
-run_of_worked bytes until n exit old new means (inr full) = inr full
+pub run_of_worked : (bytes : List ℕ) (until : ℕ) (n : Contents AnyModel) (end : RunEnd) (old new : Option (List ℕ)) → IsMeaning bytes n
+    → IsWorked n until end old new → IsRunByWorkers bytes until end old new
+run_of_worked bytes until n end old new means (inl ordered) = inl (run_of_ordered bytes until n end old new means ordered)
+run_of_worked bytes until n end old new means (inr full) = inr full
 
 -- what they write of the demonstration
-pub demo_of_worked : (n : Contents AnyModel) (exit : Exit) (old new : Option (List ℕ)) → n ≡ demo_network → IsWorked n 5 exit old new → IsDemo exit old new
-demo_of_worked n exit old new is worked = demo_of (subst (λ (m : Contents AnyModel). IsWorked m 5 exit old new) is worked)
+pub demo_of_worked : (n : Contents AnyModel) (end : RunEnd) (old new : Option (List ℕ)) → n ≡ demo_network → IsWorked n 5 end old new → IsDemo end old new
+demo_of_worked n end old new is worked = demo_of end (subst (λ (m : Contents AnyModel). IsWorked m 5 end old new) is worked)
   where
-    demo_of : IsWorked demo_network 5 exit old new → IsDemo exit old new
-    demo_of (inl (inl shown)) = demo_of_shown exit old new shown
-    demo_of (inl (inr late)) = let after = late.1 in absurd (omega (arith, after))
-    demo_of (inr full) = subst (λ (e : Exit). IsDemo e old new) (sym full.0) (inr (refl, full.1))
+    demo_of : (e : RunEnd) → IsWorked demo_network 5 e old new → IsDemo e old new
+    demo_of e (inl (inl shown)) = demo_of_shown e old new shown
+    demo_of (Ok fault) (inl (inr late)) = absurd late.0
+    demo_of (Err why) (inl (inr late)) = let after = late.0.1 in absurd (omega (arith, after))
+    demo_of (Ok fault) (inr full) = absurd full.0
+    demo_of (Err why) (inr full) = subst (λ w. IsDemo (Err w) old new) (sym full.0) (inr (refl, full.1))

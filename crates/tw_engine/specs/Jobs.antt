@@ -1,14 +1,17 @@
 -- How a job ends, and what is then written.
 --     IsDone job exit given script old new      with the bytes of its network file and of its script
 --     ReadsScript job given      its script is read
-use Rattle.std.specs.Prelude.{◌⊎◌, ℕ, List, Option, IfSome, ⊤}
+use Rattle.std.specs.Prelude.{◌≡◌, ◌⊎◌, ℕ, List, Option, IfSome, Result, ⊤}
 use Rattle.std.specs.Io.KnownBytes.{Keeps}
 use Rattle.tw_engine.specs.Checks.{IsCheck}
 use Rattle.tw_engine.specs.Drawings.{IsViewDrawn, IsWarpDrawn}
 use Rattle.tw_engine.specs.Plays.{IsScripted, IsSeeded}
-use Rattle.tw_engine.specs.Runs.{IsDemo, IsFileExit, IsRun, IsRunByWorkers, IsUnread, Means}
+use Rattle.tw_engine.specs.Ends.{Fails, PlainEnd, ViewEnd}
+use Rattle.tw_engine.specs.Exits.{exit_of_rest, exit_of_run, exit_of_view}
+use Rattle.tw_engine.specs.Runs.{HasNoNetwork, IsDemo, IsRun, IsRunByWorkers, IsUnread, Means}
 use Rattle.tw_engine.specs.Views.{IsSummed, IsTabulated}
 use Rattle.tw_engine.specs.declared.exit.Exit.{Exit}
+use Rattle.tw_engine.specs.declared.failed.Failed.{Failed}
 use Rattle.tw_line.specs.declared.jobs.Driver.{Driver}
 use Rattle.tw_line.specs.declared.jobs.Driver.TheVariants.{Script, Seed}
 use Rattle.tw_line.specs.declared.jobs.Job.{Job}
@@ -19,28 +22,36 @@ use Rattle.tw_theory.specs.Contents.{Cancel}
 
 -- driven by a script: the network's file is at fault, and nothing is written; or it means a network, and no byte of the script is known to
 -- be read (19), or these
-abbrev pub IsScriptedBy : List ℕ → ℕ → Cancel → Exit → Option (List ℕ) → Option (List ℕ) → Option (List ℕ) → Type 0
-IsScriptedBy bytes until way exit script old new =
-    (IsFileExit bytes exit × Keeps old new)
-    ⊎ Means bytes (λ n. IsUnread exit old new ⊎ IfSome script (λ lines. IsScripted bytes lines until way exit old new))
+abbrev pub IsScriptedBy : List ℕ → ℕ → Cancel → PlainEnd → Option (List ℕ) → Option (List ℕ) → Option (List ℕ) → Type 0
+IsScriptedBy bytes until way end script old new =
+    (Fails end (HasNoNetwork bytes) × Keeps old new)
+    ⊎ Means bytes (λ n. IsUnread end old new ⊎ IfSome script (λ lines. IsScripted bytes lines until way end old new))
 
-abbrev pub IsPlay : Driver → ℕ → Cancel → Exit → Option (List ℕ) → Option (List ℕ) → Option (List ℕ) → Option (List ℕ) → Type 0
-IsPlay (Script path) until way exit given script old new = IfSome given (λ bytes. IsScriptedBy bytes until way exit script old new)
-IsPlay (Seed seed steps) until way exit given script old new = IfSome given (λ bytes. IsSeeded bytes seed steps until way exit old new)
+abbrev pub IsPlay : Driver → ℕ → Cancel → PlainEnd → Option (List ℕ) → Option (List ℕ) → Option (List ℕ) → Option (List ℕ) → Type 0
+IsPlay (Script path) until way end given script old new = IfSome given (λ bytes. IsScriptedBy bytes until way end script old new)
+IsPlay (Seed seed steps) until way end given script old new = IfSome given (λ bytes. IsSeeded bytes seed steps until way end old new)
 
-abbrev pub IsDrawn : Picture → ℕ → Exit → Option (List ℕ) → Option (List ℕ) → Option (List ℕ) → Option (List ℕ) → Type 0
-IsDrawn (of.Run view) until exit given script old new = IfSome given (λ bytes. IsViewDrawn bytes until exit old new)
-IsDrawn (of.Warp way driver) until exit given script old new = IfSome given (λ bytes. IsWarpDrawn driver bytes until exit script old new)
+abbrev pub IsDrawn : Picture → ℕ → ViewEnd → Option (List ℕ) → Option (List ℕ) → Option (List ℕ) → Option (List ℕ) → Type 0
+IsDrawn (of.Run view) until end given script old new = IfSome given (λ bytes. IsViewDrawn bytes until end old new)
+IsDrawn (of.Warp way driver) until end given script old new = IfSome given (λ bytes. IsWarpDrawn driver bytes until end script old new)
+
+-- no byte of its file is known to be read (19), or its bytes have this end
+abbrev pub OfFile : {A : Type 0} → Option (List ℕ) → Result A Failed → Option (List ℕ) → Option (List ℕ) → (List ℕ → Type 0) → Type 0
+OfFile given end old new Is = IsUnread end old new ⊎ IfSome given Is
+
+-- the exit of an end of which this is true
+abbrev pub Ends : {A : Type 0} → (Result A Failed → Exit) → Exit → (Result A Failed → Type 0) → Type 0
+Ends {A} exit_for exit Is = (end : Result A Failed) × (exit ≡ exit_for end) × Is end
 
 abbrev pub IsDone : Job → Exit → Option (List ℕ) → Option (List ℕ) → Option (List ℕ) → Option (List ℕ) → Type 0
-IsDone Demo exit given script old new = IsDemo exit old new
-IsDone (Check net) exit given script old new = IsUnread exit old new ⊎ IfSome given (λ bytes. IsCheck bytes exit old new)
-IsDone (Seq net until progress) exit given script old new = IsUnread exit old new ⊎ IfSome given (λ bytes. IsRun bytes until exit old new)
-IsDone (Stats net until json progress) exit given script old new = IsUnread exit old new ⊎ IfSome given (λ bytes. IsSummed bytes until exit old new)
-IsDone (Table net until rows progress) exit given script old new = IsUnread exit old new ⊎ IfSome given (λ bytes. IsTabulated bytes until rows exit old new)
-IsDone (Draw net until picture) exit given script old new = IsUnread exit old new ⊎ IsDrawn picture until exit given script old new
-IsDone (Run net until cancel setting) exit given script old new = IsUnread exit old new ⊎ IfSome given (λ bytes. IsRunByWorkers bytes until exit old new)
-IsDone (Play net until cancel driver) exit given script old new = IsUnread exit old new ⊎ IsPlay driver until cancel exit given script old new
+IsDone Demo exit given script old new = Ends exit_of_run exit (λ end. IsDemo end old new)
+IsDone (Check net) exit given script old new = Ends exit_of_rest exit (λ end. OfFile given end old new (λ bytes. IsCheck bytes end old new))
+IsDone (Seq net until progress) exit given script old new = Ends exit_of_run exit (λ end. OfFile given end old new (λ bytes. IsRun bytes until end old new))
+IsDone (Stats net until json progress) exit given script old new = Ends exit_of_view exit (λ end. OfFile given end old new (λ bytes. IsSummed bytes until end old new))
+IsDone (Table net until rows progress) exit given script old new = Ends exit_of_view exit (λ end. OfFile given end old new (λ bytes. IsTabulated bytes until rows end old new))
+IsDone (Draw net until picture) exit given script old new = Ends exit_of_view exit (λ end. IsUnread end old new ⊎ IsDrawn picture until end given script old new)
+IsDone (Run net until cancel setting) exit given script old new = Ends exit_of_run exit (λ end. OfFile given end old new (λ bytes. IsRunByWorkers bytes until end old new))
+IsDone (Play net until cancel driver) exit given script old new = Ends exit_of_rest exit (λ end. IsUnread end old new ⊎ IsPlay driver until cancel end given script old new)
 
 -- ---- whether the script is read
 

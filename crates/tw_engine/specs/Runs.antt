@@ -1,11 +1,10 @@
--- What the engine writes for a job, and how it ends.
+-- What the engine writes of a run, and how that ends.
 --     run_text n until      the trace of a network's sequential run, and a line for its fault
---     IsRun given until exit old new      how a run of the network that a file means ends, and what is then written
---     IsDone job exit given old new      the same of a job
-use Rattle.std.specs.Prelude.{◌≡◌, ◌<◌, ◌≤◌, ◌⊎◌, ◌++◌, ℕ, List, [], ◌∷◌, codes, pos, Option, Some, None, slice_get}
+--     IsRun bytes until end old new      how a run of the network that a file's bytes mean ends, and what is then written
+--     IsDemo end old new      the same of the demonstration
+use Rattle.std.specs.Prelude.{◌≡◌, ◌<◌, ◌≤◌, ◌⊎◌, ◌++◌, ℕ, List, [], ◌∷◌, codes, pos, Option, Some, None, Result, Ok, Err, slice_get}
 use Rattle.std.specs.Io.KnownBytes.{Appends, Keeps}
 use Rattle.tw_vtime.specs.Stamps.{max_tick}
-use Rattle.tw_vtime.specs.declared.limits.Limit.{Limit}
 use Rattle.tw_vtime.specs.declared.refusal.Refusal.{Refusal}
 use Rattle.tw_vtime.specs.declared.refusal.Refusal.TheVariants as refusal
 use Rattle.tw_msgs.specs.declared.record.Record.{Record}
@@ -21,8 +20,9 @@ use Rattle.tw_netfile.specs.declared.refused.FileRefused.{FileRefused}
 use Rattle.tw_texts.specs.Texts.{trace_text, fault_line}
 use Rattle.tw_texts.specs.Traces.{AppendsBeginning}
 use Rattle.tw_workers.specs.declared.outcome.Setting.{Setting}
-use Rattle.tw_engine.specs.declared.exit.Exit.{Exit}
-use Rattle.tw_engine.specs.declared.exit.Exit.TheVariants.{Done, Bad, Fault, Limited, Want, NoWrite}
+use Rattle.tw_engine.specs.Ends.{Fails, Fault, RunEnd}
+use Rattle.tw_engine.specs.declared.failed.Failed.{Failed}
+use Rattle.tw_engine.specs.declared.failed.Failed.TheVariants.{Bad, Want, NoWrite}
 
 -- ---- the text of a run
 
@@ -34,15 +34,15 @@ text_or_nothing (Some text) = text
 abbrev pub name_in : List (List ℕ) → ℕ → List ℕ
 name_in names component = text_or_nothing (slice_get names component)
 
-abbrev pub fault_text : List (List ℕ) → Option (ℕ × ℕ × Limit) → List ℕ
+abbrev pub fault_text : List (List ℕ) → Option Fault → List ℕ
 fault_text names None = []
 fault_text names (Some fault) = fault_line (name_in names fault.0) fault.1 fault.2
 
-abbrev pub run_fault : Contents AnyModel → ℕ → Option (ℕ × ℕ × Limit)
+abbrev pub run_fault : Contents AnyModel → ℕ → Option Fault
 run_fault n until = (sequential (network_of any_meaning n) until).fault
 
 -- the lines of records, and of a fault
-abbrev pub text_of : Contents AnyModel → List Record → Option (ℕ × ℕ × Limit) → List ℕ
+abbrev pub text_of : Contents AnyModel → List Record → Option Fault → List ℕ
 text_of n records fault = trace_text (name_in n.names) records ++ fault_text n.names fault
 
 abbrev pub run_text : Contents AnyModel → ℕ → List ℕ
@@ -54,51 +54,63 @@ run_text n until = text_of n (sequential (network_of any_meaning n) until).recor
 abbrev pub Means : List ℕ → (Contents AnyModel → Type 0) → Type 0
 Means bytes Holds = (n : Contents AnyModel) × IsMeaning bytes n × Holds n
 
+-- the text of a run is one, whichever of the networks that the bytes mean is run
+abbrev pub HasOneText : List ℕ → Type 0
+HasOneText bytes = (n m : Contents AnyModel) → IsMeaning bytes n → IsMeaning bytes m → (until : ℕ) → run_text n until ≡ run_text m until
+
 -- the end tick is too late, or the file is refused for this
 abbrev pub IsCause : List ℕ → ℕ → Refusal → Type 0
 IsCause bytes until why =
     ((why ≡ refusal.BadTick) × (max_tick < until))
     ⊎ ((fault : FileRefused) × IsFault bytes fault × (why ≡ file_refusal fault))
 
-abbrev pub IsRun : List ℕ → ℕ → Exit → Option (List ℕ) → Option (List ℕ) → Type 0
-IsRun bytes until Done old new = Means bytes (λ n. (run_fault n until ≡ None) × Appends old new (run_text n until))
-IsRun bytes until Fault old new = Means bytes (λ n. ((fault : ℕ × ℕ × Limit) × (run_fault n until ≡ Some fault)) × Appends old new (run_text n until))
-IsRun bytes until (Limited line) old new = ⊥
-IsRun bytes until (Bad why line) old new = Keeps old new × (line ≡ None) × IsCause bytes until why
-IsRun bytes until (Want why) old new =
+abbrev pub IsRun : List ℕ → ℕ → RunEnd → Option (List ℕ) → Option (List ℕ) → Type 0
+IsRun bytes until (Ok fault) old new = Means bytes (λ n. (fault ≡ run_fault n until) × Appends old new (run_text n until))
+IsRun bytes until (Err (Bad why line)) old new = Keeps old new × (line ≡ None) × IsCause bytes until why
+IsRun bytes until (Err (Want why)) old new =
     (why ≡ refusal.OutOfMemory) × (Keeps old new ⊎ Means bytes (λ n. AppendsBeginning old new (run_text n until)))
-IsRun bytes until NoWrite old new = Unit {0}
+IsRun bytes until (Err NoWrite) old new = Unit {0}
 
 -- by workers, who may also want nodes (12) before anything is written
-abbrev pub IsRunByWorkers : List ℕ → ℕ → Exit → Option (List ℕ) → Option (List ℕ) → Type 0
-IsRunByWorkers bytes until exit old new = IsRun bytes until exit old new ⊎ ((exit ≡ Want refusal.Full) × Keeps old new)
+abbrev pub IsRunByWorkers : List ℕ → ℕ → RunEnd → Option (List ℕ) → Option (List ℕ) → Type 0
+IsRunByWorkers bytes until end old new = IsRun bytes until end old new ⊎ (Fails end (λ why. why ≡ Want refusal.Full) × Keeps old new)
+
+-- no byte of the file is known to be read, and nothing is written
+abbrev pub IsUnread : {A : Type 0} → Result A Failed → Option (List ℕ) → Option (List ℕ) → Type 0
+IsUnread end old new = Fails end (λ why. (why ≡ Bad refusal.Unreadable None) ⊎ (why ≡ Want refusal.OutOfMemory)) × Keeps old new
 
 -- ---- its parts
 
 -- why a file gave no network
-abbrev pub IsFileExit : List ℕ → Exit → Type 0
-IsFileExit bytes exit =
-    (exit ≡ Want refusal.OutOfMemory)
-    ⊎ ((fault : FileRefused) × IsFault bytes fault × (exit ≡ Bad (file_refusal fault) None))
+abbrev pub HasNoNetwork : List ℕ → Failed → Type 0
+HasNoNetwork bytes why =
+    (why ≡ Want refusal.OutOfMemory)
+    ⊎ ((fault : FileRefused) × IsFault bytes fault × (why ≡ Bad (file_refusal fault) None))
+
+-- the end tick is too late
+abbrev pub IsLate : ℕ → Failed → Type 0
+IsLate until why = (why ≡ Bad refusal.BadTick None) × (max_tick < until)
+
+-- why there is no run: memory was wanting, or that
+abbrev pub HasNoRun : ℕ → Failed → Type 0
+HasNoRun until why = (why ≡ Want refusal.OutOfMemory) ⊎ IsLate until why
 
 -- what is written of records and a fault
-abbrev pub IsShown : Contents AnyModel → List Record → Option (ℕ × ℕ × Limit) → Exit → Option (List ℕ) → Option (List ℕ) → Type 0
-IsShown n records fault Done old new = (fault ≡ None) × Appends old new (text_of n records fault)
-IsShown n records fault Fault old new = ((found : ℕ × ℕ × Limit) × (fault ≡ Some found)) × Appends old new (text_of n records fault)
-IsShown n records fault (Limited line) old new = ⊥
-IsShown n records fault (Bad why line) old new = ⊥
-IsShown n records fault (Want why) old new = (why ≡ refusal.OutOfMemory) × (Keeps old new ⊎ AppendsBeginning old new (text_of n records fault))
-IsShown n records fault NoWrite old new = Unit {0}
+abbrev pub IsShown : Contents AnyModel → List Record → Option Fault → RunEnd → Option (List ℕ) → Option (List ℕ) → Type 0
+IsShown n records fault (Ok met) old new = (met ≡ fault) × Appends old new (text_of n records fault)
+IsShown n records fault (Err (Bad why line)) old new = ⊥
+IsShown n records fault (Err (Want why)) old new = (why ≡ refusal.OutOfMemory) × (Keeps old new ⊎ AppendsBeginning old new (text_of n records fault))
+IsShown n records fault (Err NoWrite) old new = Unit {0}
 
 -- how a run of a network in order ends: its text is written, or the end tick is too late
-abbrev pub IsMadeInOrder : Contents AnyModel → ℕ → Exit → Option (List ℕ) → Option (List ℕ) → Type 0
-IsMadeInOrder n until exit old new =
-    IsShown n (sequential (network_of any_meaning n) until).records (run_fault n until) exit old new
-    ⊎ ((exit ≡ Bad refusal.BadTick None) × (max_tick < until) × Keeps old new)
+abbrev pub IsMadeInOrder : Contents AnyModel → ℕ → RunEnd → Option (List ℕ) → Option (List ℕ) → Type 0
+IsMadeInOrder n until end old new =
+    IsShown n (sequential (network_of any_meaning n) until).records (run_fault n until) end old new
+    ⊎ (Fails end (IsLate until) × Keeps old new)
 
 -- how one by workers ends, who may also want nodes (12)
-abbrev pub IsWorked : Contents AnyModel → ℕ → Exit → Option (List ℕ) → Option (List ℕ) → Type 0
-IsWorked n until exit old new = IsMadeInOrder n until exit old new ⊎ ((exit ≡ Want refusal.Full) × Keeps old new)
+abbrev pub IsWorked : Contents AnyModel → ℕ → RunEnd → Option (List ℕ) → Option (List ℕ) → Type 0
+IsWorked n until end old new = IsMadeInOrder n until end old new ⊎ (Fails end (λ why. why ≡ Want refusal.Full) × Keeps old new)
 
 -- what workers are set to is in its range
 abbrev pub IsSet : Setting → Type 0
@@ -122,16 +134,10 @@ demo_text = codes "2.0 g out 0=5\n2.0 g int | 1\n2.0 t ext 0=5 | 1 5 5\n4.0 g ou
 
 -- the text of its run until 5 is written, or a beginning of it where memory is wanting (4); or its workers want nodes (12), and nothing is
 -- written. It meets no limit, and nothing of it is refused
-abbrev pub IsDemo : Exit → Option (List ℕ) → Option (List ℕ) → Type 0
-IsDemo Done old new = Appends old new (run_text demo_network 5)
-IsDemo Fault old new = ⊥
-IsDemo (Limited line) old new = ⊥
-IsDemo (Bad why line) old new = ⊥
-IsDemo (Want why) old new =
+abbrev pub IsDemo : RunEnd → Option (List ℕ) → Option (List ℕ) → Type 0
+IsDemo (Ok fault) old new = (fault ≡ None) × Appends old new (run_text demo_network 5)
+IsDemo (Err (Bad why line)) old new = ⊥
+IsDemo (Err (Want why)) old new =
     ((why ≡ refusal.OutOfMemory) × (Keeps old new ⊎ AppendsBeginning old new (run_text demo_network 5)))
     ⊎ ((why ≡ refusal.Full) × Keeps old new)
-IsDemo NoWrite old new = Unit {0}
-
--- no byte of the file is known to be read, and nothing is written
-abbrev pub IsUnread : Exit → Option (List ℕ) → Option (List ℕ) → Type 0
-IsUnread exit old new = ((exit ≡ Bad refusal.Unreadable None) ⊎ (exit ≡ Want refusal.OutOfMemory)) × Keeps old new
+IsDemo (Err NoWrite) old new = Unit {0}

@@ -2,7 +2,7 @@
 
 ghost use Rattle.tw_engine.specs.Checks.{IsCheck, IsCounted, IsTold};
 
-use crate::exit::Exit;
+use crate::failed::Failed;
 use std::alloc::Global;
 use std::io::Write;
 use tw_any_model::AnyModel;
@@ -12,17 +12,17 @@ use tw_network::Network;
 use tw_vtime::Refusal;
 
 // Writes what the network has that a file's bytes mean, or where the file is at fault and why.
-pub(crate) fn check_bytes<W: Write>(alloc: Global, bytes: &[u8], out: &mut W) -> Exit
+pub(crate) fn check_bytes<W: Write>(alloc: Global, bytes: &[u8], out: &mut W) -> Result<(), Failed>
     ensures { IsCheck bytes.now result (W.contents out.old) (W.contents out.new) }
 {
     match network_of_any_file(alloc, bytes) {
         Ok(network) => write_counts(&network, out),
-        Err(fault) => write_fault(alloc, bytes, fault, out),
+        Err(fault) => Err(write_fault(alloc, bytes, fault, out)),
     }
 }
 
 // Writes how many components, couplings and inputs a network has.
-fn write_counts<W: Write>(network: &Network<AnyModel>, out: &mut W) -> Exit
+fn write_counts<W: Write>(network: &Network<AnyModel>, out: &mut W) -> Result<(), Failed>
     ensures { IsCounted network.now result (W.contents out.old) (W.contents out.new) }
 {
     let components = network.len();
@@ -32,26 +32,26 @@ fn write_counts<W: Write>(network: &Network<AnyModel>, out: &mut W) -> Exit
         out,
         "ok: {components} components, {couplings} couplings, {inputs} inputs"
     ) {
-        Ok(()) => Exit::Done,
-        Err(_) => Exit::NoWrite,
+        Ok(()) => Ok(()),
+        Err(_) => Err(Failed::NoWrite),
     }
 }
 
-// Writes the words for a file's fault.
-fn write_fault<W: Write>(alloc: Global, bytes: &[u8], fault: FileRefused, out: &mut W) -> Exit
+// Writes the words for a file's fault, and answers how the job fails.
+fn write_fault<W: Write>(alloc: Global, bytes: &[u8], fault: FileRefused, out: &mut W) -> Failed
     ensures { IsTold fault result (W.contents out.old) (W.contents out.new) }
 {
     if fault == FileRefused::OutOfMemory {
-        return Exit::Want(Refusal::OutOfMemory);
+        return Failed::Want(Refusal::OutOfMemory);
     }
     let Ok(words) = explain(alloc, bytes, fault) else {
-        return Exit::Want(Refusal::OutOfMemory);
+        return Failed::Want(Refusal::OutOfMemory);
     };
     match writeln!(out, "{words}") {
-        Ok(()) => Exit::Bad {
+        Ok(()) => Failed::Bad {
             refusal: Refusal::from(fault),
             line: None,
         },
-        Err(_) => Exit::NoWrite,
+        Err(_) => Failed::NoWrite,
     }
 }

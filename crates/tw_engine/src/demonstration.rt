@@ -3,7 +3,8 @@
 ghost use Rattle.std.specs.Prelude.{◌≡◌, IfOk};
 ghost use Rattle.tw_engine.specs.Runs.{IsDemo, demo_network, demo_text, run_text};
 
-use crate::exit::Exit;
+use crate::failed::Failed;
+use crate::runs::Fault;
 use crate::workers::run_network;
 use std::alloc::{AllocError, Global};
 use std::io::Write;
@@ -15,7 +16,6 @@ use tw_line::{Setting, Workers};
 use tw_models::Model;
 use tw_network::Network;
 use tw_process::Cancel;
-use tw_vtime::Refusal;
 
 // The tick at which the demonstration ends.
 const UNTIL: u64 = 5;
@@ -33,12 +33,10 @@ pub(crate) fn demo<R: Threads + Wait + Clock + Eprint + Sync, W: Write>(
     rt: &R,
     alloc: Global,
     out: &mut W,
-) -> Exit
+) -> Result<Option<Fault>, Failed>
     ensures { IsDemo result (W.contents out.old) (W.contents out.new) }
 {
-    let Ok(network) = gen_tally(alloc) else {
-        return Exit::Want(Refusal::OutOfMemory);
-    };
+    let network = gen_tally(alloc)?;
     run_network(rt, alloc, network, UNTIL, Cancel::Aggressive, SETTING, out)
 }
 

@@ -1,15 +1,15 @@
 //! Pictures: of a sequential run, and of a run of Time Warp.
 
 ghost use Rattle.std.specs.Prelude.{◌≡◌, ◌⊎◌, ℕ, List, Some};
-ghost use Rattle.tw_engine.specs.Drawings.{IsSeedDrawn, IsScriptDrawn, IsScriptDrawnBy, IsViewDrawn, IsViewDrawnOf, IsWarpDrawn, exit_after};
+ghost use Rattle.tw_engine.specs.Drawings.{IsSeedDrawn, IsScriptDrawn, IsScriptDrawnBy, IsViewDrawn, IsViewDrawnOf, IsWarpDrawn};
 ghost use Rattle.tw_engine.specs.Jobs.{DriverReads, MeansSome};
 ghost use Rattle.tw_netfile.specs.TreeMeaning.{IsMeaning};
 
-use crate::exit::Exit;
+use crate::failed::Failed;
 use crate::names::NetworkNames;
 use crate::plays::{commands, player};
 use crate::runs::{network, read_all};
-use crate::views::ended;
+use crate::views::fault_line;
 use std::alloc::Global;
 use std::io::{Read, Write};
 use tw_any_model::AnyModel;
@@ -17,7 +17,6 @@ use tw_labels::labels_in;
 use tw_line::{Driver, View};
 use tw_network::Network;
 use tw_process::Cancel;
-use tw_texts::NotWritten;
 use tw_vtime::Refusal;
 use tw_warp_pictures::{draw_script, draw_seed};
 
@@ -41,13 +40,11 @@ pub(crate) fn draw_view<W: Write>(
     until: u64,
     view: &View<'_>,
     out: &mut W,
-) -> Exit
+) -> Result<Option<String>, Failed>
     ensures { IsViewDrawn bytes.now until result (W.contents out.old) (W.contents out.new) }
 {
-    match network(alloc, bytes) {
-        Ok(network) => draw_network(alloc, bytes, &network, title, until, view, out),
-        Err(exit) => exit,
-    }
+    let network = network(alloc, bytes)?;
+    draw_network(alloc, bytes, &network, title, until, view, out)
 }
 
 // Draws a network's run.
@@ -59,12 +56,10 @@ fn draw_network<W: Write>(
     until: u64,
     view: &View<'_>,
     out: &mut W,
-) -> Exit
+) -> Result<Option<String>, Failed>
     ensures { IsViewDrawnOf network.now until result (W.contents out.old) (W.contents out.new) }
 {
-    let Ok(labels) = labels_in(alloc, bytes, network) else {
-        return Exit::Want(Refusal::OutOfMemory);
-    };
+    let labels = labels_in(alloc, bytes, network)?;
     let names = NetworkNames { network };
     let view = tw_pictures::View {
         title,
@@ -74,11 +69,8 @@ fn draw_network<W: Write>(
     };
     let drawn = tw_pictures::draw(alloc, network, &names, labels.as_slice(), until, &view, out);
     match drawn {
-        Ok(fault) => match ended(alloc, network, fault) {
-            Ok(exit) => exit,
-            Err(exit) => exit,
-        },
-        Err(why) => Exit::from(Refusal::from(why)),
+        Ok(fault) => Ok(fault_line(alloc, network, fault)?),
+        Err(why) => Err(Failed::from(Refusal::from(why))),
     }
 }
 
@@ -92,7 +84,7 @@ pub(crate) fn draw_warp<S: Read, W: Write>(
     cancel: Cancel,
     driver: &Driver<'_>,
     out: &mut W,
-) -> Exit
+) -> Result<Option<String>, Failed>
     ensures done { IsWarpDrawn driver.now bytes.now until result (S.remaining script.old) (W.contents out.old) (W.contents out.new) }
     ensures reads { (script.new ≡ script.old) ⊎ DriverReads driver.now (Some bytes.now) }
 {
@@ -113,18 +105,13 @@ fn draw_by_script<S: Read, W: Write>(
     until: u64,
     cancel: Cancel,
     out: &mut W,
-) -> Exit
+) -> Result<Option<String>, Failed>
     ensures done { IsScriptDrawnBy bytes.now until result (S.remaining script.old) (W.contents out.old) (W.contents out.new) }
     ensures reads { (script.new ≡ script.old) ⊎ MeansSome bytes.now }
 {
-    let network = match network(alloc, bytes) {
-        Ok(network) => network,
-        Err(exit) => return exit,
-    };
-    match read_all(alloc, script) {
-        Ok(lines) => draw_lines(alloc, network, lines.as_slice(), title, until, cancel, out),
-        Err(exit) => exit,
-    }
+    let network = network(alloc, bytes)?;
+    let lines = read_all(alloc, script)?;
+    draw_lines(alloc, network, lines.as_slice(), title, until, cancel, out)
 }
 
 // Draws the run of a network's executive that a script drives.
@@ -136,18 +123,13 @@ fn draw_lines<W: Write>(
     until: u64,
     cancel: Cancel,
     out: &mut W,
-) -> Exit
+) -> Result<Option<String>, Failed>
     ensures { (bytes : List ℕ) → IsMeaning bytes network → IsScriptDrawn bytes script.now until result (W.contents out.old) (W.contents out.new) }
 {
-    let commands = match commands(alloc, script, &network) {
-        Ok(commands) => commands,
-        Err(exit) => return exit,
-    };
-    let mut player = match player(alloc, network, until, cancel) {
-        Ok(player) => player,
-        Err(exit) => return exit,
-    };
-    ended_so(draw_script(alloc, &mut player, commands.as_slice(), title, out))
+    let commands = commands(alloc, script, &network)?;
+    let mut player = player(alloc, network, until, cancel)?;
+    draw_script(alloc, &mut player, commands.as_slice(), title, out)?;
+    Ok(None)
 }
 
 // Draws the run of an executive by the actions that a seed gives.
@@ -160,27 +142,11 @@ fn draw_by_seed<W: Write>(
     until: u64,
     cancel: Cancel,
     out: &mut W,
-) -> Exit
+) -> Result<Option<String>, Failed>
     ensures { IsSeedDrawn bytes.now until result (W.contents out.old) (W.contents out.new) }
 {
-    let network = match network(alloc, bytes) {
-        Ok(network) => network,
-        Err(exit) => return exit,
-    };
-    let mut player = match player(alloc, network, until, cancel) {
-        Ok(player) => player,
-        Err(exit) => return exit,
-    };
-    ended_so(draw_seed(alloc, &mut player, seed, steps, title, out))
-}
-
-// How a picture ends that was drawn, or not written to its end.
-fn ended_so(drawn: Result<(), NotWritten>) -> Exit
-    ensures { result ≡ exit_after drawn }
-{
-    match drawn {
-        Ok(()) => Exit::Done,
-        Err(NotWritten::OutOfMemory) => Exit::Want(Refusal::OutOfMemory),
-        Err(NotWritten::WriteFailed) => Exit::NoWrite,
-    }
+    let network = network(alloc, bytes)?;
+    let mut player = player(alloc, network, until, cancel)?;
+    draw_seed(alloc, &mut player, seed, steps, title, out)?;
+    Ok(None)
 }

@@ -2,8 +2,11 @@
 
 ghost use Rattle.std.specs.Prelude.{◌≡◌, OnOk};
 ghost use Rattle.std.specs.Io.KnownBytes.{Appends};
-ghost use Rattle.tw_engine.specs.Exits.{status_of, line_of};
+ghost use Rattle.tw_engine.specs.Ends.{failed_of};
+ghost use Rattle.tw_engine.specs.Exits.{exit_of, exit_of_rest, exit_of_run, exit_of_view, line_of, status_of};
 
+use crate::failed::Failed;
+use crate::runs::Fault;
 use std::io;
 use std::io::Write;
 use tw_vtime::Refusal;
@@ -30,25 +33,61 @@ pub enum Exit {
     NoWrite,
 }
 
-/// A run that is refused: for want of memory (4) or nodes (12), for a failed writer (24), or for a bad line or file.
-impl From<Refusal> for Exit {
-    ghost use Rattle.tw_engine.specs.Exits.{exit_of};
+/// The exit of a job that came to no end.
+impl From<Failed> for Exit {
+    ghost from_gives = { λ failed exit. exit ≡ exit_of failed };
 
-    ghost from_gives = { λ refusal exit. exit ≡ exit_of refusal };
-
-    fn from(refusal: Refusal) -> Exit {
-        match refusal {
-            Refusal::OutOfMemory | Refusal::Full => Exit::Want(refusal),
-            Refusal::WriteFailed => Exit::NoWrite,
-            _ => Exit::Bad {
-                refusal,
-                line: None,
-            },
+    fn from(failed: Failed) -> Exit {
+        match failed {
+            Failed::Bad { refusal, line } => Exit::Bad { refusal, line },
+            Failed::Want(refusal) => Exit::Want(refusal),
+            Failed::NoWrite => Exit::NoWrite,
         }
     }
 }
 
+/// The exit of a job that is refused: for want of memory (4) or nodes (12), for a failed writer (24), or for a bad line or file.
+impl From<Refusal> for Exit {
+    ghost from_gives = { λ refusal exit. exit ≡ exit_of (failed_of refusal) };
+
+    fn from(refusal: Refusal) -> Exit {
+        Exit::from(Failed::from(refusal))
+    }
+}
+
 impl Exit {
+    // The exit of a job that writes the text of a run, with its fault.
+    pub(crate) fn of_run(ended: Result<Option<Fault>, Failed>) -> Exit
+        ensures { result ≡ exit_of_run ended }
+    {
+        match ended {
+            Ok(None) => Exit::Done,
+            Ok(Some(_)) => Exit::Fault,
+            Err(failed) => Exit::from(failed),
+        }
+    }
+
+    // The exit of a job that tells of a run, whose fault has a line of its own.
+    pub(crate) fn of_view(ended: Result<Option<String>, Failed>) -> Exit
+        ensures { result ≡ exit_of_view ended }
+    {
+        match ended {
+            Ok(None) => Exit::Done,
+            Ok(Some(line)) => Exit::Limited(line),
+            Err(failed) => Exit::from(failed),
+        }
+    }
+
+    // The exit of any other job.
+    pub(crate) fn of_rest(ended: Result<(), Failed>) -> Exit
+        ensures { result ≡ exit_of_rest ended }
+    {
+        match ended {
+            Ok(()) => Exit::Done,
+            Err(failed) => Exit::from(failed),
+        }
+    }
+
     /// The status that the process ends with: 0, 2, 3, 3, 4 or 5 in the order above.
     pub fn status(&self) -> u8
         ensures { result ≡ status_of self.now }

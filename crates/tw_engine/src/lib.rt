@@ -5,7 +5,8 @@
 //!   demonstration by the executive. Its contract gives the exact bytes written (of figures and pictures when there are any), and what
 //!   each way to end means.
 //! - [`seq`], [`stats`], [`table`], [`draw`], [`check`] and [`play`]: those of its jobs that need no thread.
-//! - [`demo_law`]: what `demo` prints, in its bytes.
+//! - [`demo_law`]: what `demo` prints, in its bytes; [`text_law`]: the text of a run is a function of its file's bytes.
+//! - [`Failed`]: why one of them came to no end.
 //! - [`Exit`]: how a run ended, with the status of the process and the line for standard error.
 #![tactic(auto)]
 
@@ -14,15 +15,19 @@ mod choosing;
 mod demonstration;
 mod drawings;
 mod exit;
+mod failed;
+mod laws;
 mod names;
 mod plays;
 mod runs;
-mod streaming;
 mod telling;
 mod told;
 mod views;
 mod workers;
+mod writing;
 
 pub use demonstration::demo_law;
 pub use exit::Exit;
-pub use runs::{check, draw, engine, play, seq, stats, table};
+pub use failed::Failed;
+pub use laws::text_law;
+pub use runs::{Fault, check, draw, engine, play, seq, stats, table};

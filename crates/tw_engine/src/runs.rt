@@ -1,38 +1,42 @@
 //! From a job and the bytes of its file to the bytes written.
 
-ghost use Rattle.std.specs.Prelude.{◌≡◌, ◌⊎◌, ◌<◌, ◌≤◌, IfOk, IfErr, IfSome, string_bytes, None};
+ghost use Rattle.std.specs.Prelude.{◌≡◌, ◌⊎◌, ◌≤◌, IfOk, IfErr, IfSome, string_bytes, None};
 ghost use Rattle.tw_netfile.specs.TreeMeaning.{IsMeaning};
 ghost use Rattle.tw_vtime.specs.Stamps.{max_tick};
 ghost use Rattle.tw_vtime.specs.declared.refusal.Refusal.TheVariants as refusal;
 ghost use Rattle.tw_engine.specs.Checks.{IsCheck};
-ghost use Rattle.tw_engine.specs.Jobs.{DriverReads, IsDone, IsDrawn, IsPlay, IsScriptedBy, MeansSome, PictureReads, ReadsScript};
-ghost use Rattle.tw_engine.specs.Runs.{IsFileExit, IsMadeInOrder, IsRun, IsShown, IsUnread, fault_text, run_fault};
+ghost use Rattle.tw_engine.specs.Jobs.{DriverReads, IsDone, IsDrawn, IsPlay, IsScriptedBy, MeansSome, OfFile, PictureReads, ReadsScript};
+ghost use Rattle.tw_engine.specs.Runs.{HasNoNetwork, HasNoRun, IsMadeInOrder, IsRun, IsRunByWorkers, IsUnread, fault_text, run_fault};
+ghost use Rattle.tw_engine.specs.declared.failed.Failed.TheVariants as failed;
 ghost use Rattle.tw_engine.specs.Views.{IsSummed, IsTabulated};
 
 use crate::checks::check_bytes;
 use crate::demonstration::demo;
 use crate::drawings::{draw_view, draw_warp, title_of};
 use crate::exit::Exit;
+use crate::failed::Failed;
 use crate::names::NetworkNames;
 use crate::plays::{play_by_script, play_by_seed};
-use crate::streaming::write_streamed;
 use crate::told::{seq_told, stats_told, table_told};
 use crate::views::{sum_up, tabulate};
 use crate::workers::run_by_workers;
+use crate::writing::write_streamed;
 use std::alloc::{AllocError, Global};
 use std::io::{ErrorKind, Read, Write};
 use std::sync::Wait;
 use std::thread::Threads;
 use std::time::Clock;
 use tw_any_model::AnyModel;
-use tw_line::{Driver, Job, Picture, Rows};
+use tw_line::{Driver, Job, Picture, Rows, Setting};
 use tw_netfile::network_of_any_file;
 use tw_network::Network;
 use tw_process::Cancel;
-use tw_seq::Seq;
 use tw_tell::{Listener, outcome_telling};
-use tw_texts::{Names, NotWritten, push_fault, write_trace};
+use tw_texts::{Names, push_fault};
 use tw_vtime::{Limit, Refusal, Stamp};
+
+/// What a run ends in that meets a limit: the component that met it, the stamp of its step, and the limit.
+pub type Fault = (usize, Stamp, Limit);
 
 /// Does a job.
 ///
@@ -71,85 +75,89 @@ pub fn engine<R: Threads + Wait + Clock + Eprint + Sync, N: Read, S: Read, W: Wr
     ensures reads { (script.new ≡ script.old) ⊎ ReadsScript job.now (N.remaining net.old) }
 {
     match job {
-        Job::Demo => demo(rt, alloc, out),
-        Job::Check { .. } => check(alloc, net, out),
+        Job::Demo => Exit::of_run(demo(rt, alloc, out)),
+        Job::Check { .. } => Exit::of_rest(check(alloc, net, out)),
         Job::Seq {
             until,
             progress,
             ..
-        } => seq_told(rt, alloc, net, *until, *progress, out),
+        } => Exit::of_run(seq_told(rt, alloc, net, *until, *progress, out)),
         Job::Stats {
             until,
             json,
             progress,
             ..
-        } => stats_told(rt, alloc, net, *until, *json, *progress, out),
+        } => Exit::of_view(stats_told(rt, alloc, net, *until, *json, *progress, out)),
         Job::Table {
             until,
             rows,
             progress,
             ..
-        } => table_told(rt, alloc, net, *until, *rows, *progress, out),
+        } => Exit::of_view(table_told(rt, alloc, net, *until, *rows, *progress, out)),
         Job::Draw {
             net: path,
             until,
             picture,
-        } => draw(alloc, net, script, title_of(path), *until, picture, out),
+        } => Exit::of_view(draw(alloc, net, script, title_of(path), *until, picture, out)),
         Job::Run {
             until,
             cancel,
             setting,
             ..
-        } => match read_all(alloc, net) {
-            Ok(bytes) => run_by_workers(
-                rt,
-                alloc,
-                bytes.as_slice(),
-                *until,
-                *cancel,
-                *setting,
-                out,
-            ),
-            Err(exit) => exit,
-        },
+        } => Exit::of_run(run(rt, alloc, net, *until, *cancel, *setting, out)),
         Job::Play {
             until,
             cancel,
             driver,
             ..
-        } => play(alloc, net, script, *until, *cancel, driver, out),
+        } => Exit::of_rest(play(alloc, net, script, *until, *cancel, driver, out)),
     }
 }
 
-/// Does the job `check` of [`engine`]. It takes no handle, and so it returns.
-pub fn check<N: Read, W: Write>(alloc: Global, net: &mut N, out: &mut W) -> Exit
-    ensures { IsUnread result (W.contents out.old) (W.contents out.new)
-        ⊎ IfSome (N.remaining net.old) (λ bytes. IsCheck bytes result (W.contents out.old) (W.contents out.new)) }
+// Does the job `run`.
+fn run<R: Threads + Wait + Clock + Eprint + Sync, N: Read, W: Write>(
+    rt: &R,
+    alloc: Global,
+    net: &mut N,
+    until: u64,
+    cancel: Cancel,
+    setting: Setting,
+    out: &mut W,
+) -> Result<Option<Fault>, Failed>
+    ensures { OfFile (N.remaining net.old) result (W.contents out.old) (W.contents out.new)
+        (λ bytes. IsRunByWorkers bytes until result (W.contents out.old) (W.contents out.new)) }
 {
-    match read_all(alloc, net) {
-        Ok(bytes) => check_bytes(alloc, bytes.as_slice(), out),
-        Err(exit) => exit,
-    }
+    let bytes = read_all(alloc, net)?;
+    run_by_workers(rt, alloc, bytes.as_slice(), until, cancel, setting, out)
 }
 
-/// Does the job `seq` of [`engine`]. After each round the listener hears how far the run is. It takes no handle, and so it returns.
+/// Does the job `check` of [`engine`]; [`Failed`] where the file is at fault too. It takes no handle, and so it returns.
+pub fn check<N: Read, W: Write>(alloc: Global, net: &mut N, out: &mut W) -> Result<(), Failed>
+    ensures { OfFile (N.remaining net.old) result (W.contents out.old) (W.contents out.new)
+        (λ bytes. IsCheck bytes result (W.contents out.old) (W.contents out.new)) }
+{
+    let bytes = read_all(alloc, net)?;
+    check_bytes(alloc, bytes.as_slice(), out)
+}
+
+/// Does the job `seq` of [`engine`], and answers the fault that the trace ends in, if it ends in one. After each round the listener
+/// hears how far the run is. It takes no handle, and so it returns.
 pub fn seq<N: Read, L: Listener, W: Write>(
     alloc: Global,
     net: &mut N,
     until: u64,
     listener: &mut L,
     out: &mut W,
-) -> Exit
-    ensures { IsUnread result (W.contents out.old) (W.contents out.new)
-        ⊎ IfSome (N.remaining net.old) (λ bytes. IsRun bytes until result (W.contents out.old) (W.contents out.new)) }
+) -> Result<Option<Fault>, Failed>
+    ensures { OfFile (N.remaining net.old) result (W.contents out.old) (W.contents out.new)
+        (λ bytes. IsRun bytes until result (W.contents out.old) (W.contents out.new)) }
 {
-    match read_all(alloc, net) {
-        Ok(bytes) => run(alloc, bytes.as_slice(), until, listener, out),
-        Err(exit) => exit,
-    }
+    let bytes = read_all(alloc, net)?;
+    run_in_order(alloc, bytes.as_slice(), until, listener, out)
 }
 
-/// Does the job `stats` of [`engine`]. After each round the listener hears how far the run is. It takes no handle, and so it returns.
+/// Does the job `stats` of [`engine`], and answers the line of the run's fault, if it ends in one. After each round the listener hears
+/// how far the run is. It takes no handle, and so it returns.
 pub fn stats<N: Read, L: Listener, W: Write>(
     alloc: Global,
     net: &mut N,
@@ -157,17 +165,16 @@ pub fn stats<N: Read, L: Listener, W: Write>(
     json: bool,
     listener: &mut L,
     out: &mut W,
-) -> Exit
-    ensures { IsUnread result (W.contents out.old) (W.contents out.new)
-        ⊎ IfSome (N.remaining net.old) (λ bytes. IsSummed bytes until result (W.contents out.old) (W.contents out.new)) }
+) -> Result<Option<String>, Failed>
+    ensures { OfFile (N.remaining net.old) result (W.contents out.old) (W.contents out.new)
+        (λ bytes. IsSummed bytes until result (W.contents out.old) (W.contents out.new)) }
 {
-    match read_all(alloc, net) {
-        Ok(bytes) => sum_up(alloc, bytes.as_slice(), until, json, listener, out),
-        Err(exit) => exit,
-    }
+    let bytes = read_all(alloc, net)?;
+    sum_up(alloc, bytes.as_slice(), until, json, listener, out)
 }
 
-/// Does the job `table` of [`engine`]. After each round the listener hears how far the run is. It takes no handle, and so it returns.
+/// Does the job `table` of [`engine`], and answers the line of the run's fault, if it ends in one. After each round the listener hears
+/// how far the run is. It takes no handle, and so it returns.
 pub fn table<N: Read, L: Listener, W: Write>(
     alloc: Global,
     net: &mut N,
@@ -175,17 +182,16 @@ pub fn table<N: Read, L: Listener, W: Write>(
     rows: Rows,
     listener: &mut L,
     out: &mut W,
-) -> Exit
-    ensures { IsUnread result (W.contents out.old) (W.contents out.new)
-        ⊎ IfSome (N.remaining net.old) (λ bytes. IsTabulated bytes until rows result (W.contents out.old) (W.contents out.new)) }
+) -> Result<Option<String>, Failed>
+    ensures { OfFile (N.remaining net.old) result (W.contents out.old) (W.contents out.new)
+        (λ bytes. IsTabulated bytes until rows result (W.contents out.old) (W.contents out.new)) }
 {
-    match read_all(alloc, net) {
-        Ok(bytes) => tabulate(alloc, bytes.as_slice(), until, rows, listener, out),
-        Err(exit) => exit,
-    }
+    let bytes = read_all(alloc, net)?;
+    tabulate(alloc, bytes.as_slice(), until, rows, listener, out)
 }
 
-/// Does the job `draw` of [`engine`], with this title of the picture. It takes no handle, and so it returns.
+/// Does the job `draw` of [`engine`], with this title of the picture, and answers the line of the run's fault, if the picture is of a
+/// run that ends in one. It takes no handle, and so it returns.
 pub fn draw<N: Read, S: Read, W: Write>(
     alloc: Global,
     net: &mut N,
@@ -194,15 +200,12 @@ pub fn draw<N: Read, S: Read, W: Write>(
     until: u64,
     picture: &Picture<'_>,
     out: &mut W,
-) -> Exit
+) -> Result<Option<String>, Failed>
     ensures done { IsUnread result (W.contents out.old) (W.contents out.new)
         ⊎ IsDrawn picture.now until result (N.remaining net.old) (S.remaining script.old) (W.contents out.old) (W.contents out.new) }
     ensures reads { (script.new ≡ script.old) ⊎ PictureReads picture.now (N.remaining net.old) }
 {
-    let bytes = match read_all(alloc, net) {
-        Ok(bytes) => bytes,
-        Err(exit) => return exit,
-    };
+    let bytes = read_all(alloc, net)?;
     match picture {
         Picture::Run(view) => draw_view(alloc, bytes.as_slice(), title, until, view, out),
         Picture::Warp { cancel, driver } => draw_warp(
@@ -227,15 +230,12 @@ pub fn play<N: Read, S: Read, W: Write>(
     cancel: Cancel,
     driver: &Driver<'_>,
     out: &mut W,
-) -> Exit
+) -> Result<(), Failed>
     ensures done { IsUnread result (W.contents out.old) (W.contents out.new)
         ⊎ IsPlay driver.now until cancel result (N.remaining net.old) (S.remaining script.old) (W.contents out.old) (W.contents out.new) }
     ensures reads { (script.new ≡ script.old) ⊎ DriverReads driver.now (N.remaining net.old) }
 {
-    let bytes = match read_all(alloc, net) {
-        Ok(bytes) => bytes,
-        Err(exit) => return exit,
-    };
+    let bytes = read_all(alloc, net)?;
     match driver {
         Driver::Script(_) => play_script(alloc, bytes.as_slice(), script, until, cancel, out),
         Driver::Seed { seed, steps } => {
@@ -252,50 +252,43 @@ fn play_script<S: Read, W: Write>(
     until: u64,
     cancel: Cancel,
     out: &mut W,
-) -> Exit
+) -> Result<(), Failed>
     ensures done { IsScriptedBy bytes.now until cancel result (S.remaining script.old) (W.contents out.old) (W.contents out.new) }
     ensures reads { (script.new ≡ script.old) ⊎ MeansSome bytes.now }
 {
-    let network = match network(alloc, bytes) {
-        Ok(network) => network,
-        Err(exit) => return exit,
-    };
-    match read_all(alloc, script) {
-        Ok(lines) => play_by_script(alloc, network, lines.as_slice(), until, cancel, out),
-        Err(exit) => exit,
-    }
+    let network = network(alloc, bytes)?;
+    let lines = read_all(alloc, script)?;
+    play_by_script(alloc, network, lines.as_slice(), until, cancel, out)
 }
 
 // All that a reader has left.
-pub(crate) fn read_all<N: Read>(alloc: Global, net: &mut N) -> Result<Vec<u8>, Exit>
+pub(crate) fn read_all<N: Read>(alloc: Global, net: &mut N) -> Result<Vec<u8>, Failed>
     ensures ok { IfOk result (λ bytes. IfSome (N.remaining net.old) (λ all. bytes.items ≡ all)) }
-    ensures err { IfErr result (λ e. (e ≡ Exit.Bad refusal.Unreadable None) ⊎ (e ≡ Exit.Want refusal.OutOfMemory)) }
+    ensures err { IfErr result (λ e. (e ≡ failed.Bad refusal.Unreadable None) ⊎ (e ≡ failed.Want refusal.OutOfMemory)) }
 {
     let mut bytes = Vec::new(alloc);
     match net.read_to_end(&mut bytes) {
         Ok(_) => Ok(bytes),
         Err(error) => Err(if error.kind() == ErrorKind::OutOfMemory {
-            Exit::Want(Refusal::OutOfMemory)
+            Failed::Want(Refusal::OutOfMemory)
         } else {
-            Exit::from(Refusal::Unreadable)
+            Failed::from(Refusal::Unreadable)
         }),
     }
 }
 
-// Simulates the network that a file's bytes mean, and writes its text.
-fn run<L: Listener, W: Write>(
+// Simulates the network that a file's bytes mean in order, and writes its text.
+fn run_in_order<L: Listener, W: Write>(
     alloc: Global,
     bytes: &[u8],
     until: u64,
     listener: &mut L,
     out: &mut W,
-) -> Exit
+) -> Result<Option<Fault>, Failed>
     ensures { IsRun bytes.now until result (W.contents out.old) (W.contents out.new) }
 {
-    match network(alloc, bytes) {
-        Ok(network) => simulate(alloc, &network, until, listener, out),
-        Err(exit) => exit,
-    }
+    let network = network(alloc, bytes)?;
+    simulate(alloc, &network, until, listener, out)
 }
 
 // Simulates a network in order, and writes its text. The fault is worked out first, so that nothing is written before the outcome is
@@ -306,23 +299,21 @@ pub(crate) fn simulate<L: Listener, W: Write>(
     until: u64,
     listener: &mut L,
     out: &mut W,
-) -> Exit
+) -> Result<Option<Fault>, Failed>
     ensures { IsMadeInOrder network.now until result (W.contents out.old) (W.contents out.new) }
 {
-    match fault_of(alloc, network, until, listener) {
-        Ok(fault) => write_streamed(alloc, network, until, fault, listener, out),
-        Err(exit) => exit,
-    }
+    let fault = fault_of(alloc, network, until, listener)?;
+    write_streamed(alloc, network, until, fault, listener, out)
 }
 
 // The network that a file's bytes mean.
-pub(crate) fn network(alloc: Global, bytes: &[u8]) -> Result<Network<AnyModel>, Exit>
+pub(crate) fn network(alloc: Global, bytes: &[u8]) -> Result<Network<AnyModel>, Failed>
     ensures ok { IfOk result (IsMeaning bytes.now) }
-    ensures err { IfErr result (IsFileExit bytes.now) }
+    ensures err { IfErr result (HasNoNetwork bytes.now) }
 {
     match network_of_any_file(alloc, bytes) {
         Ok(network) => Ok(network),
-        Err(refused) => Err(Exit::from(Refusal::from(refused))),
+        Err(refused) => Err(Failed::from(Refusal::from(refused))),
     }
 }
 
@@ -332,14 +323,14 @@ pub(crate) fn fault_of<L: Listener>(
     network: &Network<AnyModel>,
     until: u64,
     listener: &mut L,
-) -> Result<Option<(usize, Stamp, Limit)>, Exit>
+) -> Result<Option<Fault>, Failed>
     ensures fault { IfOk result (λ fault. fault ≡ run_fault network.now until) }
     ensures small { IfOk result (λ _. until ≤ max_tick) }
-    ensures err { IfErr result (λ e. (e ≡ Exit.Want refusal.OutOfMemory) ⊎ ((e ≡ Exit.Bad refusal.BadTick None) × (max_tick < until))) }
+    ensures err { IfErr result (HasNoRun until) }
 {
     match outcome_telling(alloc, network, until, listener) {
         Ok(fault) => Ok(fault),
-        Err(refused) => Err(Exit::from(Refusal::from(refused))),
+        Err(refused) => Err(Failed::from(Refusal::from(refused))),
     }
 }
 
@@ -347,40 +338,13 @@ pub(crate) fn fault_of<L: Listener>(
 pub(crate) fn last_line(
     alloc: Global,
     names: &NetworkNames<'_>,
-    fault: Option<(usize, Stamp, Limit)>,
+    fault: &Option<Fault>,
 ) -> Result<String, AllocError>
-    ensures { IfOk result (λ line. string_bytes line ≡ fault_text names.now.network.now.names fault) }
+    ensures { IfOk result (λ line. string_bytes line ≡ fault_text names.now.network.now.names fault.now) }
 {
     let mut line = String::new(alloc);
     if let Some((component, at, limit)) = fault {
-        push_fault(&mut line, names.name(component), at, limit)?;
+        push_fault(&mut line, names.name(*component), *at, *limit)?;
     }
     Ok(line)
-}
-
-// Writes the trace of a run and the line of its fault.
-pub(crate) fn write_run<W: Write>(
-    alloc: Global,
-    network: &Network<AnyModel>,
-    seq: &Seq,
-    out: &mut W,
-) -> Exit
-    ensures { IsShown network.now seq.now.records.items seq.now.fault result (W.contents out.old) (W.contents out.new) }
-{
-    let names = NetworkNames { network };
-    let Ok(last) = last_line(alloc, &names, seq.fault) else {
-        return Exit::Want(Refusal::OutOfMemory);
-    };
-    match write_trace(alloc, &names, seq.records.as_slice(), out) {
-        Ok(()) => {}
-        Err(NotWritten::OutOfMemory) => return Exit::Want(Refusal::OutOfMemory),
-        Err(NotWritten::WriteFailed) => return Exit::NoWrite,
-    }
-    let Ok(()) = out.write_all(last.as_bytes()) else {
-        return Exit::NoWrite;
-    };
-    match seq.fault {
-        Some(_) => Exit::Fault,
-        None => Exit::Done,
-    }
 }

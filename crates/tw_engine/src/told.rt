@@ -1,11 +1,11 @@
 //! Jobs that tell how far they are, where that is asked for.
 
-ghost use Rattle.std.specs.Prelude.{◌⊎◌, IfSome};
-ghost use Rattle.tw_engine.specs.Runs.{IsRun, IsUnread};
+ghost use Rattle.tw_engine.specs.Jobs.{OfFile};
+ghost use Rattle.tw_engine.specs.Runs.{IsRun};
 ghost use Rattle.tw_engine.specs.Views.{IsSummed, IsTabulated};
 
-use crate::exit::Exit;
-use crate::runs::{seq, stats, table};
+use crate::failed::Failed;
+use crate::runs::{Fault, seq, stats, table};
 use crate::telling::Teller;
 use std::alloc::Global;
 use std::io::{Read, Write};
@@ -21,9 +21,9 @@ pub(crate) fn seq_told<R: Clock + Eprint, N: Read, W: Write>(
     until: u64,
     progress: bool,
     out: &mut W,
-) -> Exit
-    ensures { IsUnread result (W.contents out.old) (W.contents out.new)
-        ⊎ IfSome (N.remaining net.old) (λ bytes. IsRun bytes until result (W.contents out.old) (W.contents out.new)) }
+) -> Result<Option<Fault>, Failed>
+    ensures { OfFile (N.remaining net.old) result (W.contents out.old) (W.contents out.new)
+        (λ bytes. IsRun bytes until result (W.contents out.old) (W.contents out.new)) }
 {
     if progress {
         seq(alloc, net, until, &mut Teller::new(rt, until), out)
@@ -41,9 +41,9 @@ pub(crate) fn stats_told<R: Clock + Eprint, N: Read, W: Write>(
     json: bool,
     progress: bool,
     out: &mut W,
-) -> Exit
-    ensures { IsUnread result (W.contents out.old) (W.contents out.new)
-        ⊎ IfSome (N.remaining net.old) (λ bytes. IsSummed bytes until result (W.contents out.old) (W.contents out.new)) }
+) -> Result<Option<String>, Failed>
+    ensures { OfFile (N.remaining net.old) result (W.contents out.old) (W.contents out.new)
+        (λ bytes. IsSummed bytes until result (W.contents out.old) (W.contents out.new)) }
 {
     if progress {
         stats(alloc, net, until, json, &mut Teller::new(rt, until), out)
@@ -61,9 +61,9 @@ pub(crate) fn table_told<R: Clock + Eprint, N: Read, W: Write>(
     rows: Rows,
     progress: bool,
     out: &mut W,
-) -> Exit
-    ensures { IsUnread result (W.contents out.old) (W.contents out.new)
-        ⊎ IfSome (N.remaining net.old) (λ bytes. IsTabulated bytes until rows result (W.contents out.old) (W.contents out.new)) }
+) -> Result<Option<String>, Failed>
+    ensures { OfFile (N.remaining net.old) result (W.contents out.old) (W.contents out.new)
+        (λ bytes. IsTabulated bytes until rows result (W.contents out.old) (W.contents out.new)) }
 {
     if progress {
         table(alloc, net, until, rows, &mut Teller::new(rt, until), out)

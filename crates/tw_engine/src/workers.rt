@@ -1,19 +1,19 @@
 //! A run by workers, or in order where that is left to the program and workers would not pay.
 
-ghost use Rattle.std.specs.Prelude.{◌≡◌, ◌≤◌, ◌<◌, ◌⊎◌, IfErr, IfOk, None};
-ghost use Rattle.tw_engine.specs.Runs.{IsMadeInOrder, IsRunByWorkers, IsSet, IsWorked};
+ghost use Rattle.std.specs.Prelude.{◌≡◌, ◌⊎◌, IfErr, IfOk};
+ghost use Rattle.tw_engine.specs.Runs.{HasNoRun, IsMadeInOrder, IsRunByWorkers, IsSet, IsWorked};
 ghost use Rattle.tw_any_model.specs.AnyModel.{any_meaning};
 ghost use Rattle.tw_network.specs.Contents.{network_of};
 ghost use Rattle.tw_theory.specs.Simulator.{sequential};
-ghost use Rattle.tw_vtime.specs.Stamps.{max_tick};
 ghost use Rattle.tw_workers.specs.Ends.{IsEnd};
 ghost use Rattle.tw_workers.specs.Exchanged.{IsNotAhead};
 ghost use Rattle.tw_vtime.specs.declared.refusal.Refusal.TheVariants as refusal;
 
 use crate::choosing::workers_of;
-use crate::exit::Exit;
-use crate::runs::{network, simulate, write_run};
+use crate::failed::Failed;
+use crate::runs::{Fault, network, simulate};
 use crate::telling::Teller;
+use crate::writing::write_made;
 use std::alloc::Global;
 use std::io::Write;
 use std::sync::{Arc, Wait};
@@ -24,12 +24,12 @@ use tw_board::{Board, Publisher};
 use tw_exec::Executive;
 use tw_laws::endings::outcome_law;
 use tw_line::Setting;
+use tw_msgs::Record;
 use tw_network::Network;
 use tw_process::Cancel;
 use tw_progress::while_telling;
-use tw_seq::Seq;
 use tw_tell::Nobody;
-use tw_vtime::Refusal;
+use tw_vtime::{MAX_TICK, Refusal};
 use tw_workers::{Effort, Open, Outcome, run_counted};
 
 // Runs the network that a file's bytes mean as its workers are set, and writes its text.
@@ -41,13 +41,11 @@ pub(crate) fn run_by_workers<R: Threads + Wait + Clock + Eprint + Sync, W: Write
     cancel: Cancel,
     setting: Setting,
     out: &mut W,
-) -> Exit
+) -> Result<Option<Fault>, Failed>
     ensures { IsRunByWorkers bytes.now until result (W.contents out.old) (W.contents out.new) }
 {
-    match network(alloc, bytes) {
-        Ok(network) => run_network(rt, alloc, network, until, cancel, setting, out),
-        Err(exit) => exit,
-    }
+    let network = network(alloc, bytes)?;
+    run_network(rt, alloc, network, until, cancel, setting, out)
 }
 
 // Runs a network as its workers are set, and writes its text.
@@ -59,17 +57,15 @@ pub(crate) fn run_network<R: Threads + Wait + Clock + Eprint + Sync, W: Write>(
     cancel: Cancel,
     setting: Setting,
     out: &mut W,
-) -> Exit
+) -> Result<Option<Fault>, Failed>
     ensures { IsWorked network until result (W.contents out.old) (W.contents out.new) }
 {
     match workers_of(rt, alloc, &network, until, setting) {
-        Some(workers) => match started(alloc, network, until, cancel) {
-            Ok(executive) => {
-                let set = in_range(setting, workers);
-                run_executive(rt, alloc, executive, set, setting.progress, out)
-            }
-            Err(exit) => exit,
-        },
+        Some(workers) => {
+            let executive = started(alloc, network, until, cancel)?;
+            let set = in_range(setting, workers);
+            run_executive(rt, alloc, executive, set, setting.progress, out)
+        }
         None => run_in_order(rt, alloc, &network, until, setting.progress, out),
     }
 }
@@ -82,7 +78,7 @@ fn run_in_order<R: Clock + Eprint, W: Write>(
     until: u64,
     progress: bool,
     out: &mut W,
-) -> Exit
+) -> Result<Option<Fault>, Failed>
     ensures { IsMadeInOrder network.now until result (W.contents out.old) (W.contents out.new) }
 {
     if progress {
@@ -100,18 +96,13 @@ fn run_executive<R: Threads + Wait + Clock + Eprint + Sync, W: Write>(
     setting: tw_workers::Setting,
     progress: bool,
     out: &mut W,
-) -> Exit
+) -> Result<Option<Fault>, Failed>
     requires { IsSet setting }
     ensures { IsWorked executive.network executive.until result (W.contents out.old) (W.contents out.new) }
 {
-    let Ok(network) = Arc::try_clone(executive.network()) else {
-        return Exit::Want(Refusal::OutOfMemory);
-    };
-    let seq = match worked(rt, alloc, executive, setting, progress) {
-        Ok(seq) => seq,
-        Err(why) => return Exit::Want(why),
-    };
-    write_run(alloc, &network, &seq, out)
+    let network = Arc::try_clone(executive.network())?;
+    let (records, fault) = worked(rt, alloc, executive, setting, progress)?;
+    write_made(alloc, &network, records.as_slice(), fault, out)
 }
 
 // An executive at its start.
@@ -120,28 +111,28 @@ fn started(
     network: Network<AnyModel>,
     until: u64,
     cancel: Cancel,
-) -> Result<Executive<AnyModel>, Exit>
+) -> Result<Executive<AnyModel>, Failed>
     ensures network { IfOk result (λ e. e.network ≡ network) }
     ensures until { IfOk result (λ e. e.until ≡ until) }
-    ensures err { IfErr result (λ exit. (exit ≡ Exit.Want refusal.OutOfMemory) ⊎ ((exit ≡ Exit.Bad refusal.BadTick None) × (max_tick < until))) }
+    ensures err { IfErr result (HasNoRun until) }
 {
     match Executive::with_cancel(alloc, network, until, cancel) {
         Ok(executive) => Ok(executive),
-        Err(refused) => Err(Exit::from(Refusal::from(refused))),
+        Err(refused) => Err(Failed::from(Refusal::from(refused))),
     }
 }
 
-// The sequential run of an executive's network, made by workers. With `progress` it tells how far it is, and at the end what it spent.
+// The records and the fault of the sequential run of an executive's network, made by workers. With `progress` it tells how far it is, and at the end what it spent.
 fn worked<R: Threads + Wait + Clock + Eprint + Sync>(
     rt: &R,
     alloc: Global,
     executive: Executive<AnyModel>,
     setting: tw_workers::Setting,
     progress: bool,
-) -> Result<Seq, Refusal>
+) -> Result<(Vec<Record>, Option<Fault>), Refusal>
     requires { IsSet setting }
-    ensures records { IfOk result (λ seq. seq.records.items ≡ (sequential (network_of any_meaning executive.network) executive.until).records) }
-    ensures fault { IfOk result (λ seq. seq.fault ≡ (sequential (network_of any_meaning executive.network) executive.until).fault) }
+    ensures records { IfOk result (λ made. made.0.items ≡ (sequential (network_of any_meaning executive.network) executive.until).records) }
+    ensures fault { IfOk result (λ made. made.1 ≡ (sequential (network_of any_meaning executive.network) executive.until).fault) }
     ensures err { IfErr result (λ why. (why ≡ refusal.OutOfMemory) ⊎ (why ≡ refusal.Full)) }
 {
     executive.facts();
@@ -151,14 +142,11 @@ fn worked<R: Threads + Wait + Clock + Eprint + Sync>(
         tell_effort(rt, &ended, effort);
     }
     match ended {
-        Ok(Outcome::Complete(records)) => Ok(Seq {
-            records,
-            fault: None,
-        }),
-        Ok(Outcome::Fault(records, component, stamp, limit)) => Ok(Seq {
-            records,
-            fault: Some((component, stamp, limit)),
-        }),
+        Ok(Outcome::Complete(records)) => Ok((records, None)),
+        Ok(Outcome::Fault(records, component, stamp, limit)) => {
+            let fault = Some((component, stamp, limit));
+            Ok((records, fault))
+        }
         Err(why) => Err(why),
     }
 }
@@ -246,6 +234,3 @@ fn in_range(setting: Setting, workers: u64) -> tw_workers::Setting
         window: setting.window.min(MAX_TICK),
     }
 }
-
-// The greatest tick.
-const MAX_TICK: u64 = 1_099_511_627_774;

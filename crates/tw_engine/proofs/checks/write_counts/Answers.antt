@@ -1,5 +1,4 @@
-use Rattle.std.proofs.Common.{refl, inr}
 use Rattle.tw_engine.proofs.checks.write_counts.Goals as goal
 
 pub returns-in-Ok : goal.returns-in-Ok
-returns-in-Ok g c = inr (refl, rw (c.len-components.ensures, c.couplings.ensures, c.inputs.ensures) at c.in-Ok.ensures.bytes)
+returns-in-Ok g c = rw (c.len-components.ensures, c.couplings.ensures, c.inputs.ensures) at c.in-Ok.ensures.bytes

@@ -6,16 +6,16 @@ use Rattle.tw_engine.proofs.Drawn.{view_refused}
 use Rattle.tw_engine.proofs.Driven.{keeps_all}
 use Rattle.tw_engine.proofs.Viewed.{as_many}
 use Rattle.tw_engine.specs.Drawings.{IsViewDrawnOf}
-use Rattle.tw_engine.specs.Exits.{exit_of}
+use Rattle.tw_engine.specs.Ends.{failed_of}
 use Rattle.tw_engine.proofs.drawings.draw_network.Goals as goal
 
 pub draw-drawn-requires : goal.draw-drawn-requires
-draw-drawn-requires g c = ap length c.as_slice.ensures.value ∙ as_many AreLabels c.args.network.now.models c.in-Ok.labels.items c.in-Ok.ensures
+draw-drawn-requires g c = ap length c.as_slice.ensures.value ∙ as_many AreLabels c.args.network.now.models c.in_ok-labels.labels.items c.in_ok-labels.ensures
 
 pub returns : goal.returns
 returns g c =
     let old = g.W.Write.contents c.args.out.now in
-    subst (λ exit. IsViewDrawnOf c.args.network.now c.args.until exit old (g.W.Write.contents c.draw-drawn.new.out))
-    (sym (c.from-in-Err.ensures ∙ ap exit_of c.from.ensures))
+    subst (λ why. IsViewDrawnOf c.args.network.now c.args.until (Err why) old (g.W.Write.contents c.draw-drawn.new.out))
+    (sym (c.from-in-Err.ensures ∙ ap failed_of c.from.ensures))
     (view_refused c.args.network.now c.args.until c.in-Err.why old (g.W.Write.contents c.draw-drawn.new.out) (λ e. c.in-Err.ensures.bad_tick.0 (ap Err e))
     (λ other. subst (λ out. Keeps old (g.W.Write.contents out)) (sym (c.in-Err.ensures.unwritten other)) (keeps_all old)))

@@ -1,11 +1,20 @@
-use Rattle.std.proofs.Common.{inr, refl}
-use Rattle.tw_engine.proofs.Viewed.{tabulated}
+use Rattle.tw_texts.specs.Refusals.{not_written_refusal}
+use Rattle.tw_engine.proofs.Passing.{on_err}
+use Rattle.tw_engine.proofs.Viewed.{table_short, tabulated}
+use Rattle.tw_engine.specs.Ends.{failed_of}
+use Rattle.tw_engine.specs.Views.{IsTabulatedOf}
 use Rattle.tw_engine.proofs.views.tabulate_network.Goals as goal
 
-pub returns-in-Ok-write_table : goal.returns-in-Ok-write_table
-returns-in-Ok-write_table g c =
-    tabulated c.args.network.now c.args.until c.args.rows c.in-Ok.fault c.in-Ok-ended.exit (g.W.Write.contents c.args.out.now) (g.W.Write.contents c.write_table.new.out)
-    c.in-Ok.ensures.fault c.in-Ok-ended.ensures.ok (rw c.lines_of.ensures at c.in-Ok-write_table.ensures.ok)
+pub returns : goal.returns
+returns g c =
+    tabulated c.args.network.now c.args.until c.args.rows c.in_ok-fault.fault c.in_ok-line.line (g.W.Write.contents c.args.out.now) (g.W.Write.contents c.write_table.new.out)
+    c.in_ok-fault.ensures.fault c.in_ok-line.ensures (rw c.lines_of.ensures at c.in_ok-write_table.ensures.ok)
 
-pub returns-in-Err-OutOfMemory : goal.returns-in-Err-OutOfMemory
-returns-in-Err-OutOfMemory g c = (refl, inr (rw c.lines_of.ensures at (c.in-Err-OutOfMemory.ensures.err c.in-Err-OutOfMemory.field-0-is)))
+pub returns-in_err-write_table : goal.returns-in_err-write_table
+returns-in_err-write_table g c =
+    let n = c.args.network.now in
+    let old = g.W.Write.contents c.args.out.now in
+    let new = g.W.Write.contents c.write_table.new.out in
+    let why = c.in_err-write_table.field-0.0 in
+    on_err (λ end. IsTabulatedOf n c.args.until c.args.rows end old new) c.from_residual-in_err-write_table.result (failed_of (not_written_refusal why)) c.from_residual-in_err-write_table.ensures.1
+    (table_short n c.args.until c.args.rows why old new (rw c.lines_of.ensures at c.in_err-write_table.ensures.err))

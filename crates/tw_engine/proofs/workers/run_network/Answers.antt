@@ -2,9 +2,10 @@ use Rattle.std.proofs.Common.{subst}
 use Rattle.tw_engine.specs.Runs.{IsWorked}
 use Rattle.tw_engine.proofs.workers.run_network.Goals as goal
 
-pub returns-in-Ok : goal.returns-in-Ok
-returns-in-Ok g c =
+pub returns-in_ok-executive-in-Some : goal.returns-in_ok-executive-in-Some
+returns-in_ok-executive-in-Some g c =
     let old = g.W.Write.contents c.args.out.now in
     let new = g.W.Write.contents c.run_executive.new.out in
-    subst (λ x. IsWorked x c.args.until c.run_executive.result old new) c.in-Ok.ensures.network
-    (subst (λ u. IsWorked c.in-Ok.executive.network u c.run_executive.result old new) c.in-Ok.ensures.until c.run_executive.ensures)
+    let met = c.in_ok-executive-in-Some in
+    subst (λ x. IsWorked x c.args.until c.run_executive.result old new) met.ensures.network
+    (subst (λ u. IsWorked met.executive.network u c.run_executive.result old new) met.ensures.until c.run_executive.ensures)

@@ -4,18 +4,20 @@
 //! - [`Action`], [`Done`], [`Received`]: what is asked, and what is answered where it is not refused.
 //! - [`Cause`]: why a chain, made apart from its process, has no more steps; [`Finished`], [`Stop`]: how many of them
 //!   its process made, and why no more.
-//! - [`RunState`]: how a run stands.
+//! - [`Fault`]: the limit that ends a run, who met it, and when; [`RunState`]: how a run stands.
 //! - [`MAX_WORKERS`], [`MAX_BURST`]: what a run by workers may be set to.
 #![tactic(auto)]
 
 mod action;
 mod cancel;
 mod chain;
+mod fault;
 mod run_state;
 mod setting;
 
 pub use action::{Action, Done, Received};
 pub use cancel::Cancel;
 pub use chain::{Cause, Finished, Stop};
+pub use fault::Fault;
 pub use run_state::RunState;
 pub use setting::{MAX_BURST, MAX_WORKERS};

@@ -61,7 +61,7 @@ fn are_columns(component: usize, columns: &[Column]) -> bool
     }
 }
 
-// The process of a component of the row after so many steps, if there is memory for them.
+/// The process of a component of the row after so many steps, if there is memory for them.
 fn stepped(alloc: Global, component: usize, steps: usize) -> Result<Process<Model>, Refusal> {
     let network = Arc::new(alloc, row(alloc)?)?;
     if component >= network.len() {
@@ -76,14 +76,14 @@ fn stepped(alloc: Global, component: usize, steps: usize) -> Result<Process<Mode
     Ok(process)
 }
 
-// The sum over the records of a column.
+/// The sum over the records of a column.
 fn look(column: &Column) -> Sum {
     let mut sum = Sum::new();
     add_records(&mut sum, column.records());
     sum
 }
 
-// Adds a record to a column, at the second try where memory is refused at the first and the record is handed back.
+/// Adds a record to a column, at the second try where memory is refused at the first and the record is handed back.
 fn push(told: &mut Told, column: &mut Column, record: Record) {
     let before = look(column);
     let Err(failed) = column.push(record) else {
@@ -96,7 +96,7 @@ fn push(told: &mut Told, column: &mut Column, record: Record) {
     }
 }
 
-// The column of all steps of a process.
+/// The column of all steps of a process.
 fn column_of(told: &mut Told, alloc: Global, mut process: Process<Model>) -> Column {
     let mut column = Column::new(alloc);
     for _ in 0..process.history_len() {
@@ -107,7 +107,7 @@ fn column_of(told: &mut Told, alloc: Global, mut process: Process<Model>) -> Col
     column
 }
 
-// The columns of the row, if there is memory for them.
+/// The columns of the row, if there is memory for them.
 fn columns_once(told: &mut Told, alloc: Global) -> Result<Vec<Column>, Refusal> {
     let mut columns = Vec::new(alloc);
     for component in 0..3 {
@@ -117,7 +117,7 @@ fn columns_once(told: &mut Told, alloc: Global) -> Result<Vec<Column>, Refusal> 
     Ok(columns)
 }
 
-// The columns of the row, at the second try where the first finds no memory.
+/// The columns of the row, at the second try where the first finds no memory.
 fn columns_of(told: &mut Told, alloc: Global) -> Option<Vec<Column>> {
     match columns_once(told, alloc) {
         Err(Refusal::OutOfMemory) => columns_once(told, alloc).ok(),
@@ -125,7 +125,7 @@ fn columns_of(told: &mut Told, alloc: Global) -> Option<Vec<Column>> {
     }
 }
 
-// Merges copies of the records before tick 4 and its output, at the second try where the first finds no memory, and tells them.
+/// Merges copies of the records before tick 4 and its output, at the second try where the first finds no memory, and tells them.
 fn tell_merged(told: &mut Told, alloc: Global, columns: &[Column]) {
     let line = Stamp::new(4, 0, 1).unwrap_or(Stamp::END);
     if !are_columns(0, columns) {
@@ -142,7 +142,7 @@ fn tell_merged(told: &mut Told, alloc: Global, columns: &[Column]) {
     }
 }
 
-// The sum over the records of all columns.
+/// The sum over the records of all columns.
 fn look_at_all(columns: &[Column]) -> Sum {
     let mut sum = Sum::new();
     for column in columns {
@@ -151,7 +151,7 @@ fn look_at_all(columns: &[Column]) -> Sum {
     sum
 }
 
-// All records, at the second try where memory is refused at the first and the columns are handed back.
+/// All records, at the second try where memory is refused at the first and the columns are handed back.
 fn trace_of(told: &mut Told, alloc: Global, columns: Vec<Column>) -> Option<Vec<Record>> {
     if !are_columns(0, columns.as_slice()) {
         return None;
@@ -167,7 +167,7 @@ fn trace_of(told: &mut Told, alloc: Global, columns: Vec<Column>) -> Option<Vec<
     }
 }
 
-// Tells the trace of new columns.
+/// Tells the trace of new columns.
 fn tell_trace(told: &mut Told, alloc: Global) {
     let Some(columns) = columns_of(told, alloc) else {
         told.give_up("columns");

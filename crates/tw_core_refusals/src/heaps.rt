@@ -31,7 +31,7 @@ fn three_of_four(alloc: Global) -> Result<EventHeap, AllocError> {
 /// For how many more entries room is made, and for indices below which number.
 static ROOM: [(usize, usize); 5] = [(1, 4), (2, 5), (8, 16), (9, 64), (100, 1_000)];
 
-// Makes room, at the second try where the first finds no memory.
+/// Makes room, at the second try where the first finds no memory.
 fn grow(told: &mut Told, heap: &mut EventHeap, count: usize, top: usize) {
     let first = heap.first();
     if heap.reserve(count, top).is_err() {
@@ -43,21 +43,21 @@ fn grow(told: &mut Told, heap: &mut EventHeap, count: usize, top: usize) {
     }
 }
 
-// Takes the first entry out, and answers its index.
+/// Takes the first entry out, and answers its index.
 fn take_first(heap: &mut EventHeap) -> Option<usize> {
     let index = heap.first()?.index;
     heap.remove(index);
     Some(index)
 }
 
-// Tells an index.
+/// Tells an index.
 fn tell_index(told: &mut Told, index: usize) {
     if write!(told.text_mut(), " {index}").is_err() {
         told.give_up("write");
     }
 }
 
-// Tells the indices of three entries, in the order of their messages, and takes them out.
+/// Tells the indices of three entries, in the order of their messages, and takes them out.
 fn tell(told: &mut Told, mut heap: EventHeap) {
     for _ in 0..4 {
         match take_first(&mut heap) {

@@ -12,7 +12,7 @@ use tw_msgs::{Item, Sign};
 // How many mailboxes there are.
 const BOXES: usize = 3;
 
-// The sum over all items.
+/// The sum over all items.
 fn look(mail: &Mailboxes) -> Sum
     requires { length mail.now.boxes ≡ 3 }
 {
@@ -24,7 +24,7 @@ fn look(mail: &Mailboxes) -> Sum
     sum
 }
 
-// Posts items, at the second try where memory is refused at the first.
+/// Posts items, at the second try where memory is refused at the first.
 fn post(told: &mut Told, mail: &mut Mailboxes, items: &[Item])
     requires boxes { length mail.old.boxes ≡ 3 }
     requires known { Each (λ i. i.message.to < 3) items.now }
@@ -40,7 +40,7 @@ fn post(told: &mut Told, mail: &mut Mailboxes, items: &[Item])
     }
 }
 
-// Posts three items of a tick and of the two after it: one to each mailbox but the last, and an anti-message to the second.
+/// Posts three items of a tick and of the two after it: one to each mailbox but the last, and an anti-message to the second.
 fn post_three(told: &mut Told, mail: &mut Mailboxes, tick: u64)
     requires { length mail.old.boxes ≡ 3 }
     ensures { length mail.new.boxes ≡ 3 }
@@ -75,7 +75,7 @@ pub(crate) fn play(told: &mut Told, alloc: Global) {
     }
 }
 
-// Tells how many items there are, and the last two.
+/// Tells how many items there are, and the last two.
 fn tell_last(told: &mut Told, items: &[Item]) {
     let count = items.len();
     if write!(told.text_mut(), "items {count}\n").is_err() {

@@ -20,7 +20,7 @@ pub(crate) fn message(tick: u64, to: usize, value: i64) -> Option<Message>
     })
 }
 
-// Tells a message after some words, on a line.
+/// Tells a message after some words, on a line.
 fn tell(told: &mut Told, words: &str, message: &Message) {
     told.say(words);
     let before = told.text().len();
@@ -50,7 +50,7 @@ pub(crate) fn tell_items(told: &mut Told, words: &str, items: &[Item]) {
     }
 }
 
-// Tells a record, on a line.
+/// Tells a record, on a line.
 fn tell_record(told: &mut Told, name: &str, record: &Record) {
     let before = told.text().len();
     if push_record(told.text_mut(), name, record).is_err() {

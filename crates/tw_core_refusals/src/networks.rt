@@ -9,7 +9,7 @@ use tw_vtime::Refusal;
 // The greatest microstep.
 const MICRO_LIMIT: u64 = 100;
 
-// The components of a row: a generator of 5 each 2 ticks, a relay with delay 1, and a tally.
+/// The components of a row: a generator of 5 each 2 ticks, a relay with delay 1, and a tally.
 fn components(alloc: Global) -> Result<Vec<(String, Model)>, Refusal> {
     let models = [Model::generator(2, 5)?, Model::relay(1)?, Model::tally()?];
     let mut components = Vec::new(alloc);
@@ -41,12 +41,12 @@ const OUTER: [Link; 2] = [
     (End::Part(1), 1, End::Part(2), 0),
 ];
 
-// A part of a model, with its name.
+/// A part of a model, with its name.
 fn part(alloc: Global, name: &str, part: Part<Model>) -> Result<(String, Part<Model>), Refusal> {
     Ok((String::from_str(alloc, name)?, part))
 }
 
-// The model X.
+/// The model X.
 fn inner(alloc: Global) -> Result<Nested<Model>, Refusal> {
     let mut parts = Vec::new(alloc);
     parts.push(part(alloc, "r", Part::Atom(Model::relay(0)?))?)?;
@@ -55,7 +55,7 @@ fn inner(alloc: Global) -> Result<Nested<Model>, Refusal> {
     Ok(Nested { parts, couplings })
 }
 
-// The nested example.
+/// The nested example.
 fn nested(alloc: Global) -> Result<Network<Model>, Refusal> {
     let mut parts = Vec::new(alloc);
     parts.push(part(alloc, "g", Part::Atom(Model::generator(2, 5)?))?)?;
@@ -66,7 +66,7 @@ fn nested(alloc: Global) -> Result<Network<Model>, Refusal> {
     Ok(Network::nested(alloc, root, Vec::new(alloc), MICRO_LIMIT)?)
 }
 
-// Tells the names of a network's components, and how many couplings and inputs there are.
+/// Tells the names of a network's components, and how many couplings and inputs there are.
 fn tell(told: &mut Told, made: Result<Network<Model>, Refusal>) {
     let Ok(network) = made else {
         told.give_up("new");

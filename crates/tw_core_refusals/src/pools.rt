@@ -73,7 +73,7 @@ fn index_at(pool: &Lists, place: usize) -> Option<usize>
     at
 }
 
-// The answer without what it hands back.
+/// The answer without what it hands back.
 fn without_item(answer: Result<usize, (u32, PoolRefused)>) -> Result<(), PoolRefused> {
     match answer {
         Ok(_) => Ok(()),
@@ -81,7 +81,7 @@ fn without_item(answer: Result<usize, (u32, PoolRefused)>) -> Result<(), PoolRef
     }
 }
 
-// Makes a change; one at a place where nothing is does nothing.
+/// Makes a change; one at a place where nothing is does nothing.
 fn make(pool: &mut Lists, change: &Change) -> Result<(), PoolRefused> {
     match *change {
         Change::Push(0, item) => without_item(pool.push_back(0, item)),
@@ -100,7 +100,7 @@ fn make(pool: &mut Lists, change: &Change) -> Result<(), PoolRefused> {
     }
 }
 
-// Adds the items of a list to a sum.
+/// Adds the items of a list to a sum.
 fn add_list(sum: &mut Sum, pool: &Lists, list: usize)
     requires { list < 2 }
 {
@@ -115,7 +115,7 @@ fn add_list(sum: &mut Sum, pool: &Lists, list: usize)
     }
 }
 
-// The sum over the items of both lists.
+/// The sum over the items of both lists.
 fn look(pool: &Lists) -> Sum {
     let mut sum = Sum::new();
     add_list(&mut sum, pool, 0);
@@ -123,7 +123,7 @@ fn look(pool: &Lists) -> Sum {
     sum
 }
 
-// Makes a change, at the second try where memory is refused at the first.
+/// Makes a change, at the second try where memory is refused at the first.
 fn grow(told: &mut Told, pool: &mut Lists, change: &Change) {
     let before = look(pool);
     if make(pool, change).is_err() {
@@ -135,14 +135,14 @@ fn grow(told: &mut Told, pool: &mut Lists, change: &Change) {
     }
 }
 
-// Tells an item of a list.
+/// Tells an item of a list.
 fn tell_item(told: &mut Told, item: u32) {
     if write!(told.text_mut(), " {item}").is_err() {
         told.give_up("write");
     }
 }
 
-// Tells the items of a list, on a line.
+/// Tells the items of a list, on a line.
 fn tell_list(told: &mut Told, pool: &Lists, list: usize)
     requires { list < 2 }
 {
@@ -157,14 +157,14 @@ fn tell_list(told: &mut Told, pool: &Lists, list: usize)
     told.say("\n");
 }
 
-// Tells how many items the lists have.
+/// Tells how many items the lists have.
 fn tell_lengths(told: &mut Told, first: usize, second: usize) {
     if write!(told.text_mut(), "lengths {first} {second}\n").is_err() {
         told.give_up("write");
     }
 }
 
-// Makes the changes of a scene.
+/// Makes the changes of a scene.
 fn follow(told: &mut Told, alloc: Global, scene: &Scene) {
     told.begin(scene.name);
     let mut pool = Pool::new(alloc);

@@ -27,14 +27,14 @@ const BEYOND: u64 = 1_000;
 // How many messages, items and records are told at most.
 const SHOWN: usize = 3;
 
-// The sum over the contents of a process.
+/// The sum over the contents of a process.
 fn look(told: &mut Told, alloc: Global, process: &Process<Model>) -> Sum {
     let mut sum = Sum::new();
     add_process(&mut sum, alloc, told.words_mut(), process);
     sum
 }
 
-// The process of a component of the row, if there is memory for it.
+/// The process of a component of the row, if there is memory for it.
 fn begin(alloc: Global, scene: &Scene) -> Result<Process<Model>, Refusal>
     ensures { IfOk result (λ process. process.floor ≡ 0) }
 {
@@ -45,7 +45,7 @@ fn begin(alloc: Global, scene: &Scene) -> Result<Process<Model>, Refusal>
     Ok(Process::with_cancel(alloc, network, scene.component, scene.cancel)?)
 }
 
-// Makes the next step, at the second try where memory is refused at the first.
+/// Makes the next step, at the second try where memory is refused at the first.
 fn step(told: &mut Told, alloc: Global, process: &mut Process<Model>)
     requires { process.old.floor ≡ 0 }
     ensures { process.new.floor ≡ 0 }
@@ -60,7 +60,7 @@ fn step(told: &mut Told, alloc: Global, process: &mut Process<Model>)
     }
 }
 
-// A value for port 0 of a component at a tick, with a sign.
+/// A value for port 0 of a component at a tick, with a sign.
 fn item_to(component: usize, sign: Sign, tick: u64, value: i64) -> Option<Item>
     ensures { IfSome result (λ i. CanTake component i.message) }
 {
@@ -77,7 +77,7 @@ fn item_to(component: usize, sign: Sign, tick: u64, value: i64) -> Option<Item>
     Some(Item { sign, message })
 }
 
-// An item comes, if there is memory for it.
+/// An item comes, if there is memory for it.
 fn come_once(
     process: &mut Process<Model>,
     sign: Sign,
@@ -96,7 +96,7 @@ fn come_once(
     }
 }
 
-// An item comes, at the second try where memory is refused at the first.
+/// An item comes, at the second try where memory is refused at the first.
 fn come(
     told: &mut Told,
     alloc: Global,
@@ -118,7 +118,7 @@ fn come(
     }
 }
 
-// An anti-message waits, if there is memory for it.
+/// An anti-message waits, if there is memory for it.
 fn wait_once(process: &mut Process<Model>, tick: u64, value: i64) -> Result<(), PoolRefused>
     requires { process.old.floor ≡ 0 }
     ensures { process.new.floor ≡ 0 }
@@ -129,7 +129,7 @@ fn wait_once(process: &mut Process<Model>, tick: u64, value: i64) -> Result<(), 
     }
 }
 
-// An anti-message waits, at the second try where memory is refused at the first.
+/// An anti-message waits, at the second try where memory is refused at the first.
 fn wait(told: &mut Told, alloc: Global, process: &mut Process<Model>, tick: u64, value: i64)
     requires { process.old.floor ≡ 0 }
     ensures { process.new.floor ≡ 0 }
@@ -144,7 +144,7 @@ fn wait(told: &mut Told, alloc: Global, process: &mut Process<Model>, tick: u64,
     }
 }
 
-// Room is made, at the second try where memory is refused at the first.
+/// Room is made, at the second try where memory is refused at the first.
 fn reserve(told: &mut Told, alloc: Global, process: &mut Process<Model>)
     requires { process.old.floor ≡ 0 }
     ensures { process.new.floor ≡ 0 }
@@ -159,7 +159,7 @@ fn reserve(told: &mut Told, alloc: Global, process: &mut Process<Model>)
     }
 }
 
-// Works out a chain and installs it, if there is memory for its start.
+/// Works out a chain and installs it, if there is memory for its start.
 fn install(process: &mut Process<Model>, burst: usize) -> Result<Finished, AllocError>
     requires { process.old.floor ≡ 0 }
     ensures { process.new.floor ≡ 0 }
@@ -173,7 +173,7 @@ fn install(process: &mut Process<Model>, burst: usize) -> Result<Finished, Alloc
     Ok(process.install(chain))
 }
 
-// So many steps by chains, as many as are needed.
+/// So many steps by chains, as many as are needed.
 fn chain(told: &mut Told, alloc: Global, process: &mut Process<Model>, burst: usize)
     requires { process.old.floor ≡ 0 }
     ensures { process.new.floor ≡ 0 }
@@ -187,7 +187,7 @@ fn chain(told: &mut Told, alloc: Global, process: &mut Process<Model>, burst: us
     }
 }
 
-// A chain, and how many of its steps were made.
+/// A chain, and how many of its steps were made.
 fn chain_once(told: &mut Told, alloc: Global, process: &mut Process<Model>, burst: usize) -> usize
     requires { process.old.floor ≡ 0 }
     ensures { process.new.floor ≡ 0 }
@@ -203,7 +203,7 @@ fn chain_once(told: &mut Told, alloc: Global, process: &mut Process<Model>, burs
     }
 }
 
-// Does something with a process that takes no memory.
+/// Does something with a process that takes no memory.
 fn go_back(process: &mut Process<Model>, act: Act)
     requires { process.old.floor ≡ 0 }
     ensures { process.new.floor ≡ 0 }
@@ -220,7 +220,7 @@ fn go_back(process: &mut Process<Model>, act: Act)
     }
 }
 
-// Does something with a process, so many ticks later than it says.
+/// Does something with a process, so many ticks later than it says.
 fn act_on(told: &mut Told, alloc: Global, process: &mut Process<Model>, act: Act, later: u64)
     requires { process.old.floor ≡ 0 }
     ensures { process.new.floor ≡ 0 }
@@ -244,7 +244,7 @@ fn act_on(told: &mut Told, alloc: Global, process: &mut Process<Model>, act: Act
     }
 }
 
-// A message at a tick is pending, if there is memory for it.
+/// A message at a tick is pending, if there is memory for it.
 fn put_once(process: &mut Process<Model>, tick: u64) -> Result<(), PoolRefused>
     requires { process.old.floor ≡ 0 }
     ensures { process.new.floor ≡ 0 }
@@ -261,7 +261,7 @@ fn put_once(process: &mut Process<Model>, tick: u64) -> Result<(), PoolRefused>
     }
 }
 
-// A message at a tick is put, at the second try where memory is refused at the first.
+/// A message at a tick is put, at the second try where memory is refused at the first.
 fn put(told: &mut Told, alloc: Global, process: &mut Process<Model>, tick: u64)
     requires { process.old.floor ≡ 0 }
     ensures { process.new.floor ≡ 0 }
@@ -276,7 +276,7 @@ fn put(told: &mut Told, alloc: Global, process: &mut Process<Model>, tick: u64)
     }
 }
 
-// Messages are put at the ticks from 1 on.
+/// Messages are put at the ticks from 1 on.
 fn put_all(told: &mut Told, alloc: Global, process: &mut Process<Model>, count: u64)
     requires { process.old.floor ≡ 0 }
     ensures { process.new.floor ≡ 0 }
@@ -286,7 +286,7 @@ fn put_all(told: &mut Told, alloc: Global, process: &mut Process<Model>, count: 
     }
 }
 
-// An act so often.
+/// An act so often.
 fn repeat(told: &mut Told, alloc: Global, process: &mut Process<Model>, act: Act, times: u64)
     requires { process.old.floor ≡ 0 }
     ensures { process.new.floor ≡ 0 }
@@ -296,7 +296,7 @@ fn repeat(told: &mut Told, alloc: Global, process: &mut Process<Model>, act: Act
     }
 }
 
-// Does what a scene says.
+/// Does what a scene says.
 fn follow(told: &mut Told, alloc: Global, process: &mut Process<Model>, scene: &Scene)
     requires { process.old.floor ≡ 0 }
 {
@@ -306,7 +306,7 @@ fn follow(told: &mut Told, alloc: Global, process: &mut Process<Model>, scene: &
     }
 }
 
-// Tells where a process stands.
+/// Tells where a process stands.
 fn tell_times(told: &mut Told, process: &Process<Model>) {
     let (next, due, last) = (process.next(), process.due(), process.last());
     if write!(told.text_mut(), "next {next} due {due} last {last}\n").is_err() {
@@ -314,7 +314,7 @@ fn tell_times(told: &mut Told, process: &Process<Model>) {
     }
 }
 
-// Tells how many steps and messages there are.
+/// Tells how many steps and messages there are.
 fn tell_lengths(told: &mut Told, process: &Process<Model>) {
     let (steps, pending) = (process.history_len(), process.pending_len());
     let (waiting, outgoing) = (process.waiting_len(), process.outgoing_len());
@@ -329,12 +329,12 @@ fn tell_lengths(told: &mut Told, process: &Process<Model>) {
     }
 }
 
-// The first few.
+/// The first few.
 fn few<T>(all: &[T]) -> &[T] {
     &all[..all.len().min(SHOWN)]
 }
 
-// Tells copies of messages.
+/// Tells copies of messages.
 fn tell_copies(told: &mut Told, words: &str, copies: Result<Vec<Message>, AllocError>) {
     match copies {
         Ok(messages) => tell_messages(told, words, few(messages.as_slice())),
@@ -342,7 +342,7 @@ fn tell_copies(told: &mut Told, words: &str, copies: Result<Vec<Message>, AllocE
     }
 }
 
-// Tells the messages of a process, each list by a copy, at the second try where the first finds no memory.
+/// Tells the messages of a process, each list by a copy, at the second try where the first finds no memory.
 fn tell_lists(told: &mut Told, process: &Process<Model>) {
     let pending = match process.pending() {
         Err(_) => process.pending(),
@@ -361,7 +361,7 @@ fn tell_lists(told: &mut Told, process: &Process<Model>) {
     tell_copies(told, "owed ", owed);
 }
 
-// Tells the outgoing items of a process.
+/// Tells the outgoing items of a process.
 fn tell_outgoing(told: &mut Told, process: &Process<Model>) {
     let outgoing = match process.outgoing() {
         Err(_) => process.outgoing(),
@@ -373,7 +373,7 @@ fn tell_outgoing(told: &mut Told, process: &Process<Model>) {
     }
 }
 
-// Commits the steps before a tick, at the second try where the first finds no memory, and tells the first few.
+/// Commits the steps before a tick, at the second try where the first finds no memory, and tells the first few.
 fn commit(told: &mut Told, alloc: Global, process: &mut Process<Model>, tick: u64) {
     let line = Stamp::new(tick, 0, 0).unwrap_or(Stamp::START);
     let mut column = Column::new(alloc);

@@ -7,13 +7,9 @@ use Rattle.std.specs.Global.{Global}
 use Rattle.std.specs.Prelude.{ℕ, Option, None, Result, Ok, Err, String}
 use Rattle.tw_engine.specs.declared.failed.Failed.{Failed}
 use Rattle.tw_engine.specs.declared.failed.Failed.TheVariants.{Bad, Want, NoWrite}
-use Rattle.tw_vtime.specs.declared.limits.Limit.{Limit}
+pub use Rattle.tw_theory.specs.Simulator.{Fault}
 use Rattle.tw_vtime.specs.declared.refusal.Refusal.{Refusal}
 use Rattle.tw_vtime.specs.declared.refusal.Refusal.TheVariants as refusal
-
--- the component that met a limit, the stamp of its step, and the limit
-abbrev pub Fault : Type 0
-Fault = ℕ × ℕ × Limit
 
 abbrev pub RunEnd : Type 0
 RunEnd = Result (Option Fault) Failed

@@ -36,7 +36,7 @@ name_in names component = text_or_nothing (slice_get names component)
 
 abbrev pub fault_text : List (List ℕ) → Option Fault → List ℕ
 fault_text names None = []
-fault_text names (Some fault) = fault_line (name_in names fault.0) fault.1 fault.2
+fault_text names (Some fault) = fault_line (name_in names fault.component) fault.stamp fault.limit
 
 abbrev pub run_fault : Contents AnyModel → ℕ → Option Fault
 run_fault n until = (sequential (network_of any_meaning n) until).fault

@@ -11,7 +11,7 @@ use tw_netfile::{FileRefused, network_of_any_file};
 use tw_network::Network;
 use tw_vtime::Refusal;
 
-// Writes what the network has that a file's bytes mean, or where the file is at fault and why.
+/// Writes what the network has that a file's bytes mean, or where the file is at fault and why.
 pub(crate) fn check_bytes<W: Write>(alloc: Global, bytes: &[u8], out: &mut W) -> Result<(), Failed>
     ensures { IsCheck bytes.now result (W.contents out.old) (W.contents out.new) }
 {
@@ -21,7 +21,7 @@ pub(crate) fn check_bytes<W: Write>(alloc: Global, bytes: &[u8], out: &mut W) ->
     }
 }
 
-// Writes how many components, couplings and inputs a network has.
+/// Writes how many components, couplings and inputs a network has.
 fn write_counts<W: Write>(network: &Network<AnyModel>, out: &mut W) -> Result<(), Failed>
     ensures { IsCounted network.now result (W.contents out.old) (W.contents out.new) }
 {
@@ -37,7 +37,7 @@ fn write_counts<W: Write>(network: &Network<AnyModel>, out: &mut W) -> Result<()
     }
 }
 
-// Writes the words for a file's fault, and answers how the job fails.
+/// Writes the words for a file's fault, and answers how the job fails.
 fn write_fault<W: Write>(alloc: Global, bytes: &[u8], fault: FileRefused, out: &mut W) -> Failed
     ensures { IsTold fault result (W.contents out.old) (W.contents out.new) }
 {

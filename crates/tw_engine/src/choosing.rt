@@ -5,7 +5,7 @@ use std::thread;
 use std::thread::Threads;
 use std::time::{Clock, Duration, Instant};
 use tw_any_model::AnyModel;
-use tw_line::{Setting, Workers};
+use tw_line::{RunOptions, Workers};
 use tw_network::Network;
 use tw_tell::{Judge, Reached, try_out};
 
@@ -25,7 +25,7 @@ pub(crate) fn workers_of<R: Threads + Clock + Eprint>(
     alloc: Global,
     network: &Network<AnyModel>,
     until: u64,
-    setting: Setting,
+    setting: RunOptions,
 ) -> Option<u64> {
     match setting.workers {
         Workers::Count(count) => Some(count),
@@ -39,7 +39,7 @@ pub(crate) fn workers_of<R: Threads + Clock + Eprint>(
     }
 }
 
-// Tells what was chosen.
+/// Tells what was chosen.
 fn tell<R: Eprint>(rt: &R, chosen: Option<u64>) {
     let _ = match chosen {
         Some(workers) => eprintln!(rt; "twarp: auto: {workers} workers"),
@@ -47,7 +47,7 @@ fn tell<R: Eprint>(rt: &R, chosen: Option<u64>) {
     };
 }
 
-// As many workers as there are processors, where they pay.
+/// As many workers as there are processors, where they pay.
 fn choose<R: Threads + Clock>(
     rt: &R,
     alloc: Global,
@@ -65,7 +65,7 @@ fn choose<R: Threads + Clock>(
     }
 }
 
-// How many processors the program may use; one where that is not known.
+/// How many processors the program may use; one where that is not known.
 fn processors<R: Threads>(rt: &R) -> u64 {
     match thread::available_parallelism(rt) {
         Ok(count) => count.get() as u64,
@@ -73,7 +73,7 @@ fn processors<R: Threads>(rt: &R) -> u64 {
     }
 }
 
-// Whether the first records of a run in order cost so much that workers pay. What is refused there is refused again by the run.
+/// Whether the first records of a run in order cost so much that workers pay. What is refused there is refused again by the run.
 fn is_dear<R: Clock>(rt: &R, alloc: Global, network: &Network<AnyModel>, until: u64) -> bool {
     let Ok(begun) = Instant::now(rt) else {
         return false;
@@ -99,7 +99,7 @@ struct Stopwatch<'a, R: Clock> {
 }
 
 impl<R: Clock> Stopwatch<'_, R> {
-    // Whether a record takes so long that workers pay.
+    /// Whether a record takes so long that workers pay.
     fn is_dear(&self) -> bool {
         let least = u128::from(self.records).saturating_mul(u128::from(DEAR));
         self.records > 0 && self.time.as_nanos() >= least

@@ -4,15 +4,15 @@ ghost use Rattle.std.specs.Prelude.{◌≡◌, IfOk};
 ghost use Rattle.tw_engine.specs.Runs.{IsDemo, demo_network, demo_text, run_text};
 
 use crate::failed::Failed;
-use crate::runs::Fault;
 use crate::workers::run_network;
 use std::alloc::{AllocError, Global};
 use std::io::Write;
 use std::sync::Wait;
 use std::thread::Threads;
 use std::time::Clock;
+use tw_actions::Fault;
 use tw_any_model::AnyModel;
-use tw_line::{Setting, Workers};
+use tw_line::{RunOptions, Workers};
 use tw_models::Model;
 use tw_network::Network;
 use tw_process::Cancel;
@@ -21,14 +21,14 @@ use tw_process::Cancel;
 const UNTIL: u64 = 5;
 
 // Its workers, and how far they work ahead. They tell nothing of it.
-const SETTING: Setting = Setting {
+const SETTING: RunOptions = RunOptions {
     workers: Workers::Count(2),
     burst: 16,
     window: 1000,
     progress: false,
 };
 
-// Runs the demonstration and writes its text.
+/// Runs the demonstration and writes its text.
 pub(crate) fn demo<R: Threads + Wait + Clock + Eprint + Sync, W: Write>(
     rt: &R,
     alloc: Global,
@@ -40,8 +40,8 @@ pub(crate) fn demo<R: Threads + Wait + Clock + Eprint + Sync, W: Write>(
     run_network(rt, alloc, network, UNTIL, Cancel::Aggressive, SETTING, out)
 }
 
-// The network of the demonstration: a generator of period 2 and value 5, and a tally that it feeds.
-// Such a network is refused for want of memory alone.
+/// The network of the demonstration: a generator of period 2 and value 5, and a tally that it feeds.
+/// Such a network is refused for want of memory alone.
 fn gen_tally(alloc: Global) -> Result<Network<AnyModel>, AllocError>
     ensures { IfOk result (λ n. n ≡ demo_network) }
 {

@@ -20,7 +20,7 @@ use tw_process::Cancel;
 use tw_vtime::Refusal;
 use tw_warp_pictures::{draw_script, draw_seed};
 
-// The title of a file's pictures: its name without the folders before it and the ending behind it.
+/// The title of a file's pictures: its name without the folders before it and the ending behind it.
 pub(crate) fn title_of(path: &str) -> &str {
     let name = match path.rsplit_once('/') {
         Some((_, name)) => name,
@@ -32,7 +32,7 @@ pub(crate) fn title_of(path: &str) -> &str {
     }
 }
 
-// Draws the run of the network that a file's bytes mean.
+/// Draws the run of the network that a file's bytes mean.
 pub(crate) fn draw_view<W: Write>(
     alloc: Global,
     bytes: &[u8],
@@ -47,7 +47,7 @@ pub(crate) fn draw_view<W: Write>(
     draw_network(alloc, bytes, &network, title, until, view, out)
 }
 
-// Draws a network's run.
+/// Draws a network's run.
 fn draw_network<W: Write>(
     alloc: Global,
     bytes: &[u8],
@@ -74,7 +74,7 @@ fn draw_network<W: Write>(
     }
 }
 
-// Draws the run of an executive of the network that a file's bytes mean, with what drives it.
+/// Draws the run of an executive of the network that a file's bytes mean, with what drives it.
 pub(crate) fn draw_warp<S: Read, W: Write>(
     alloc: Global,
     bytes: &[u8],
@@ -96,7 +96,7 @@ pub(crate) fn draw_warp<S: Read, W: Write>(
     }
 }
 
-// Draws the run of an executive that a script drives, which is read only where the bytes mean a network.
+/// Draws the run of an executive that a script drives, which is read only where the bytes mean a network.
 fn draw_by_script<S: Read, W: Write>(
     alloc: Global,
     bytes: &[u8],
@@ -114,7 +114,7 @@ fn draw_by_script<S: Read, W: Write>(
     draw_lines(alloc, network, lines.as_slice(), title, until, cancel, out)
 }
 
-// Draws the run of a network's executive that a script drives.
+/// Draws the run of a network's executive that a script drives.
 fn draw_lines<W: Write>(
     alloc: Global,
     network: Network<AnyModel>,
@@ -132,7 +132,7 @@ fn draw_lines<W: Write>(
     Ok(None)
 }
 
-// Draws the run of an executive by the actions that a seed gives.
+/// Draws the run of an executive by the actions that a seed gives.
 fn draw_by_seed<W: Write>(
     alloc: Global,
     bytes: &[u8],

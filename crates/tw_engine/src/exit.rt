@@ -6,9 +6,9 @@ ghost use Rattle.tw_engine.specs.Ends.{failed_of};
 ghost use Rattle.tw_engine.specs.Exits.{exit_of, exit_of_rest, exit_of_run, exit_of_view, line_of, status_of};
 
 use crate::failed::Failed;
-use crate::runs::Fault;
 use std::io;
 use std::io::Write;
+use tw_actions::Fault;
 use tw_vtime::Refusal;
 
 /// How a run ended.
@@ -56,7 +56,7 @@ impl From<Refusal> for Exit {
 }
 
 impl Exit {
-    // The exit of a job that writes the text of a run, with its fault.
+    /// The exit of a job that writes the text of a run, with its fault.
     pub(crate) fn of_run(ended: Result<Option<Fault>, Failed>) -> Exit
         ensures { result ≡ exit_of_run ended }
     {
@@ -67,7 +67,7 @@ impl Exit {
         }
     }
 
-    // The exit of a job that tells of a run, whose fault has a line of its own.
+    /// The exit of a job that tells of a run, whose fault has a line of its own.
     pub(crate) fn of_view(ended: Result<Option<String>, Failed>) -> Exit
         ensures { result ≡ exit_of_view ended }
     {
@@ -78,7 +78,7 @@ impl Exit {
         }
     }
 
-    // The exit of any other job.
+    /// The exit of any other job.
     pub(crate) fn of_rest(ended: Result<(), Failed>) -> Exit
         ensures { result ≡ exit_of_rest ended }
     {

@@ -30,4 +30,5 @@ pub use demonstration::demo_law;
 pub use exit::Exit;
 pub use failed::Failed;
 pub use laws::text_law;
-pub use runs::{Fault, check, draw, engine, play, seq, stats, table};
+pub use runs::{check, draw, engine, play, seq, stats, table};
+pub use tw_actions::Fault;

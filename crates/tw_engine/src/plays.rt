@@ -21,7 +21,7 @@ use tw_script::{Command, ScriptRefused, commands_of_script};
 use tw_texts::write_trace;
 use tw_vtime::Refusal;
 
-// Drives the executive of a network by a script.
+/// Drives the executive of a network by a script.
 pub(crate) fn play_by_script<W: Write>(
     alloc: Global,
     network: Network<AnyModel>,
@@ -38,7 +38,7 @@ pub(crate) fn play_by_script<W: Write>(
     write_committed(alloc, player.executive(), out)
 }
 
-// Drives the executive of the network that a file's bytes mean by the actions that a seed gives.
+/// Drives the executive of the network that a file's bytes mean by the actions that a seed gives.
 pub(crate) fn play_by_seed<W: Write>(
     alloc: Global,
     bytes: &[u8],
@@ -56,7 +56,7 @@ pub(crate) fn play_by_seed<W: Write>(
     write_committed(alloc, player.executive(), out)
 }
 
-// The commands of a script.
+/// The commands of a script.
 pub(crate) fn commands(
     alloc: Global,
     script: &[u8],
@@ -76,7 +76,7 @@ pub(crate) fn commands(
     }
 }
 
-// An executive at its start, to be driven by hand.
+/// An executive at its start, to be driven by hand.
 pub(crate) fn player(
     alloc: Global,
     network: Network<AnyModel>,
@@ -92,7 +92,7 @@ pub(crate) fn player(
     }
 }
 
-// Writes the trace of what is committed up to the least commit line.
+/// Writes the trace of what is committed up to the least commit line.
 fn write_committed<W: Write>(
     alloc: Global,
     executive: &Executive<AnyModel>,

@@ -26,17 +26,15 @@ use std::io::{ErrorKind, Read, Write};
 use std::sync::Wait;
 use std::thread::Threads;
 use std::time::Clock;
+use tw_actions::Fault;
 use tw_any_model::AnyModel;
-use tw_line::{Driver, Job, Picture, Rows, Setting};
+use tw_line::{Driver, Job, Picture, Rows, RunOptions};
 use tw_netfile::network_of_any_file;
 use tw_network::Network;
 use tw_process::Cancel;
 use tw_tell::{Listener, outcome_telling};
 use tw_texts::{Names, push_fault};
-use tw_vtime::{Limit, Refusal, Stamp};
-
-/// What a run ends in that meets a limit: the component that met it, the stamp of its step, and the limit.
-pub type Fault = (usize, Stamp, Limit);
+use tw_vtime::Refusal;
 
 /// Does a job.
 ///
@@ -114,14 +112,14 @@ pub fn engine<R: Threads + Wait + Clock + Eprint + Sync, N: Read, S: Read, W: Wr
     }
 }
 
-// Does the job `run`.
+/// Does the job `run`.
 fn run<R: Threads + Wait + Clock + Eprint + Sync, N: Read, W: Write>(
     rt: &R,
     alloc: Global,
     net: &mut N,
     until: u64,
     cancel: Cancel,
-    setting: Setting,
+    setting: RunOptions,
     out: &mut W,
 ) -> Result<Option<Fault>, Failed>
     ensures { OfFile (N.remaining net.old) result (W.contents out.old) (W.contents out.new)
@@ -244,7 +242,7 @@ pub fn play<N: Read, S: Read, W: Write>(
     }
 }
 
-// Drives an executive by a script, which is read only where the bytes mean a network.
+/// Drives an executive by a script, which is read only where the bytes mean a network.
 fn play_script<S: Read, W: Write>(
     alloc: Global,
     bytes: &[u8],
@@ -261,7 +259,7 @@ fn play_script<S: Read, W: Write>(
     play_by_script(alloc, network, lines.as_slice(), until, cancel, out)
 }
 
-// All that a reader has left.
+/// All that a reader has left.
 pub(crate) fn read_all<N: Read>(alloc: Global, net: &mut N) -> Result<Vec<u8>, Failed>
     ensures ok { IfOk result (λ bytes. IfSome (N.remaining net.old) (λ all. bytes.items ≡ all)) }
     ensures err { IfErr result (λ e. (e ≡ failed.Bad refusal.Unreadable None) ⊎ (e ≡ failed.Want refusal.OutOfMemory)) }
@@ -277,7 +275,7 @@ pub(crate) fn read_all<N: Read>(alloc: Global, net: &mut N) -> Result<Vec<u8>, F
     }
 }
 
-// Simulates the network that a file's bytes mean in order, and writes its text.
+/// Simulates the network that a file's bytes mean in order, and writes its text.
 fn run_in_order<L: Listener, W: Write>(
     alloc: Global,
     bytes: &[u8],
@@ -291,8 +289,8 @@ fn run_in_order<L: Listener, W: Write>(
     simulate(alloc, &network, until, listener, out)
 }
 
-// Simulates a network in order, and writes its text. The fault is worked out first, so that nothing is written before the outcome is
-// known.
+/// Simulates a network in order, and writes its text. The fault is worked out first, so that nothing is written before the outcome is
+/// known.
 pub(crate) fn simulate<L: Listener, W: Write>(
     alloc: Global,
     network: &Network<AnyModel>,
@@ -306,7 +304,7 @@ pub(crate) fn simulate<L: Listener, W: Write>(
     write_streamed(alloc, network, until, fault, listener, out)
 }
 
-// The network that a file's bytes mean.
+/// The network that a file's bytes mean.
 pub(crate) fn network(alloc: Global, bytes: &[u8]) -> Result<Network<AnyModel>, Failed>
     ensures ok { IfOk result (IsMeaning bytes.now) }
     ensures err { IfErr result (HasNoNetwork bytes.now) }
@@ -317,7 +315,7 @@ pub(crate) fn network(alloc: Global, bytes: &[u8]) -> Result<Network<AnyModel>, 
     }
 }
 
-// The fault of a network's sequential run, if it ends in one.
+/// The fault of a network's sequential run, if it ends in one.
 pub(crate) fn fault_of<L: Listener>(
     alloc: Global,
     network: &Network<AnyModel>,
@@ -334,7 +332,7 @@ pub(crate) fn fault_of<L: Listener>(
     }
 }
 
-// The line of a run's fault, or nothing.
+/// The line of a run's fault, or nothing.
 pub(crate) fn last_line(
     alloc: Global,
     names: &NetworkNames<'_>,
@@ -343,8 +341,13 @@ pub(crate) fn last_line(
     ensures { IfOk result (λ line. string_bytes line ≡ fault_text names.now.network.now.names fault.now) }
 {
     let mut line = String::new(alloc);
-    if let Some((component, at, limit)) = fault {
-        push_fault(&mut line, names.name(*component), *at, *limit)?;
+    if let Some(fault) = fault {
+        push_fault(
+            &mut line,
+            names.name(fault.component),
+            fault.stamp,
+            fault.limit,
+        )?;
     }
     Ok(line)
 }

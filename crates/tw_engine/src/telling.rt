@@ -19,7 +19,7 @@ pub(crate) struct Teller<'a, R: Clock + Eprint> {
 }
 
 impl<'a, R: Clock + Eprint> Teller<'a, R> {
-    // Begins to tell of a run up to an end tick.
+    /// Begins to tell of a run up to an end tick.
     pub(crate) fn new(rt: &'a R, until: u64) -> Teller<'a, R> {
         Teller {
             rt,
@@ -28,7 +28,7 @@ impl<'a, R: Clock + Eprint> Teller<'a, R> {
         }
     }
 
-    // Whether a line is due, a second after the latest one.
+    /// Whether a line is due, a second after the latest one.
     fn is_due(&self) -> bool {
         match self.told {
             Some(told) => match told.elapsed(self.rt) {
@@ -58,7 +58,7 @@ impl<R: Clock + Eprint> Listener for Teller<'_, R> {
     }
 }
 
-// The tick of a run up to an end tick whose latest record is at this stamp.
+/// The tick of a run up to an end tick whose latest record is at this stamp.
 fn tick_of(at: Stamp, until: u64) -> u64 {
     if at.is_end() {
         until

@@ -5,15 +5,16 @@ ghost use Rattle.tw_engine.specs.Runs.{IsRun};
 ghost use Rattle.tw_engine.specs.Views.{IsSummed, IsTabulated};
 
 use crate::failed::Failed;
-use crate::runs::{Fault, seq, stats, table};
+use crate::runs::{seq, stats, table};
 use crate::telling::Teller;
 use std::alloc::Global;
 use std::io::{Read, Write};
 use std::time::Clock;
+use tw_actions::Fault;
 use tw_line::Rows;
 use tw_tell::Nobody;
 
-// Does the job `seq`.
+/// Does the job `seq`.
 pub(crate) fn seq_told<R: Clock + Eprint, N: Read, W: Write>(
     rt: &R,
     alloc: Global,
@@ -32,7 +33,7 @@ pub(crate) fn seq_told<R: Clock + Eprint, N: Read, W: Write>(
     }
 }
 
-// Does the job `stats`.
+/// Does the job `stats`.
 pub(crate) fn stats_told<R: Clock + Eprint, N: Read, W: Write>(
     rt: &R,
     alloc: Global,
@@ -52,7 +53,7 @@ pub(crate) fn stats_told<R: Clock + Eprint, N: Read, W: Write>(
     }
 }
 
-// Does the job `table`.
+/// Does the job `table`.
 pub(crate) fn table_told<R: Clock + Eprint, N: Read, W: Write>(
     rt: &R,
     alloc: Global,

@@ -5,9 +5,10 @@ ghost use Rattle.tw_engine.specs.Views.{IsLineOf, IsSummed, IsSummedOf, IsTabula
 
 use crate::failed::Failed;
 use crate::names::NetworkNames;
-use crate::runs::{Fault, fault_of, last_line, network};
+use crate::runs::{fault_of, last_line, network};
 use std::alloc::{AllocError, Global};
 use std::io::Write;
+use tw_actions::Fault;
 use tw_any_model::AnyModel;
 use tw_labels::labels_in;
 use tw_line::Rows;
@@ -17,7 +18,7 @@ use tw_tell::Listener;
 use tw_views::{report_of, write_report};
 use tw_vtime::Refusal;
 
-// Writes the counts and the figures of the run of the network that a file's bytes mean.
+/// Writes the counts and the figures of the run of the network that a file's bytes mean.
 pub(crate) fn sum_up<L: Listener, W: Write>(
     alloc: Global,
     bytes: &[u8],
@@ -32,7 +33,7 @@ pub(crate) fn sum_up<L: Listener, W: Write>(
     sum_up_network(alloc, bytes, &network, until, json, listener, out)
 }
 
-// Writes the counts and the figures of a network's run.
+/// Writes the counts and the figures of a network's run.
 fn sum_up_network<L: Listener, W: Write>(
     alloc: Global,
     bytes: &[u8],
@@ -58,7 +59,7 @@ fn sum_up_network<L: Listener, W: Write>(
     }
 }
 
-// The line of the fault that a run ends in, if it ends in one.
+/// The line of the fault that a run ends in, if it ends in one.
 pub(crate) fn fault_line(
     alloc: Global,
     network: &Network<AnyModel>,
@@ -74,7 +75,7 @@ pub(crate) fn fault_line(
     Ok(Some(line))
 }
 
-// Writes the table of the run of the network that a file's bytes mean.
+/// Writes the table of the run of the network that a file's bytes mean.
 pub(crate) fn tabulate<L: Listener, W: Write>(
     alloc: Global,
     bytes: &[u8],
@@ -89,7 +90,7 @@ pub(crate) fn tabulate<L: Listener, W: Write>(
     tabulate_network(alloc, &network, until, rows, listener, out)
 }
 
-// Writes the table of a network's run. The fault is worked out first, so that nothing is written before the outcome is known.
+/// Writes the table of a network's run. The fault is worked out first, so that nothing is written before the outcome is known.
 fn tabulate_network<L: Listener, W: Write>(
     alloc: Global,
     network: &Network<AnyModel>,
@@ -107,7 +108,7 @@ fn tabulate_network<L: Listener, W: Write>(
     Ok(line)
 }
 
-// What a line of a table is of that the command line asks for.
+/// What a line of a table is of that the command line asks for.
 fn lines_of(rows: Rows) -> tw_tables::Rows
     ensures { result ≡ lines_of rows }
 {

@@ -11,7 +11,7 @@ ghost use Rattle.tw_vtime.specs.declared.refusal.Refusal.TheVariants as refusal;
 
 use crate::choosing::workers_of;
 use crate::failed::Failed;
-use crate::runs::{Fault, network, simulate};
+use crate::runs::{network, simulate};
 use crate::telling::Teller;
 use crate::writing::write_made;
 use std::alloc::Global;
@@ -19,27 +19,28 @@ use std::io::Write;
 use std::sync::{Arc, Wait};
 use std::thread::Threads;
 use std::time::Clock;
+use tw_actions::Fault;
 use tw_any_model::{AnyModel, AnyState};
 use tw_board::{Board, Publisher};
 use tw_exec::Executive;
 use tw_laws::endings::outcome_law;
-use tw_line::Setting;
+use tw_line::RunOptions;
 use tw_msgs::Record;
 use tw_network::Network;
 use tw_process::Cancel;
 use tw_progress::while_telling;
 use tw_tell::Nobody;
 use tw_vtime::{MAX_TICK, Refusal};
-use tw_workers::{Effort, Open, Outcome, run_counted};
+use tw_workers::{Effort, Open, Outcome, Setting, run_counted};
 
-// Runs the network that a file's bytes mean as its workers are set, and writes its text.
+/// Runs the network that a file's bytes mean as its workers are set, and writes its text.
 pub(crate) fn run_by_workers<R: Threads + Wait + Clock + Eprint + Sync, W: Write>(
     rt: &R,
     alloc: Global,
     bytes: &[u8],
     until: u64,
     cancel: Cancel,
-    setting: Setting,
+    setting: RunOptions,
     out: &mut W,
 ) -> Result<Option<Fault>, Failed>
     ensures { IsRunByWorkers bytes.now until result (W.contents out.old) (W.contents out.new) }
@@ -48,14 +49,14 @@ pub(crate) fn run_by_workers<R: Threads + Wait + Clock + Eprint + Sync, W: Write
     run_network(rt, alloc, network, until, cancel, setting, out)
 }
 
-// Runs a network as its workers are set, and writes its text.
+/// Runs a network as its workers are set, and writes its text.
 pub(crate) fn run_network<R: Threads + Wait + Clock + Eprint + Sync, W: Write>(
     rt: &R,
     alloc: Global,
     network: Network<AnyModel>,
     until: u64,
     cancel: Cancel,
-    setting: Setting,
+    setting: RunOptions,
     out: &mut W,
 ) -> Result<Option<Fault>, Failed>
     ensures { IsWorked network until result (W.contents out.old) (W.contents out.new) }
@@ -70,7 +71,7 @@ pub(crate) fn run_network<R: Threads + Wait + Clock + Eprint + Sync, W: Write>(
     }
 }
 
-// Runs a network in order, and writes its text. Where that is asked for it tells how far it is.
+/// Runs a network in order, and writes its text. Where that is asked for it tells how far it is.
 fn run_in_order<R: Clock + Eprint, W: Write>(
     rt: &R,
     alloc: Global,
@@ -88,12 +89,12 @@ fn run_in_order<R: Clock + Eprint, W: Write>(
     }
 }
 
-// Runs an executive by workers, and writes the text of its network's run.
+/// Runs an executive by workers, and writes the text of its network's run.
 fn run_executive<R: Threads + Wait + Clock + Eprint + Sync, W: Write>(
     rt: &R,
     alloc: Global,
     executive: Executive<AnyModel>,
-    setting: tw_workers::Setting,
+    setting: Setting,
     progress: bool,
     out: &mut W,
 ) -> Result<Option<Fault>, Failed>
@@ -105,7 +106,7 @@ fn run_executive<R: Threads + Wait + Clock + Eprint + Sync, W: Write>(
     write_made(alloc, &network, records.as_slice(), fault, out)
 }
 
-// An executive at its start.
+/// An executive at its start.
 fn started(
     alloc: Global,
     network: Network<AnyModel>,
@@ -122,12 +123,12 @@ fn started(
     }
 }
 
-// The records and the fault of the sequential run of an executive's network, made by workers. With `progress` it tells how far it is, and at the end what it spent.
+/// The records and the fault of the sequential run of an executive's network, made by workers. With `progress` it tells how far it is, and at the end what it spent.
 fn worked<R: Threads + Wait + Clock + Eprint + Sync>(
     rt: &R,
     alloc: Global,
     executive: Executive<AnyModel>,
-    setting: tw_workers::Setting,
+    setting: Setting,
     progress: bool,
 ) -> Result<(Vec<Record>, Option<Fault>), Refusal>
     requires { IsSet setting }
@@ -143,20 +144,17 @@ fn worked<R: Threads + Wait + Clock + Eprint + Sync>(
     }
     match ended {
         Ok(Outcome::Complete(records)) => Ok((records, None)),
-        Ok(Outcome::Fault(records, component, stamp, limit)) => {
-            let fault = Some((component, stamp, limit));
-            Ok((records, fault))
-        }
+        Ok(Outcome::Fault(records, fault)) => Ok((records, Some(fault))),
         Err(why) => Err(why),
     }
 }
 
-// How the workers' run of an executive ends. It posts on a board of its own, and tells how far it is where that is asked for.
+/// How the workers' run of an executive ends. It posts on a board of its own, and tells how far it is where that is asked for.
 fn outcome<R: Threads + Wait + Clock + Eprint + Sync>(
     rt: &R,
     alloc: Global,
     executive: Executive<AnyModel>,
-    setting: tw_workers::Setting,
+    setting: Setting,
     progress: bool,
 ) -> (Result<Outcome, Refusal>, Effort)
     requires { IsSet setting }
@@ -186,12 +184,12 @@ fn outcome<R: Threads + Wait + Clock + Eprint + Sync>(
     )
 }
 
-// How the workers' run of an executive ends, which posts how far it is.
+/// How the workers' run of an executive ends, which posts how far it is.
 fn posted<R: Threads + Wait + Sync>(
     rt: &R,
     alloc: Global,
     executive: Executive<AnyModel>,
-    setting: tw_workers::Setting,
+    setting: Setting,
     publisher: Publisher,
 ) -> (Result<Outcome, Refusal>, Effort)
     requires not_ahead { IsNotAhead publisher executive }
@@ -206,7 +204,7 @@ fn posted<R: Threads + Wait + Sync>(
     }
 }
 
-// Tells on standard error what a run came to, and what it spent.
+/// Tells on standard error what a run came to, and what it spent.
 fn tell_effort<R: Eprint>(rt: &R, ended: &Result<Outcome, Refusal>, effort: Effort) {
     let records = match ended {
         Ok(Outcome::Complete(trace) | Outcome::Fault(trace, ..)) => trace.len(),
@@ -224,11 +222,11 @@ fn tell_effort<R: Eprint>(rt: &R, ended: &Result<Outcome, Refusal>, effort: Effo
     );
 }
 
-// The setting of a run by so many workers, each number brought within its range.
-fn in_range(setting: Setting, workers: u64) -> tw_workers::Setting
+/// The setting of a run by so many workers, each number brought within its range.
+fn in_range(setting: RunOptions, workers: u64) -> Setting
     ensures { IsSet result }
 {
-    tw_workers::Setting {
+    Setting {
         workers: workers.clamp(1, 64),
         burst: setting.burst.clamp(1, 256) as usize,
         window: setting.window.min(MAX_TICK),

@@ -9,9 +9,10 @@ ghost use Rattle.tw_engine.specs.Runs.{IsShown};
 
 use crate::failed::Failed;
 use crate::names::NetworkNames;
-use crate::runs::{Fault, last_line};
+use crate::runs::last_line;
 use std::alloc::Global;
 use std::io::Write;
+use tw_actions::Fault;
 use tw_any_model::AnyModel;
 use tw_msgs::Record;
 use tw_network::Network;
@@ -19,7 +20,7 @@ use tw_stream::write_rounds;
 use tw_tell::Listener;
 use tw_texts::write_trace;
 
-// Writes the text of a network's run, of which the fault is known: the lines of its rounds, as they are made, and that of the fault.
+/// Writes the text of a network's run, of which the fault is known: the lines of its rounds, as they are made, and that of the fault.
 pub(crate) fn write_streamed<L: Listener, W: Write>(
     alloc: Global,
     network: &Network<AnyModel>,
@@ -40,7 +41,7 @@ pub(crate) fn write_streamed<L: Listener, W: Write>(
     }
 }
 
-// Writes the text of a run that is made: the lines of its records, and that of its fault.
+/// Writes the text of a run that is made: the lines of its records, and that of its fault.
 pub(crate) fn write_made<W: Write>(
     alloc: Global,
     network: &Network<AnyModel>,

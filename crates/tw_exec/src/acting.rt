@@ -50,7 +50,7 @@ impl<M: Atomic> Executive<M> {
         }
     }
 
-    // The next step of a component is made.
+    /// The next step of a component is made.
     fn step(&mut self, component: usize) -> Result<Done, Refused>
         ensures done { OnOk result (self.new ≡ after M.meaning (Step component) self.old) }
         ensures answer { IfOk result (λ done. answer M.meaning (Step component) self.old ≡ Ok done) }
@@ -70,7 +70,7 @@ impl<M: Atomic> Executive<M> {
         Ok(Done::Stepped(stamp, kind))
     }
 
-    // What a component sends goes to the mailboxes.
+    /// What a component sends goes to the mailboxes.
     fn post(&mut self, component: usize) -> Result<Done, Refused>
         ensures done { OnOk result (self.new ≡ after M.meaning (Post component) self.old) }
         ensures answer { IfOk result (λ done. answer M.meaning (Post component) self.old ≡ Ok done) }
@@ -90,7 +90,7 @@ impl<M: Atomic> Executive<M> {
         Ok(Done::Posted(items.len() as u64))
     }
 
-    // A component receives an item of its mailbox; a refused one goes back to its place.
+    /// A component receives an item of its mailbox; a refused one goes back to its place.
     fn deliver(&mut self, receiver: usize, place: usize) -> Result<Done, Refused>
         ensures done { OnOk result (self.new ≡ after M.meaning (Deliver receiver place) self.old) }
         ensures answer { IfOk result (λ done. answer M.meaning (Deliver receiver place) self.old ≡ Ok done) }
@@ -116,7 +116,7 @@ impl<M: Atomic> Executive<M> {
         }
     }
 
-    // The steps of a component at or after a stamp are taken back.
+    /// The steps of a component at or after a stamp are taken back.
     fn back(&mut self, component: usize, stamp: Stamp) -> Result<Done, Refused>
         ensures done { OnOk result (self.new ≡ after M.meaning (Back component stamp) self.old) }
         ensures answer { IfOk result (λ done. answer M.meaning (Back component stamp) self.old ≡ Ok done) }
@@ -136,7 +136,7 @@ impl<M: Atomic> Executive<M> {
         Ok(Done::Undone(undone))
     }
 
-    // Global virtual time rises.
+    /// Global virtual time rises.
     fn raise(&mut self) -> Done
         ensures done { self.new ≡ after M.meaning Raise self.old }
         ensures answer { answer M.meaning Raise self.old ≡ Ok result }
@@ -146,7 +146,7 @@ impl<M: Atomic> Executive<M> {
         Done::Raised(gvt)
     }
 
-    // The records of a component from before global virtual time go to its column.
+    /// The records of a component from before global virtual time go to its column.
     fn harvest(&mut self, component: usize) -> Result<Done, Refused>
         ensures done { OnOk result (self.new ≡ after M.meaning (Harvest component) self.old) }
         ensures answer { IfOk result (λ done. answer M.meaning (Harvest component) self.old ≡ Ok done) }
@@ -169,7 +169,7 @@ impl<M: Atomic> Executive<M> {
     }
 }
 
-// What a post moves: the outgoing items, and the anti-messages of what is owed from before the next step.
+/// What a post moves: the outgoing items, and the anti-messages of what is owed from before the next step.
 fn to_post<M: Atomic>(process: &Process<M>) -> Result<Vec<Item>, AllocError>
     ensures { IfOk result (λ items. items.items ≡ (settle process.now.process).outgoing) }
 {
@@ -184,7 +184,7 @@ fn to_post<M: Atomic>(process: &Process<M>) -> Result<Vec<Item>, AllocError>
     }
 }
 
-// The anti-messages of those messages that were sent before a stamp go to the end of a list.
+/// The anti-messages of those messages that were sent before a stamp go to the end of a list.
 fn push_overdue(items: &mut Vec<Item>, owed: &[Message], next: Stamp) -> Result<(), AllocError>
     ensures { OnOk result (items.new.items ≡ items.old.items ++ antis (overdue next owed.now)) }
 {

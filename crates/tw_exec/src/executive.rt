@@ -183,7 +183,7 @@ impl<M: Atomic> Executive<M> {
     }
 }
 
-// The processes of a network at its start.
+/// The processes of a network at its start.
 fn processes_of<M: Atomic>(
     alloc: Global,
     network: &Arc<Network<M>>,
@@ -203,7 +203,7 @@ fn processes_of<M: Atomic>(
     Ok(processes)
 }
 
-// So many columns of no records.
+/// So many columns of no records.
 fn empty_columns(alloc: Global, count: usize) -> Result<Vec<Column>, AllocError>
     ensures { IfOk result (λ made. made.items ≡ replicate count []) }
 {

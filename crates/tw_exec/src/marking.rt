@@ -94,7 +94,7 @@ impl<M: Atomic> Executive<M> {
     }
 }
 
-// Whether a component has, in its column or its history, a step at or after its mark and before global virtual time.
+/// Whether a component has, in its column or its history, a step at or after its mark and before global virtual time.
 fn any_committed<M: Atomic>(
     gvt: Stamp,
     stamps: &[Stamp],
@@ -113,7 +113,7 @@ fn any_committed<M: Atomic>(
     any
 }
 
-// Whether a component has, in its column or its history, a step at or after a mark and before global virtual time.
+/// Whether a component has, in its column or its history, a step at or after a mark and before global virtual time.
 fn is_committed_since<M: Atomic>(
     column: &Column,
     process: &Process<M>,
@@ -127,7 +127,7 @@ fn is_committed_since<M: Atomic>(
     reaches(column, gvt, mark) || process.has_step_between(mark, gvt)
 }
 
-// Whether a column of records before a stamp has one at or after another stamp: its last one is.
+/// Whether a column of records before a stamp has one at or after another stamp: its last one is.
 fn reaches(column: &Column, before: Stamp, from: Stamp) -> bool
     requires rising { IsRising column.now }
     requires before { Each (λ r. r.stamp < before) column.now }
@@ -139,7 +139,7 @@ fn reaches(column: &Column, before: Stamp, from: Stamp) -> bool
     }
 }
 
-// Takes back every step of each process at or after its marked stamp, and answers how many.
+/// Takes back every step of each process at or after its marked stamp, and answers how many.
 fn back_to_marks<M: Atomic>(processes: &mut Vec<Process<M>>, stamps: &[Stamp]) -> u64
     requires { length processes.old.items ≡ length stamps.now }
     ensures cut { processes.new.items ≡ at_marks stamps.now processes.old.items }

@@ -66,7 +66,7 @@ impl<M: Atomic> Executive<M> {
     }
 }
 
-// The least commit line; the end, where there are no processes.
+/// The least commit line; the end, where there are no processes.
 fn least_line<M: Atomic>(processes: &[Process<M>]) -> Stamp
     ensures { result ≡ least_line (map (λ p. p.process) processes.now) }
 {

@@ -50,7 +50,7 @@ impl Column {
     }
 
     /// The records as a vector. It takes no memory.
-    pub fn into_records(self) -> Vec<Record>
+    pub(crate) fn into_records(self) -> Vec<Record>
         ensures { result.items ≡ self }
     {
         let Column { records } = self;

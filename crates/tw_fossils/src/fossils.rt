@@ -34,7 +34,7 @@ pub fn harvest<M: Atomic>(
     Ok(count as u64)
 }
 
-// The records of the oldest steps, so many, move to the end of a vector; all room is made first.
+/// The records of the oldest steps, so many, move to the end of a vector; all room is made first.
 fn move_oldest<M: Atomic>(
     process: &mut Process<M>,
     records: &mut Vec<Record>,

@@ -67,7 +67,7 @@ struct Room {
     trace: Vec<Record>,
 }
 
-// The room for columns.
+/// The room for columns.
 fn room_for(alloc: Global, columns: &[Column], line: Stamp) -> Result<Room, AllocError>
     requires { AreColumns 0 columns.now }
     ensures heads { IfOk result (λ room. IsReady line columns.now room.heads.times 0 (vec_capacity room.trace)) }
@@ -82,7 +82,7 @@ fn room_for(alloc: Global, columns: &[Column], line: Stamp) -> Result<Room, Allo
     })
 }
 
-// The records before a stamp, moved into the room that was made for them.
+/// The records before a stamp, moved into the room that was made for them.
 fn move_all(columns: Vec<Column>, line: Stamp, room: Room) -> Vec<Record>
     requires columns { AreColumns 0 columns.items }
     requires heads { IsReady line columns.items room.heads.times 0 (vec_capacity room.trace) }
@@ -105,7 +105,7 @@ fn move_all(columns: Vec<Column>, line: Stamp, room: Room) -> Vec<Record>
     trace
 }
 
-// The records of each column.
+/// The records of each column.
 fn as_slices(alloc: Global, columns: &[Column]) -> Result<Vec<&[Record]>, AllocError>
     ensures { IfOk result (λ slices. map (λ rs. rs.now) slices.items ≡ columns.now) }
 {
@@ -116,7 +116,7 @@ fn as_slices(alloc: Global, columns: &[Column]) -> Result<Vec<&[Record]>, AllocE
     Ok(slices)
 }
 
-// Each column as a queue, in places that are there. No record moves.
+/// Each column as a queue, in places that are there. No record moves.
 fn as_queues(columns: Vec<Column>, mut queues: Vec<VecDeque<Record>>) -> Vec<VecDeque<Record>>
     requires none { queues.items ≡ [] }
     requires places { length columns.items ≤ vec_capacity queues }
@@ -128,7 +128,7 @@ fn as_queues(columns: Vec<Column>, mut queues: Vec<VecDeque<Record>>) -> Vec<Vec
     queues
 }
 
-// Of the column that comes next the first record is copied to the end of the trace.
+/// Of the column that comes next the first record is copied to the end of the trace.
 fn copy_first(
     left: &mut Vec<&[Record]>,
     next: usize,
@@ -151,7 +151,7 @@ fn copy_first(
     Ok(())
 }
 
-// Of the column that comes next the first record moves to the end of the trace.
+/// Of the column that comes next the first record moves to the end of the trace.
 fn move_first(
     left: &mut Vec<VecDeque<Record>>,
     next: usize,
@@ -174,7 +174,7 @@ fn move_first(
     }
 }
 
-// Once half of a column's room is free it is given back, so that the trace and what is left of the columns need less than two traces.
+/// Once half of a column's room is free it is given back, so that the trace and what is left of the columns need less than two traces.
 fn give_back(column: &mut VecDeque<Record>)
     ensures { column.new.items ≡ column.old.items }
 {

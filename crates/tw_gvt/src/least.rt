@@ -21,7 +21,7 @@ pub fn least_of<M: Atomic>(processes: &[Process<M>], mail: &Mailboxes) -> Stamp
     least.min(mail.least())
 }
 
-// The least stamp that a process can still change, or the end.
+/// The least stamp that a process can still change, or the end.
 fn least_in<M: Atomic>(process: &Process<M>) -> Stamp
     ensures { result ≡ least_in process.now.process }
 {

@@ -10,8 +10,8 @@ use tw_msgs::Item;
 use tw_process::{Cancel, Process};
 use tw_texts::{push_time, push_words};
 
-// The line of a component, as `t line 0.0.0 next 4.0.1 due end last 0.0 steps 0 pending 1 waiting 0
-// outgoing 0 mail 1 | 0 0 0`.
+/// The line of a component, as `t line 0.0.0 next 4.0.1 due end last 0.0 steps 0 pending 1 waiting 0
+/// outgoing 0 mail 1 | 0 0 0`.
 pub(crate) fn add_component<M: Atomic>(
     alloc: Global,
     text: &mut String,
@@ -29,7 +29,7 @@ pub(crate) fn add_component<M: Atomic>(
     add_words(text, mail.len(), words.as_slice())
 }
 
-// The words of a state.
+/// The words of a state.
 fn words_of<M: Atomic>(alloc: Global, model: &M, state: &M::State) -> Result<Vec<i128>, AllocError>
     ensures { IfOk result (λ words. words.items ≡ (M.meaning model.now).words state.now) }
 {
@@ -38,7 +38,7 @@ fn words_of<M: Atomic>(alloc: Global, model: &M, state: &M::State) -> Result<Vec
     Ok(words)
 }
 
-// Its stamps and times.
+/// Its stamps and times.
 fn add_stamps<M: Atomic>(text: &mut String, process: &Process<M>) -> Result<(), AllocError>
     ensures { OnOk result (string_bytes text.new ≡ string_bytes text.old ++ stamps_part process.now.process) }
 {
@@ -49,7 +49,7 @@ fn add_stamps<M: Atomic>(text: &mut String, process: &Process<M>) -> Result<(), 
     push_time(text, process.last())
 }
 
-// The lengths of its lists.
+/// The lengths of its lists.
 fn add_counts<M: Atomic>(text: &mut String, process: &Process<M>) -> Result<(), AllocError>
     ensures { OnOk result (string_bytes text.new ≡ string_bytes text.old ++ counts_part process.now.process) }
 {
@@ -64,7 +64,7 @@ fn add_counts<M: Atomic>(text: &mut String, process: &Process<M>) -> Result<(), 
     add_owed_count(text, process.cancel(), process.owed_len())
 }
 
-// How many items are in its mailbox, and the words of its present state.
+/// How many items are in its mailbox, and the words of its present state.
 fn add_words(text: &mut String, mail: usize, words: &[i128]) -> Result<(), AllocError>
     ensures { OnOk result (string_bytes text.new ≡ string_bytes text.old ++ words_part mail words.now) }
 {
@@ -73,7 +73,7 @@ fn add_words(text: &mut String, mail: usize, words: &[i128]) -> Result<(), Alloc
     text.push_str("\n")
 }
 
-// How many messages are owed, where steps are cancelled lazily.
+/// How many messages are owed, where steps are cancelled lazily.
 fn add_owed_count(text: &mut String, cancel: Cancel, count: usize) -> Result<(), AllocError>
     ensures { OnOk result (string_bytes text.new ≡ string_bytes text.old ++ owed_part cancel count) }
 {

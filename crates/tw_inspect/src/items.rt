@@ -12,7 +12,7 @@ use tw_network::Network;
 use tw_process::Cancel;
 use tw_texts::{push_message, sign_name};
 
-// The lines of pending messages.
+/// The lines of pending messages.
 pub(crate) fn add_pending(text: &mut String, messages: &[Message]) -> Result<(), AllocError>
     ensures { OnOk result (string_bytes text.new ≡ string_bytes text.old ++ flat_map pending_line messages.now) }
 {
@@ -22,7 +22,7 @@ pub(crate) fn add_pending(text: &mut String, messages: &[Message]) -> Result<(),
     Ok(())
 }
 
-// The lines of messages whose anti-messages wait.
+/// The lines of messages whose anti-messages wait.
 pub(crate) fn add_waiting(text: &mut String, messages: &[Message]) -> Result<(), AllocError>
     ensures { OnOk result (string_bytes text.new ≡ string_bytes text.old ++ flat_map waiting_line messages.now) }
 {
@@ -32,7 +32,7 @@ pub(crate) fn add_waiting(text: &mut String, messages: &[Message]) -> Result<(),
     Ok(())
 }
 
-// The lines of outgoing items, with the names of their receivers.
+/// The lines of outgoing items, with the names of their receivers.
 pub(crate) fn add_outgoing<M: Atomic>(
     text: &mut String,
     network: &Network<M>,
@@ -47,7 +47,7 @@ pub(crate) fn add_outgoing<M: Atomic>(
     Ok(())
 }
 
-// The lines of messages that are owed, where steps are cancelled lazily.
+/// The lines of messages that are owed, where steps are cancelled lazily.
 pub(crate) fn add_owed<M: Atomic>(
     text: &mut String,
     network: &Network<M>,
@@ -76,7 +76,7 @@ fn add_owed_messages<M: Atomic>(
     Ok(())
 }
 
-// The lines of the items of a mailbox.
+/// The lines of the items of a mailbox.
 pub(crate) fn add_mail(text: &mut String, items: &[Item]) -> Result<(), AllocError>
     ensures { OnOk result (string_bytes text.new ≡ string_bytes text.old ++ flat_map mail_line items.now) }
 {
@@ -86,7 +86,7 @@ pub(crate) fn add_mail(text: &mut String, items: &[Item]) -> Result<(), AllocErr
     Ok(())
 }
 
-// The name of a component; of a number that no component has, nothing.
+/// The name of a component; of a number that no component has, nothing.
 fn name_of<M: Atomic>(network: &Network<M>, component: usize) -> &str
     ensures { result.now ≡ name_at network.now.names component }
 {
@@ -98,7 +98,7 @@ fn name_of<M: Atomic>(network: &Network<M>, component: usize) -> &str
     }
 }
 
-// A message, with what is said of it before.
+/// A message, with what is said of it before.
 fn add_line(text: &mut String, said: &str, message: &Message) -> Result<(), AllocError>
     ensures { OnOk result (string_bytes text.new ≡ string_bytes text.old ++ said.now ++ message_text message.now ++ codes "\n") }
 {
@@ -107,16 +107,17 @@ fn add_line(text: &mut String, said: &str, message: &Message) -> Result<(), Allo
     text.push_str("\n")
 }
 
-// An outgoing item, with the name of its receiver.
+/// An outgoing item, with the name of its receiver.
 fn add_outgoing_item(text: &mut String, name: &str, item: &Item) -> Result<(), AllocError>
-    ensures { OnOk result (string_bytes text.new ≡ string_bytes text.old ++ codes "outgoing " ++ sign_text item.now.sign ++ codes " " ++ name.now ++ codes " " ++ message_text item.now.message ++ codes "\n") }
+    ensures { OnOk result (string_bytes text.new ≡ string_bytes text.old
+        ++ codes "outgoing " ++ sign_text item.now.sign ++ codes " " ++ name.now ++ codes " " ++ message_text item.now.message ++ codes "\n") }
 {
     let sign = sign_name(item.sign);
     write!(text, "outgoing {sign} {name}")?;
     add_line(text, " ", &item.message)
 }
 
-// A message that is owed, with the name of its receiver.
+/// A message that is owed, with the name of its receiver.
 fn add_owed_message(text: &mut String, name: &str, message: &Message) -> Result<(), AllocError>
     ensures { OnOk result (string_bytes text.new ≡ string_bytes text.old ++ codes "owed " ++ name.now ++ codes " " ++ message_text message.now ++ codes "\n") }
 {
@@ -124,7 +125,7 @@ fn add_owed_message(text: &mut String, name: &str, message: &Message) -> Result<
     add_line(text, " ", message)
 }
 
-// An item of a mailbox.
+/// An item of a mailbox.
 fn add_mail_item(text: &mut String, item: &Item) -> Result<(), AllocError>
     ensures { OnOk result (string_bytes text.new ≡ string_bytes text.old ++ mail_line item.now) }
 {

@@ -16,8 +16,8 @@
 
 mod components;
 mod items;
-pub mod replies;
-pub mod reports;
+mod replies;
+mod reports;
 
 pub use replies::{Reply, push_reply, replies_law};
 pub use reports::{components_law, describe, report};

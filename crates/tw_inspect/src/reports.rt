@@ -77,7 +77,7 @@ pub fn components_law<M: Atomic>(executive: &Executive<M>)
     executive.network().facts();
 }
 
-// Global virtual time, and how many records are committed.
+/// Global virtual time, and how many records are committed.
 fn add_gvt<M: Atomic>(text: &mut String, executive: &Executive<M>) -> Result<(), AllocError>
     ensures { OnOk result (string_bytes text.new ≡ string_bytes text.old ++ gvt_line executive.now.world) }
 {
@@ -86,7 +86,7 @@ fn add_gvt<M: Atomic>(text: &mut String, executive: &Executive<M>) -> Result<(),
     write!(text, "gvt {gvt} committed {committed}\n")
 }
 
-// The line of a component.
+/// The line of a component.
 fn add_line<M: Atomic>(
     alloc: Global,
     text: &mut String,
@@ -108,7 +108,7 @@ fn add_line<M: Atomic>(
     )
 }
 
-// The lines of the messages of a process and of its mailbox.
+/// The lines of the messages of a process and of its mailbox.
 fn add_messages<M: Atomic>(
     text: &mut String,
     network: &Network<M>,

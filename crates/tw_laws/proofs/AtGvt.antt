@@ -280,7 +280,7 @@ module _ {S : Type 0} (net : Network S) (until : ℕ) (ok : IsNetwork net) (w : 
     horizon = omega arith;
     given = all_phase_one net net.inputs ok.inputs;
     lines = λ c l. let q = process_at c l in let s = (h.each c q.0 q.1).line_le in let e = ap line_of q.1 in omega arith;
-    unstopped = λ c b s limit l fault. let q = process_at c l in let k = (h.each c q.0 q.1).line_le_fault b s limit fault in let e = ap line_of q.1 in omega arith;
+    unstopped = λ c met l fault. let q = process_at c l in let k = (h.each c q.0 q.1).line_le_fault met fault in let e = ap line_of q.1 in omega arith;
     columns = λ c l.
         let q = process_at c l in
         let e = ap line_of q.1 in

@@ -6,7 +6,6 @@ use Rattle.std.proofs.lemmas.Option.{same_Some, none-some}
 use Rattle.std.proofs.lemmas.Bool.{cond-false, ne_eqb, cases_lt}
 use Rattle.tw_msgs.specs.declared.record.Record.{Record}
 use Rattle.tw_vtime.specs.Stamps.{stamp, max_tick}
-use Rattle.tw_vtime.specs.declared.limits.Limit.TheVariants.{Tick}
 use Rattle.tw_theory.specs.Contents.{Process, Cancel, Aggressive, Lazy, Placed, Straggler, Annihilated, next, back_to_first}
 use Rattle.tw_theory.specs.ExampleModels.{State}
 use Rattle.tw_theory.specs.ExampleNetworks.{three, gen_tally, lone}
@@ -14,11 +13,11 @@ use Rattle.tw_theory.specs.Exchange.{sweep, MayDraw, IsDrawn}
 use Rattle.tw_theory.specs.Executive.{World, Action, Step, Deliver, Posted, Received, Raised, Harvested, act, replay, answers, column_of}
 use Rattle.tw_theory.specs.LocalRun.{step_at, local_step}
 use Rattle.tw_theory.specs.Network.{Network, IsNetwork}
-use Rattle.tw_theory.specs.Outcomes.{RunState, state, Complete, Fault, Going, IsOutcome}
+use Rattle.tw_theory.specs.Outcomes.{RunState, state, Complete, Fault as InFault, Going, IsOutcome}
 use Rattle.tw_theory.specs.Soundness.{IsSound, new_world}
 use Rattle.tw_theory.specs.Traces.{of_component}
 use Rattle.tw_theory.specs.Transitions.{output, moved, transition}
-use Rattle.tw_laws.specs.Applied.{stuck, driven_trace}
+use Rattle.tw_laws.specs.Applied.{stuck, driven_trace, out_of_ticks}
 use Rattle.tw_laws.specs.Driven.{swept, ahead, posts_of_three, end_of_three, made, driven, ended, last_output, Driven}
 use Rattle.tw_laws.specs.Exchange.{IsAfterSweep}
 use Rattle.tw_laws.proofs.Acting.{start_law}
@@ -112,7 +111,7 @@ complete cancel =
 ended_sound : (cancel : Cancel) → IsSound (lone 1099511627773) 1099511627774 (ended cancel)
 ended_sound cancel = still (lone 1099511627773) 1099511627774 (stuck cancel) (sweep (lone 1099511627773) 1099511627774 (stuck cancel)) lone_fits (omega arith) (stuck_sound cancel)
 
-is_fault : (cancel : Cancel) → state (lone 1099511627773) 1099511627774 (ended cancel) ≡ Fault 0 (stamp 1099511627773 0 1) Tick
+is_fault : (cancel : Cancel) → state (lone 1099511627773) 1099511627774 (ended cancel) ≡ InFault out_of_ticks
 unfolding act local_step step_at output moved transition back_to_first state
 is_fault Aggressive = refl
 is_fault Lazy = refl
@@ -124,12 +123,12 @@ fault_parts Aggressive (suc c) = none_of (suc c) last_output ((λ e. omega (arit
 fault_parts Lazy zero = refl
 fault_parts Lazy (suc c) = none_of (suc c) last_output ((λ e. omega (arith, e)), tt)
 
-fault : (cancel : Cancel) → IsOutcome (lone 1099511627773) 1099511627774 (Fault 0 (stamp 1099511627773 0 1) Tick) last_output
+fault : (cancel : Cancel) → IsOutcome (lone 1099511627773) 1099511627774 (InFault out_of_ticks) last_output
 fault cancel =
     subst (λ (s : RunState). IsOutcome (lone 1099511627773) 1099511627774 s last_output) (is_fault cancel)
     (outcome_law.at_gvt (lone 1099511627773) 1099511627774 (ended cancel) lone_fits (omega arith) (ended_sound cancel)
     (after_sweep (lone 1099511627773) 1099511627774 (stuck cancel) lone_fits (omega arith) (stuck_sound cancel)).lines last_output (tt, tt) (fault_parts cancel)
-    (λ bad. let k : Fault 0 (stamp 1099511627773 0 1) Tick ≡ Going = sym (is_fault cancel) ∙ bad in cc)).0
+    (λ bad. let k : InFault out_of_ticks ≡ Going = sym (is_fault cancel) ∙ bad in cc)).0
 
 -- ---- what is given out
 

@@ -12,32 +12,33 @@ use Rattle.tw_theory.specs.Exchange.{is_empty, all_empty}
 use Rattle.tw_theory.specs.Executive.{World}
 use Rattle.tw_theory.specs.LocalRun.{Made, NothingDue, OverLimit, local_step, NoStep}
 use Rattle.tw_theory.specs.Network.{Network, IsNetwork}
-use Rattle.tw_theory.specs.Outcomes.{RunState, Complete, Fault, Going, none_at, all_quiet, limit_of, fault_at, first_fault, all_past, state}
-use Rattle.tw_theory.specs.Simulator.{sequential, up_to}
+use Rattle.tw_theory.specs.Outcomes.{RunState, Complete, Fault as InFault, Going, none_at, all_quiet, limit_of, fault_at, first_fault, all_past, state}
+use Rattle.tw_theory.specs.Simulator.{Fault, sequential, up_to}
 use Rattle.tw_theory.specs.Soundness.{IsSound}
 use Rattle.tw_theory.proofs.Elements.{empty_is}
 use Rattle.tw_theory.proofs.Mail.{empty_boxes, all_empty_is}
 use Rattle.tw_laws.specs.Ending.{ShowsFault, AllPast, HasAll, EndingLaw, StateLaw}
 use Rattle.tw_laws.proofs.History.Committed.{fault_stamp}
 use Rattle.tw_laws.proofs.History.Faults.{fault_law}
+use Rattle.tw_laws.proofs.History.Rounds.{met_by}
 use Rattle.tw_laws.proofs.AtGvt.{held_by, run_to, faulting, all_phase_one, process_at}
 
 module _ {S : Type 0} (net : Network S) (until : ℕ) (ok : IsNetwork net) (bound : until ≤ max_tick) (w : World S) (h : IsSound net until w) where
-  fault_shown : (c : ℕ) (limit : Limit) → ShowsFault net until w c limit → (sequential net until).fault ≡ Some (c, w.gvt, limit)
+  fault_shown : (c : ℕ) (limit : Limit) → ShowsFault net until w c limit → (sequential net until).fault ≡ Some (met_by c w.gvt limit)
   fault_shown c limit shows =
       let before = shows.before in
       let same : up_to until w.gvt ≡ w.gvt = omega arith in
       fault_law net until (up_to until w.gvt) (held_by until w) bound (run_to net until ok w h) c limit (faulting net until ok w h c limit shows)
-      ∙ ap (λ (g : ℕ). Some (c, g, limit)) same
+      ∙ ap (λ (g : ℕ). Some (met_by c g limit)) same
 
-  no_fault : ((c : ℕ) (p : Process S) → slice_get w.processes c ≡ Some p → stamp until 0 0 ≤ p.line) → (f : Option (ℕ × ℕ × Limit))
+  no_fault : ((c : ℕ) (p : Process S) → slice_get w.processes c ≡ Some p → stamp until 0 0 ≤ p.line) → (f : Option Fault)
       → (sequential net until).fault ≡ f → f ≡ None
   no_fault past None e = refl
   no_fault past (Some f) e =
-      let within = fault_stamp net until bound (all_phase_one net net.inputs ok.inputs) f.0 f.1 f.2 e in
-      let q = process_at net until ok w h f.0 within.0 in
-      let late = past f.0 q.0 q.1 in
-      let stops = (h.each f.0 q.0 q.1).line_le_fault f.0 f.1 f.2 e in
+      let within = fault_stamp net until bound (all_phase_one net net.inputs ok.inputs) f e in
+      let q = process_at net until ok w h f.component within.0 in
+      let late = past f.component q.0 q.1 in
+      let stops = (h.each f.component q.0 q.1).line_le_fault f e in
       let early = within.1 in
       absurd (omega arith)
 
@@ -88,24 +89,24 @@ limit_is (Err (OverLimit other)) limit e = ap (λ l. Err (OverLimit l)) (same_So
 limit_is (Err NothingDue) limit e = absurd (none-some limit e)
 
 -- the first process of the list that meets a limit at g
-record Found {S : Type 0} (net : Network S) (g b : ℕ) (ps : List (Process S)) (c s : ℕ) (limit : Limit) : Type 0 where
+record Found {S : Type 0} (net : Network S) (g b : ℕ) (ps : List (Process S)) (it : Fault) : Type 0 where
   place : ℕ
-  is : c ≡ b + place
-  stamp_is : s ≡ g
+  is : it.component ≡ b + place
+  stamp_is : it.stamp ≡ g
   process : Process S
   at : slice_get ps place ≡ Some process
   next_is : next process ≡ g
-  meets : local_step net c process.now process.pending ≡ Err (OverLimit limit)
+  meets : local_step net it.component process.now process.pending ≡ Err (OverLimit it.limit)
   least : (d : ℕ) (q : Process S) (other : Limit) → slice_get ps d ≡ Some q → d < place → next q ≡ g
       → local_step net (b + d) q.now q.pending ≡ Err (OverLimit other) → ⊥
 
 module _ {S : Type 0} (net : Network S) (g : ℕ) where
-  first_fault_is : (b : ℕ) (ps : List (Process S)) (c s : ℕ) (limit : Limit) → first_fault net g b ps ≡ Fault c s limit → Found net g b ps c s limit
-  first_fault_is b [] c s limit e = absurd (let bad : Going ≡ Fault c s limit = e in cc)
-  first_fault_is b (p ∷ ps) c s limit e = go (λ k. first_fault_is (suc b) ps c s limit k) (next p == g) refl e
+  first_fault_is : (b : ℕ) (ps : List (Process S)) (it : Fault) → first_fault net g b ps ≡ InFault it → Found net g b ps it
+  first_fault_is b [] it e = absurd (let bad : Going ≡ InFault it = e in cc)
+  first_fault_is b (p ∷ ps) it e = go (λ k. first_fault_is (suc b) ps it k) (next p == g) refl e
     where
-      later : ((other : Limit) → next p ≡ g → local_step net b p.now p.pending ≡ Err (OverLimit other) → ⊥) → Found net g (suc b) ps c s limit
-          → Found net g b (p ∷ ps) c s limit
+      later : ((other : Limit) → next p ≡ g → local_step net b p.now p.pending ≡ Err (OverLimit other) → ⊥) → Found net g (suc b) ps it
+          → Found net g b (p ∷ ps) it
       later none f = record {
         place = suc f.place;
         is = let i = f.is in omega arith;
@@ -127,15 +128,16 @@ module _ {S : Type 0} (net : Network S) (g : ℕ) where
               let here : suc b + d ≡ b + suc d = omega arith in
               f.least d q other at (omega arith) n (ap (λ k. local_step net k q.now q.pending) here ∙ met)
 
-      met : (first_fault net g (suc b) ps ≡ Fault c s limit → Found net g (suc b) ps c s limit) → next p ≡ g → (o : Option Limit)
-          → limit_of (local_step net b p.now p.pending) ≡ o → fault_at b g o (first_fault net g (suc b) ps) ≡ Fault c s limit
-          → Found net g b (p ∷ ps) c s limit
+      met : (first_fault net g (suc b) ps ≡ InFault it → Found net g (suc b) ps it) → next p ≡ g → (o : Option Limit)
+          → limit_of (local_step net b p.now p.pending) ≡ o → fault_at b g o (first_fault net g (suc b) ps) ≡ InFault it
+          → Found net g b (p ∷ ps) it
       met ih n None q k = later (λ other m bad. none-some other (sym q ∙ ap (limit_of {S = S}) bad)) (ih k)
       met ih n (Some found) q k =
-          let same : Fault b g found ≡ Fault c s limit = k in
-          let a : b ≡ c = cc in
-          let t : g ≡ s = cc in
-          let l : found ≡ limit = cc in
+          let whole : InFault (met_by b g found) ≡ InFault it = k in
+          let same : met_by b g found ≡ it = cc in
+          let a : b ≡ it.component = ap (λ (x : Fault). x.component) same in
+          let t : g ≡ it.stamp = ap (λ (x : Fault). x.stamp) same in
+          let l : found ≡ it.limit = ap (λ (x : Fault). x.limit) same in
           record {
             place = 0;
             is = omega arith;
@@ -143,13 +145,13 @@ module _ {S : Type 0} (net : Network S) (g : ℕ) where
             process = p;
             at = refl;
             next_is = n;
-            meets = subst (λ x. local_step net x p.now p.pending ≡ Err (OverLimit limit)) a (limit_is (local_step net b p.now p.pending) limit (q ∙ ap (λ (x : Limit). Some x) l));
+            meets = subst (λ x. local_step net x p.now p.pending ≡ Err (OverLimit it.limit)) a (limit_is (local_step net b p.now p.pending) it.limit (q ∙ ap (λ (x : Limit). Some x) l));
             least = λ d r other at early. absurd (omega arith);
           }
 
-      go : (first_fault net g (suc b) ps ≡ Fault c s limit → Found net g (suc b) ps c s limit) → (t : Bool) → (next p == g) ≡ t
-          → fault_at b g (cond t (limit_of (local_step net b p.now p.pending)) None) (first_fault net g (suc b) ps) ≡ Fault c s limit
-          → Found net g b (p ∷ ps) c s limit
+      go : (first_fault net g (suc b) ps ≡ InFault it → Found net g (suc b) ps it) → (t : Bool) → (next p == g) ≡ t
+          → fault_at b g (cond t (limit_of (local_step net b p.now p.pending)) None) (first_fault net g (suc b) ps) ≡ InFault it
+          → Found net g b (p ∷ ps) it
       go ih true n k = met ih (eqb-true (next p) g n) _ refl k
       go ih false n k = later (λ other m bad. true≢false (sym (eq-eqb (next p) g m) ∙ n)) (ih k)
 
@@ -176,7 +178,7 @@ module _ {S : Type 0} (net : Network S) (g : ℕ) where
   first_fault_found : (b : ℕ) (ps : List (Process S)) (place : ℕ) (p : Process S) (limit : Limit) → slice_get ps place ≡ Some p → next p ≡ g
       → local_step net (b + place) p.now p.pending ≡ Err (OverLimit limit)
       → ((d : ℕ) (q : Process S) (other : Limit) → slice_get ps d ≡ Some q → d < place → next q ≡ g → local_step net (b + d) q.now q.pending ≡ Err (OverLimit other) → ⊥)
-      → first_fault net g b ps ≡ Fault (b + place) g limit
+      → first_fault net g b ps ≡ InFault (met_by (b + place) g limit)
   first_fault_found b [] place p limit at n met least = absurd (none-some p at)
   first_fault_found b (x ∷ ps) zero p limit at n met least =
       let same : x ≡ p = same_Some x p at in
@@ -184,14 +186,14 @@ module _ {S : Type 0} (net : Network S) (g : ℕ) where
       let rest = first_fault net g (suc b) ps in
       ap (λ t. fault_at b g (cond t (limit_of (local_step net b x.now x.pending)) None) rest) (eq-eqb (next x) g (ap (λ (y : Process S). next y) same ∙ n))
       ∙ ap (λ (r : Result (Made S) NoStep). fault_at b g (limit_of r) rest) (ap (λ (y : Process S). local_step net b y.now y.pending) same ∙ ap (λ k. local_step net k p.now p.pending) (sym here) ∙ met)
-      ∙ ap (λ k. Fault k g limit) (sym here)
+      ∙ ap (λ (k : ℕ). InFault (met_by k g limit)) (sym here)
   first_fault_found b (x ∷ ps) (suc place) p limit at n met least =
       let here : b + 0 ≡ b = omega arith in
       let more : (d : ℕ) → suc b + d ≡ b + suc d = λ d. omega arith in
       ap (λ o. fault_at b g o (first_fault net g (suc b) ps)) (none (next x == g) refl)
       ∙ first_fault_found (suc b) ps place p limit at n (ap (λ k. local_step net k p.now p.pending) (more place) ∙ met)
       (λ d q other at l is meets. least (suc d) q other at (omega arith) is (ap (λ k. local_step net k q.now q.pending) (sym (more d)) ∙ meets))
-      ∙ ap (λ k. Fault k g limit) (more place)
+      ∙ ap (λ (k : ℕ). InFault (met_by k g limit)) (more place)
     where
       no_limit : next x ≡ g → (o : Option Limit) → limit_of (local_step net b x.now x.pending) ≡ o → o ≡ None
       no_limit is None e = refl
@@ -204,14 +206,14 @@ module _ {S : Type 0} (net : Network S) (g : ℕ) where
       none false e = refl
 
 module _ {S : Type 0} (net : Network S) (until : ℕ) (w : World S) where
-  shows : (c s : ℕ) (limit : Limit)
+  shows : (it : Fault)
       → (all_quiet w.gvt w.processes && all_empty w.mail && nat_lt w.gvt (stamp until 0 0) && (phase_of w.gvt == 1)) ≡ true
-      → Found net w.gvt 0 w.processes c s limit → ShowsFault net until w c limit
-  shows c s limit e f =
+      → Found net w.gvt 0 w.processes it → ShowsFault net until w it.component it.limit
+  shows it e f =
       let three = and_parts (all_quiet w.gvt w.processes && all_empty w.mail && nat_lt w.gvt (stamp until 0 0)) (phase_of w.gvt == 1) e in
       let two = and_parts (all_quiet w.gvt w.processes && all_empty w.mail) (nat_lt w.gvt (stamp until 0 0)) three.0 in
       let one = and_parts (all_quiet w.gvt w.processes) (all_empty w.mail) two.0 in
-      let same : f.place ≡ c = let i = f.is in omega arith in
+      let same : f.place ≡ it.component = let i = f.is in omega arith in
       record {
         before = ltb-true w.gvt (stamp until 0 0) two.1;
         odd = eqb-true (phase_of w.gvt) 1 three.1;
@@ -225,15 +227,15 @@ module _ {S : Type 0} (net : Network S) (until : ℕ) (w : World S) where
         least = λ d q other at l n met. let zero_d : 0 + d ≡ d = omega arith in f.least d q other at (omega arith) n (ap (λ k. local_step net k q.now q.pending) zero_d ∙ met);
       }
 
-  state_fault : IsNetwork net → until ≤ max_tick → IsSound net until w → (c s : ℕ) (limit : Limit) → state net until w ≡ Fault c s limit
-      → (s ≡ w.gvt) × ((sequential net until).fault ≡ Some (c, s, limit))
+  state_fault : IsNetwork net → until ≤ max_tick → IsSound net until w → (it : Fault) → state net until w ≡ InFault it
+      → (it.stamp ≡ w.gvt) × ((sequential net until).fault ≡ Some it)
   unfolding state
-  state_fault ok bound h c s limit =
-      cond_both (all_past (stamp until 0 0) w.processes) _ _ (λ (x : RunState). x ≡ Fault c s limit → (s ≡ w.gvt) × ((sequential net until).fault ≡ Some (c, s, limit)))
-      (λ e bad. absurd (let k : Complete ≡ Fault c s limit = bad in cc))
-      (λ e. cond_both (all_quiet w.gvt w.processes && all_empty w.mail && nat_lt w.gvt (stamp until 0 0) && (phase_of w.gvt == 1)) _ _ (λ (x : RunState). x ≡ Fault c s limit → (s ≡ w.gvt) × ((sequential net until).fault ≡ Some (c, s, limit)))
-      (λ d k. let f = first_fault_is net w.gvt 0 w.processes c s limit k in (f.stamp_is, fault_shown net until ok bound w h c limit (shows c s limit d f) ∙ ap (λ x. Some (c, x, limit)) (sym f.stamp_is)))
-      (λ d bad. absurd (let k : Going ≡ Fault c s limit = bad in cc)))
+  state_fault ok bound h it =
+      cond_both (all_past (stamp until 0 0) w.processes) _ _ (λ (x : RunState). x ≡ InFault it → (it.stamp ≡ w.gvt) × ((sequential net until).fault ≡ Some it))
+      (λ e bad. absurd (let k : Complete ≡ InFault it = bad in cc))
+      (λ e. cond_both (all_quiet w.gvt w.processes && all_empty w.mail && nat_lt w.gvt (stamp until 0 0) && (phase_of w.gvt == 1)) _ _ (λ (x : RunState). x ≡ InFault it → (it.stamp ≡ w.gvt) × ((sequential net until).fault ≡ Some it))
+      (λ d k. let f = first_fault_is net w.gvt 0 w.processes it k in (f.stamp_is, fault_shown net until ok bound w h it.component it.limit (shows it d f) ∙ ap (λ (x : ℕ). Some (met_by it.component x it.limit)) (sym f.stamp_is)))
+      (λ d bad. absurd (let k : Going ≡ InFault it = bad in cc)))
 
   not_complete : (ps : List (Process S)) (b : ℕ) → first_fault net w.gvt b ps ≡ Complete → ⊥
   not_complete [] b e = let k : Going ≡ Complete = e in cc
@@ -242,7 +244,7 @@ module _ {S : Type 0} (net : Network S) (until : ℕ) (w : World S) where
       go : (first_fault net w.gvt (suc b) ps ≡ Complete → ⊥) → (o : Option Limit) → fault_at b w.gvt o (first_fault net w.gvt (suc b) ps) ≡ Complete
           → ⊥
       go ih None k = ih k
-      go ih (Some limit) k = let bad : Fault b w.gvt limit ≡ Complete = k in cc
+      go ih (Some limit) k = let bad : InFault (met_by b w.gvt limit) ≡ Complete = k in cc
 
   complete_past : state net until w ≡ Complete → AllPast (stamp until 0 0) w
   unfolding state
@@ -258,32 +260,32 @@ module _ {S : Type 0} (net : Network S) (until : ℕ) (w : World S) where
   past_complete past =
       ap (λ b. cond b Complete (cond (all_quiet w.gvt w.processes && all_empty w.mail && nat_lt w.gvt (stamp until 0 0) && (phase_of w.gvt == 1)) (first_fault net w.gvt 0 w.processes) Going)) (all_past_is (stamp until 0 0) w.processes past)
 
-  fault_shows : (c s : ℕ) (limit : Limit) → state net until w ≡ Fault c s limit
-      → (AllPast (stamp until 0 0) w → ⊥) × (s ≡ w.gvt) × ShowsFault net until w c limit
+  fault_shows : (it : Fault) → state net until w ≡ InFault it
+      → (AllPast (stamp until 0 0) w → ⊥) × (it.stamp ≡ w.gvt) × ShowsFault net until w it.component it.limit
   unfolding state
-  fault_shows c s limit =
-      cond_both (all_past (stamp until 0 0) w.processes) _ _ (λ (x : RunState). x ≡ Fault c s limit → (AllPast (stamp until 0 0) w → ⊥) × (s ≡ w.gvt) × ShowsFault net until w c limit)
-      (λ e bad. absurd (let k : Complete ≡ Fault c s limit = bad in cc))
-      (λ e. cond_both (all_quiet w.gvt w.processes && all_empty w.mail && nat_lt w.gvt (stamp until 0 0) && (phase_of w.gvt == 1)) _ _ (λ (x : RunState). x ≡ Fault c s limit → (AllPast (stamp until 0 0) w → ⊥) × (s ≡ w.gvt) × ShowsFault net until w c limit)
-      (λ d k. let f = first_fault_is net w.gvt 0 w.processes c s limit k in ((λ past. true≢false (sym (all_past_is (stamp until 0 0) w.processes past) ∙ e)), f.stamp_is, shows c s limit d f))
-      (λ d bad. absurd (let k : Going ≡ Fault c s limit = bad in cc)))
+  fault_shows it =
+      cond_both (all_past (stamp until 0 0) w.processes) _ _ (λ (x : RunState). x ≡ InFault it → (AllPast (stamp until 0 0) w → ⊥) × (it.stamp ≡ w.gvt) × ShowsFault net until w it.component it.limit)
+      (λ e bad. absurd (let k : Complete ≡ InFault it = bad in cc))
+      (λ e. cond_both (all_quiet w.gvt w.processes && all_empty w.mail && nat_lt w.gvt (stamp until 0 0) && (phase_of w.gvt == 1)) _ _ (λ (x : RunState). x ≡ InFault it → (AllPast (stamp until 0 0) w → ⊥) × (it.stamp ≡ w.gvt) × ShowsFault net until w it.component it.limit)
+      (λ d k. let f = first_fault_is net w.gvt 0 w.processes it k in ((λ past. true≢false (sym (all_past_is (stamp until 0 0) w.processes past) ∙ e)), f.stamp_is, shows it d f))
+      (λ d bad. absurd (let k : Going ≡ InFault it = bad in cc)))
 
-  shows_fault : (c s : ℕ) (limit : Limit) → (AllPast (stamp until 0 0) w → ⊥) → s ≡ w.gvt → ShowsFault net until w c limit → state net until w ≡ Fault c s limit
+  shows_fault : (it : Fault) → (AllPast (stamp until 0 0) w → ⊥) → it.stamp ≡ w.gvt → ShowsFault net until w it.component it.limit → state net until w ≡ InFault it
   unfolding state
-  shows_fault c s limit going same f =
+  shows_fault it going same f =
       let end = stamp until 0 0 in
       let calm = and_from _ _ (and_from _ _ (and_from _ _ (quiet_is w.gvt w.processes (λ d q at. (f.outgoing d q at, f.owed d q at))) (all_empty_is w.mail f.mail)) (lt-ltb w.gvt end f.before)) (eq-eqb (phase_of w.gvt) 1 f.odd) in
-      let zero_c : 0 + c ≡ c = omega arith in
+      let zero_c : 0 + it.component ≡ it.component = omega arith in
       ap (λ b. cond b Complete (cond (all_quiet w.gvt w.processes && all_empty w.mail && nat_lt w.gvt end && (phase_of w.gvt == 1)) (first_fault net w.gvt 0 w.processes) Going)) (not_past end w.processes going)
       ∙ ap (λ b. cond b (first_fault net w.gvt 0 w.processes) Going) calm
-      ∙ first_fault_found net w.gvt 0 w.processes c f.process limit f.at f.next_is (ap (λ k. local_step net k f.process.now f.process.pending) zero_c ∙ f.meets)
+      ∙ first_fault_found net w.gvt 0 w.processes it.component f.process it.limit f.at f.next_is (ap (λ k. local_step net k f.process.now f.process.pending) zero_c ∙ f.meets)
       (λ d q other at l n met. let zero_d : 0 + d ≡ d = omega arith in f.least d q other at l n (sym (ap (λ k. local_step net k q.now q.pending) zero_d) ∙ met))
-      ∙ ap (λ x. Fault x w.gvt limit) zero_c ∙ ap (λ x. Fault c x limit) (sym same)
+      ∙ ap (λ (x : ℕ). InFault (met_by x w.gvt it.limit)) zero_c ∙ ap (λ (x : ℕ). InFault (met_by it.component x it.limit)) (sym same)
 
 pub state_law : {S : Type 0} → StateLaw S
 state_law = record {
   past = λ net until w. (complete_past net until w, past_complete net until w);
-  shows = λ net until w c s limit. (fault_shows net until w c s limit, λ h. shows_fault net until w c s limit h.0 h.1 h.2);
+  shows = λ net until w it. (fault_shows net until w it, λ h. shows_fault net until w it h.0 h.1 h.2);
   fault = λ net until w ok bound h. state_fault net until w ok bound h;
   complete = λ net until w ok bound h e. complete net until ok bound w h (complete_past net until w e);
 }

@@ -4,12 +4,11 @@ use Rattle.std.specs.Prelude.{◌≢◌, nat_lt}
 use Rattle.std.proofs.lemmas.Bool.{cond_both}
 use Rattle.tw_msgs.specs.declared.message.Item.{Item}
 use Rattle.tw_vtime.specs.Stamps.{stamp, max_tick, phase_of}
-use Rattle.tw_vtime.specs.declared.limits.Limit.{Limit}
 use Rattle.tw_theory.specs.Contents.{Process, next}
 use Rattle.tw_theory.specs.Executive.{World, Action, Post, Deliver, Back, Raise, Harvest, Answer, act, replay, act_step, act_post, act_deliver, act_back, act_harvest, if_made, mail_of}
 use Rattle.tw_theory.specs.LocalRun.{Made, NoStep}
 use Rattle.tw_theory.specs.Network.{Network, IsNetwork}
-use Rattle.tw_theory.specs.Simulator.{sequential}
+use Rattle.tw_theory.specs.Simulator.{Fault, sequential}
 use Rattle.tw_theory.specs.Soundness.{new_world, IsSound}
 use Rattle.tw_laws.specs.Committed.{LinesLaw, SoundLines}
 use Rattle.tw_laws.proofs.Harvesting.{acts_soundly, replay_sound}
@@ -20,29 +19,29 @@ use Rattle.tw_laws.proofs.AtGvt.{all_phase_one}
 use Rattle.tw_laws.proofs.Starting.{start_sound}
 
 module _ {S : Type 0} (net : Network S) where
-  fault_within : (until : ℕ) → IsNetwork net → until ≤ max_tick → (b s : ℕ) (limit : Limit) → (sequential net until).fault ≡ Some (b, s, limit)
-      → s < stamp until 0 0
+  fault_within : (until : ℕ) → IsNetwork net → until ≤ max_tick → (met : Fault) → (sequential net until).fault ≡ Some met
+      → met.stamp < stamp until 0 0
   unfolding NoLimit
-  fault_within until ok bound b s limit q =
+  fault_within until ok bound met q =
       let x = extent net until (all_phase_one net net.inputs ok.inputs) bound in
-      let f = x.1.fault (b, s, limit) q in
-      let calm : phase_of x.0 ≢ 0 = λ even. subst NoLimit f.2 (even_quiet net b x.0 _ _ even) in
+      let f = x.1.fault met q in
+      let calm : phase_of x.0 ≢ 0 = λ even. subst NoLimit f.2 (even_quiet net met.component x.0 _ _ even) in
       let within = x.1.within in
       let same = f.0 in
       let not_end : x.0 ≢ stamp until 0 0 = λ e. calm (omega arith) in
       omega arith
 
 pub sound_lines : {S : Type 0} → SoundLines S
-sound_lines net until w ok bound h b s limit q c p at =
-    let within = fault_within net until ok bound b s limit q in
-    let l = (h.each c p at).line_le_fault b s limit q in
+sound_lines net until w ok bound h met q c p at =
+    let within = fault_within net until ok bound met q in
+    let l = (h.each c p at).line_le_fault met q in
     omega arith
 
 pub lines_law : {S : Type 0} → LinesLaw S
-lines_law {S} net cancel until actions ok bound c p at b s limit q =
+lines_law {S} net cancel until actions ok bound c p at met q =
     let h = (replay_sound net until (new_world net cancel) actions ok bound (start_sound net cancel until ok)).each c p at in
-    let within = fault_within net until ok bound b s limit q in
-    let l = h.line_le_fault b s limit q in
+    let within = fault_within net until ok bound met q in
+    let l = h.line_le_fault met q in
     (within, omega arith)
 
 module _ {S : Type 0} (net : Network S) (until : ℕ) (w : World S) where

@@ -8,18 +8,17 @@ use Rattle.std.proofs.lemmas.Option.{same_Some, none-some, slice_get-get_or, sli
 use Rattle.tw_msgs.specs.Counting.{total}
 use Rattle.tw_msgs.specs.declared.record.Record.{Record}
 use Rattle.tw_vtime.specs.Stamps.{stamp, max_tick}
-use Rattle.tw_vtime.specs.declared.limits.Limit.{Limit}
 use Rattle.tw_theory.specs.Contents.{Process}
 use Rattle.tw_theory.specs.Executive.{World, column_of}
 use Rattle.tw_theory.specs.Network.{Network, IsNetwork}
-use Rattle.tw_theory.specs.Outcomes.{RunState, Complete, Fault, Going, state, IsOutcome}
-use Rattle.tw_theory.specs.Simulator.{Run, rounds, sequential, up_to, records_before}
+use Rattle.tw_theory.specs.Outcomes.{RunState, Complete, Fault as InFault, Going, state, IsOutcome}
+use Rattle.tw_theory.specs.Simulator.{Fault, Run, rounds, sequential, up_to, records_before}
 use Rattle.tw_theory.specs.Soundness.{IsSound}
 use Rattle.tw_theory.specs.Traces.{IsMerged, IsTrace, of_component, before}
 use Rattle.tw_theory.proofs.Totals.{total-set}
 use Rattle.tw_laws.specs.Outcome.{OutcomeLaw}
 use Rattle.tw_laws.proofs.Ending.{state_law}
-use Rattle.tw_laws.proofs.History.Rounds.{Reached, Running, Faulted, rounds_reach}
+use Rattle.tw_laws.proofs.History.Rounds.{Reached, Running, Faulted, met_by, rounds_reach}
 use Rattle.tw_laws.proofs.Merging.{merging_law}
 use Rattle.tw_laws.proofs.Ready.{records_early}
 use Rattle.tw_laws.proofs.AtGvt.{all_phase_one}
@@ -31,19 +30,19 @@ all_before g [] h = refl
 all_before g (r ∷ rs) h = cond-true (nat_lt r.stamp g) _ _ (lt-ltb r.stamp g h.0) ∙ ap (λ l. r ∷ l) (all_before g rs h.1)
 
 module _ {S : Type 0} (net : Network S) (until : ℕ) (ok : IsNetwork net) (bound : until ≤ max_tick) where
-  reached_before : (b : ℕ) (run : Run S) → Reached net b run → (c s : ℕ) (limit : Limit) → run.fault ≡ Some (c, s, limit)
-      → Each (λ r. r.stamp < s) run.records
-  reached_before b run (Running at) c s limit e = absurd (none-some (c, s, limit) (sym at.going ∙ e))
-  reached_before b run (Faulted f l at) c s limit e =
-      let same : f ≡ s = ap (λ (x : ℕ × ℕ × Limit). x.1) (same_Some (at.component, f, at.limit) (c, s, limit) (sym at.fault ∙ e)) in
+  reached_before : (b : ℕ) (run : Run S) → Reached net b run → (met : Fault) → run.fault ≡ Some met
+      → Each (λ r. r.stamp < met.stamp) run.records
+  reached_before b run (Running at) met e = absurd (none-some met (sym at.going ∙ e))
+  reached_before b run (Faulted f l at) met e =
+      let same : f ≡ met.stamp = ap (λ (x : Fault). x.stamp) (same_Some (met_by at.component f at.limit) met (sym at.fault ∙ e)) in
       subst (λ n. Each (λ r. r.stamp < n) run.records) same at.past
 
-  fault_before : (c s : ℕ) (limit : Limit) → (sequential net until).fault ≡ Some (c, s, limit)
-      → before s (sequential net until).records ≡ (sequential net until).records
+  fault_before : (met : Fault) → (sequential net until).fault ≡ Some met
+      → before met.stamp (sequential net until).records ≡ (sequential net until).records
   unfolding sequential
-  fault_before c s limit e =
-      all_before s (sequential net until).records
-      (reached_before (stamp until 0 0) (rounds net (stamp until 0 0)) (rounds_reach net (stamp until 0 0) (stamp until 0 0) (all_phase_one net net.inputs ok.inputs) (omega arith) (omega arith) (omega arith) (omega arith)) c s limit e)
+  fault_before met e =
+      all_before met.stamp (sequential net until).records
+      (reached_before (stamp until 0 0) (rounds net (stamp until 0 0)) (rounds_reach net (stamp until 0 0) (stamp until 0 0) (all_phase_one net net.inputs ok.inputs) (omega arith) (omega arith) (omega arith) (omega arith)) met e)
 
   complete : (w : World S) → IsSound net until w → state net until w ≡ Complete → (trace : List Record) → IsMerged (stamp until 0 0) w trace
       → IsOutcome net until Complete trace
@@ -54,10 +53,10 @@ module _ {S : Type 0} (net : Network S) (until : ℕ) (ok : IsNetwork net) (boun
         (merging_law net until (stamp until 0 0) w ok bound h past trace m.ordered m.parts).0 ∙ all_before (stamp until 0 0) (sequential net until).records s.1,
       )
 
-  fault : (w : World S) → IsSound net until w → (c s : ℕ) (limit : Limit) → state net until w ≡ Fault c s limit
-      → ((d : ℕ) (p : Process S) → slice_get w.processes d ≡ Some p → s ≤ p.line) → (trace : List Record) → IsMerged s w trace
-      → IsOutcome net until (Fault c s limit) trace
-  fault w h c s limit e lines trace m = ((state_law.fault net until w ok bound h c s limit e).1, (merging_law net until s w ok bound h lines trace m.ordered m.parts).0)
+  fault : (w : World S) → IsSound net until w → (met : Fault) → state net until w ≡ InFault met
+      → ((d : ℕ) (p : Process S) → slice_get w.processes d ≡ Some p → met.stamp ≤ p.line) → (trace : List Record) → IsMerged met.stamp w trace
+      → IsOutcome net until (InFault met) trace
+  fault w h met e lines trace m = ((state_law.fault net until w ok bound h met e).1, (merging_law net until met.stamp w ok bound h lines trace m.ordered m.parts).0)
 
 -- ---- how many records there are
 
@@ -123,17 +122,17 @@ module _ {S : Type 0} (net : Network S) (until : ℕ) (ok : IsNetwork net) (boun
     where
       go : (s : RunState) → state net until w ≡ s → IsOutcome net until (state net until w) trace
       go Complete e = subst (λ (s : RunState). IsOutcome net until s trace) (sym e) (complete net until ok bound w h e trace (whole (stamp until 0 0) (omega arith) trace t parts))
-      go (Fault c s limit) e =
-          let at : s ≡ w.gvt = (state_law.fault net until w ok bound h c s limit e).0 in
+      go (InFault met) e =
+          let at : met.stamp ≡ w.gvt = (state_law.fault net until w ok bound h met e).0 in
           subst (λ (x : RunState). IsOutcome net until x trace) (sym e)
-          (fault net until ok bound w h c s limit e (λ d p there. let l = lines d p there in omega (arith, at, l)) trace (whole s (omega (arith, at)) trace t parts))
+          (fault net until ok bound w h met e (λ d p there. let l = lines d p there in omega (arith, at, l)) trace (whole met.stamp (omega (arith, at)) trace t parts))
       go Going e = absurd (ended e)
 
 pub outcome_law : {S : Type 0} → OutcomeLaw S
 outcome_law = record {
-  before_fault = λ net until ok bound b s limit e. fault_before net until ok bound b s limit e;
+  before_fault = λ net until ok bound met e. fault_before net until ok bound met e;
   complete = λ net until w ok bound h e trace m. complete net until ok bound w h e trace m;
-  fault = λ net until w ok bound h c s limit e lines trace m. fault net until ok bound w h c s limit e lines trace m;
+  fault = λ net until w ok bound h met e lines trace m. fault net until ok bound w h met e lines trace m;
   whole = λ net until w ok bound h e trace t parts.
       (complete net until ok bound w h e trace (whole net until ok bound w h (stamp until 0 0) (omega arith) trace t parts), length_parts trace w.columns parts);
   at_gvt = λ net until w ok bound h lines trace t parts ended. at_gvt net until ok bound w h lines trace t parts ended;

@@ -86,7 +86,7 @@ module _ {S : Type 0} (net : Network S) (cancel : Cancel) where
         fit_outgoing = tt;
         fit_owed = tt;
         line_le = omega arith;
-        line_le_fault = λ b s limit e. omega arith;
+        line_le_fault = λ met e. omega arith;
       })
     where
       cc_false : false ≡ true → ⊥

@@ -4,7 +4,6 @@ use Rattle.std.specs.Prelude.{pos, Ok}
 use Rattle.tw_msgs.specs.declared.record.Record.{Record}
 use Rattle.tw_msgs.specs.declared.record_kind.RecordKind.TheVariants.{Out, Int, Ext}
 use Rattle.tw_vtime.specs.Stamps.{stamp}
-use Rattle.tw_vtime.specs.declared.limits.Limit.TheVariants.{Tick}
 use Rattle.tw_theory.specs.Contents.{Cancel, Aggressive, Lazy, Placed}
 use Rattle.tw_theory.specs.ExampleModels.{State}
 use Rattle.tw_theory.specs.ExampleNetworks.{three, lone, gen_tally}
@@ -14,12 +13,12 @@ use Rattle.tw_theory.specs.Executive.{Action, Step, Deliver, Back, Raise, Answer
 use Rattle.tw_theory.specs.LocalRun.{step_at, local_step}
 use Rattle.tw_theory.specs.Marks.{marks, rewind}
 use Rattle.tw_theory.specs.Network.{IsNetwork}
-use Rattle.tw_theory.specs.Outcomes.{state, Complete, Fault, Going}
+use Rattle.tw_theory.specs.Outcomes.{state, Complete, Fault as InFault, Going}
 use Rattle.tw_theory.specs.Simulator.{sequential, up_to}
 use Rattle.tw_theory.specs.Soundness.{IsSound, new_world}
 use Rattle.tw_theory.specs.Traces.{IsTrace, of_component, before}
 use Rattle.tw_theory.specs.Transitions.{output, moved, transition}
-use Rattle.tw_laws.specs.Applied.{start, after, posted, drive, driven, driven_trace, DrivenRun, LawsOfThree, stuck}
+use Rattle.tw_laws.specs.Applied.{start, after, posted, drive, driven, driven_trace, DrivenRun, LawsOfThree, stuck, out_of_ticks}
 use Rattle.tw_laws.specs.History.{Holdings, IsRunTo, IsCommitted}
 use Rattle.tw_laws.specs.Rewinding.{IsRewound, IsOneCut}
 use Rattle.tw_laws.proofs.Acting.{start_law}
@@ -70,14 +69,14 @@ lone_fits = record { inputs = tt; couplings = tt }
 pub stuck_sound : (cancel : Cancel) → IsSound (lone 1099511627773) 1099511627774 (stuck cancel)
 stuck_sound cancel = replay_sound (lone 1099511627773) 1099511627774 (new_world (lone 1099511627773) cancel) (Step 0 ∷ Raise ∷ []) lone_fits (omega arith) (start_law (lone 1099511627773) cancel 1099511627774 lone_fits)
 
-is_stuck : (cancel : Cancel) → state (lone 1099511627773) 1099511627774 (stuck cancel) ≡ Fault 0 (stamp 1099511627773 0 1) Tick
+is_stuck : (cancel : Cancel) → state (lone 1099511627773) 1099511627774 (stuck cancel) ≡ InFault out_of_ticks
 unfolding act local_step step_at output moved transition state
 is_stuck Aggressive = refl
 is_stuck Lazy = refl
 
-fault_of : (cancel : Cancel) → (sequential (lone 1099511627773) 1099511627774).fault ≡ Some (0, stamp 1099511627773 0 1, Tick)
+fault_of : (cancel : Cancel) → (sequential (lone 1099511627773) 1099511627774).fault ≡ Some out_of_ticks
 fault_of cancel =
-    (state_law.fault (lone 1099511627773) 1099511627774 (stuck cancel) lone_fits (omega arith) (stuck_sound cancel) 0 (stamp 1099511627773 0 1) Tick (is_stuck cancel)).1
+    (state_law.fault (lone 1099511627773) 1099511627774 (stuck cancel) lone_fits (omega arith) (stuck_sound cancel) out_of_ticks (is_stuck cancel)).1
 
 -- ---- a run driven to its end
 
@@ -178,7 +177,7 @@ module _ (cancel : Cancel) where
     complete = (at_zero cancel, (state_law.complete three 0 (start cancel) three_fits (omega arith) (start_law three cancel 0 three_fits) (at_zero cancel)).0);
     fault = (is_stuck cancel, fault_of cancel);
     lines = λ actions c p at.
-        (lines_law (lone 1099511627773) cancel 1099511627774 actions lone_fits (omega arith) c p at 0 (stamp 1099511627773 0 1) Tick (fault_of cancel)).1;
+        (lines_law (lone 1099511627773) cancel 1099511627774 actions lone_fits (omega arith) c p at out_of_ticks (fault_of cancel)).1;
     driven_run = driven_run cancel;
     traced = trace_law.ordered three 10 three_fits (omega arith);
   }

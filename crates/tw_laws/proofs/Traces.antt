@@ -5,9 +5,8 @@ use Rattle.std.specs.List.{AllByRecursion as Each}
 use Rattle.std.proofs.lemmas.Bool.{cond-true, cond-false, cond_both, eq-eqb, ne_eqb, cases_eq, lt-ltb}
 use Rattle.tw_msgs.specs.declared.record.Record.{Record}
 use Rattle.tw_vtime.specs.Stamps.{stamp, max_tick}
-use Rattle.tw_vtime.specs.declared.limits.Limit.{Limit}
 use Rattle.tw_theory.specs.Network.{Network, IsNetwork}
-use Rattle.tw_theory.specs.Simulator.{Run, rounds, round_time, sequential, up_to, records_before}
+use Rattle.tw_theory.specs.Simulator.{Fault, Run, rounds, round_time, sequential, up_to, records_before}
 use Rattle.tw_theory.specs.Traces.{Precedes, IsTrace, of_component}
 use Rattle.tw_theory.proofs.Elements.{each_weaker}
 use Rattle.tw_laws.specs.Committed.{RoundsLaw}
@@ -102,7 +101,7 @@ rounds_law {S} net until ok bound none =
     let end = stamp until 0 0 in
     left (rounds net end) none (rounds_reach net end end (all_phase_one net net.inputs ok.inputs) (omega arith) (omega arith) (omega arith) (omega arith))
   where
-    clash : {x : ℕ × ℕ × Limit} → ◌≡◌ {A = Option (ℕ × ℕ × Limit)} None (Some x) → ⊥
+    clash : {x : Fault} → ◌≡◌ {A = Option Fault} None (Some x) → ⊥
     clash k = cc
 
     left : (run : Run S) → run.fault ≡ None → Reached net (stamp until 0 0) run → stamp until 0 0 ≤ round_time run.at

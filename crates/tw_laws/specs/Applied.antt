@@ -12,8 +12,8 @@ use Rattle.tw_theory.specs.Exchange.{work}
 use Rattle.tw_theory.specs.Executive.{World, Action, Step, Post, Deliver, Back, Raise, Harvest, Stepped, Posted, Received, Raised, Harvested, act, replay, answers}
 use Rattle.tw_theory.specs.Marks.{marks, rewind}
 use Rattle.tw_theory.specs.Network.{IsNetwork}
-use Rattle.tw_theory.specs.Outcomes.{state, Complete, Fault, Going}
-use Rattle.tw_theory.specs.Simulator.{sequential, round_time, up_to}
+use Rattle.tw_theory.specs.Outcomes.{state, Complete, Fault as InFault, Going}
+use Rattle.tw_theory.specs.Simulator.{Fault, sequential, round_time, up_to}
 use Rattle.tw_theory.specs.Soundness.{IsSound, new_world}
 use Rattle.tw_theory.specs.Traces.{IsTrace}
 use Rattle.tw_laws.specs.Committed.{HasCommitted, Grow}
@@ -23,6 +23,10 @@ use Rattle.tw_laws.specs.History.{Holdings, IsRunTo, IsCommitted}
 use Rattle.tw_laws.specs.Inverse.{IsRestored, IsOneRestored, steps_of, stepped_and_rewound, stepped_and_back}
 use Rattle.tw_laws.specs.Rewinding.{IsParted, IsRewound, IsOneCut}
 use Rattle.tw_laws.specs.Sweeping.{AllProgress}
+
+-- a generator met the greatest tick
+abbrev pub out_of_ticks : Fault
+out_of_ticks = record { component = 0; stamp = stamp 1099511627773 0 1; limit = Tick }
 
 abbrev pub start : Cancel → World State
 start cancel = new_world three cancel
@@ -82,8 +86,8 @@ pub record LawsOfThree (cancel : Cancel) : Type 0 where
   -- with nothing to do, all is complete, and the simulator has no fault
   pub complete : (state three 0 (start cancel) ≡ Complete) × ((sequential three 0).fault ≡ None)
   -- a generator whose second period would be past the greatest tick: at gvt, with nothing in transit, it meets that limit, and this is the simulator's fault
-  pub fault : (state (lone 1099511627773) 1099511627774 (stuck cancel) ≡ Fault 0 (stamp 1099511627773 0 1) Tick)
-      × ((sequential (lone 1099511627773) 1099511627774).fault ≡ Some (0, stamp 1099511627773 0 1, Tick))
+  pub fault : (state (lone 1099511627773) 1099511627774 (stuck cancel) ≡ InFault out_of_ticks)
+      × ((sequential (lone 1099511627773) 1099511627774).fault ≡ Some out_of_ticks)
   -- whatever was done to that generator, no line is past the fault
   pub lines : (actions : List Action) (c : ℕ) (p : Process State) → slice_get (replay (lone 1099511627773) 1099511627774 (new_world (lone 1099511627773) cancel) actions).processes c ≡ Some p
       → p.line ≤ stamp 1099511627773 0 1

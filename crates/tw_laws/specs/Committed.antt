@@ -4,12 +4,11 @@ use Rattle.std.specs.List.{AllByRecursion as Each}
 use Rattle.tw_msgs.specs.Counting.{total}
 use Rattle.tw_msgs.specs.declared.record.Record.{Record}
 use Rattle.tw_vtime.specs.Stamps.{stamp, never, max_tick}
-use Rattle.tw_vtime.specs.declared.limits.Limit.{Limit}
 use Rattle.tw_theory.specs.Contents.{Process, Cancel, next}
 use Rattle.tw_theory.specs.Executive.{World, Action, Raise, Raised, act, replay, column_of, mail_of, least_of}
 use Rattle.tw_theory.specs.Marks.{rewind}
 use Rattle.tw_theory.specs.Network.{Network, count_of, IsNetwork}
-use Rattle.tw_theory.specs.Simulator.{sequential, round_time, records_before}
+use Rattle.tw_theory.specs.Simulator.{Fault, sequential, round_time, records_before}
 use Rattle.tw_theory.specs.Soundness.{IsSound, new_world}
 
 -- There is a process and a column for each component, and what each has committed is what the sequential simulator does up to its commit line
@@ -29,12 +28,12 @@ abbrev pub LinesLaw : Type 0 → Type 0
 LinesLaw S =
     (net : Network S) (cancel : Cancel) (until : ℕ) (actions : List Action) → IsNetwork net → until ≤ max_tick
     → (c : ℕ) (p : Process S) → slice_get (replay net until (new_world net cancel) actions).processes c ≡ Some p
-    → (b s : ℕ) (limit : Limit) → (sequential net until).fault ≡ Some (b, s, limit) → (s < stamp until 0 0) × (p.line ≤ s)
+    → (met : Fault) → (sequential net until).fault ≡ Some met → (met.stamp < stamp until 0 0) × (p.line ≤ met.stamp)
 
--- where the sequential simulator ends in a fault at s, no component has committed past s
+-- where the sequential simulator ends in a fault, no component has committed past its stamp
 abbrev pub IsBeforeFault : {S : Type 0} → Network S → ℕ → World S → Type 0
 IsBeforeFault {S} net until w =
-    (b s : ℕ) (limit : Limit) → (sequential net until).fault ≡ Some (b, s, limit) → (c : ℕ) (p : Process S) → slice_get w.processes c ≡ Some p → p.line ≤ s
+    (met : Fault) → (sequential net until).fault ≡ Some met → (c : ℕ) (p : Process S) → slice_get w.processes c ≡ Some p → p.line ≤ met.stamp
 
 abbrev pub SoundLines : Type 0 → Type 0
 SoundLines S = (net : Network S) (until : ℕ) (w : World S) → IsNetwork net → until ≤ max_tick → IsSound net until w → IsBeforeFault net until w

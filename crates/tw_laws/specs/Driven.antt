@@ -2,7 +2,6 @@
 use Rattle.std.specs.Prelude.{ℕ, ◌≡◌, List, [], ◌∷◌, ◌++◌, true, false, Ok}
 use Rattle.tw_msgs.specs.declared.record.Record.{Record}
 use Rattle.tw_vtime.specs.Stamps.{stamp}
-use Rattle.tw_vtime.specs.declared.limits.Limit.TheVariants.{Tick}
 use Rattle.tw_theory.specs.Contents.{Cancel, Aggressive, Lazy, Placed, Straggler, Annihilated}
 use Rattle.tw_theory.specs.ExampleModels.{State}
 use Rattle.tw_theory.specs.ExampleNetworks.{three, gen_tally, lone}
@@ -10,9 +9,9 @@ use Rattle.tw_theory.specs.ExampleTraces.{out, item}
 use Rattle.tw_theory.specs.Exchange.{sweep, IsDrawn}
 use Rattle.tw_theory.specs.Executive.{World, Action, Step, Post, Deliver, Raise, Harvest, Posted, Received, Raised, Harvested, replay, answers}
 use Rattle.tw_theory.specs.Network.{Network}
-use Rattle.tw_theory.specs.Outcomes.{state, Complete, Fault, IsOutcome}
+use Rattle.tw_theory.specs.Outcomes.{state, Complete, Fault as InFault, IsOutcome}
 use Rattle.tw_theory.specs.Soundness.{new_world}
-use Rattle.tw_laws.specs.Applied.{after, stuck, driven_trace}
+use Rattle.tw_laws.specs.Applied.{after, stuck, driven_trace, out_of_ticks}
 use Rattle.tw_laws.specs.Exchange.{IsAfterSweep}
 
 abbrev pub swept : Network State → ℕ → World State → World State
@@ -58,5 +57,5 @@ pub record Driven : Type 0 where
   pub second : (cancel : Cancel) → IsDrawn 10 (stamp 2 0 1) 5 (true ∷ false ∷ false ∷ []) (swept three 10 (ahead cancel)).processes 1
   pub complete : (cancel : Cancel) → (state gen_tally 3 (driven cancel) ≡ Complete)
       × IsOutcome gen_tally 3 Complete driven_trace
-  pub fault : (cancel : Cancel) → (state (lone 1099511627773) 1099511627774 (ended cancel) ≡ Fault 0 (stamp 1099511627773 0 1) Tick)
-      × IsOutcome (lone 1099511627773) 1099511627774 (Fault 0 (stamp 1099511627773 0 1) Tick) last_output
+  pub fault : (cancel : Cancel) → (state (lone 1099511627773) 1099511627774 (ended cancel) ≡ InFault out_of_ticks)
+      × IsOutcome (lone 1099511627773) 1099511627774 (InFault out_of_ticks) last_output

@@ -7,8 +7,8 @@ use Rattle.tw_theory.specs.Contents.{Process, next}
 use Rattle.tw_theory.specs.Executive.{World, column_of}
 use Rattle.tw_theory.specs.LocalRun.{OverLimit, local_step}
 use Rattle.tw_theory.specs.Network.{Network, IsNetwork}
-use Rattle.tw_theory.specs.Outcomes.{Complete, Fault, state}
-use Rattle.tw_theory.specs.Simulator.{sequential, records_before}
+use Rattle.tw_theory.specs.Outcomes.{Complete, Fault as InFault, state}
+use Rattle.tw_theory.specs.Simulator.{Fault, sequential, records_before}
 use Rattle.tw_theory.specs.Soundness.{IsSound}
 
 -- Nothing is in transit, no message owed is of stamp gvt, and c is the least component whose next step is at gvt and meets a limit
@@ -35,7 +35,7 @@ HasAll {S} net until w = (c : ℕ) (p : Process S) → slice_get w.processes c �
 -- that is the simulator's fault; and where every line is at the end, the simulator has no fault and the columns are its records
 pub record EndingLaw (S : Type 0) : Type 0 where
   pub fault : (net : Network S) (until : ℕ) (w : World S) → IsNetwork net → until ≤ max_tick → IsSound net until w
-      → (c : ℕ) (limit : Limit) → ShowsFault net until w c limit → (sequential net until).fault ≡ Some (c, w.gvt, limit)
+      → (c : ℕ) (limit : Limit) → ShowsFault net until w c limit → (sequential net until).fault ≡ Some (record { component = c; stamp = w.gvt; limit = limit })
   pub complete : (net : Network S) (until : ℕ) (w : World S) → IsNetwork net → until ≤ max_tick → IsSound net until w → AllPast (stamp until 0 0) w
       → ((sequential net until).fault ≡ None) × HasAll net until w
 
@@ -46,10 +46,10 @@ pub record StateLaw (S : Type 0) : Type 0 where
   -- of every world, sound or not: it is complete exactly where every line is at the end or after it
   pub past : (net : Network S) (until : ℕ) (w : World S) → (state net until w ≡ Complete) ↔ AllPast (stamp until 0 0) w
   -- and otherwise shows a fault exactly where it stands at gvt, with nothing in transit
-  pub shows : (net : Network S) (until : ℕ) (w : World S) (c s : ℕ) (limit : Limit)
-      → (state net until w ≡ Fault c s limit) ↔ ((AllPast (stamp until 0 0) w → ⊥) × (s ≡ w.gvt) × ShowsFault net until w c limit)
+  pub shows : (net : Network S) (until : ℕ) (w : World S) (met : Fault)
+      → (state net until w ≡ InFault met) ↔ ((AllPast (stamp until 0 0) w → ⊥) × (met.stamp ≡ w.gvt) × ShowsFault net until w met.component met.limit)
   -- of a sound one: that fault is the sequential simulator's; and a complete one has all its records, and the simulator no fault
   pub fault : (net : Network S) (until : ℕ) (w : World S) → IsNetwork net → until ≤ max_tick → IsSound net until w
-      → (c s : ℕ) (limit : Limit) → state net until w ≡ Fault c s limit → (s ≡ w.gvt) × ((sequential net until).fault ≡ Some (c, s, limit))
+      → (met : Fault) → state net until w ≡ InFault met → (met.stamp ≡ w.gvt) × ((sequential net until).fault ≡ Some met)
   pub complete : (net : Network S) (until : ℕ) (w : World S) → IsNetwork net → until ≤ max_tick → IsSound net until w → state net until w ≡ Complete
       → ((sequential net until).fault ≡ None) × HasAll net until w

@@ -14,7 +14,7 @@ use Rattle.tw_theory.specs.Balance.{all_consumed}
 use Rattle.tw_theory.specs.Contents.{before_all, steps_before, records_of, sent_by}
 use Rattle.tw_theory.specs.LocalRun.{Step, Leads, next_of, local_step, OverLimit}
 use Rattle.tw_theory.specs.Network.{Network}
-use Rattle.tw_theory.specs.Simulator.{sequential, records_before, moment_at, all_sent}
+use Rattle.tw_theory.specs.Simulator.{Fault, sequential, records_before, moment_at, all_sent}
 use Rattle.tw_theory.specs.Transitions.{Moment}
 
 -- how many times a message stands in a list
@@ -65,7 +65,7 @@ pub record IsRunTo {S : Type 0} (net : Network S) (until g : ℕ) (h : Holdings 
   pub given : AllPhaseOne net.inputs
   -- no line passes g, nor the fault
   pub lines : (c : ℕ) → c < length net.models → h.line c ≤ g
-  pub unstopped : (c b s : ℕ) (limit : Limit) → c < length net.models → (sequential net until).fault ≡ Some (b, s, limit) → h.line c ≤ s
+  pub unstopped : (c : ℕ) (met : Fault) → c < length net.models → (sequential net until).fault ≡ Some met → h.line c ≤ met.stamp
   -- each column is what the simulator does before the line
   pub columns : (c : ℕ) → c < length net.models → h.column c ≡ records_before net until c (h.line c)
   -- the inputs are for the component, of phase 1, in order
@@ -79,7 +79,7 @@ pub record IsRunTo {S : Type 0} (net : Network S) (until g : ℕ) (h : Holdings 
 
 -- the steps before g are the simulator's
 pub record IsCommitted {S : Type 0} (net : Network S) (until g : ℕ) (h : Holdings S) : Type 0 where
-  pub unstopped : (b s : ℕ) (limit : Limit) → (sequential net until).fault ≡ Some (b, s, limit) → g ≤ s
+  pub unstopped : (met : Fault) → (sequential net until).fault ≡ Some met → g ≤ met.stamp
   pub records : (c : ℕ) → c < length net.models → h.column c ++ records_of (take (steps_before g (h.history c)) (h.history c)) ≡ records_before net until c g
   pub moment : (c : ℕ) → c < length net.models → (stand : StandsTo net until g h c) → moment_at net until c g ≡ Some (before_all (drop (steps_before g (h.history c)) (h.history c)) stand.now)
 
@@ -90,7 +90,7 @@ CommittedHistory S = (net : Network S) (until g : ℕ) (h : Holdings S) → unti
 abbrev pub FaultStamp : Type 0 → Type 0
 FaultStamp S =
     (net : Network S) (until : ℕ) → until ≤ max_tick → AllPhaseOne net.inputs
-    → (b s : ℕ) (limit : Limit) → (sequential net until).fault ≡ Some (b, s, limit) → (b < length net.models) × (s < stamp until 0 0) × (phase_of s ≡ 1)
+    → (met : Fault) → (sequential net until).fault ≡ Some met → (met.component < length net.models) × (met.stamp < stamp until 0 0) × (phase_of met.stamp ≡ 1)
 
 -- the next step of component c is at g, and meets this limit
 pub record MeetsAt {S : Type 0} (net : Network S) (until g : ℕ) (h : Holdings S) (c : ℕ) (stand : StandsTo net until g h c) (limit : Limit) : Type 0 where
@@ -111,4 +111,4 @@ pub record IsFaulting {S : Type 0} (net : Network S) (until g : ℕ) (h : Holdin
 abbrev pub FaultLaw : Type 0 → Type 0
 FaultLaw S =
     (net : Network S) (until g : ℕ) (h : Holdings S) → until ≤ max_tick → (is_run : IsRunTo net until g h)
-    → (c : ℕ) (limit : Limit) → IsFaulting net until g h is_run c limit → (sequential net until).fault ≡ Some (c, g, limit)
+    → (c : ℕ) (limit : Limit) → IsFaulting net until g h is_run c limit → (sequential net until).fault ≡ Some (record { component = c; stamp = g; limit = limit })

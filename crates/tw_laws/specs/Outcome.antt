@@ -3,24 +3,23 @@ use Rattle.std.specs.Prelude.{ℕ, ◌≤◌, ◌≡◌, ◌≢◌, List, length
 use Rattle.tw_msgs.specs.Counting.{total}
 use Rattle.tw_msgs.specs.declared.record.Record.{Record}
 use Rattle.tw_vtime.specs.Stamps.{stamp, max_tick}
-use Rattle.tw_vtime.specs.declared.limits.Limit.{Limit}
 use Rattle.tw_theory.specs.Contents.{Process}
 use Rattle.tw_theory.specs.Executive.{World, column_of}
 use Rattle.tw_theory.specs.Network.{Network, IsNetwork}
-use Rattle.tw_theory.specs.Outcomes.{Complete, Fault, Going, state, IsOutcome}
-use Rattle.tw_theory.specs.Simulator.{sequential, up_to}
+use Rattle.tw_theory.specs.Outcomes.{Complete, Fault as InFault, Going, state, IsOutcome}
+use Rattle.tw_theory.specs.Simulator.{Fault, sequential, up_to}
 use Rattle.tw_theory.specs.Soundness.{IsSound}
 use Rattle.tw_theory.specs.Traces.{IsTrace, IsMerged, of_component, before}
 
 pub record OutcomeLaw (S : Type 0) : Type 0 where
   -- with a fault the simulator has recorded nothing at it or after
   pub before_fault : (net : Network S) (until : ℕ) → IsNetwork net → until ≤ max_tick
-      → (b s : ℕ) (limit : Limit) → (sequential net until).fault ≡ Some (b, s, limit) → before s (sequential net until).records ≡ (sequential net until).records
+      → (met : Fault) → (sequential net until).fault ≡ Some met → before met.stamp (sequential net until).records ≡ (sequential net until).records
   pub complete : (net : Network S) (until : ℕ) (w : World S) → IsNetwork net → until ≤ max_tick → IsSound net until w
       → state net until w ≡ Complete → (trace : List Record) → IsMerged (stamp until 0 0) w trace → IsOutcome net until Complete trace
   pub fault : (net : Network S) (until : ℕ) (w : World S) → IsNetwork net → until ≤ max_tick → IsSound net until w
-      → (c s : ℕ) (limit : Limit) → state net until w ≡ Fault c s limit → ((d : ℕ) (p : Process S) → slice_get w.processes d ≡ Some p → s ≤ p.line)
-      → (trace : List Record) → IsMerged s w trace → IsOutcome net until (Fault c s limit) trace
+      → (met : Fault) → state net until w ≡ InFault met → ((d : ℕ) (p : Process S) → slice_get w.processes d ≡ Some p → met.stamp ≤ p.line)
+      → (trace : List Record) → IsMerged met.stamp w trace → IsOutcome net until (InFault met) trace
   -- the trace of whole columns is enough where the run is complete
   pub whole : (net : Network S) (until : ℕ) (w : World S) → IsNetwork net → until ≤ max_tick → IsSound net until w
       → state net until w ≡ Complete → (trace : List Record) → IsTrace trace → ((c : ℕ) → of_component c trace ≡ column_of w.columns c)

@@ -13,7 +13,7 @@ use Rattle.tw_line.specs.declared.jobs.Job.TheVariants.{Demo, Check, Seq, Stats,
 use Rattle.tw_line.specs.declared.jobs.Picture.{Picture}
 use Rattle.tw_line.specs.declared.jobs.Picture.TheVariants as of
 use Rattle.tw_line.specs.declared.jobs.Rows.{Rows}
-use Rattle.tw_line.specs.declared.jobs.Setting.{Setting}
+use Rattle.tw_line.specs.declared.jobs.RunOptions.{RunOptions}
 use Rattle.tw_line.specs.declared.jobs.Workers.{Workers}
 use Rattle.tw_line.specs.declared.jobs.Workers.TheVariants.{Auto, Count}
 
@@ -114,7 +114,7 @@ no_draw rows missing (Run net until cancel setting) is = let bad : 100 ≡ 114 =
 no_draw rows missing (Play net until cancel driver) is = let bad : 100 ≡ 112 = ap (λ t. slice_index t 0) is.0 in absurd (omega (arith, bad))
 
 pub no_run : (rows : List Row)
-    → ((net : Text) (n : ℕ) (c : Cancel) (s : Setting) → first_of (codes "net") rows ≡ Some net
+    → ((net : Text) (n : ℕ) (c : Cancel) (s : RunOptions) → first_of (codes "net") rows ≡ Some net
     → HasNumber (codes "until") 0 1099511627774 rows n → IsCancelIn rows c → IsSettingIn rows s → ⊥)
     → (j : Job) → ¬ (IsJobOf (codes "run") rows j)
 no_run rows missing Demo is = let bad : 114 ≡ 100 = ap (λ t. slice_index t 0) is in absurd (omega (arith, bad))

@@ -23,7 +23,7 @@ use Rattle.tw_line.specs.declared.jobs.Picture.{Picture}
 use Rattle.tw_line.specs.declared.jobs.Picture.TheVariants as of
 use Rattle.tw_line.specs.declared.jobs.Rows.{Rows}
 use Rattle.tw_line.specs.declared.jobs.Rows.TheVariants.{Records, Items, Words}
-use Rattle.tw_line.specs.declared.jobs.Setting.{Setting}
+use Rattle.tw_line.specs.declared.jobs.RunOptions.{RunOptions}
 use Rattle.tw_line.specs.declared.jobs.View.{View}
 use Rattle.tw_line.specs.declared.jobs.Workers.{Workers}
 use Rattle.tw_line.specs.declared.jobs.Workers.TheVariants.{Count, Auto}
@@ -155,7 +155,7 @@ IsWorkersIn rows (Count n) = HasNumber (codes "workers") 1 64 rows n
 IsWorkersIn rows Auto = first_of (codes "workers") rows ≡ Some (codes "auto")
 
 -- what the workers are set to, each number in its range, and whether the run tells how far it is
-abbrev pub IsSettingIn : List Row → Setting → Type 0
+abbrev pub IsSettingIn : List Row → RunOptions → Type 0
 IsSettingIn rows s =
     IsWorkersIn rows s.workers
     × HasNumber (codes "burst") 1 256 rows s.burst

@@ -5,7 +5,7 @@ ghost use Rattle.clap.specs.Words.{rows_of, found_of, first_of, fault_of, kind_o
 ghost use Rattle.tw_line.specs.Lines.{twarp_app, IsCancelIn, IsDriverIn, IsFromIn, IsPictureIn, IsRowsIn, IsSettingIn, IsUndriven, IsUnseen, IsWorkersIn, IsJob, IsJobOf, HasFlag, HasNumber, IsReason, IsMadeOf};
 
 use crate::commands::command;
-use crate::jobs::{Driver, Job, MAX_STEPS, NoJob, Picture, Rows, Setting, View, Workers};
+use crate::jobs::{Driver, Job, MAX_STEPS, NoJob, Picture, Rows, RunOptions, View, Workers};
 use clap::error::ErrorKind;
 use clap::{ArgMatches, Error};
 use std::alloc::Global;
@@ -83,7 +83,7 @@ fn workers_in(options: &ArgMatches<'_>) -> Option<Workers>
 }
 
 /// What the workers are set to, among the options. Clap puts in what is left out.
-fn setting_in(options: &ArgMatches<'_>) -> Option<Setting>
+fn setting_in(options: &ArgMatches<'_>) -> Option<RunOptions>
     ensures some { IfSome result (IsSettingIn (rows_of (found_of options.now))) }
     ensures none { IfNone result ((s : _) → ¬ (IsSettingIn (rows_of (found_of options.now)) s)) }
 {
@@ -91,7 +91,7 @@ fn setting_in(options: &ArgMatches<'_>) -> Option<Setting>
     let burst = number_in(options, "burst", 1, MAX_BURST)?;
     let window = number_in(options, "window", 0, MAX_TICK)?;
     let progress = flag_in(options, "progress");
-    Some(Setting {
+    Some(RunOptions {
         workers,
         burst,
         window,

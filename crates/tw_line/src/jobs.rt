@@ -70,7 +70,7 @@ pub enum Job<'a> {
         /// How steps that are taken back are cancelled.
         cancel: Cancel,
         /// How many workers there are, how far they work ahead, and whether the run tells how far it is.
-        setting: Setting,
+        setting: RunOptions,
     },
     /// Drive a network's executive by hand, action by action: write a reply to each, then the trace of what is
     /// committed.
@@ -97,7 +97,7 @@ pub enum Workers {
 
 /// How many workers a run has, how far they work ahead, and whether it tells how far it is. The trace is the same for all of them.
 #[derive(Clone, Copy, Debug, PartialEq, Eq)]
-pub struct Setting {
+pub struct RunOptions {
     /// How many threads work.
     pub workers: Workers,
     /// The most steps of one component that a worker computes at a time, 1 to 256.

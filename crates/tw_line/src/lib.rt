@@ -6,10 +6,10 @@
 //! hands out clap's text. [`NoJob`] says which of these it is.
 #![tactic(auto)]
 
-pub mod command_line;
+mod command_line;
 mod commands;
 mod help;
-pub mod jobs;
+mod jobs;
 
 pub use command_line::job;
-pub use jobs::{Driver, Job, NoJob, Picture, Rows, Setting, View, Workers};
+pub use jobs::{Driver, Job, NoJob, Picture, Rows, RunOptions, View, Workers};

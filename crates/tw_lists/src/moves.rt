@@ -16,7 +16,7 @@ use tw_pool::{LIVE_LIMIT, PoolRefused};
 use tw_vtime::Stamp;
 
 impl EventLists {
-    // The first pending message becomes the last consumed one.
+    /// The first pending message becomes the last consumed one.
     fn consume_first(&mut self)
         ensures { self.new ≡ first_consumed self.old }
     {
@@ -28,7 +28,7 @@ impl EventLists {
         }
     }
 
-    // The last consumed message is pending again.
+    /// The last consumed message is pending again.
     fn restore_last(&mut self)
         requires some { self.old.consumed ≢ [] }
         requires sorted { Sorted (drop (length self.old.consumed - 1) self.old.consumed ++ self.old.pending) }
@@ -98,7 +98,7 @@ impl EventLists {
         true
     }
 
-    // Whether the first pending message has this stamp.
+    /// Whether the first pending message has this stamp.
     fn is_at(&self, stamp: Stamp) -> bool
         ensures yes { IsTrue result → front stamp self.now.pending ≢ [] }
         ensures no { result ≡ false → front stamp self.now.pending ≡ [] }
@@ -109,7 +109,7 @@ impl EventLists {
         }
     }
 
-    // Whether the first pending message has this stamp, port and value.
+    /// Whether the first pending message has this stamp, port and value.
     fn is_next(&self, stamp: Stamp, item: (u8, i64)) -> bool
         ensures yes { IsTrue result → IsNext stamp item self.now.pending }
         ensures no { result ≡ false → (rest : BagItems) → items_of (front stamp self.now.pending) ≢ item ∷ rest }

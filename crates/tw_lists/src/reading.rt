@@ -131,7 +131,7 @@ impl EventLists {
     }
 }
 
-// The items of a list, in order.
+/// The items of a list, in order.
 fn items_in(alloc: Global, pool: &Pool<Item, 6>, list: usize) -> Result<Vec<Item>, AllocError>
     requires { list < 6 }
     ensures { IfOk result (λ items. items.items ≡ map item_at (list_at pool.now.lists list)) }
@@ -148,7 +148,7 @@ fn items_in(alloc: Global, pool: &Pool<Item, 6>, list: usize) -> Result<Vec<Item
     Ok(items)
 }
 
-// The messages of a list, in order.
+/// The messages of a list, in order.
 fn messages_in(alloc: Global, pool: &Pool<Item, 6>, list: usize) -> Result<Vec<Message>, AllocError>
     requires { list < 6 }
     ensures { IfOk result (λ messages. messages.items ≡ map message_at (list_at pool.now.lists list)) }
@@ -165,7 +165,7 @@ fn messages_in(alloc: Global, pool: &Pool<Item, 6>, list: usize) -> Result<Vec<M
     Ok(messages)
 }
 
-// The least stamp of a list, or the end.
+/// The least stamp of a list, or the end.
 fn least_in(pool: &Pool<Item, 6>, list: usize) -> Stamp
     requires { list < 6 }
     ensures { result ≡ least_stamp (map item_at (list_at pool.now.lists list)) }

@@ -6,7 +6,7 @@ ghost use Rattle.tw_lists.specs.Nodes.{index_of};
 
 use tw_msgs::{Item, Message};
 use tw_pool::Pool;
-// The first index in a list whose message equals this one.
+/// The first index in a list whose message equals this one.
 pub(crate) fn find(pool: &Pool<Item, 6>, list: usize, message: &Message) -> Option<usize>
     requires { list < 6 }
     ensures { result ≡ index_of message.now (list_at pool.now.lists list) }

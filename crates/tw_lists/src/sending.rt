@@ -38,7 +38,7 @@ impl EventLists {
         }
     }
 
-    // All messages go out.
+    /// All messages go out.
     fn send_each(&mut self, messages: &[Message])
         requires { 2 * length messages.now ≤ self.old.room }
         ensures { self.new ≡ with_room self.new.room self.new.spare (with_all_sent Aggressive messages.now self.old) }
@@ -48,7 +48,7 @@ impl EventLists {
         }
     }
 
-    // Those go out that no owed message matches.
+    /// Those go out that no owed message matches.
     fn send_anew(&mut self, messages: &[Message])
         requires { 2 * length (sent_anew self.old.owed messages.now) ≤ self.old.room }
         ensures { self.new ≡ with_room self.new.room self.new.spare (with_all_sent Lazy messages.now self.old) }
@@ -58,7 +58,7 @@ impl EventLists {
         }
     }
 
-    // A message is sent again if an equal one is owed, and else it goes out.
+    /// A message is sent again if an equal one is owed, and else it goes out.
     fn send_once(&mut self, message: &Message)
         requires { 2 * length (sent_anew self.old.owed (message.now ∷ [])) ≤ self.old.room }
         ensures contents { self.new ≡ with_room self.new.room self.new.spare (with_all_sent Lazy (message.now ∷ []) self.old) }
@@ -69,7 +69,7 @@ impl EventLists {
         }
     }
 
-    // The first equal owed message is sent again, or the answer is that there is none.
+    /// The first equal owed message is sent again, or the answer is that there is none.
     fn send_again(&mut self, message: &Message) -> bool
         ensures answer { result ≡ has message.now self.old.owed }
         ensures yes { IsTrue result → self.new ≡ with_room self.new.room self.new.spare (with_sent_again message.now self.old) }
@@ -98,7 +98,7 @@ impl EventLists {
     }
 }
 
-// How many of these messages no owed one matches: those that come as often before as they are owed.
+/// How many of these messages no owed one matches: those that come as often before as they are owed.
 fn fresh_count(pool: &Pool<Item, 6>, messages: &[Message]) -> usize
     ensures count { result ≡ length (sent_anew (map message_at (list_at pool.now.lists 5)) messages.now) }
     ensures within { result ≤ length messages.now }
@@ -111,7 +111,7 @@ fn fresh_count(pool: &Pool<Item, 6>, messages: &[Message]) -> usize
     count
 }
 
-// One for yes, and zero for no.
+/// One for yes, and zero for no.
 fn one_if(yes: bool) -> usize
     ensures value { result ≡ cond yes 1 0 }
     ensures small { result ≤ 1 }
@@ -119,7 +119,7 @@ fn one_if(yes: bool) -> usize
     if yes { 1 } else { 0 }
 }
 
-// How often an equal message is owed.
+/// How often an equal message is owed.
 fn owed_count(pool: &Pool<Item, 6>, message: &Message) -> usize
     ensures { result ≡ total (one_at message.now) (map message_at (list_at pool.now.lists 5)) }
 {
@@ -135,7 +135,7 @@ fn owed_count(pool: &Pool<Item, 6>, message: &Message) -> usize
     count
 }
 
-// How often an equal message is among the first ones.
+/// How often an equal message is among the first ones.
 fn earlier_count(messages: &[Message], number: usize, message: &Message) -> usize
     requires { number ≤ length messages.now }
     ensures { result ≡ total (one_at message.now) (take number messages.now) }

@@ -24,7 +24,7 @@ impl EventLists {
         }
     }
 
-    // The last `n` sent messages go to the outgoing list, as anti-messages.
+    /// The last `n` sent messages go to the outgoing list, as anti-messages.
     fn unsend(&mut self, n: usize)
         requires { n ≤ length self.old.sent }
         ensures { self.new ≡ cancelled Aggressive n self.old }
@@ -33,7 +33,7 @@ impl EventLists {
         self.pool.relink_last(SENT, n, OUTGOING);
     }
 
-    // The last `n` sent messages are owed.
+    /// The last `n` sent messages are owed.
     fn owe(&mut self, n: usize)
         requires { n ≤ length self.old.sent }
         ensures { self.new ≡ cancelled Lazy n self.old }
@@ -51,7 +51,7 @@ impl EventLists {
     }
 }
 
-// Each owed node that was sent before the next step goes to the outgoing list.
+/// Each owed node that was sent before the next step goes to the outgoing list.
 fn post_overdue(pool: &mut Pool<Item, 6>, next: Stamp)
     ensures lists { IsSettled next (length (list_at pool.old.lists 5)) pool.old.lists pool.new.lists }
     ensures room { pool.new.room ≡ pool.old.room }
@@ -68,7 +68,7 @@ fn post_overdue(pool: &mut Pool<Item, 6>, next: Stamp)
     }
 }
 
-// An owed node that was sent before the next step goes to the outgoing list.
+/// An owed node that was sent before the next step goes to the outgoing list.
 fn post_one(pool: &mut Pool<Item, 6>, index: usize, next: Stamp)
     requires { IsLive index pool.old.lists }
     ensures lists { (item : Item) → item_of index pool.old.lists ≡ Some item → IsPosted next index item pool.old.lists pool.new.lists }

@@ -23,7 +23,7 @@ pub fn add_process<M: Atomic>(
     add_lists(sum, process);
 }
 
-// Its stamps.
+/// Its stamps.
 fn add_times<M: Atomic>(sum: &mut Sum, process: &Process<M>) {
     for stamp in [
         process.line(),
@@ -38,7 +38,7 @@ fn add_times<M: Atomic>(sum: &mut Sum, process: &Process<M>) {
     }
 }
 
-// How many steps and messages there are.
+/// How many steps and messages there are.
 fn add_lengths<M: Atomic>(sum: &mut Sum, process: &Process<M>) {
     sum.add_count(process.history_len());
     sum.add_count(process.pending_len());
@@ -47,14 +47,14 @@ fn add_lengths<M: Atomic>(sum: &mut Sum, process: &Process<M>) {
     sum.add_count(process.owed_len());
 }
 
-// Its steps that are not committed: the record of each, and how many messages it consumed and sent.
+/// Its steps that are not committed: the record of each, and how many messages it consumed and sent.
 fn add_steps<M: Atomic>(sum: &mut Sum, process: &Process<M>) {
     for step in 0..process.history_len() {
         add_step(sum, process, step);
     }
 }
 
-// A step, if there is one.
+/// A step, if there is one.
 fn add_step<M: Atomic>(sum: &mut Sum, process: &Process<M>, step: usize) {
     if let Some(record) = process.record_at(step) {
         add_record(sum, record);
@@ -65,7 +65,7 @@ fn add_step<M: Atomic>(sum: &mut Sum, process: &Process<M>, step: usize) {
     }
 }
 
-// The words of its state.
+/// The words of its state.
 fn add_state<M: Atomic>(sum: &mut Sum, alloc: Global, words: &mut Vec<i128>, process: &Process<M>) {
     let network = &**process.network();
     let component = process.component();
@@ -82,7 +82,7 @@ fn add_state<M: Atomic>(sum: &mut Sum, alloc: Global, words: &mut Vec<i128>, pro
     }
 }
 
-// Its lists. Those that are pending lie in any order; the first of them is known.
+/// Its lists. Those that are pending lie in any order; the first of them is known.
 fn add_lists<M: Atomic>(sum: &mut Sum, process: &Process<M>) {
     let pool = process.pool();
     sum.add_in_any_order(pending_in(pool));
@@ -94,7 +94,7 @@ fn add_lists<M: Atomic>(sum: &mut Sum, process: &Process<M>) {
     }
 }
 
-// The items of the list of pending messages, in any order.
+/// The items of the list of pending messages, in any order.
 fn pending_in(pool: &Pool<Item, 6>) -> Sum {
     let mut all = Sum::new();
     let mut at = pool.first(0);
@@ -110,7 +110,7 @@ fn pending_in(pool: &Pool<Item, 6>) -> Sum {
     all
 }
 
-// The items of a list.
+/// The items of a list.
 fn add_list(sum: &mut Sum, pool: &Pool<Item, 6>, list: usize)
     requires { list < 6 }
 {
@@ -133,7 +133,7 @@ pub fn add_items(sum: &mut Sum, items: &[Item]) {
     }
 }
 
-// A message with its sign.
+/// A message with its sign.
 fn add_item(sum: &mut Sum, item: &Item) {
     sum.add(match item.sign {
         Sign::Positive => 0,
@@ -142,7 +142,7 @@ fn add_item(sum: &mut Sum, item: &Item) {
     add_message(sum, &item.message);
 }
 
-// A message.
+/// A message.
 fn add_message(sum: &mut Sum, message: &Message) {
     sum.add(message.stamp.pack());
     sum.add(u64::from(message.port));
@@ -158,7 +158,7 @@ pub fn add_records(sum: &mut Sum, records: &[Record]) {
     }
 }
 
-// A record.
+/// A record.
 fn add_record(sum: &mut Sum, record: &Record) {
     sum.add_count(record.component);
     sum.add(record.stamp.pack());
@@ -175,7 +175,7 @@ fn add_record(sum: &mut Sum, record: &Record) {
     add_words(sum, &record.words);
 }
 
-// The words of a record.
+/// The words of a record.
 fn add_words(sum: &mut Sum, words: &Words) {
     for place in 0..words.len() {
         if let Some(word) = words.get(place) {

@@ -73,7 +73,7 @@ impl Told {
         self.tell("gave up: ", call);
     }
 
-    // A line of this scene and a call.
+    /// A line of this scene and a call.
     fn tell(&mut self, what: &str, call: &str) {
         let scene = self.scene;
         self.say(what);

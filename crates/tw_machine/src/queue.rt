@@ -93,7 +93,7 @@ impl Queue {
     }
 
     /// Whether both have the same values and the same room.
-    pub fn is_same(&self, other: &Queue) -> bool
+    pub(crate) fn is_same(&self, other: &Queue) -> bool
         ensures { IsTrue result ↔ (self.now ≡ other.now) }
     {
         if self.room != other.room {
@@ -103,7 +103,7 @@ impl Queue {
     }
 
     /// An equal queue. The only error is want of memory.
-    pub fn copied(&self, alloc: Global) -> Result<Queue, AllocError>
+    pub(crate) fn copied(&self, alloc: Global) -> Result<Queue, AllocError>
         ensures { IfOk result (λ q. q ≡ self.now) }
     {
         let mut values = Vec::with_capacity(alloc, self.room as usize)?;

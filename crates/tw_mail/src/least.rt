@@ -95,7 +95,7 @@ impl Least {
         self.changes = self.changes.saturating_add(1);
     }
 
-    // Each item is looked at.
+    /// Each item is looked at.
     fn look_through(&mut self, items: &[Item])
         ensures { IsLeastOf self.new.stamp self.new.count items.now }
     {

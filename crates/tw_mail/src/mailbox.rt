@@ -147,7 +147,7 @@ impl Mailbox {
         self.least.add(only, stamp);
     }
 
-    // Moves the items to the front.
+    /// Moves the items to the front.
     fn close_up(&mut self)
         ensures same { self.new.items ≡ self.old.items }
         ensures before { self.new.before ≡ 0 }
@@ -160,7 +160,7 @@ impl Mailbox {
     }
 }
 
-// The items behind the first ones.
+/// The items behind the first ones.
 fn behind(items: &[Item], first: usize) -> &[Item]
     requires { first ≤ length items.now }
     ensures { result.now ≡ drop first items.now }

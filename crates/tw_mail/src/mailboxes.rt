@@ -142,7 +142,7 @@ impl Mailboxes {
             .fold(Stamp::END, |least, one| least.min(one.least()))
     }
 
-    // One item goes to the end of its receiver's mailbox.
+    /// One item goes to the end of its receiver's mailbox.
     fn push(&mut self, item: Item) -> Result<(), AllocError>
         requires known { item.message.to < length self.old.boxes }
         requires free { self.old.taken ≡ None }
@@ -152,7 +152,7 @@ impl Mailboxes {
         self.boxes[item.message.to].push(item)
     }
 
-    // The last item of a mailbox goes.
+    /// The last item of a mailbox goes.
     fn pop(&mut self, to: usize)
         requires known { to < length self.old.boxes }
         requires some { 0 < length (mail_of self.old.boxes to) }

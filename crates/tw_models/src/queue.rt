@@ -63,7 +63,7 @@ pub struct QueueState {
 
 impl QueueState {
     /// Whether both states are equal.
-    pub fn is_same(&self, other: &QueueState) -> bool
+    pub(crate) fn is_same(&self, other: &QueueState) -> bool
         ensures { IsTrue result ↔ (self.now ≡ other.now) }
     {
         if !same_values(self.jobs.as_slice(), other.jobs.as_slice()) {
@@ -76,7 +76,7 @@ impl QueueState {
     }
 
     /// An equal state. It takes no memory.
-    pub fn copied(&self) -> QueueState
+    pub(crate) fn copied(&self) -> QueueState
         ensures { result ≡ self.now }
     {
         QueueState {

@@ -63,7 +63,7 @@ pub struct RelayState {
 
 impl RelayState {
     /// Whether both states are equal.
-    pub fn is_same(&self, other: &RelayState) -> bool
+    pub(crate) fn is_same(&self, other: &RelayState) -> bool
         ensures { IsTrue result ↔ (self.now ≡ other.now) }
     {
         if !same_values(self.held.as_slice(), other.held.as_slice()) {
@@ -76,7 +76,7 @@ impl RelayState {
     }
 
     /// An equal state. It takes no memory.
-    pub fn copied(&self) -> RelayState
+    pub(crate) fn copied(&self) -> RelayState
         ensures { result ≡ self.now }
     {
         RelayState {

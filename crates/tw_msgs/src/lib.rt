@@ -11,12 +11,12 @@
 //! answer so (refusal 4), and what they were given stays as it was.
 #![tactic(auto)]
 
-pub mod bag;
-pub mod counting;
-pub mod message;
-pub mod record;
-pub mod record_kind;
-pub mod words;
+mod bag;
+mod counting;
+mod message;
+mod record;
+mod record_kind;
+mod words;
 
 pub use bag::Bag;
 pub use counting::signed_count;

@@ -18,7 +18,7 @@ mod flattening;
 mod limits;
 mod reach;
 mod tables;
-pub mod tree;
+mod tree;
 
 pub use collect::{Coupling, FlatRefused};
 pub use flattening::{Flat, flatten};

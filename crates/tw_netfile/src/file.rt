@@ -61,7 +61,7 @@ pub fn network_of(alloc: Global, draft: &Draft) -> Result<Network<AnyModel>, Fil
     network_made(alloc, components, couplings, inputs, draft.micro_limit)
 }
 
-// The network of these parts, or its first fault.
+/// The network of these parts, or its first fault.
 fn network_made(
     alloc: Global,
     components: Vec<(String, AnyModel)>,

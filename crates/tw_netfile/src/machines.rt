@@ -34,7 +34,7 @@ pub fn model_in<'m>(
     }
 }
 
-// The program of a component's machine.
+/// The program of a component's machine.
 fn machine_of<'m>(
     alloc: Global,
     machine: &'m FileMachine,

@@ -117,7 +117,7 @@ impl<'a> Numbers<'a> {
         )
     }
 
-    // The part that has the name; the empty name is that of the model itself.
+    /// The part that has the name; the empty name is that of the model itself.
     fn end(&self, name: &str) -> End
         ensures { result ≡ end_named (numbering self.now) name.now }
     {
@@ -139,7 +139,7 @@ impl<'a> Numbers<'a> {
         )
     }
 
-    // The number of the component that has the name, or one that no component has.
+    /// The number of the component that has the name, or one that no component has.
     fn number(&self, name: &str) -> usize
         ensures { result ≡ numbering self.now name.now }
     {

@@ -68,8 +68,8 @@ impl<'m> ProgramDraft<'m> {
     }
 }
 
-// What is declared with what is given, or the first limit that is passed. The limits are those of the program, so it
-// is made for a moment.
+/// What is declared with what is given, or the first limit that is passed. The limits are those of the program, so it
+/// is made for a moment.
 fn program_given<'m>(
     alloc: Global,
     declaration: &'m Declaration,

@@ -39,7 +39,7 @@ pub fn has_few_numbers(machines: &[FileMachine], value: &Value) -> bool
     own + given <= MAX_NUMBERS
 }
 
-// The numbers that stand in the tables of machines.
+/// The numbers that stand in the tables of machines.
 fn all_own_numbers(machines: &[FileMachine]) -> usize
     ensures value { result ≡ min (sum_by own_numbers (map machine machines.now)) 1048577 }
     ensures small { result ≤ 1048577 }
@@ -51,7 +51,7 @@ fn all_own_numbers(machines: &[FileMachine]) -> usize
     total
 }
 
-// The numbers that stand in the tables among these names.
+/// The numbers that stand in the tables among these names.
 fn own_numbers(names: &[Named]) -> usize
     ensures value { result ≡ min (sum_by (λ n. own n.1) (map plain.name names.now)) 1048577 }
     ensures small { result ≤ 1048577 }
@@ -63,7 +63,7 @@ fn own_numbers(names: &[Named]) -> usize
     total
 }
 
-// The numbers that stand in a table.
+/// The numbers that stand in a table.
 fn own(thing: &Thing) -> usize
     ensures value { result ≡ min (own (plain.thing thing.now)) 1048577 }
     ensures small { result ≤ 1048577 }
@@ -74,7 +74,7 @@ fn own(thing: &Thing) -> usize
     }
 }
 
-// What the components of a model give for lists, of no more levels than there is room for.
+/// What the components of a model give for lists, of no more levels than there is room for.
 #[cycle(within)]
 fn given_within(machines: &[FileMachine], value: &Value, room: usize) -> usize
     ensures value { result ≡ min (given_within (map machine machines.now) room (view value.now)) 1048577 }
@@ -101,7 +101,7 @@ fn given_by_all(machines: &[FileMachine], components: &[Value], room: usize) -> 
     total
 }
 
-// What a component gives for lists, or those in it.
+/// What a component gives for lists, or those in it.
 #[cycle(within)]
 fn given_by(machines: &[FileMachine], component: &Value, room: usize) -> usize
     ensures value { result ≡ min (component_numbers (map machine machines.now) (view component.now) + given_within (map machine machines.now) room (view component.now)) 1048577 }
@@ -112,7 +112,7 @@ fn given_by(machines: &[FileMachine], component: &Value, room: usize) -> usize
     (own + within).min(ENOUGH)
 }
 
-// What a component gives for the lists of its machine.
+/// What a component gives for the lists of its machine.
 fn component_numbers(machines: &[FileMachine], component: &Value) -> usize
     ensures value { result ≡ min (component_numbers (map machine machines.now) (view component.now)) 1048577 }
     ensures small { result ≤ 1048577 }
@@ -126,7 +126,7 @@ fn component_numbers(machines: &[FileMachine], component: &Value) -> usize
     }
 }
 
-// How many items the members of these names have together.
+/// How many items the members of these names have together.
 fn lengths_at(component: &Value, names: &[String]) -> usize
     ensures value { result ≡ min (sum_by (λ name. length_at name (view component.now)) (map string_bytes names.now)) 1048577 }
     ensures small { result ≤ 1048577 }
@@ -138,7 +138,7 @@ fn lengths_at(component: &Value, names: &[String]) -> usize
     total
 }
 
-// How many items a member has, where it is an array.
+/// How many items a member has, where it is an array.
 fn length_at(component: &Value, name: &str) -> usize
     ensures value { result ≡ min (length_at name.now (view component.now)) 1048577 }
     ensures small { result ≤ 1048577 }

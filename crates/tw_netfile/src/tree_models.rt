@@ -33,7 +33,7 @@ pub fn tree_made(
     Ok(Nested { parts, couplings })
 }
 
-// The part, whatever comes after it.
+/// The part, whatever comes after it.
 #[cycle(made)]
 fn part_made(alloc: Global, part: &Part<AnyDraft<'_>>) -> Result<Part<AnyModel>, FileRefused>
     ensures ok { IfOk result (λ p. (name : List ℕ) (rest : Parts AnyDraft) → tree_made (part_view part.now name rest) ≡ after (λ more. Ok (part_view p name more)) (tree_made rest)) }
@@ -58,7 +58,7 @@ pub fn tree_fault(draft: &Nested<AnyDraft<'_>>) -> Option<FileRefused>
     None
 }
 
-// The same in a part, whatever comes after it.
+/// The same in a part, whatever comes after it.
 #[cycle(faults)]
 fn part_fault(part: &Part<AnyDraft<'_>>) -> Option<FileRefused>
     ensures { (name : List ℕ) (rest : Parts AnyDraft) → result_err (tree_made (part_view part.now name rest)) ≡ option_or result (result_err (tree_made rest)) }
@@ -82,7 +82,7 @@ pub fn atoms(draft: &Nested<AnyDraft<'_>>) -> usize
     count
 }
 
-// The same of a part, whatever comes after it.
+/// The same of a part, whatever comes after it.
 #[cycle(atoms)]
 fn part_atoms(part: &Part<AnyDraft<'_>>) -> usize
     ensures value { (name : List ℕ) (rest : Parts AnyDraft) → min (length (models_in (part_view part.now name rest))) 1025 ≡ min (result + length (models_in rest)) 1025 }

@@ -117,7 +117,7 @@ pub fn machines_draft_with<'a>(
     })
 }
 
-// The parts and couplings of a model of no more levels than there is room for.
+/// The parts and couplings of a model of no more levels than there is room for.
 #[cycle(trees)]
 fn tree_read<'m>(
     alloc: Global,
@@ -151,7 +151,8 @@ fn parts_read<'m>(
     room: usize,
 ) -> Result<Vec<(String, Part<AnyDraft<'m>>)>, FileRefused>
     ensures ok { IfOk result (λ v. parts_read (map machine machines.now) (tree_read (map machine machines.now) room) (items_view values.now) ≡ Some (parts_of v.items)) }
-    ensures err { IfErr result (λ e. e ≢ FileRefused.OutOfMemory → (e ≡ FileRefused.BadShape) × (parts_read (map machine machines.now) (tree_read (map machine machines.now) room) (items_view values.now) ≡ None)) }
+    ensures err { IfErr result (λ e. e ≢ FileRefused.OutOfMemory
+        → (e ≡ FileRefused.BadShape) × (parts_read (map machine machines.now) (tree_read (map machine machines.now) room) (items_view values.now) ≡ None)) }
 {
     let mut parts = Vec::new(alloc);
     for value in values {
@@ -189,7 +190,7 @@ fn part_read<'m>(
     Ok((name, Part::Coupled(inner)))
 }
 
-// The couplings of a model, by the places of its parts.
+/// The couplings of a model, by the places of its parts.
 fn links_named(
     alloc: Global,
     parts: &[(String, Part<AnyDraft<'_>>)],

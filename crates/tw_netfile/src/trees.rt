@@ -75,7 +75,7 @@ pub fn meaning_law()
     ensures { (bytes : List ℕ) → MeansOne bytes }
 {}
 
-// The first fault of a tree of too many atoms.
+/// The first fault of a tree of too many atoms.
 fn fault_of_many(tree: &TreeDraft) -> FileRefused
     requires { 1024 < length (models_in (parts_of tree.now.root.parts.items)) }
     ensures { IsTreeFileFault (tree_view tree.now) result }
@@ -86,8 +86,8 @@ fn fault_of_many(tree: &TreeDraft) -> FileRefused
     }
 }
 
-// The network that a tree means. No model of too many is made, since a machine's program may be large. Without its
-// inputs it is made first: that network finds atoms by name, and it is no larger than a network may be.
+/// The network that a tree means. No model of too many is made, since a machine's program may be large. Without its
+/// inputs it is made first: that network finds atoms by name, and it is no larger than a network may be.
 fn network_of_tree(alloc: Global, tree: &TreeDraft) -> Result<Network<AnyModel>, FileRefused>
     ensures ok { IfOk result (IsTreeMeaning (tree_view tree.now)) }
     ensures err { IfErr result (λ e. e ≢ FileRefused.OutOfMemory → IsTreeFileFault (tree_view tree.now) e) }
@@ -106,7 +106,7 @@ fn network_of_tree(alloc: Global, tree: &TreeDraft) -> Result<Network<AnyModel>,
     nested(alloc, root, inputs, tree.micro_limit)
 }
 
-// The network of a tree with these inputs, or its first fault.
+/// The network of a tree with these inputs, or its first fault.
 fn nested(
     alloc: Global,
     root: Nested<AnyModel>,
@@ -122,7 +122,7 @@ fn nested(
     }
 }
 
-// Inputs by the numbers of the components that they name.
+/// Inputs by the numbers of the components that they name.
 fn inputs_named(
     alloc: Global,
     network: &Network<AnyModel>,
@@ -138,7 +138,7 @@ fn inputs_named(
     Ok(inputs)
 }
 
-// The number of the component that has the name, or one that no component has.
+/// The number of the component that has the name, or one that no component has.
 fn number_in(network: &Network<AnyModel>, name: &str) -> usize
     ensures { result ≡ number_of network.now.names name.now }
 {

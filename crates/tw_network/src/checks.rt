@@ -98,7 +98,7 @@ pub fn has_start_in_time<M: Atomic>(alloc: Global, model: &M) -> Result<bool, Al
     })
 }
 
-// Adds the name of a component that is not at fault.
+/// Adds the name of a component that is not at fault.
 #[tactic(auto, using(crate::proofs::Names::has_name_of_keys))]
 fn take_name<M: Atomic>(
     alloc: Global,
@@ -140,7 +140,7 @@ pub fn take_components<M: Atomic>(
     Ok((names, models))
 }
 
-// Refuses a coupling that is at fault alone.
+/// Refuses a coupling that is at fault alone.
 fn check_ends(count: usize, coupling: Coupling) -> Result<(), NetworkRefused>
     ensures { result_err result ≡ end_fault count coupling }
 {
@@ -157,7 +157,7 @@ fn check_ends(count: usize, coupling: Coupling) -> Result<(), NetworkRefused>
     Ok(())
 }
 
-// Adds a coupling that is not at fault.
+/// Adds a coupling that is not at fault.
 fn take_coupling(
     seen: &mut IndexSet<Coupling>,
     count: usize,
@@ -191,7 +191,7 @@ pub fn check_couplings(
     Ok(())
 }
 
-// Refuses an input that is at fault.
+/// Refuses an input that is at fault.
 fn check_input(count: usize, input: Input) -> Result<(), NetworkRefused>
     ensures { result_err result ≡ input_fault count input }
 {

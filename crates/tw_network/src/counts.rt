@@ -28,8 +28,8 @@ pub fn check_tree_counts<M>(root: &Nested<M>, inputs: usize) -> Result<(), Netwo
     Ok(())
 }
 
-// Whether a tree has no more than 16 levels, 1,024 atoms, 1,024 coupled parts and 8,192 couplings. It goes no
-// deeper than 16 levels, and stops at the first part that is one too many.
+/// Whether a tree has no more than 16 levels, 1,024 atoms, 1,024 coupled parts and 8,192 couplings. It goes no
+/// deeper than 16 levels, and stops at the first part that is one too many.
 fn is_few<M>(root: &Nested<M>) -> bool
     ensures { result ≡ is_few (parts_of root.now.parts.items) root.now.couplings.items }
 {
@@ -41,7 +41,7 @@ fn is_few<M>(root: &Nested<M>) -> bool
     with_model(root, MAX_LEVELS, none).is_some()
 }
 
-// What was met with this model's couplings and parts, where its parts may have this many levels.
+/// What was met with this model's couplings and parts, where its parts may have this many levels.
 #[cycle(counts)]
 fn with_model<M>(nested: &Nested<M>, room: usize, before: Counts) -> Option<Counts>
     requires few { AreFewCounts before }
@@ -61,7 +61,7 @@ fn with_model<M>(nested: &Nested<M>, room: usize, before: Counts) -> Option<Coun
     Some(counts)
 }
 
-// What was met with this part, which may have this many levels with what is in it.
+/// What was met with this part, which may have this many levels with what is in it.
 #[cycle(counts)]
 fn with_part<M>(part: &Part<M>, room: usize, before: Counts) -> Option<Counts>
     requires few { AreFewCounts before }

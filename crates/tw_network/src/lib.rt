@@ -17,8 +17,8 @@ mod counts;
 mod inputs;
 mod limits;
 mod naming;
-pub mod network;
-pub mod refused;
+mod network;
+mod refused;
 mod routes;
 mod tree_checks;
 

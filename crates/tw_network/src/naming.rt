@@ -19,7 +19,7 @@ pub fn name_set(alloc: Global, names: Vec<String>) -> Result<IndexSet<String>, A
     Ok(set)
 }
 
-// Adds a name that is not among them.
+/// Adds a name that is not among them.
 #[tactic(auto, using(crate::proofs::Names::has_name_of_keys))]
 fn add_name(set: &mut IndexSet<String>, name: String) -> Result<(), AllocFailed<String>>
     requires new { has_name (map string_bytes set.old.keys) (string_bytes name) ≡ false }

@@ -130,9 +130,15 @@ impl<M: Atomic> Network<M> {
         ensures inputs_sound { OnOk result (inputs_fault (length (models_in (parts_of root.parts.items))) inputs.items ≡ None) }
         ensures first_fault { IfErr result (λ e. e ≢ OutOfMemory → IsTreeFault M.meaning (parts_of root.parts.items) root.couplings.items inputs.items micro_limit e) }
         ensures counts { tree_count_fault (parts_of root.parts.items) root.couplings.items (length inputs.items) ≡ Some TooMany → IsErrOf result TooMany }
-        ensures made_as_new { (components : List (List ℕ × M)) (couplings : List (ℕ × ℕ × ℕ × ℕ)) → IsFlatTree (parts_of root.parts.items) root.couplings.items components couplings → IfOk result (λ n. IsSameNetwork n (handed_in components couplings inputs.items micro_limit)) }
-        ensures sound_as_new { (components : List (List ℕ × M)) (couplings : List (ℕ × ℕ × ℕ × ℕ)) → IsFlatTree (parts_of root.parts.items) root.couplings.items components couplings → OnOk result (first_fault M.meaning components couplings inputs.items micro_limit ≡ None) }
-        ensures refused_as_new { (components : List (List ℕ × M)) (couplings : List (ℕ × ℕ × ℕ × ℕ)) → IsFlatTree (parts_of root.parts.items) root.couplings.items components couplings → IfErr result (λ e. e ≢ OutOfMemory → first_fault M.meaning components couplings inputs.items micro_limit ≡ Some e) }
+        ensures made_as_new { (components : List (List ℕ × M)) (couplings : List (ℕ × ℕ × ℕ × ℕ))
+            → IsFlatTree (parts_of root.parts.items) root.couplings.items components couplings
+            → IfOk result (λ n. IsSameNetwork n (handed_in components couplings inputs.items micro_limit)) }
+        ensures sound_as_new { (components : List (List ℕ × M)) (couplings : List (ℕ × ℕ × ℕ × ℕ))
+            → IsFlatTree (parts_of root.parts.items) root.couplings.items components couplings
+            → OnOk result (first_fault M.meaning components couplings inputs.items micro_limit ≡ None) }
+        ensures refused_as_new { (components : List (List ℕ × M)) (couplings : List (ℕ × ℕ × ℕ × ℕ))
+            → IsFlatTree (parts_of root.parts.items) root.couplings.items components couplings
+            → IfErr result (λ e. e ≢ OutOfMemory → first_fault M.meaning components couplings inputs.items micro_limit ≡ Some e) }
         ensures limit { tree_count_fault (parts_of root.parts.items) root.couplings.items (length inputs.items) ≡ None → limit_fault micro_limit ≡ Some BadLimit → IsErrOf result BadLimit }
     {
         if let Err(refused) = check_tree_counts(&root, inputs.len()) {

@@ -44,7 +44,7 @@ impl Routes {
     }
 }
 
-// The couplings by source, port, destination and port.
+/// The couplings by source, port, destination and port.
 fn in_order(alloc: Global, couplings: &[Coupling]) -> Result<Vec<Coupling>, AllocError>
     ensures same { IfOk result (λ sorted. IsPermutation couplings.now sorted.items) }
     ensures in_order { IfOk result (λ sorted. IsSorted coupling_cmp sorted.items) }
@@ -54,7 +54,7 @@ fn in_order(alloc: Global, couplings: &[Coupling]) -> Result<Vec<Coupling>, Allo
     Ok(sorted)
 }
 
-// Where the couplings lead, in their order.
+/// Where the couplings lead, in their order.
 fn places_of(alloc: Global, couplings: &[Coupling]) -> Result<Vec<Place>, AllocError>
     ensures { IfOk result (λ places. places.items ≡ map place_of couplings.now) }
 {
@@ -64,7 +64,7 @@ fn places_of(alloc: Global, couplings: &[Coupling]) -> Result<Vec<Place>, AllocE
         .collect(alloc)
 }
 
-// Where the couplings of each part begin among all of them, in order.
+/// Where the couplings of each part begin among all of them, in order.
 fn starts_of(alloc: Global, count: usize, sorted: &[Coupling]) -> Result<Vec<usize>, AllocError>
     requires few { count ≤ 1024 }
     requires couplings { All (IsCoupling count) sorted.now }
@@ -80,7 +80,7 @@ fn starts_of(alloc: Global, count: usize, sorted: &[Coupling]) -> Result<Vec<usi
     Ok(starts)
 }
 
-// Where the couplings of a port of a component begin among all of them, in order.
+/// Where the couplings of a port of a component begin among all of them, in order.
 fn start_of(sorted: &[Coupling], component: usize, port: u8) -> usize
     requires port { port < 16 }
     requires ports { All (λ k. k.1 < 16) sorted.now }

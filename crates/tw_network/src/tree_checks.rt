@@ -34,7 +34,7 @@ pub fn check_models<M: Atomic>(alloc: Global, root: &Nested<M>) -> Result<(), Ne
     check_inner(alloc, root)
 }
 
-// Refuses a model among or in whose parts a model is at fault.
+/// Refuses a model among or in whose parts a model is at fault.
 #[cycle(models)]
 fn check_inner<M: Atomic>(alloc: Global, nested: &Nested<M>) -> Result<(), NetworkRefused>
     ensures ok { OnOk result (inner_fault M.meaning (parts_of nested.now.parts.items) ≡ None) }
@@ -46,7 +46,7 @@ fn check_inner<M: Atomic>(alloc: Global, nested: &Nested<M>) -> Result<(), Netwo
     Ok(())
 }
 
-// Refuses a part that is a model at fault, or has one in it.
+/// Refuses a part that is a model at fault, or has one in it.
 #[cycle(models)]
 fn check_part<M: Atomic>(alloc: Global, part: &Part<M>) -> Result<(), NetworkRefused>
     ensures ok { OnOk result (inner_fault M.meaning (part_view part.now [] no_parts) ≡ None) }
@@ -61,7 +61,7 @@ fn check_part<M: Atomic>(alloc: Global, part: &Part<M>) -> Result<(), NetworkRef
     }
 }
 
-// Refuses a model of which a part or a coupling is at fault.
+/// Refuses a model of which a part or a coupling is at fault.
 fn check_own<M: Atomic>(
     alloc: Global,
     is_root: bool,
@@ -79,7 +79,7 @@ fn check_own<M: Atomic>(
     )
 }
 
-// Refuses parts of which one is at fault, alone or beside those before it.
+/// Refuses parts of which one is at fault, alone or beside those before it.
 fn check_parts<M: Atomic>(alloc: Global, parts: &[(String, Part<M>)]) -> Result<(), NetworkRefused>
     ensures ok { OnOk result (parts_fault M.meaning [] (parts_of parts.now) ≡ None) }
     ensures err { IfErr result (λ e. e ≢ NetworkRefused.OutOfMemory → parts_fault M.meaning [] (parts_of parts.now) ≡ Some e) }
@@ -95,7 +95,7 @@ fn check_parts<M: Atomic>(alloc: Global, parts: &[(String, Part<M>)]) -> Result<
     Ok(())
 }
 
-// Adds the name of a part that is not at fault.
+/// Adds the name of a part that is not at fault.
 #[tactic(auto, using(crate::proofs::Names::has_name_of_keys))]
 fn take_part_name(names: &mut IndexSet<String>, name: String) -> Result<(), NetworkRefused>
     ensures names { OnOk result (names.new.keys ≡ names.old.keys ++ name ∷ []) }
@@ -110,7 +110,7 @@ fn take_part_name(names: &mut IndexSet<String>, name: String) -> Result<(), Netw
     Ok(())
 }
 
-// Refuses a model whose start state has a time advance above the last tick.
+/// Refuses a model whose start state has a time advance above the last tick.
 fn check_start<M: Atomic>(alloc: Global, model: &M) -> Result<(), NetworkRefused>
     ensures ok { OnOk result (start_fault (M.meaning model.now) ≡ None) }
     ensures err { IfErr result (λ e. e ≢ NetworkRefused.OutOfMemory → start_fault (M.meaning model.now) ≡ Some e) }
@@ -121,7 +121,7 @@ fn check_start<M: Atomic>(alloc: Global, model: &M) -> Result<(), NetworkRefused
     Ok(())
 }
 
-// Refuses couplings of which one is at fault, alone or beside those before it.
+/// Refuses couplings of which one is at fault, alone or beside those before it.
 fn check_links(
     alloc: Global,
     is_root: bool,
@@ -138,7 +138,7 @@ fn check_links(
     Ok(())
 }
 
-// Adds a coupling that is not at fault.
+/// Adds a coupling that is not at fault.
 fn take_link(
     seen: &mut IndexSet<Link>,
     is_root: bool,
@@ -157,7 +157,7 @@ fn take_link(
     Ok(())
 }
 
-// Refuses a coupling that is at fault alone.
+/// Refuses a coupling that is at fault alone.
 fn check_ends(is_root: bool, count: usize, link: Link) -> Result<(), NetworkRefused>
     ensures { result_err result ≡ link_end_fault is_root count link }
 {
@@ -174,7 +174,7 @@ fn check_ends(is_root: bool, count: usize, link: Link) -> Result<(), NetworkRefu
     Ok(())
 }
 
-// Whether a model of this many parts has this end; the root has no ports of its own.
+/// Whether a model of this many parts has this end; the root has no ports of its own.
 fn has_end(is_root: bool, count: usize, end: End) -> bool
     ensures { result ≡ is_end is_root count end }
 {

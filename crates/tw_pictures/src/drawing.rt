@@ -19,16 +19,15 @@ use std::alloc::{AllocError, Global};
 use std::io::Write;
 use tw_atomic::Atomic;
 use tw_network::Network;
-use tw_seq::begin;
+use tw_seq::{Fault, begin};
 use tw_svg::Svg;
 use tw_texts::{Names, push_fault};
 use tw_views::Labels;
-use tw_vtime::{Limit, MAX_TICK, Stamp};
+use tw_vtime::MAX_TICK;
 
 /// Writes a picture of a network's sequential run up to the end tick `until`, as a view shows it, with the names and the figures of its
 /// components. At most 20,000 records and 20,000 arrows are kept and shown, in whole rounds; the picture and the run end before a
-/// round that would pass that. Answers the limit fault that ended the run, if it was reached: the least component that met a limit,
-/// the stamp of that round's transitions, and which limit.
+/// round that would pass that. Answers the limit fault that ended the run, if it was reached.
 ///
 /// Refused by [`DrawRefused::BadTick`] (10) exactly where `until` is above 1,099,511,627,774; by [`DrawRefused::NoSuch`] (15) where
 /// no component has one of the names that are to be shown, or none that is shown has the figure; by [`DrawRefused::OutOfMemory`]
@@ -42,7 +41,7 @@ pub fn draw<M: Atomic, N: Names, W: Write>(
     until: u64,
     view: &View<'_>,
     out: &mut W,
-) -> Result<Option<(usize, Stamp, Limit)>, DrawRefused>
+) -> Result<Option<Fault>, DrawRefused>
     requires { length labels.now ≡ length network.now.models }
     ensures bad_tick { IsErrOf result BadTick ↔ (max_tick < until) }
     ensures fault { IfOk result (λ fault. (fault ≡ None) ⊎ (fault ≡ (sequential (network_of M.meaning network.now) until).fault)) }
@@ -73,14 +72,14 @@ pub fn draw<M: Atomic, N: Names, W: Write>(
 }
 
 /// The line of a fault.
-fn fault_line<N: Names>(
-    alloc: Global,
-    names: &N,
-    fault: &(usize, Stamp, Limit),
-) -> Result<String, AllocError> {
-    let (component, at, limit) = *fault;
+fn fault_line<N: Names>(alloc: Global, names: &N, fault: &Fault) -> Result<String, AllocError> {
     let mut line = String::new(alloc);
-    push_fault(&mut line, names.name(component), at, limit)?;
+    push_fault(
+        &mut line,
+        names.name(fault.component),
+        fault.stamp,
+        fault.limit,
+    )?;
     String::from_str(alloc, line.as_str().trim_end())
 }
 
@@ -90,7 +89,7 @@ fn picture_of<N: Names>(
     names: &N,
     kept: &mut Kept,
     told: Told<'_>,
-    fault: &Option<(usize, Stamp, Limit)>,
+    fault: &Option<Fault>,
 ) -> Result<Svg, AllocError> {
     let Some(fault) = fault else {
         let last = kept.rounds.last().map_or(0, |round| round.time.tick);
@@ -98,13 +97,12 @@ fn picture_of<N: Names>(
         return picture(alloc, kept, &told, end, None);
     };
     let line = fault_line(alloc, names, fault)?;
-    let (component, at, _) = *fault;
-    let time = time_of(at);
+    let time = time_of(fault.stamp);
     let told = Told {
         fault: Some(line.as_str()),
         ..told
     };
-    let Some(lane) = kept.lanes.of(component) else {
+    let Some(lane) = kept.lanes.of(fault.component) else {
         return picture(alloc, kept, &told, time.tick, None);
     };
     let shown = ShownFault {

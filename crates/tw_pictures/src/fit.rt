@@ -21,7 +21,7 @@ pub struct Fit {
 }
 
 impl Fit {
-    // Time drawn so wide.
+    /// Time drawn so wide.
     fn spread(&self, unit: Unit) -> Spread {
         Spread {
             unit,
@@ -30,7 +30,7 @@ impl Fit {
         }
     }
 
-    // How long an axis may be, so that the picture is not too high, nor mostly empty.
+    /// How long an axis may be, so that the picture is not too high, nor mostly empty.
     fn longest(&self) -> Points {
         let stave = self.height + Points::whole(52);
         let staves = Points::whole(TALLEST)
@@ -55,7 +55,7 @@ impl Fit {
         unit.length(self.tight)
     }
 
-    // A wider unit, while all fits the page.
+    /// A wider unit, while all fits the page.
     fn widened(&self, axis: &mut Axis, begun: Unit, full: Unit) -> Unit {
         let mut unit = begun;
         for _ in 0..400 {
@@ -68,7 +68,7 @@ impl Fit {
         unit
     }
 
-    // A narrower unit, while the picture would be too high.
+    /// A narrower unit, while the picture would be too high.
     fn narrowed(&self, axis: &mut Axis, begun: Unit) -> Unit {
         let longest = self.longest();
         let mut unit = begun;
@@ -83,7 +83,7 @@ impl Fit {
         unit
     }
 
-    // A narrower unit, while a last stave would have little.
+    /// A narrower unit, while a last stave would have little.
     fn evened(&self, axis: &mut Axis, begun: Unit) -> Unit {
         let mut unit = begun;
         let length = axis.lay(&self.spread(unit));

@@ -9,8 +9,7 @@ use crate::kept::Kept;
 use std::alloc::{AllocError, Global};
 use tw_atomic::Atomic;
 use tw_network::Network;
-use tw_seq::{Simulation, Step, advance};
-use tw_vtime::{Limit, Stamp};
+use tw_seq::{Advanced, Fault, Simulation, advance};
 
 /// Makes the rounds of a run and keeps what the picture shows, to the end of the run or of the picture. Answers the fault that
 /// ended the run, if it did.
@@ -19,7 +18,7 @@ pub fn follow<M: Atomic>(
     network: &Network<M>,
     mut simulation: Simulation<M::State>,
     kept: &mut Kept,
-) -> Result<Option<(usize, Stamp, Limit)>, AllocError>
+) -> Result<Option<Fault>, AllocError>
     requires { IsSimulating M.valid M.meaning network.now [] simulation }
     ensures { IfOk result (λ fault. (fault ≡ None) ⊎ (fault ≡ (sequential (network_of M.meaning network.now) simulation.until).fault)) }
 {
@@ -34,14 +33,14 @@ pub fn follow<M: Atomic>(
             &mut transitions,
         )?;
         match step {
-            Step::Round => {
+            Advanced::Round => {
                 outputs.append(&mut transitions)?;
                 if kept.take(alloc, network, outputs.as_slice())? {
                     return Ok(None);
                 }
                 outputs.clear();
             }
-            Step::End(fault) => {
+            Advanced::End(fault) => {
                 if kept.take(alloc, network, outputs.as_slice())? {
                     return Ok(None);
                 }

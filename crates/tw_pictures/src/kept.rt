@@ -109,7 +109,7 @@ impl Kept {
         })
     }
 
-    // How many of these records are of lanes.
+    /// How many of these records are of lanes.
     fn shown(&self, records: &[Record]) -> usize {
         let mut count = 0usize;
         for record in records {
@@ -150,7 +150,7 @@ impl Kept {
         Ok(false)
     }
 
-    // The figures of the components that made transitions.
+    /// The figures of the components that made transitions.
     fn follow(&mut self, records: &[Record], round: Option<usize>) -> Result<(), AllocError> {
         for record in records {
             if record.kind != RecordKind::Out {
@@ -177,7 +177,7 @@ impl Kept {
         }
     }
 
-    // Notes the tick of a lane's record, and the gap before it.
+    /// Notes the tick of a lane's record, and the gap before it.
     fn note_tick(&mut self, place: usize, tick: u64) -> Result<(), AllocError> {
         let Some(lane) = self.lanes.items.get_mut(place) else {
             return Ok(());
@@ -193,7 +193,7 @@ impl Kept {
         }
     }
 
-    // Keeps a round.
+    /// Keeps a round.
     fn keep<M: Atomic>(
         &mut self,
         alloc: Global,
@@ -231,7 +231,7 @@ impl Kept {
         Ok(())
     }
 
-    // A mark more.
+    /// A mark more.
     fn add_mark(
         &self,
         alloc: Global,

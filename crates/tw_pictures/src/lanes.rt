@@ -207,7 +207,7 @@ pub fn lanes_of<M: Atomic, N: Names>(
 }
 
 impl Lanes {
-    // A lane more.
+    /// A lane more.
     fn add(
         &mut self,
         alloc: Global,

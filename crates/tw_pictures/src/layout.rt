@@ -163,7 +163,7 @@ impl Layout {
         Ok(layout)
     }
 
-    // Places the lanes, one below the other.
+    /// Places the lanes, one below the other.
     fn place_lanes(&mut self, lanes: &[Lane], heights: &Heights) -> Result<(), AllocError> {
         let mut top = Points::ZERO;
         for lane in lanes {
@@ -175,7 +175,7 @@ impl Layout {
         Ok(())
     }
 
-    // Places the times: on the axis, and the axis in staves.
+    /// Places the times: on the axis, and the axis in staves.
     fn place_times(&mut self, alloc: Global, kept: &mut Kept) -> Result<(), AllocError> {
         let last = width_of(tick_text(alloc, self.end)?.as_str(), 11);
         let margin = Points::whole(20).most(last.share(1, 2));
@@ -198,7 +198,7 @@ impl Layout {
         Ok(())
     }
 
-    // Marks as large as the gaps between them allow.
+    /// Marks as large as the gaps between them allow.
     fn set_size(&mut self, gap: Points) {
         let tenths = if !gap.is_below(Points::whole(12)) {
             35
@@ -231,7 +231,7 @@ impl Layout {
         Ok(())
     }
 
-    // Breaks the axis into staves that are no wider than the page.
+    /// Breaks the axis into staves that are no wider than the page.
     fn break_staves(&mut self, room: Points) -> Result<(), AllocError> {
         let length = self.axis.length();
         let mut begin = Points::ZERO;
@@ -246,7 +246,7 @@ impl Layout {
         Ok(())
     }
 
-    // Where the stave after one ends: before a tick that is told, else before a round.
+    /// Where the stave after one ends: before a tick that is told, else before a round.
     fn next_break(&self, begin: Points, room: Points) -> Points {
         let far = begin + room;
         let near = far - room.share(4, 10);
@@ -286,7 +286,7 @@ impl Layout {
         next
     }
 
-    // The width of the widest stave.
+    /// The width of the widest stave.
     fn longest(&self) -> Points {
         let mut longest = Points::ZERO;
         for (stave, begin) in self.staves.iter().enumerate() {

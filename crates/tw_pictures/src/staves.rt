@@ -33,7 +33,7 @@ pub struct Stave<'a> {
 }
 
 impl<'a> Stave<'a> {
-    // A stave of a layout, by its number, that begins with a round.
+    /// A stave of a layout, by its number, that begins with a round.
     fn new(
         alloc: Global,
         layout: &'a Layout,

@@ -61,7 +61,7 @@ impl Sendings {
         self.items.get(place).copied().unwrap_or(0)
     }
 
-    // Notes an item for a component.
+    /// Notes an item for a component.
     fn note_item(&mut self, lanes: &Lanes, to: usize) -> Result<(), AllocError> {
         let Some(place) = lanes.of(to) else {
             return Ok(());
@@ -73,7 +73,7 @@ impl Sendings {
         Ok(())
     }
 
-    // Notes where the items of an output go.
+    /// Notes where the items of an output go.
     fn note_output<M: Atomic>(
         &mut self,
         network: &Network<M>,

@@ -6,9 +6,9 @@ use Rattle.std.proofs.lemmas.List.{take_more}
 use Rattle.rand_pcg.specs.Lcg.{Lcg}
 use Rattle.tw_atomic.specs.Atomic.{Meaning}
 use Rattle.tw_actions.specs.declared.action.Action.{Action}
-use Rattle.tw_play.specs.Playing.{Played, IsObeyed, ArePlayed, AreDrawn, answer_text, wants_memory, nothing, obeyed, ended, idle, taken}
+use Rattle.tw_play.specs.Playing.{Played, IsObeyed, ArePlayed, AreDrawn, response_text, wants_memory, nothing, obeyed, ended, idle, taken}
 use Rattle.tw_play.specs.Telling.{HasTold, refused_text, IsCutShort, IsDrawnShort, IsPlayed, IsWhollyDrawn}
-use Rattle.tw_play.specs.declared.answer.Answer.{Answer}
+use Rattle.tw_play.specs.declared.response.Response.{Response}
 use Rattle.tw_script.specs.Schedules.{action_drawn, after as next_of, drawn}
 use Rattle.tw_script.specs.declared.command.Command.{Command}
 use Rattle.tw_script.specs.declared.command.Command.TheVariants.{Act}
@@ -30,13 +30,13 @@ pub record IsDrawing {M S : Type 0} (meaning : M → Meaning S) (g : Lcg) (done 
   pub moved : MovesBytes old now text gathered
 
 module _ {M S : Type 0} {meaning : M → Meaning S} where
-  pub played_more : (commands : List Command) (p : Played M S) (text : List ℕ) (p' p'' : Played M S) (command : Command) (answer : Answer) → ArePlayed meaning commands p text p'
-      → IsObeyed meaning command p' answer p'' → answer ≢ wants_memory → ArePlayed meaning (commands ++ command ∷ []) p (text ++ answer_text answer) p''
+  pub played_more : (commands : List Command) (p : Played M S) (text : List ℕ) (p' p'' : Played M S) (command : Command) (answer : Response) → ArePlayed meaning commands p text p'
+      → IsObeyed meaning command p' answer p'' → answer ≢ wants_memory → ArePlayed meaning (commands ++ command ∷ []) p (text ++ response_text answer) p''
   played_more commands p text p' p'' command answer (nothing q) is enough =
-      subst (λ t. ArePlayed meaning (command ∷ []) p t p'') (append-nil (answer_text answer)) (obeyed command [] p p'' p'' answer [] is enough (nothing p''))
+      subst (λ t. ArePlayed meaning (command ∷ []) p t p'') (append-nil (response_text answer)) (obeyed command [] p p'' p'' answer [] is enough (nothing p''))
   played_more commands p text p' p'' command answer (obeyed first rest q q' q'' said more h some t) is enough =
-      subst (λ t. ArePlayed meaning (first ∷ (rest ++ command ∷ [])) q t p'') (sym (append_assoc (answer_text said) more (answer_text answer)))
-      (obeyed first (rest ++ command ∷ []) q q' p'' said (more ++ answer_text answer) h some (played_more rest q' more q'' p'' command answer t is enough))
+      subst (λ t. ArePlayed meaning (first ∷ (rest ++ command ∷ [])) q t p'') (sym (append_assoc (response_text said) more (response_text answer)))
+      (obeyed first (rest ++ command ∷ []) q q' p'' said (more ++ response_text answer) h some (played_more rest q' more q'' p'' command answer t is enough))
 
 -- an answer joins those that are gathered, and what is gathered goes out, in part or whole
 pub told_more : (a b c : Option (List ℕ)) (text more kept left : List ℕ) → MovesBytes a b text kept → MovesBytes b c (kept ++ more) left → MovesBytes a c (text ++ more) left
@@ -52,14 +52,14 @@ told_short a b c text kept p (inl out) = inl (subst (Appends a c) p.2 (appends_b
 told_short a b c text kept p (inr out) = inr (subst (Appends a c) (sym (append_assoc p.0 kept refused_text) ∙ ap (λ l. l ++ refused_text) p.2) (appends_both a b c p.0 (kept ++ refused_text) p.1 out))
 
 module _ {M S : Type 0} {meaning : M → Meaning S} {p : Played M S} {old : Option (List ℕ)} where
-  pub way_more : (commands : List Command) (i : ℕ) (command : Command) (p' p'' : Played M S) (answer : Answer) (now after : Option (List ℕ)) (kept left : List ℕ)
+  pub way_more : (commands : List Command) (i : ℕ) (command : Command) (p' p'' : Played M S) (answer : Response) (now after : Option (List ℕ)) (kept left : List ℕ)
       → i < length commands → command ≡ slice_index_or commands i command → IsUnderWay meaning (take i commands) p p' old now kept → IsObeyed meaning command p' answer p'' → answer ≢ wants_memory
-      → MovesBytes now after (kept ++ answer_text answer) left → IsUnderWay meaning (take (i + 1) commands) p p'' old after left
+      → MovesBytes now after (kept ++ response_text answer) left → IsUnderWay meaning (take (i + 1) commands) p p'' old after left
   way_more commands i command p' p'' answer now after kept left near at w is enough q = record {
-    text = w.text ++ answer_text answer;
-    played = subst (λ cs. ArePlayed meaning cs p (w.text ++ answer_text answer) p'') (sym (take_more commands i command near ∙ ap (λ c. take i commands ++ c ∷ []) (sym at)))
+    text = w.text ++ response_text answer;
+    played = subst (λ cs. ArePlayed meaning cs p (w.text ++ response_text answer) p'') (sym (take_more commands i command near ∙ ap (λ c. take i commands ++ c ∷ []) (sym at)))
         (played_more (take i commands) p w.text p' p'' command answer w.played is enough);
-    moved = told_more old now after w.text (answer_text answer) kept left w.moved q;
+    moved = told_more old now after w.text (response_text answer) kept left w.moved q;
   }
 
   pub way_short : (commands : List Command) (i : ℕ) (p' : Played M S) (now after : Option (List ℕ)) (kept : List ℕ) → IsUnderWay meaning (take i commands) p p' old now kept
@@ -96,16 +96,16 @@ one_later : (done n : ℕ) → done + suc n ≡ done + 1 + n
 one_later done n = omega arith
 
 module _ {M S : Type 0} {meaning : M → Meaning S} {g : Lcg} {p : Played M S} {old : Option (List ℕ)} where
-  pub drawing_more : (done : ℕ) (p' p'' : Played M S) (h : Lcg) (action : Action) (answer : Answer) (now after : Option (List ℕ)) (kept left : List ℕ) → IsDrawing meaning g done p p' h old now kept
-      → action_drawn p'.executive (drawn h) ≡ Some action → IsObeyed meaning (Act action) p' answer p'' → answer ≢ wants_memory → MovesBytes now after (kept ++ answer_text answer) left
+  pub drawing_more : (done : ℕ) (p' p'' : Played M S) (h : Lcg) (action : Action) (answer : Response) (now after : Option (List ℕ)) (kept left : List ℕ) → IsDrawing meaning g done p p' h old now kept
+      → action_drawn p'.executive (drawn h) ≡ Some action → IsObeyed meaning (Act action) p' answer p'' → answer ≢ wants_memory → MovesBytes now after (kept ++ response_text answer) left
       → IsDrawing meaning g (done + 1) p p'' (next_of h) old after left
   drawing_more done p' p'' h action answer now after kept left w draws is enough q = record {
-    text = w.text ++ answer_text answer;
+    text = w.text ++ response_text answer;
     played = λ n more last rest.
-        subst (λ t. AreDrawn meaning g (done + 1 + n) p t last) (sym (append_assoc w.text (answer_text answer) more))
-        (subst (λ k. AreDrawn meaning g k p (w.text ++ (answer_text answer ++ more)) last) (one_later done n)
-        (w.played (suc n) (answer_text answer ++ more) last (taken h n p' p'' last action answer more draws is enough rest)));
-    moved = told_more old now after w.text (answer_text answer) kept left w.moved q;
+        subst (λ t. AreDrawn meaning g (done + 1 + n) p t last) (sym (append_assoc w.text (response_text answer) more))
+        (subst (λ k. AreDrawn meaning g k p (w.text ++ (response_text answer ++ more)) last) (one_later done n)
+        (w.played (suc n) (response_text answer ++ more) last (taken h n p' p'' last action answer more draws is enough rest)));
+    moved = told_more old now after w.text (response_text answer) kept left w.moved q;
   }
 
   pub drawing_short : (done steps : ℕ) (p' : Played M S) (h : Lcg) (now after : Option (List ℕ)) (kept : List ℕ) → done ≤ steps → IsDrawing meaning g done p p' h old now kept

@@ -1,7 +1,7 @@
 -- An executive that is driven by hand.
 --     Played M S      an executive, and the mark that is kept
 --     IsObeyed meaning command p answer p'      what a command makes of it, and is answered
---     answer_text answer      what is written for it
+--     response_text answer      what is written for it
 --     ArePlayed meaning commands p text p'      the same of commands one after another, with all that is written
 --     AreDrawn meaning g n p text p'      the same of the actions that a generator gives
 use Rattle.std.specs.Prelude.{ℕ, suc, ◌≡◌, ◌≢◌, ◌<◌, ◌≤◌, ◌⊎◌, ◌↔◌, ◌++◌, List, [], ◌∷◌, length, min, Option, Some, None, IfErr, IfSome, IsErrOf, Result, Ok, Err, string_bytes}
@@ -19,8 +19,8 @@ use Rattle.tw_inspect.specs.Replies.{reply_text, replied}
 use Rattle.tw_inspect.specs.Reports.{describe_text, report_text}
 use Rattle.tw_inspect.specs.declared.replies.Reply.{Reply as Replied}
 use Rattle.tw_inspect.specs.declared.replies.Reply.TheVariants.{Marked, Refused}
-use Rattle.tw_play.specs.declared.answer.Answer.{Answer}
-use Rattle.tw_play.specs.declared.answer.Answer.TheVariants.{Reply, Text}
+use Rattle.tw_play.specs.declared.response.Response.{Response}
+use Rattle.tw_play.specs.declared.response.Response.TheVariants.{Reply, Text}
 use Rattle.tw_script.specs.Schedules.{action_drawn, after as next_of, drawn}
 use Rattle.tw_script.specs.declared.command.Command.{Command}
 use Rattle.tw_script.specs.declared.command.Command.TheVariants.{Act, Mark, Rewind, Show, Describe}
@@ -75,21 +75,21 @@ IsMarked p reply p' = ((reply ≡ Marked) × (p' ≡ record p { mark = Some (mar
 -- ---- a text
 
 -- what is refused for want of memory (4)
-abbrev pub wants_memory : Answer
+abbrev pub wants_memory : Response
 wants_memory = Reply (Refused OutOfMemory)
 
 -- a text, or want of memory
-abbrev pub IsShown : List ℕ → Answer → Type 0
+abbrev pub IsShown : List ℕ → Response → Type 0
 IsShown text (Text shown) = string_bytes shown ≡ text
 IsShown text (Reply reply) = Reply reply ≡ wants_memory
 
 -- of a component that is there; else it is refused (15)
-abbrev pub IsDescribed : {M S : Type 0} → (M → Meaning S) → Running M S → ℕ → Answer → Type 0
+abbrev pub IsDescribed : {M S : Type 0} → (M → Meaning S) → Running M S → ℕ → Response → Type 0
 IsDescribed meaning e c answer = ((length e.network.models ≤ c) × (answer ≡ Reply (Refused NoSuch))) ⊎ ((c < length e.network.models) × IsShown (describe_text meaning e c) answer)
 
 -- ---- any command
 
-abbrev pub IsObeyed : {M S : Type 0} → (M → Meaning S) → Command → Played M S → Answer → Played M S → Type 0
+abbrev pub IsObeyed : {M S : Type 0} → (M → Meaning S) → Command → Played M S → Response → Played M S → Type 0
 IsObeyed meaning (Act action) p answer p' = (result : Result done.Done refused.Refused) × (answer ≡ Reply (replied result)) × IsActed meaning action p.executive result p'.executive × (p'.mark ≡ p.mark)
 IsObeyed meaning Mark p answer p' = (reply : Replied) × (answer ≡ Reply reply) × IsMarked p reply p'
 IsObeyed meaning Rewind p answer p' = (result : Result done.Done refused.Refused) × (answer ≡ Reply (replied result)) × IsRewoundTo p.mark p.executive result p'.executive × (p'.mark ≡ p.mark)
@@ -98,21 +98,21 @@ IsObeyed meaning (Describe c) p answer p' = IsDescribed meaning p.executive c an
 
 -- ---- what is written
 
-abbrev pub answer_text : Answer → List ℕ
-answer_text (Reply reply) = reply_text reply
-answer_text (Text shown) = string_bytes shown
+abbrev pub response_text : Response → List ℕ
+response_text (Reply reply) = reply_text reply
+response_text (Text shown) = string_bytes shown
 
 -- ---- many commands
 
 -- each is obeyed, and none wants memory
 pub data ArePlayed {M S : Type 0} (meaning : M → Meaning S) : List Command → Played M S → List ℕ → Played M S → Type 0 where
   nothing : (p : Played M S) → ArePlayed meaning [] p [] p
-  obeyed : (command : Command) (commands : List Command) (p p' p'' : Played M S) (answer : Answer) (text : List ℕ) → IsObeyed meaning command p answer p' → answer ≢ wants_memory
-      → ArePlayed meaning commands p' text p'' → ArePlayed meaning (command ∷ commands) p (answer_text answer ++ text) p''
+  obeyed : (command : Command) (commands : List Command) (p p' p'' : Played M S) (answer : Response) (text : List ℕ) → IsObeyed meaning command p answer p' → answer ≢ wants_memory
+      → ArePlayed meaning commands p' text p'' → ArePlayed meaning (command ∷ commands) p (response_text answer ++ text) p''
 
 -- the actions that a generator gives, at most n, and none where there are no components
 pub data AreDrawn {M S : Type 0} (meaning : M → Meaning S) : Lcg → ℕ → Played M S → List ℕ → Played M S → Type 0 where
   ended : (g : Lcg) (p : Played M S) → AreDrawn meaning g 0 p [] p
   idle : (g : Lcg) (n : ℕ) (p : Played M S) → action_drawn p.executive (drawn g) ≡ None → AreDrawn meaning g n p [] p
-  taken : (g : Lcg) (n : ℕ) (p p' p'' : Played M S) (action : Action) (answer : Answer) (text : List ℕ) → action_drawn p.executive (drawn g) ≡ Some action → IsObeyed meaning (Act action) p answer p' → answer ≢ wants_memory
-      → AreDrawn meaning (next_of g) n p' text p'' → AreDrawn meaning g (suc n) p (answer_text answer ++ text) p''
+  taken : (g : Lcg) (n : ℕ) (p p' p'' : Played M S) (action : Action) (answer : Response) (text : List ℕ) → action_drawn p.executive (drawn g) ≡ Some action → IsObeyed meaning (Act action) p answer p' → answer ≢ wants_memory
+      → AreDrawn meaning (next_of g) n p' text p'' → AreDrawn meaning g (suc n) p (response_text answer ++ text) p''

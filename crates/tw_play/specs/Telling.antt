@@ -6,12 +6,12 @@ use Rattle.std.specs.Prelude.{ℕ, ◌≡◌, ◌≤◌, ◌⊎◌, ◌++◌, Li
 use Rattle.std.specs.Io.KnownBytes.{Appends}
 use Rattle.rand_pcg.specs.Lcg.{Lcg}
 use Rattle.tw_atomic.specs.Atomic.{Meaning}
-use Rattle.tw_play.specs.Playing.{Played, answer_text, wants_memory, AreDrawn, ArePlayed}
+use Rattle.tw_play.specs.Playing.{Played, response_text, wants_memory, AreDrawn, ArePlayed}
 use Rattle.tw_script.specs.declared.command.Command.{Command}
 
 -- the line that tells of want of memory
 abbrev pub refused_text : List ℕ
-refused_text = answer_text wants_memory
+refused_text = response_text wants_memory
 
 -- this text went out, and at most the line after it that tells of want of memory
 abbrev pub HasTold : Option (List ℕ) → Option (List ℕ) → List ℕ → Type 0

@@ -2,9 +2,9 @@
 
 ghost use Rattle.std.specs.Prelude.{◌≡◌, IfErr, IfOk};
 ghost use Rattle.tw_play.specs.Playing.{begun, wants_memory, IsDescribed, IsMarked, IsObeyed, IsRewoundTo};
-ghost use Rattle.tw_play.specs.declared.answer.Answer.TheVariants.{Text};
+ghost use Rattle.tw_play.specs.declared.response.Response.TheVariants.{Text};
 
-use crate::answer::Answer;
+use crate::response::Response;
 use std::alloc::{AllocError, Global};
 use std::marker::Model;
 use tw_atomic::Atomic;
@@ -52,13 +52,13 @@ impl<M: Atomic> Player<M> {
     /// its own reasons; a rewind where no mark is kept (15), or where a step since the mark is committed or stands before global
     /// virtual time (13); a description of a component that is not there (15); and a mark, a report or a description for want
     /// of memory (4).
-    pub fn obey(&mut self, alloc: Global, command: Command) -> Answer
+    pub fn obey(&mut self, alloc: Global, command: Command) -> Response
         ensures { IsObeyed M.meaning command self.old result self.new }
     {
         match command {
-            Command::Act(action) => Answer::Reply(Reply::from(self.executive.act(action))),
-            Command::Mark => Answer::Reply(self.keep_mark()),
-            Command::Rewind => Answer::Reply(Reply::from(self.rewind())),
+            Command::Act(action) => Response::Reply(Reply::from(self.executive.act(action))),
+            Command::Mark => Response::Reply(self.keep_mark()),
+            Command::Rewind => Response::Reply(Reply::from(self.rewind())),
             Command::Show => shown(report(alloc, &self.executive)),
             Command::Describe(component) => self.description(alloc, component),
         }
@@ -66,7 +66,7 @@ impl<M: Atomic> Player<M> {
 }
 
 impl<M: Atomic> Player<M> {
-    // Where every component stands is kept.
+    /// Where every component stands is kept.
     fn keep_mark(&mut self) -> Reply
         ensures { IsMarked self.old result self.new }
     {
@@ -77,7 +77,7 @@ impl<M: Atomic> Player<M> {
         Reply::Marked
     }
 
-    // Every component goes back to where it stood at the mark.
+    /// Every component goes back to where it stood at the mark.
     fn rewind(&mut self) -> Result<Done, Refused>
         ensures executive { IsRewoundTo self.old.mark self.old.executive result self.new.executive }
         ensures mark { self.new.mark ≡ self.old.mark }
@@ -89,24 +89,24 @@ impl<M: Atomic> Player<M> {
         Ok(Done::Undone(undone))
     }
 
-    // The description of a component.
-    fn description(&self, alloc: Global, component: usize) -> Answer
+    /// The description of a component.
+    fn description(&self, alloc: Global, component: usize) -> Response
         ensures { IsDescribed M.meaning self.now.executive component result }
     {
         if component >= self.executive.network().len() {
-            return Answer::Reply(Reply::Refused(Refused::NoSuch));
+            return Response::Reply(Reply::Refused(Refused::NoSuch));
         }
         shown(describe(alloc, &self.executive, component))
     }
 }
 
-// A text to be shown; want of memory is a reply.
-fn shown(text: Result<String, AllocError>) -> Answer
+/// A text to be shown; want of memory is a reply.
+fn shown(text: Result<String, AllocError>) -> Response
     ensures text { IfOk text (λ bytes. result ≡ Text bytes) }
     ensures wanting { IfErr text (λ _. result ≡ wants_memory) }
 {
     match text {
-        Ok(text) => Answer::Text(text),
-        Err(_) => Answer::Reply(Reply::Refused(Refused::OutOfMemory)),
+        Ok(text) => Response::Text(text),
+        Err(_) => Response::Reply(Reply::Refused(Refused::OutOfMemory)),
     }
 }

@@ -2,13 +2,13 @@
 
 ghost use Rattle.std.specs.Prelude.{◌≡◌, ◌≢◌, ◌⊎◌, ◌++◌, IfErr, OnOk, string_bytes};
 ghost use Rattle.std.specs.Io.KnownBytes.{Appends};
-ghost use Rattle.tw_play.specs.Playing.{answer_text, wants_memory};
+ghost use Rattle.tw_play.specs.Playing.{response_text, wants_memory};
 ghost use Rattle.tw_play.specs.Telling.{refused_text, IsCutShort, IsDrawnShort, IsPlayed, IsWhollyDrawn};
 ghost use Rattle.tw_script.specs.Schedules.{seeded};
 ghost use Rattle.tw_texts.specs.Traces.{MovesBytes};
 
-use crate::answer::{Answer, push_answer};
 use crate::player::Player;
+use crate::response::{Response, push_response};
 use std::alloc::Global;
 use std::io::Write;
 use tw_atomic::Atomic;
@@ -65,18 +65,18 @@ pub fn play_seed<M: Atomic, W: Write>(
     write_out(&mut replies, out)
 }
 
-// Adds what is written for an answer to a text that goes out in portions. Nothing is told after want of memory.
-fn tell<W: Write>(answer: &Answer, replies: &mut String, out: &mut W) -> Result<(), NotWritten>
-    ensures told { OnOk result (MovesBytes (W.contents out.old) (W.contents out.new) (string_bytes replies.old ++ answer_text answer.now) (string_bytes replies.new)) }
+/// Adds what is written for an answer to a text that goes out in portions. Nothing is told after want of memory.
+fn tell<W: Write>(answer: &Response, replies: &mut String, out: &mut W) -> Result<(), NotWritten>
+    ensures told { OnOk result (MovesBytes (W.contents out.old) (W.contents out.new) (string_bytes replies.old ++ response_text answer.now) (string_bytes replies.new)) }
     ensures enough { OnOk result (answer.now ≢ wants_memory) }
     ensures wanting { IfErr result (λ why. why ≡ NotWritten.OutOfMemory
         → Appends (W.contents out.old) (W.contents out.new) (string_bytes replies.old) ⊎ Appends (W.contents out.old) (W.contents out.new) (string_bytes replies.old ++ refused_text)) }
 {
-    let Ok(()) = push_answer(replies, answer) else {
+    let Ok(()) = push_response(replies, answer) else {
         write_out(replies, out)?;
         return Err(NotWritten::OutOfMemory);
     };
-    if let Answer::Reply(Reply::Refused(Refused::OutOfMemory)) = answer {
+    if let Response::Reply(Reply::Refused(Refused::OutOfMemory)) = answer {
         write_out(replies, out)?;
         return Err(NotWritten::OutOfMemory);
     }

@@ -26,7 +26,7 @@ mod entry;
 mod installing;
 mod marked;
 mod posting;
-pub mod process;
+mod process;
 mod reading;
 mod receiving;
 mod refused;

@@ -22,7 +22,7 @@ impl<M: Atomic> Process<M> {
         can_take(self.component, *message) && self.is_past(message.stamp)
     }
 
-    // Whether a stamp is after all steps that were made, those that are committed too.
+    /// Whether a stamp is after all steps that were made, those that are committed too.
     fn is_past(&self, stamp: Stamp) -> bool
         ensures { IsTrue result ↔ (floor_after self.now.floor self.now.process.history ≤ stamp) }
     {
@@ -104,7 +104,7 @@ impl<M: Atomic> Process<M> {
     }
 }
 
-// Whether a component can take a message: it is to it, for a transition before the end.
+/// Whether a component can take a message: it is to it, for a transition before the end.
 fn can_take(component: usize, message: Message) -> bool
     ensures { IsTrue result ↔ CanTake component message }
 {

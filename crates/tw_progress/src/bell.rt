@@ -11,7 +11,7 @@ pub(crate) struct Bell {
 }
 
 impl Bell {
-    // A bell that has not rung.
+    /// A bell that has not rung.
     pub(crate) fn new() -> Bell {
         Bell {
             has_rung: Mutex::new(false),
@@ -19,13 +19,13 @@ impl Bell {
         }
     }
 
-    // Rings, for good.
+    /// Rings, for good.
     pub(crate) fn ring<R: Wait>(&self, rt: &R) {
         *self.has_rung.lock(rt) = true;
         self.rung.notify_all();
     }
 
-    // Waits for the bell, for so long at most, and answers whether it has rung. Where the clock cannot be read, it does not wait.
+    /// Waits for the bell, for so long at most, and answers whether it has rung. Where the clock cannot be read, it does not wait.
     pub(crate) fn rings_within<R: Wait + Clock>(&self, rt: &R, time: Duration) -> bool {
         let (has_rung, _) = self
             .rung

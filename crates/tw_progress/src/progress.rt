@@ -39,7 +39,7 @@ impl Progress {
     }
 }
 
-// The tick up to which a run is committed at a global virtual time.
+/// The tick up to which a run is committed at a global virtual time.
 fn committed_tick(gvt: Stamp, until: u64) -> u64
     ensures { result ≡ tick_told gvt until }
 {

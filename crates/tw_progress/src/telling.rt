@@ -32,7 +32,7 @@ pub fn while_telling<R: Threads + Wait + Clock + Eprint + Sync, F: FnOnce() -> T
     work_beside(rt, &bell, reader, until, work)
 }
 
-// Does work while a thread tells, until the bell rings for the end of the work.
+/// Does work while a thread tells, until the bell rings for the end of the work.
 fn work_beside<'a, R: Threads + Wait + Clock + Eprint + Sync, F: FnOnce() -> T, T>(
     rt: &'a R,
     bell: &'a Bell,
@@ -58,7 +58,7 @@ fn work_beside<'a, R: Threads + Wait + Clock + Eprint + Sync, F: FnOnce() -> T, 
     )
 }
 
-// Tells how far a run is each time that a second is over, until the bell rings or standard error is gone.
+/// Tells how far a run is each time that a second is over, until the bell rings or standard error is gone.
 fn tell<R: Wait + Clock + Eprint>(rt: &R, bell: &Bell, mut reader: Reader, until: u64) {
     for _ in rt.forever() {
         if bell.rings_within(rt, Duration::from_secs(PAUSE)) {

@@ -7,7 +7,7 @@
 //! as it was; `back_to` takes no memory.
 #![tactic(auto)]
 
-pub mod rollback;
+mod rollback;
 
 pub use rollback::{back_to, receive};
 pub use tw_actions::Received;

@@ -60,7 +60,7 @@ pub fn receive<M: Atomic>(
     }
 }
 
-// A message comes.
+/// A message comes.
 fn receive_message<M: Atomic>(
     process: &mut Process<M>,
     message: &Message,
@@ -85,7 +85,7 @@ fn receive_message<M: Atomic>(
     Ok(Received::Straggler(overtaken))
 }
 
-// An anti-message comes.
+/// An anti-message comes.
 fn receive_anti<M: Atomic>(
     process: &mut Process<M>,
     message: &Message,

@@ -8,7 +8,7 @@ use tw_looks::Told;
 use tw_models::Model;
 use tw_script::Command;
 
-// What an action is called.
+/// What an action is called.
 fn name_of(action: &Action) -> &'static str {
     match *action {
         Action::Step(_) => "Step",
@@ -45,7 +45,7 @@ pub(crate) fn mark(executive: &Executive<Model>) -> Option<Mark> {
     }
 }
 
-// Rewinds to a mark, which takes no memory. Without a mark there is none such.
+/// Rewinds to a mark, which takes no memory. Without a mark there is none such.
 fn rewind(executive: &mut Executive<Model>, mark: Option<&Mark>) -> Reply {
     match mark {
         None => Reply::Refused(Refused::NoSuch),

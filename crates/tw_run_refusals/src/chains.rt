@@ -24,7 +24,7 @@ pub(crate) fn is_refused(finished: Finished) -> bool {
     )
 }
 
-// Works out a chain of a component, before the end tick, and installs it.
+/// Works out a chain of a component, before the end tick, and installs it.
 fn install(
     executive: &mut Executive<Model>,
     component: usize,
@@ -72,7 +72,7 @@ pub(crate) fn chain(
     tell_number(told, "installed", made);
 }
 
-// Replays what is left of a list of steps after so many, and answers how many of them were made.
+/// Replays what is left of a list of steps after so many, and answers how many of them were made.
 fn replay_rest(executive: &mut Executive<Model>, steps: &[Action], made: usize) -> usize {
     match steps.get(made..) {
         Some(rest) => executive.replay(rest) as usize,

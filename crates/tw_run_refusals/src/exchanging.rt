@@ -33,7 +33,7 @@ const COMPONENTS: usize = 4;
 // How many ticks ahead of global virtual time components may run.
 const WINDOW: u64 = 1_000;
 
-// The sum over the executive of an exchange, and which component comes next.
+/// The sum over the executive of an exchange, and which component comes next.
 fn look_at(told: &mut Told, alloc: Global, exchange: &Exchange<Model>) -> Sum {
     let mut sum = look(told, alloc, exchange.executive());
     for window in [0, WINDOW] {
@@ -42,7 +42,7 @@ fn look_at(told: &mut Told, alloc: Global, exchange: &Exchange<Model>) -> Sum {
     sum
 }
 
-// Takes an action, at the second try where memory is refused at the first.
+/// Takes an action, at the second try where memory is refused at the first.
 fn act(told: &mut Told, alloc: Global, exchange: &mut Exchange<Model>, action: &Action) {
     let before = look_at(told, alloc, exchange);
     if exchange.act(*action) == Err(Refused::OutOfMemory) {
@@ -54,7 +54,7 @@ fn act(told: &mut Told, alloc: Global, exchange: &mut Exchange<Model>, action: &
     }
 }
 
-// Takes the actions of a script.
+/// Takes the actions of a script.
 fn follow(told: &mut Told, alloc: Global, exchange: &mut Exchange<Model>, commands: &[Command]) {
     for command in commands {
         if let Command::Act(action) = *command {
@@ -63,7 +63,7 @@ fn follow(told: &mut Told, alloc: Global, exchange: &mut Exchange<Model>, comman
     }
 }
 
-// Gives out the component that comes next, at the second try where memory is refused at the first.
+/// Gives out the component that comes next, at the second try where memory is refused at the first.
 fn draw(told: &mut Told, alloc: Global, exchange: &mut Exchange<Model>) -> Option<Order<Model>> {
     let before = look_at(told, alloc, exchange);
     if let Ok(drawn) = exchange.draw_near(1, WINDOW, 0) {
@@ -77,7 +77,7 @@ fn draw(told: &mut Told, alloc: Global, exchange: &mut Exchange<Model>) -> Optio
     }
 }
 
-// A chain of the component that comes next, which is handed in. None where nothing is to be given out.
+/// A chain of the component that comes next, which is handed in. None where nothing is to be given out.
 fn hand_in(exchange: &mut Exchange<Model>, burst: usize) -> Result<Option<Finished>, AllocError> {
     let Some(order) = exchange.draw(burst, WINDOW)? else {
         return Ok(None);
@@ -92,7 +92,7 @@ fn hand_in(exchange: &mut Exchange<Model>, burst: usize) -> Result<Option<Finish
     Ok(exchange.finish(prepareds).ok())
 }
 
-// So many steps of the component that comes next by chains, as many as are needed, and how many were made.
+/// So many steps of the component that comes next by chains, as many as are needed, and how many were made.
 fn chain(told: &mut Told, alloc: Global, exchange: &mut Exchange<Model>, burst: usize) -> usize {
     let mut made: usize = 0;
     for _ in 0..TRIES {
@@ -114,7 +114,7 @@ fn chain(told: &mut Told, alloc: Global, exchange: &mut Exchange<Model>, burst: 
     made
 }
 
-// So many steps of the component that comes second, while the first is given out.
+/// So many steps of the component that comes second, while the first is given out.
 fn chain_behind(told: &mut Told, alloc: Global, exchange: &mut Exchange<Model>, burst: usize) {
     let Some(first) = draw(told, alloc, exchange) else {
         told.give_up("draw_near");
@@ -125,7 +125,7 @@ fn chain_behind(told: &mut Told, alloc: Global, exchange: &mut Exchange<Model>, 
     tell_number(told, "installed", made);
 }
 
-// How many records each component has committed.
+/// How many records each component has committed.
 fn lengths_of(executive: &Executive<Model>) -> [usize; COMPONENTS] {
     let mut lengths = [0; COMPONENTS];
     for component in 0..executive.network().len().min(COMPONENTS) {
@@ -134,7 +134,7 @@ fn lengths_of(executive: &Executive<Model>) -> [usize; COMPONENTS] {
     lengths
 }
 
-// The sum over the first records of each component, so many, where there are as many.
+/// The sum over the first records of each component, so many, where there are as many.
 fn beginnings(executive: &Executive<Model>, lengths: [usize; COMPONENTS]) -> Sum {
     let mut sum = Sum::new();
     for component in 0..executive.network().len().min(COMPONENTS) {
@@ -145,8 +145,8 @@ fn beginnings(executive: &Executive<Model>, lengths: [usize; COMPONENTS]) -> Sum
     sum
 }
 
-// Sweeps, at the second try where the first is cut short: global virtual time has not fallen then, what was committed is, and
-// nothing is posted.
+/// Sweeps, at the second try where the first is cut short: global virtual time has not fallen then, what was committed is, and
+/// nothing is posted.
 fn sweep(told: &mut Told, exchange: &mut Exchange<Model>, reader: &mut Reader) {
     let gvt = exchange.executive().gvt();
     let lengths = lengths_of(exchange.executive());
@@ -166,7 +166,7 @@ fn sweep(told: &mut Told, exchange: &mut Exchange<Model>, reader: &mut Reader) {
     }
 }
 
-// Settles, at the second try where the first is cut short; nothing is committed.
+/// Settles, at the second try where the first is cut short; nothing is committed.
 fn settle(told: &mut Told, exchange: &mut Exchange<Model>) {
     let gvt = exchange.executive().gvt();
     let committed = exchange.executive().committed_len();
@@ -180,7 +180,7 @@ fn settle(told: &mut Told, exchange: &mut Exchange<Model>) {
     );
 }
 
-// How the run stands, at the second try where the first finds no memory.
+/// How the run stands, at the second try where the first finds no memory.
 fn state_of(told: &mut Told, alloc: Global, exchange: &mut Exchange<Model>) -> Option<State> {
     let before = look_at(told, alloc, exchange);
     let first = exchange.state();
@@ -192,18 +192,16 @@ fn state_of(told: &mut Told, alloc: Global, exchange: &mut Exchange<Model>) -> O
     }
 }
 
-// Tells a state of a run of a network.
+/// Tells a state of a run of a network.
 fn tell_found(told: &mut Told, network: &Network<Model>, state: State) {
     match state {
         State::Going => told.say("going\n"),
         State::Complete => told.say("complete\n"),
-        State::Fault(component, stamp, limit) => {
-            tell_fault(told, name_of(network, component), stamp, limit);
-        }
+        State::Fault(fault) => tell_fault(told, name_of(network, fault.component), &fault),
     }
 }
 
-// Tells how the run stands.
+/// Tells how the run stands.
 fn tell_state(told: &mut Told, alloc: Global, exchange: &mut Exchange<Model>) {
     if let Some(state) = state_of(told, alloc, exchange) {
         tell_found(told, exchange.executive().network(), state);
@@ -212,7 +210,7 @@ fn tell_state(told: &mut Told, alloc: Global, exchange: &mut Exchange<Model>) {
     }
 }
 
-// Chains of so many steps, and what they send passed on, until nothing is left to be given out or so many were made.
+/// Chains of so many steps, and what they send passed on, until nothing is left to be given out or so many were made.
 fn work(told: &mut Told, alloc: Global, exchange: &mut Exchange<Model>, burst: usize) {
     for _ in 0..CHAINS {
         if chain(told, alloc, exchange, burst) == 0 {
@@ -222,7 +220,7 @@ fn work(told: &mut Told, alloc: Global, exchange: &mut Exchange<Model>, burst: u
     }
 }
 
-// Takes one turn of a scene.
+/// Takes one turn of a scene.
 fn take_turn(
     told: &mut Told,
     alloc: Global,
@@ -243,7 +241,7 @@ fn take_turn(
     }
 }
 
-// Tells what a turn asks for.
+/// Tells what a turn asks for.
 fn tell(
     told: &mut Told,
     alloc: Global,

@@ -19,7 +19,7 @@ pub(crate) fn look(told: &mut Told, alloc: Global, executive: &Executive<Model>)
     sum
 }
 
-// A component: its process, its mailbox, and what it has committed.
+/// A component: its process, its mailbox, and what it has committed.
 fn add_component(
     sum: &mut Sum,
     alloc: Global,

@@ -37,7 +37,7 @@ pub(crate) struct Run {
     pub(crate) cancel: Cancel,
 }
 
-// The model.
+/// The model.
 fn model_of(made: Made) -> Result<Model, BadModel> {
     match made {
         Made::Gen(period, value) => Model::generator(period, value),
@@ -47,7 +47,7 @@ fn model_of(made: Made) -> Result<Model, BadModel> {
     }
 }
 
-// The network, if there is memory for it.
+/// The network, if there is memory for it.
 fn network_of(alloc: Global, net: &Net) -> Result<Network<Model>, Refusal> {
     let mut components = Vec::new(alloc);
     for (name, made) in net.names.iter().zip(net.models) {
@@ -58,7 +58,7 @@ fn network_of(alloc: Global, net: &Net) -> Result<Network<Model>, Refusal> {
     Ok(Network::new(alloc, components, couplings, inputs, net.micro_limit)?)
 }
 
-// The executive, if there is memory for it.
+/// The executive, if there is memory for it.
 fn begin(alloc: Global, run: &Run) -> Result<Executive<Model>, Refusal> {
     let network = network_of(alloc, &run.net)?;
     match run.cancel {
@@ -75,7 +75,7 @@ pub(crate) fn executive_of(alloc: Global, run: &Run) -> Option<Executive<Model>>
     }
 }
 
-// An exchange of an executive, and a reader of its board; where there is no memory for them the executive comes back.
+/// An exchange of an executive, and a reader of its board; where there is no memory for them the executive comes back.
 fn share(
     alloc: Global,
     executive: Executive<Model>,

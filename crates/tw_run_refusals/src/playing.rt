@@ -24,7 +24,7 @@ pub(crate) fn commands_of(
     }
 }
 
-// Shows what a command asks to be shown.
+/// Shows what a command asks to be shown.
 fn show(told: &mut Told, alloc: Global, executive: &Executive<Model>, command: Command) {
     match command {
         Command::Describe(component) => tell_component(told, alloc, executive, component),
@@ -32,7 +32,7 @@ fn show(told: &mut Told, alloc: Global, executive: &Executive<Model>, command: C
     }
 }
 
-// Obeys each line of a script, and tells what came of it.
+/// Obeys each line of a script, and tells what came of it.
 fn follow(told: &mut Told, alloc: Global, executive: &mut Executive<Model>, commands: &[Command]) {
     let mut marked = None;
     for command in commands {
@@ -43,7 +43,7 @@ fn follow(told: &mut Told, alloc: Global, executive: &mut Executive<Model>, comm
     }
 }
 
-// Obeys one line so often, and tells nothing of it.
+/// Obeys one line so often, and tells nothing of it.
 fn repeat(
     told: &mut Told,
     alloc: Global,
@@ -59,7 +59,7 @@ fn repeat(
     }
 }
 
-// Plays a part of a scene.
+/// Plays a part of a scene.
 fn play_part(told: &mut Told, alloc: Global, executive: &mut Executive<Model>, part: &Part) {
     match *part {
         Part::Chain(component, burst) => chain(told, alloc, executive, component, burst),

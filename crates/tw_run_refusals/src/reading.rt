@@ -36,7 +36,7 @@ static FILES: [&str; 7] = [
     r#"{"format":"tw-3","micro_limit":100,"models":[{"name":"server","registers":{"served":0},"queues":{"line":4},"internal":["served += 1","if lenght(line) > 0 { wait 1 }"],"words":["served"]}],"components":[],"couplings":[],"inputs":[]}"#,
 ];
 
-// The network of a file, at the second try where the first finds no memory.
+/// The network of a file, at the second try where the first finds no memory.
 fn read(alloc: Global, file: &str) -> Result<Network<AnyModel>, FileRefused> {
     match network_of_any_file(alloc, file.as_bytes()) {
         Err(FileRefused::OutOfMemory) => network_of_any_file(alloc, file.as_bytes()),
@@ -44,7 +44,7 @@ fn read(alloc: Global, file: &str) -> Result<Network<AnyModel>, FileRefused> {
     }
 }
 
-// Tells a file's fault: its number and name, and what explains it, which is made until it stands.
+/// Tells a file's fault: its number and name, and what explains it, which is made until it stands.
 fn tell_refused(told: &mut Told, alloc: Global, file: &str, fault: FileRefused) {
     let refusal = Refusal::from(fault);
     let words = match explain(alloc, file.as_bytes(), fault) {
@@ -57,14 +57,14 @@ fn tell_refused(told: &mut Told, alloc: Global, file: &str, fault: FileRefused) 
     }
 }
 
-// Tells a refusal and some words, on a line.
+/// Tells a refusal and some words, on a line.
 fn tell_words(told: &mut Told, refusal: Refusal, words: &str) {
     if write!(told.text_mut(), "{refusal}: {words}\n").is_err() {
         told.give_up("explain");
     }
 }
 
-// Reads a file, and tells how many components it has, or what is wrong with it.
+/// Reads a file, and tells how many components it has, or what is wrong with it.
 fn read_file(told: &mut Told, alloc: Global, file: &str) {
     match read(alloc, file) {
         Ok(network) => tell_number(told, "components", network.len()),
@@ -79,7 +79,7 @@ static LINES: [&str; 3] = [
     "twarp run --help",
 ];
 
-// The words of a line, if there is memory for them.
+/// The words of a line, if there is memory for them.
 fn words_of(alloc: Global, line: &str) -> Result<Vec<String>, AllocError> {
     let mut words = Vec::new(alloc);
     for word in line.split(' ') {
@@ -88,7 +88,7 @@ fn words_of(alloc: Global, line: &str) -> Result<Vec<String>, AllocError> {
     Ok(words)
 }
 
-// What a job is called.
+/// What a job is called.
 fn name_of(job: &Job<'_>) -> &'static str {
     match job {
         Job::Demo => "demo\n",
@@ -102,7 +102,7 @@ fn name_of(job: &Job<'_>) -> &'static str {
     }
 }
 
-// What a line asks for; nothing where there is no memory.
+/// What a line asks for; nothing where there is no memory.
 fn asked(alloc: Global, words: &[String]) -> Option<&'static str> {
     match job(alloc, words) {
         Ok(job) => Some(name_of(&job)),
@@ -113,7 +113,7 @@ fn asked(alloc: Global, words: &[String]) -> Option<&'static str> {
     }
 }
 
-// Tells what a line asks for, at the second try where the first finds no memory.
+/// Tells what a line asks for, at the second try where the first finds no memory.
 fn read_line(told: &mut Told, alloc: Global, line: &str) {
     let words = match words_of(alloc, line) {
         Err(_) => words_of(alloc, line),
@@ -140,7 +140,7 @@ static SCRIPTS: [&str; 3] = [
     "\n# nothing\nback g 02.0.0\n",
 ];
 
-// Tells how many commands a script has, or which of its lines is refused.
+/// Tells how many commands a script has, or which of its lines is refused.
 fn tell_script(told: &mut Told, alloc: Global, network: &Network<AnyModel>, script: &str) {
     let read = match commands_of_script(alloc, script.as_bytes(), network) {
         Err(ScriptRefused::OutOfMemory) => commands_of_script(alloc, script.as_bytes(), network),
@@ -153,7 +153,7 @@ fn tell_script(told: &mut Told, alloc: Global, network: &Network<AnyModel>, scri
     }
 }
 
-// Reads the scripts, against the names of the second file.
+/// Reads the scripts, against the names of the second file.
 fn read_scripts(told: &mut Told, alloc: Global) {
     let Ok(network) = read(alloc, FILES[1]) else {
         told.give_up("network_of_any_file");

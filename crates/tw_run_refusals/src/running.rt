@@ -57,13 +57,13 @@ static RACES: [Race; 3] = [
     },
 ];
 
-// The executive, if there is memory for it.
+/// The executive, if there is memory for it.
 fn begin(alloc: Global, it: &Race) -> Result<Executive<AnyModel>, Refusal> {
     let network = network_of_any_file(alloc, it.file.as_bytes())?;
     Ok(Executive::with_cancel(alloc, network, it.until, it.cancel)?)
 }
 
-// A board's publisher and a reader of it, if there is memory for them.
+/// A board's publisher and a reader of it, if there is memory for them.
 fn ends_of_board(alloc: Global) -> Result<(Publisher, Reader), AllocError>
     ensures { IfOk result (λ ends. ends.0.numbers ≡ nothing_posted) }
 {
@@ -72,7 +72,7 @@ fn ends_of_board(alloc: Global) -> Result<(Publisher, Reader), AllocError>
     Ok((publisher, reader))
 }
 
-// The same, at the second try where the first finds no memory.
+/// The same, at the second try where the first finds no memory.
 fn board_of(alloc: Global) -> Result<(Publisher, Reader), AllocError>
     ensures { IfOk result (λ ends. ends.0.numbers ≡ nothing_posted) }
 {
@@ -82,19 +82,19 @@ fn board_of(alloc: Global) -> Result<(Publisher, Reader), AllocError>
     }
 }
 
-// Tells how a run ended.
+/// Tells how a run ended.
 fn tell_end(told: &mut Told, names: &[&str], end: Result<Outcome, RunFault<AnyModel>>) {
     match end {
         Ok(Outcome::Complete(trace)) => tell_lines(told, names, trace.as_slice()),
-        Ok(Outcome::Fault(trace, component, stamp, limit)) => {
+        Ok(Outcome::Fault(trace, fault)) => {
             tell_lines(told, names, trace.as_slice());
-            tell_fault(told, name_in(names, component), stamp, limit);
+            tell_fault(told, name_in(names, fault.component), &fault);
         }
         Err(_) => told.give_up("run"),
     }
 }
 
-// How a run of an executive by so many workers ends, or the second run where the first is given up.
+/// How a run of an executive by so many workers ends, or the second run where the first is given up.
 fn end_of<R: Threads + Wait + Sync>(
     rt: &R,
     alloc: Global,
@@ -120,7 +120,7 @@ fn end_of<R: Threads + Wait + Sync>(
     }
 }
 
-// Makes what a run takes, and runs it by so many workers.
+/// Makes what a run takes, and runs it by so many workers.
 fn play_race<R: Threads + Wait + Sync>(
     rt: &R,
     told: &mut Told,

@@ -8,9 +8,10 @@ use tw_models::Model;
 use tw_msgs::Record;
 use tw_network::Network;
 use tw_texts::{push_fault, push_record};
-use tw_vtime::{Limit, Stamp};
+use tw_vtime::Stamp;
+use tw_workers::Fault;
 
-// Tells a text that was made, or that it was refused twice.
+/// Tells a text that was made, or that it was refused twice.
 fn say(told: &mut Told, call: &str, text: Result<String, AllocError>) {
     match text {
         Ok(text) => told.say(text.as_str()),
@@ -73,7 +74,7 @@ pub(crate) fn name_of(network: &Network<Model>, component: usize) -> &str {
     }
 }
 
-// Tells the line of a record, which is made until it stands.
+/// Tells the line of a record, which is made until it stands.
 fn tell_record(told: &mut Told, name: &str, record: &Record) {
     let before = told.text().len();
     if push_record(told.text_mut(), name, record).is_err() {
@@ -108,9 +109,9 @@ pub(crate) fn tell_lines(told: &mut Told, names: &[&str], records: &[Record]) {
 }
 
 /// Tells the line of a fault, which is made until it stands.
-pub(crate) fn tell_fault(told: &mut Told, name: &str, stamp: Stamp, limit: Limit) {
-    if push_fault(told.text_mut(), name, stamp, limit).is_err()
-        && push_fault(told.text_mut(), name, stamp, limit).is_err()
+pub(crate) fn tell_fault(told: &mut Told, name: &str, fault: &Fault) {
+    if push_fault(told.text_mut(), name, fault.stamp, fault.limit).is_err()
+        && push_fault(told.text_mut(), name, fault.stamp, fault.limit).is_err()
     {
         told.give_up("push_fault");
     }

@@ -25,7 +25,7 @@ struct Counts {
     committed: u64,
 }
 
-// Takes the next action of a schedule. It may be refused, for want of memory only where the program is to give up.
+/// Takes the next action of a schedule. It may be refused, for want of memory only where the program is to give up.
 fn take_turn(
     executive: &mut Executive<Model>,
     schedule: &mut Schedule,
@@ -48,7 +48,7 @@ fn take_turn(
     }
 }
 
-// Takes the turns of a seed.
+/// Takes the turns of a seed.
 fn play(
     executive: &mut Executive<Model>,
     seed: u64,
@@ -85,7 +85,7 @@ pub(crate) fn add_line(
     Ok(tell(text, case.name, cancel, &counts, differing)?)
 }
 
-// Tells what was done.
+/// Tells what was done.
 fn tell(
     text: &mut String,
     name: &str,

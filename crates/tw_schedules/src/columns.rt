@@ -6,12 +6,12 @@ use tw_msgs::Record;
 use tw_seq::Seq;
 use tw_vtime::Stamp;
 
-// Whether a record is one of a component before a stamp.
+/// Whether a record is one of a component before a stamp.
 fn is_of(record: &Record, component: usize, line: Stamp) -> bool {
     record.component == component && record.stamp < line
 }
 
-// Whether a column is just the records of a component before a stamp, in their order.
+/// Whether a column is just the records of a component before a stamp, in their order.
 fn is_column(column: &[Record], records: &[Record], component: usize, line: Stamp) -> bool {
     let mut at: usize = 0;
     for record in records {
@@ -25,10 +25,10 @@ fn is_column(column: &[Record], records: &[Record], component: usize, line: Stam
     at == column.len()
 }
 
-// Whether a commit line has not passed the stamp of the simulator's fault, if it has one.
+/// Whether a commit line has not passed the stamp of the simulator's fault, if it has one.
 fn is_before_fault(line: Stamp, seq: &Seq) -> bool {
     match seq.fault {
-        Some((_, stamp, _)) => line <= stamp,
+        Some(fault) => line <= fault.stamp,
         None => true,
     }
 }

@@ -35,7 +35,7 @@ use tw_process::Cancel;
 use tw_seq::simulate;
 use tw_vtime::Refusal;
 
-// Adds the two lines of a network and a way of cancelling.
+/// Adds the two lines of a network and a way of cancelling.
 fn add_lines(alloc: Global, text: &mut String, case: &Case, cancel: Cancel) -> Result<(), Refusal> {
     let network = networks::network_of(alloc, case)?;
     let seq = simulate(alloc, &network, case.until)?;
@@ -43,13 +43,13 @@ fn add_lines(alloc: Global, text: &mut String, case: &Case, cancel: Cancel) -> R
     turning::add_line(alloc, text, case, cancel, &seq)
 }
 
-// Adds the lines of a network.
+/// Adds the lines of a network.
 fn add_case(alloc: Global, text: &mut String, case: &Case) -> Result<(), Refusal> {
     add_lines(alloc, text, case, Cancel::Aggressive)?;
     add_lines(alloc, text, case, Cancel::Lazy)
 }
 
-// The lines of all networks.
+/// The lines of all networks.
 fn told(alloc: Global) -> Result<String, Refusal> {
     let mut text = String::new(alloc);
     for case in CASES.iter() {

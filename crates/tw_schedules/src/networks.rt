@@ -34,7 +34,7 @@ pub(crate) struct Case {
     pub(crate) until: u64,
 }
 
-// The model.
+/// The model.
 fn model_of(made: Made) -> Result<Model, BadModel> {
     match made {
         Made::Gen(period, value) => Model::generator(period, value),
@@ -45,7 +45,7 @@ fn model_of(made: Made) -> Result<Model, BadModel> {
     }
 }
 
-// The components.
+/// The components.
 fn components_of(alloc: Global, case: &Case) -> Result<Vec<(String, Model)>, Refusal> {
     let mut components = Vec::new(alloc);
     for (name, made) in case.names.iter().zip(case.models) {
@@ -54,7 +54,7 @@ fn components_of(alloc: Global, case: &Case) -> Result<Vec<(String, Model)>, Ref
     Ok(components)
 }
 
-// The inputs.
+/// The inputs.
 fn inputs_of(alloc: Global, case: &Case) -> Result<Vec<Input>, Refusal> {
     let mut inputs = Vec::new(alloc);
     for value in 0..case.jobs {

@@ -51,7 +51,7 @@ impl Counts {
         }
     }
 
-    // Counts what became of a chain.
+    /// Counts what became of a chain.
     fn count(&mut self, finished: Finished) {
         self.steps = self.steps.saturating_add(finished.installed as u64);
         if finished.stop == Stop::Stale {
@@ -88,7 +88,7 @@ impl<M: Atomic, H: Given<M>> Sharing<M, H> {
         }
     }
 
-    // A number below this one, which is not 0.
+    /// A number below this one, which is not 0.
     fn below(&mut self, count: u32) -> u32
         requires { 0 < count }
         ensures { result < count }
@@ -117,7 +117,7 @@ impl<M: Atomic, H: Given<M>> Sharing<M, H> {
         Ok(None)
     }
 
-    // The place of a chain that is overdue.
+    /// The place of a chain that is overdue.
     fn overdue(&self) -> Option<usize> {
         for at in 0..self.kept.len() {
             if self.kept[at].due() < self.turn {
@@ -127,7 +127,7 @@ impl<M: Atomic, H: Given<M>> Sharing<M, H> {
         None
     }
 
-    // Gives out the component that comes next, by either call.
+    /// Gives out the component that comes next, by either call.
     fn draw(&mut self) -> Result<Option<Order<M>>, AllocError>
         ensures due { IfOk result (λ drawn. IfSome drawn (IsDue M.valid M.meaning H.network H.until)) }
     {
@@ -141,7 +141,7 @@ impl<M: Atomic, H: Given<M>> Sharing<M, H> {
         }
     }
 
-    // Works out an order of the component that comes next, and keeps the chain back.
+    /// Works out an order of the component that comes next, and keeps the chain back.
     fn keep_one(&mut self, counts: &mut Counts) -> Result<(), AllocError> {
         let Some(order) = self.draw()? else {
             return Ok(());
@@ -158,7 +158,7 @@ impl<M: Atomic, H: Given<M>> Sharing<M, H> {
         }
     }
 
-    // Keeps an order back that is not worked out.
+    /// Keeps an order back that is not worked out.
     fn hold_one(&mut self, counts: &mut Counts) -> Result<(), AllocError> {
         let Some(order) = self.draw()? else {
             return Ok(());
@@ -173,7 +173,7 @@ impl<M: Atomic, H: Given<M>> Sharing<M, H> {
         }
     }
 
-    // Gives back the last order that is not worked out.
+    /// Gives back the last order that is not worked out.
     fn give_back_one(&mut self, counts: &mut Counts) {
         if let Some(order) = self.held.pop() {
             self.desk.give_back(order);
@@ -181,7 +181,7 @@ impl<M: Atomic, H: Given<M>> Sharing<M, H> {
         }
     }
 
-    // Gives out the component that comes next, and gives its order back: all must be seen as it was.
+    /// Gives out the component that comes next, and gives its order back: all must be seen as it was.
     fn look_twice(&mut self, counts: &mut Counts) -> Result<(), AllocError> {
         let before = self.seen()?;
         let Some(order) = self.draw()? else {
@@ -196,7 +196,7 @@ impl<M: Atomic, H: Given<M>> Sharing<M, H> {
         Ok(())
     }
 
-    // All that is seen of the executive, and which components come next.
+    /// All that is seen of the executive, and which components come next.
     fn seen(&self) -> Result<String, AllocError> {
         let mut text = seen(self.alloc, self.desk.executive())?;
         for window in WINDOWS {
@@ -206,7 +206,7 @@ impl<M: Atomic, H: Given<M>> Sharing<M, H> {
         Ok(text)
     }
 
-    // Hands in any of the chains that are kept back.
+    /// Hands in any of the chains that are kept back.
     fn hand_in_one(&mut self, counts: &mut Counts) {
         let count = self.kept.len();
         if count > 0 {
@@ -215,7 +215,7 @@ impl<M: Atomic, H: Given<M>> Sharing<M, H> {
         }
     }
 
-    // Hands in the chain at a place.
+    /// Hands in the chain at a place.
     fn hand_in(&mut self, at: usize, counts: &mut Counts) {
         if at >= self.kept.len() {
             return;
@@ -226,7 +226,7 @@ impl<M: Atomic, H: Given<M>> Sharing<M, H> {
         }
     }
 
-    // Settles, or sweeps.
+    /// Settles, or sweeps.
     fn pass_on(&mut self) -> Result<(), AllocError> {
         let refused = if self.below(2) == 0 {
             self.desk.settle().is_err()
@@ -236,7 +236,7 @@ impl<M: Atomic, H: Given<M>> Sharing<M, H> {
         if refused { Err(AllocError) } else { Ok(()) }
     }
 
-    // Takes an action of the executive's own. It may be refused, for want of memory only where the program is to give up.
+    /// Takes an action of the executive's own. It may be refused, for want of memory only where the program is to give up.
     fn act(&mut self) -> Result<(), AllocError> {
         let Some(action) = self.schedule.next_action(self.desk.executive()) else {
             return Ok(());
@@ -267,7 +267,7 @@ impl<M: Atomic, H: Given<M>> Sharing<M, H> {
     }
 }
 
-// Hands in all that is kept back.
+/// Hands in all that is kept back.
 fn hand_in_all<M: Atomic, H: Given<M>>(desk: &mut Desk<M, H>, mut kept: Vec<Kept<M, H>>) {
     while let Some(chain) = kept.pop() {
         desk.hand_in(chain);
@@ -275,7 +275,7 @@ fn hand_in_all<M: Atomic, H: Given<M>>(desk: &mut Desk<M, H>, mut kept: Vec<Kept
     kept.destroy_empty();
 }
 
-// Gives all orders back.
+/// Gives all orders back.
 fn give_back_all<M: Atomic, H: Given<M>>(desk: &mut Desk<M, H>, mut held: Vec<Order<M>>) {
     while let Some(order) = held.pop() {
         desk.give_back(order);
@@ -283,7 +283,7 @@ fn give_back_all<M: Atomic, H: Given<M>>(desk: &mut Desk<M, H>, mut held: Vec<Or
     held.destroy_empty();
 }
 
-// All that a user sees of an executive.
+/// All that a user sees of an executive.
 fn seen<M: Atomic>(alloc: Global, executive: &Executive<M>) -> Result<String, AllocError> {
     let mut text = report(alloc, executive)?;
     for component in 0..executive.network().len() {

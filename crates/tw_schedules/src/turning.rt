@@ -32,7 +32,7 @@ struct Ended<M: Atomic> {
     changed: u64,
 }
 
-// Takes turns until the run has ended, or there were too many.
+/// Takes turns until the run has ended, or there were too many.
 fn play<M: Atomic, H: Given<M>>(
     sharing: &mut Sharing<M, H>,
     counts: &mut Counts,
@@ -46,7 +46,7 @@ fn play<M: Atomic, H: Given<M>>(
     Ok(State::Going)
 }
 
-// Drives an exchange by the numbers of a seed.
+/// Drives an exchange by the numbers of a seed.
 fn share<M: Atomic, H: Given<M>>(
     alloc: Global,
     exchange: Exchange<M>,
@@ -67,7 +67,7 @@ fn share<M: Atomic, H: Given<M>>(
     }
 }
 
-// An exchange of an executive.
+/// An exchange of an executive.
 fn exchange_of(alloc: Global, executive: Executive<Model>) -> Result<Exchange<Model>, AllocError> {
     let (_, publisher) = Board::new(alloc)?;
     match Exchange::new(alloc, executive, publisher) {
@@ -76,16 +76,16 @@ fn exchange_of(alloc: Global, executive: Executive<Model>) -> Result<Exchange<Mo
     }
 }
 
-// Whether a run that stands so has ended as the simulator's.
+/// Whether a run that stands so has ended as the simulator's.
 fn is_end(state: State, seq: &Seq) -> bool {
     match state {
         State::Going => false,
         State::Complete => seq.fault.is_none(),
-        State::Fault(component, stamp, limit) => seq.fault == Some((component, stamp, limit)),
+        State::Fault(fault) => seq.fault == Some(fault),
     }
 }
 
-// Compares how a seed ended with the simulator.
+/// Compares how a seed ended with the simulator.
 fn compare(
     alloc: Global,
     seed: u64,
@@ -106,7 +106,7 @@ fn compare(
     Ok(())
 }
 
-// Drives an exchange of a network by the numbers of a seed, and compares how it ends.
+/// Drives an exchange of a network by the numbers of a seed, and compares how it ends.
 fn try_seed(
     alloc: Global,
     case: &Case,
@@ -138,7 +138,7 @@ pub(crate) fn add_line(
     Ok(tell(text, case.name, cancel, counts, differing)?)
 }
 
-// Tells what was done.
+/// Tells what was done.
 fn tell(
     text: &mut String,
     name: &str,

@@ -13,14 +13,14 @@ use tw_atomic::Atomic;
 use tw_exec::Action;
 use tw_network::Network;
 
-// Whether a line is empty or begins with #.
+/// Whether a line is empty or begins with #.
 pub(crate) fn is_skipped(line: &str) -> bool
     ensures { result ≡ is_skipped line.now }
 {
     line.is_empty() || line.starts_with('#')
 }
 
-// The command that a line says; none where it is the line of no command.
+/// The command that a line says; none where it is the line of no command.
 pub(crate) fn command_of<M: Atomic>(line: &str, network: &Network<M>) -> Option<Command>
     ensures said { IfSome result (λ command. Says network.now.names command line.now) }
     ensures none { IfNone result ((command : Said) → ¬ (Says network.now.names command line.now)) }
@@ -31,7 +31,7 @@ pub(crate) fn command_of<M: Atomic>(line: &str, network: &Network<M>) -> Option<
     }
 }
 
-// The command of one word.
+/// The command of one word.
 fn command_alone(word: &str) -> Option<Command>
     requires { IsFree 32 word.now }
     ensures said { (names : List (List ℕ)) → IfSome result (λ command. Says names command word.now) }
@@ -46,7 +46,7 @@ fn command_alone(word: &str) -> Option<Command>
     }
 }
 
-// The command of a verb and its operands.
+/// The command of a verb and its operands.
 fn command_with<M: Atomic>(verb: &str, operands: &str, network: &Network<M>) -> Option<Command>
     requires { IsFree 32 verb.now }
     ensures said { IfSome result (λ command. Says network.now.names command (verb.now ++ 32 ∷ operands.now)) }
@@ -63,7 +63,7 @@ fn command_with<M: Atomic>(verb: &str, operands: &str, network: &Network<M>) -> 
     }
 }
 
-// The delivery of a receiver's name and a place of its mailbox.
+/// The delivery of a receiver's name and a place of its mailbox.
 fn delivery<M: Atomic>(operands: &str, network: &Network<M>) -> Option<Action>
     ensures said { IfSome result (λ action. Says network.now.names (Acts action) (codes "deliver " ++ operands.now)) }
     ensures none { IfNone result ((q i : ℕ) → q < length network.now.names → i ≤ 18446744073709551615 → ¬ (operands.now ≡ name_of network.now.names q ++ 32 ∷ decimal i)) }
@@ -74,7 +74,7 @@ fn delivery<M: Atomic>(operands: &str, network: &Network<M>) -> Option<Action>
     Some(Action::Deliver(receiver, number(place)? as usize))
 }
 
-// The rollback of a component's name and a stamp.
+/// The rollback of a component's name and a stamp.
 fn rollback<M: Atomic>(operands: &str, network: &Network<M>) -> Option<Action>
     ensures said { IfSome result (λ action. Says network.now.names (Acts action) (codes "back " ++ operands.now)) }
     ensures none { IfNone result ((p s : ℕ) → p < length network.now.names → IsStamp s → ¬ (operands.now ≡ name_of network.now.names p ++ 32 ∷ stamp_text s)) }

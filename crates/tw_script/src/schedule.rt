@@ -62,7 +62,7 @@ impl Schedule {
     }
 }
 
-// The action of this number, of 0 to 5, and what it is done with.
+/// The action of this number, of 0 to 5, and what it is done with.
 fn chosen(number: u32, component: usize, place: usize, at: Stamp) -> Action
     ensures { result ≡ chosen number component place at }
 {
@@ -76,14 +76,14 @@ fn chosen(number: u32, component: usize, place: usize, at: Stamp) -> Action
     }
 }
 
-// The place of a mailbox of so many items that a number says: the first, where it is empty.
+/// The place of a mailbox of so many items that a number says: the first, where it is empty.
 fn place_drawn(len: usize, number: u32) -> usize
     ensures { result ≡ place_drawn len number }
 {
     if len == 0 { 0 } else { number as usize % len }
 }
 
-// The stamp that a number says, with global virtual time at this.
+/// The stamp that a number says, with global virtual time at this.
 fn stamp_drawn(gvt: Stamp, number: u32) -> Stamp
     ensures { result ≡ stamp_drawn gvt number }
 {

@@ -46,7 +46,7 @@ pub fn script_law()
     ensures { ScriptLaw }
 {}
 
-// The lines of a text.
+/// The lines of a text.
 fn lines_of<'a>(alloc: Global, bytes: &'a [u8]) -> Result<Vec<&'a [u8]>, AllocError>
     ensures { IfOk result (λ lines. map (λ line. line.now) lines.items ≡ lines_of bytes.now) }
 {
@@ -57,14 +57,14 @@ fn lines_of<'a>(alloc: Global, bytes: &'a [u8]) -> Result<Vec<&'a [u8]>, AllocEr
     Ok(lines)
 }
 
-// What stands between the newlines of a text, before the first and after the last.
+/// What stands between the newlines of a text, before the first and after the last.
 fn pieces_of<'a>(alloc: Global, bytes: &'a [u8]) -> Result<Vec<&'a [u8]>, AllocError>
     ensures { IfOk result (λ pieces. map (λ piece. piece.now) pieces.items ≡ slice_split (λ b. b == newline) bytes.now) }
 {
     bytes.split(|byte| *byte == b'\n').collect(alloc)
 }
 
-// Whether the last of these is empty.
+/// Whether the last of these is empty.
 fn ends_in_nothing(pieces: &[&[u8]]) -> bool
     ensures { result ≡ ends_in_nothing (map (λ piece. piece.now) pieces.now) }
 {
@@ -74,7 +74,7 @@ fn ends_in_nothing(pieces: &[&[u8]]) -> bool
     }
 }
 
-// Lines as texts; the first that is not UTF-8 is refused.
+/// Lines as texts; the first that is not UTF-8 is refused.
 fn texts_of<'a>(alloc: Global, lines: &[&'a [u8]]) -> Result<Vec<&'a str>, ScriptRefused>
     ensures texts { IfOk result (λ texts. map (λ text. text.now) texts.items ≡ map (λ line. line.now) lines.now) }
     ensures utf8 { OnOk result (Each IsUtf8 (map (λ line. line.now) lines.now)) }
@@ -90,7 +90,7 @@ fn texts_of<'a>(alloc: Global, lines: &[&'a [u8]]) -> Result<Vec<&'a str>, Scrip
     Ok(texts)
 }
 
-// The commands that lines say; the first that says nothing is refused.
+/// The commands that lines say; the first that says nothing is refused.
 fn commands_of<M: Atomic>(
     alloc: Global,
     lines: &[&str],
@@ -113,7 +113,7 @@ fn commands_of<M: Atomic>(
     Ok(commands)
 }
 
-// The refusal of the line at a place: lines are numbered from 1.
+/// The refusal of the line at a place: lines are numbered from 1.
 fn bad_line(place: usize) -> ScriptRefused
     requires { place < 18446744073709551615 }
     ensures { result ≡ ScriptRefused.BadLine (place + 1) }

@@ -13,7 +13,7 @@ use Rattle.tw_theory.proofs.Reordered.{along_permutation}
 use Rattle.tw_theory.specs.Bundles.{items_of, addressed}
 use Rattle.tw_theory.specs.Transitions.{Moment}
 use Rattle.tw_theory.specs.Network.{Network}
-use Rattle.tw_theory.specs.Simulator.{Run, RoundTurn, round, round_end, round_time, rounds_from, rounds, start_run, sequential, turns, take_turn, after_output, first_stop, turn_records, turned_moments, outputs, all_sent, with_stamp, least_due, least_input}
+use Rattle.tw_theory.specs.Simulator.{Fault, Run, RoundTurn, round, round_end, round_time, rounds_from, rounds, start_run, sequential, turns, take_turn, after_output, first_stop, turn_records, turned_moments, outputs, all_sent, with_stamp, least_due, least_input}
 use Rattle.tw_vtime.specs.Stamps.{stamp}
 use Rattle.tw_vtime.specs.declared.limits.Limit.{Limit}
 
@@ -93,7 +93,7 @@ same_round net t run other h =
 same_time : {S : Type 0} (run other : Run S) → SameRun run other → round_time run.at ≡ round_time other.at
 same_time run other h = λ i. min (least_due (h.moments i)) (least_permuted run.at.inputs other.at.inputs h.inputs i)
 
-same_rounds : {S : Type 0} (net : Network S) (bound n : ℕ) (run other : Run S) (fault : Option (ℕ × ℕ × Limit)) → SameRun run other → SameRun (rounds_from net bound n run fault) (rounds_from net bound n other fault)
+same_rounds : {S : Type 0} (net : Network S) (bound n : ℕ) (run other : Run S) (fault : Option Fault) → SameRun run other → SameRun (rounds_from net bound n run fault) (rounds_from net bound n other fault)
 same_rounds net bound zero run other fault h = h
 same_rounds net bound (suc n) run other (Some fault) h = h
 same_rounds {S} net bound (suc n) run other None h =

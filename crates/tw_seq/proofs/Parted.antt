@@ -7,7 +7,7 @@ use Rattle.tw_seq.specs.InOrder.{start_in_order}
 use Rattle.tw_seq.specs.Invariant.{IsUnderway}
 use Rattle.tw_seq.specs.Parts.{IsPart, IsEnd, after}
 use Rattle.tw_theory.specs.Network.{Network}
-use Rattle.tw_theory.specs.Simulator.{Run, RoundTurn, round, round_end, round_time, rounds_from, sequential, outputs, all_sent, with_stamp, past_stamp, turns, first_stop, turn_records, turned_moments}
+use Rattle.tw_theory.specs.Simulator.{Fault, Run, RoundTurn, round, round_end, round_time, rounds_from, sequential, outputs, all_sent, with_stamp, past_stamp, turns, first_stop, turn_records, turned_moments}
 use Rattle.tw_vtime.specs.Stamps.{max_tick, stamp, tick_of}
 use Rattle.tw_vtime.specs.declared.limits.Limit.{Limit}
 use Rattle.tw_seq.proofs.InputOrder.{in_order_records, in_order_fault}
@@ -22,7 +22,7 @@ end_after done run e t outs ts None = λ i. record {
   records = done ++ (sym e i ++ (outs ++ turn_records ts));
   fault = None;
 }
-end_after done run e t outs ts (Some stop) = λ i. record { at = run.at; records = done ++ (sym e i ++ outs); fault = Some (stop.0, t + 1, stop.1) }
+end_after done run e t outs ts (Some stop) = λ i. record { at = run.at; records = done ++ (sym e i ++ outs); fault = Some (record { component = stop.0; stamp = t + 1; limit = stop.1 }) }
 
 pub round_after : {S : Type 0} (net : Network S) (done : List Record) (run : Run S) (t : ℕ) → run.records ≡ [] → round net (after done run) t ≡ after (done ++ (round net run t).records) (round net run t)
 unfolding round
@@ -44,7 +44,7 @@ round_grows net run t =
     let all = turns net t (all_sent net outs ++ with_stamp (t + 1) run.at.inputs) 0 run.at.moments in
     end_grows run t outs all (first_stop 0 all)
 
-rounds_grow : {S : Type 0} (net : Network S) (bound n : ℕ) (run : Run S) (fault : Option (ℕ × ℕ × Limit)) → (more : List Record) × (run.records ++ more ≡ (rounds_from net bound n run fault).records)
+rounds_grow : {S : Type 0} (net : Network S) (bound n : ℕ) (run : Run S) (fault : Option Fault) → (more : List Record) × (run.records ++ more ≡ (rounds_from net bound n run fault).records)
 rounds_grow net bound zero run fault = ([], append-nil run.records)
 rounds_grow net bound (suc n) run (Some fault) = ([], append-nil run.records)
 rounds_grow net bound (suc n) run None = go (nat_lt (round_time run.at) bound) (rounds_grow net bound n (round net run (round_time run.at)) (round net run (round_time run.at)).fault)
@@ -85,7 +85,7 @@ module _ {M S : Type 0} (valid : M → S → Type 0) (meaning : M → Meaning S)
         record { even = next.even; moments = next.moments; inputs = next.inputs; order = next.order }
 
     -- a round that ends in a fault ends the run
-    pub part_fault : (more : List Record) (f : ℕ × ℕ × Limit) → more ≡ (round (network_of meaning contents) run t).records → (round (network_of meaning contents) run t).fault ≡ Some f → IsEnd meaning contents until (done ++ more) (Some f)
+    pub part_fault : (more : List Record) (f : Fault) → more ≡ (round (network_of meaning contents) run t).records → (round (network_of meaning contents) run t).fault ≡ Some f → IsEnd meaning contents until (done ++ more) (Some f)
     part_fault more f is met =
         let net = network_of meaning contents in
         let same = round_after net done run t h.empty in

@@ -5,16 +5,11 @@ use Rattle.tw_network.specs.Contents.{Contents, network_of}
 use Rattle.tw_seq.specs.InOrder.{start_in_order, rounds_in_order}
 use Rattle.tw_seq.specs.Invariant.{IsUnderway}
 use Rattle.tw_theory.specs.Network.{Network}
-use Rattle.tw_theory.specs.Simulator.{Run, round, round_time, rounds_from}
-use Rattle.tw_theory.proofs.Rounds.{from_round, from_rest}
+use Rattle.tw_theory.specs.Simulator.{Fault, Run, round, round_time, rounds_from}
+use Rattle.tw_theory.proofs.Rounds.{from_round, from_rest, from_fault}
 use Rattle.tw_vtime.specs.Stamps.{max_tick, stamp, tick_of, phase_of}
-use Rattle.tw_vtime.specs.declared.limits.Limit.{Limit}
 use Rattle.tw_seq.specs.Parts.{Reaching}
 use Rattle.tw_seq.proofs.RoundsKept.{next_round, underway_at}
-
-from_fault : {S : Type 0} (net : Network S) (bound n : ℕ) (run : Run S) (f : ℕ × ℕ × Limit) → rounds_from net bound n run (Some f) ≡ run
-from_fault net bound zero run f = refl
-from_fault net bound (suc n) run f = refl
 
 pub reaching_start : {M S : Type 0} (valid : M → S → Type 0) (meaning : M → Meaning S) (contents : Contents M) (bound : ℕ) (run : Run S) → run ≡ start_in_order (network_of meaning contents) → IsUnderway valid meaning contents 0 run → Reaching valid meaning contents bound run
 unfolding rounds_in_order
@@ -56,7 +51,7 @@ module _ {M S : Type 0} (valid : M → S → Type 0) (meaning : M → Meaning S)
       from_round net (stamp until 0 0) k run (omega (arith, e, l)) ∙ ap (λ s. rounds_from net (stamp until 0 0) k (round net run s) (round net run s).fault) (sym e) in
       (k, refl, sym here ∙ ap (λ n. rounds_from net (stamp until 0 0) n run None) (sym z) ∙ h.same)
 
-  pub reaching_fault : (f : ℕ × ℕ × Limit) → (round (network_of meaning contents) run t).fault ≡ Some f → round (network_of meaning contents) run t ≡ rounds_in_order (network_of meaning contents) (stamp until 0 0)
+  pub reaching_fault : (f : Fault) → (round (network_of meaning contents) run t).fault ≡ Some f → round (network_of meaning contents) run t ≡ rounds_in_order (network_of meaning contents) (stamp until 0 0)
   reaching_fault f q =
       let net = network_of meaning contents in
       let more = one_more h.left refl in

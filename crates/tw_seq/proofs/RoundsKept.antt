@@ -50,7 +50,7 @@ module _ {S : Type 0} (net : Network S) (t : ℕ) (run : Run S) (stop : Option (
       let is = sym (round_by net t run stop found) ∙ ap (round_end run t (all_outputs net t run) (all_turns net t run)) none in
       (ap (λ r. r.fault) is, ap (λ r. r.records) is)
 
-  pub round_some : (at : ℕ × Limit) → stop ≡ Some at → ((round net run t).fault ≡ Some (at.0, t + 1, at.1)) × ((round net run t).records ≡ run.records ++ all_outputs net t run)
+  pub round_some : (at : ℕ × Limit) → stop ≡ Some at → ((round net run t).fault ≡ Some (record { component = at.0; stamp = t + 1; limit = at.1 })) × ((round net run t).records ≡ run.records ++ all_outputs net t run)
   round_some at some =
       let is = sym (round_by net t run stop found) ∙ ap (round_end run t (all_outputs net t run) (all_turns net t run)) some in
       (ap (λ r. r.fault) is, ap (λ r. r.records) is)

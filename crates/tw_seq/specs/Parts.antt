@@ -13,9 +13,8 @@ use Rattle.tw_network.specs.Contents.{Contents, network_of}
 use Rattle.tw_seq.specs.Agenda.{dues}
 use Rattle.tw_seq.specs.InOrder.{rounds_in_order}
 use Rattle.tw_seq.specs.Invariant.{IsUnderway}
-use Rattle.tw_theory.specs.Simulator.{Run, rounds_from, sequential}
+use Rattle.tw_theory.specs.Simulator.{Fault, Run, rounds_from, sequential}
 use Rattle.tw_vtime.specs.Stamps.{max_tick, never, stamp}
-use Rattle.tw_vtime.specs.declared.limits.Limit.{Limit}
 
 -- at most `left` rounds more, from a run in which nothing is due before `from`
 pub record Reaching {M S : Type 0} (valid : M → S → Type 0) (meaning : M → Meaning S) (contents : Contents M) (bound : ℕ) (run : Run S) : Type 0 where
@@ -35,7 +34,7 @@ pub record IsPart {M S : Type 0} (valid : M → S → Type 0) (meaning : M → M
   pub going : run.fault ≡ None
   pub empty : run.records ≡ []
 
-pub record IsEnd {M S : Type 0} (meaning : M → Meaning S) (contents : Contents M) (until : ℕ) (done : List Record) (met : Option (ℕ × ℕ × Limit)) : Type 0 where
+pub record IsEnd {M S : Type 0} (meaning : M → Meaning S) (contents : Contents M) (until : ℕ) (done : List Record) (met : Option Fault) : Type 0 where
   pub records : done ≡ (sequential (network_of meaning contents) until).records
   pub fault : met ≡ (sequential (network_of meaning contents) until).fault
 

@@ -24,7 +24,8 @@ mod simulator;
 mod turns;
 
 pub use beforehand::meets_no_limit;
-pub use receiver::{Receiver, Silent};
+pub use receiver::Receiver;
 pub use refused::SeqRefused;
-pub use simulation::{Simulation, Step, advance, begin};
+pub use simulation::{Advanced, Simulation, advance, begin};
 pub use simulator::{Seq, outcome, simulate};
+pub use tw_actions::Fault;

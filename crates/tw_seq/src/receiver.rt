@@ -54,7 +54,7 @@ impl Receiver for Vec<Record> {
 
 /// Keeps nothing: for a run of which the outcome alone is asked.
 #[derive(Clone, Copy, Debug, PartialEq, Eq)]
-pub struct Silent;
+pub(crate) struct Silent;
 
 impl Receiver for Silent {
     ghost takes = { λ _ _ _. Unit {0} };

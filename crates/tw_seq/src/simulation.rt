@@ -3,7 +3,7 @@
 ghost use Rattle.std.specs.Prelude.{◌≡◌, ◌<◌, ◌-◌, ◌↔◌, [], List, IfOk, IsErrOf};
 ghost use Rattle.tw_msgs.specs.declared.record.Record.{Record as TheRecord};
 ghost use Rattle.tw_seq.specs.Parts.{IsSimulating, stage_of};
-ghost use Rattle.tw_seq.specs.Stepping.{IsStep};
+ghost use Rattle.tw_seq.specs.Stepping.{IsAdvanced};
 ghost use Rattle.tw_theory.specs.Simulator.{round_time};
 ghost use Rattle.tw_vtime.specs.Stamps.{max_tick, stamp};
 
@@ -12,18 +12,18 @@ use crate::refused::SeqRefused;
 use crate::rounds::{Bench, Running, make_round, start, start_bench};
 use std::alloc::{AllocError, Global};
 use std::marker::Model;
+use tw_actions::Fault;
 use tw_atomic::Atomic;
 use tw_network::Network;
-use tw_vtime::{Limit, MAX_TICK, Stamp};
+use tw_vtime::{MAX_TICK, Stamp};
 
-/// What came of a step.
+/// How a run was advanced.
 #[derive(Clone, Copy, Debug, PartialEq, Eq)]
-pub enum Step {
+pub enum Advanced {
     /// A round was made, and more may follow.
     Round,
-    /// The run has ended, without a fault or with this one: the least component that met a limit, the stamp of that
-    /// round's transitions, and which limit.
-    End(Option<(usize, Stamp, Limit)>),
+    /// The run has ended, without a fault or with this one.
+    End(Option<Fault>),
 }
 
 /// A run up to an end tick, between two rounds. It keeps no record.
@@ -65,7 +65,7 @@ pub fn begin<M: Atomic>(
 }
 
 /// Makes the next round of a run, and hands its outputs to one receiver and then its transitions to another, in trace
-/// order. With [`Step::End`] the run has ended: no round is left, and nothing was handed over; or the round met a
+/// order. With [`Advanced::End`] the run has ended: no round is left, and nothing was handed over; or the round met a
 /// limit, and then the run has its outputs, but not the transitions that the second receiver may have got.
 ///
 /// Refused for want of memory (4); then the run is of no more use.
@@ -75,10 +75,10 @@ pub fn advance<M: Atomic, R: Receiver>(
     simulation: &mut Simulation<M::State>,
     outputs: &mut R,
     transitions: &mut R,
-) -> Result<Step, AllocError>
+) -> Result<Advanced, AllocError>
     requires { (done : List TheRecord) × IsSimulating M.valid M.meaning network.now done simulation.old }
-    ensures step { IfOk result (IsStep R.takes M.valid M.meaning network.now simulation.old simulation.new outputs.old outputs.new transitions.old transitions.new) }
-    ensures sooner { IfOk result (λ step. step ≡ Step.Round → stamp simulation.old.until 0 0 - round_time simulation.new.run.at < stamp simulation.old.until 0 0 - round_time simulation.old.run.at) }
+    ensures step { IfOk result (IsAdvanced R.takes M.valid M.meaning network.now simulation.old simulation.new outputs.old outputs.new transitions.old transitions.new) }
+    ensures sooner { IfOk result (λ step. step ≡ Advanced.Round → stamp simulation.old.until 0 0 - round_time simulation.new.run.at < stamp simulation.old.until 0 0 - round_time simulation.old.run.at) }
     ensures until { simulation.new.until ≡ simulation.old.until }
 {
     let step = make_step(
@@ -102,21 +102,25 @@ fn make_step<M: Atomic, R: Receiver>(
     bench: &mut Bench,
     outputs: &mut R,
     transitions: &mut R,
-) -> Result<Step, AllocError>
+) -> Result<Advanced, AllocError>
     requires { (done : List TheRecord) × IsSimulating M.valid M.meaning network.now done (stage_of until run.old bench.old.agenda.times bench.old.arrivals.bags.items) }
-    ensures step { IfOk result (IsStep R.takes M.valid M.meaning network.now
+    ensures step { IfOk result (IsAdvanced R.takes M.valid M.meaning network.now
         (stage_of until run.old bench.old.agenda.times bench.old.arrivals.bags.items)
         (stage_of until run.new bench.new.agenda.times bench.new.arrivals.bags.items)
         outputs.old outputs.new transitions.old transitions.new) }
-    ensures sooner { IfOk result (λ step. step ≡ Step.Round → stamp until 0 0 - round_time run.new.at < stamp until 0 0 - round_time run.old.at) }
+    ensures sooner { IfOk result (λ step. step ≡ Advanced.Round → stamp until 0 0 - round_time run.new.at < stamp until 0 0 - round_time run.old.at) }
 {
     let end = Stamp::new(until, 0, 0).unwrap();
     let Some(time) = run.next_time(&bench.agenda, end) else {
-        return Ok(Step::End(None));
+        return Ok(Advanced::End(None));
     };
     let stop = make_round(alloc, network, run, bench, time, outputs, transitions)?;
     match stop {
-        Some((component, limit)) => Ok(Step::End(Some((component, time.transition(), limit)))),
-        None => Ok(Step::Round),
+        Some((component, limit)) => Ok(Advanced::End(Some(Fault {
+            component,
+            stamp: time.transition(),
+            limit,
+        }))),
+        None => Ok(Advanced::Round),
     }
 }

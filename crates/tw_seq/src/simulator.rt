@@ -8,21 +8,21 @@ ghost use Rattle.tw_vtime.specs.Stamps.{max_tick};
 use crate::beforehand::meets_no_limit;
 use crate::receiver::Silent;
 use crate::refused::SeqRefused;
-use crate::simulation::{Step, advance, begin};
+use crate::simulation::{Advanced, advance, begin};
 use std::alloc::Global;
+use tw_actions::Fault;
 use tw_atomic::Atomic;
 use tw_msgs::Record;
 use tw_network::Network;
-use tw_vtime::{Limit, MAX_TICK, Stamp};
+use tw_vtime::MAX_TICK;
 
 /// What a network does up to an end tick.
 #[derive(Debug, Drop)]
 pub struct Seq {
     /// The records, in trace order: by stamp, then component number.
     pub records: Vec<Record>,
-    /// The limit fault that ended the run: the least component that met a limit, the stamp of that
-    /// round's transitions, and which limit. The records are all those before that stamp.
-    pub fault: Option<(usize, Stamp, Limit)>,
+    /// The limit fault that ended the run. The records are all those before its stamp.
+    pub fault: Option<Fault>,
 }
 
 /// Simulates a network by the sequential abstract simulator (Chow and Zeigler 1994): in each round, of
@@ -52,8 +52,8 @@ pub fn simulate<M: Atomic>(
             &mut transitions,
         )?;
         match step {
-            Step::Round => records.append(&mut transitions)?,
-            Step::End(fault) => return Ok(Seq { records, fault }),
+            Advanced::Round => records.append(&mut transitions)?,
+            Advanced::End(fault) => return Ok(Seq { records, fault }),
         }
     }
 }
@@ -68,7 +68,7 @@ pub fn outcome<M: Atomic>(
     alloc: Global,
     network: &Network<M>,
     until: u64,
-) -> Result<Option<(usize, Stamp, Limit)>, SeqRefused>
+) -> Result<Option<Fault>, SeqRefused>
     ensures fault { IfOk result (λ fault. fault ≡ (sequential (network_of M.meaning network.now) until).fault) }
     ensures bad_tick { IsErrOf result SeqRefused.BadTick ↔ (max_tick < until) }
 {
@@ -87,8 +87,8 @@ pub fn outcome<M: Atomic>(
             &mut transitions,
         )?;
         match step {
-            Step::Round => {}
-            Step::End(fault) => return Ok(fault),
+            Advanced::Round => {}
+            Advanced::End(fault) => return Ok(fault),
         }
     }
 }

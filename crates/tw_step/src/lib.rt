@@ -13,11 +13,11 @@
 //!   component stands where it stood. [`pass_turn`] makes a transition that is never taken back.
 #![tactic(auto)]
 
-pub mod moment;
+mod moment;
 mod outputs;
-pub mod refused;
-pub mod step;
-pub mod turns;
+mod refused;
+mod step;
+mod turns;
 
 pub use moment::{Moment, copy_moment, start_moment};
 pub use outputs::{fill_output, output_bag, routed};

@@ -13,7 +13,7 @@ use std::alloc::Global;
 use std::io::Write;
 use tw_atomic::Atomic;
 use tw_network::Network;
-use tw_seq::{Step, begin};
+use tw_seq::{Advanced, begin};
 use tw_tell::{Listener, advance_telling};
 use tw_texts::{Names, NotWritten};
 
@@ -53,13 +53,13 @@ pub fn write_rounds<M: Atomic, N: Names, L: Listener, W: Write>(
             return Err(NotWritten::OutOfMemory);
         };
         match step {
-            Step::Round => {
+            Advanced::Round => {
                 let Ok(()) = outputs.lines.append(&mut transitions.lines) else {
                     return Err(NotWritten::OutOfMemory);
                 };
                 outputs.lines.write_portion(out)?;
             }
-            Step::End(_) => return outputs.lines.write_out(out),
+            Advanced::End(_) => return outputs.lines.write_out(out),
         }
     }
 }

@@ -13,7 +13,7 @@ use std::alloc::{AllocError, Global};
 use std::io::Write;
 use tw_atomic::Atomic;
 use tw_network::Network;
-use tw_seq::{Step, begin};
+use tw_seq::{Advanced, begin};
 use tw_tell::{Listener, advance_telling};
 use tw_texts::{Names, NotWritten, write_out, write_portion};
 
@@ -57,13 +57,13 @@ pub fn write_table<M: Atomic, N: Names, L: Listener, W: Write>(
             return Err(NotWritten::OutOfMemory);
         };
         match step {
-            Step::Round => {
+            Advanced::Round => {
                 let Ok(()) = move_lines(&mut transitions.lines, &mut outputs.lines) else {
                     return Err(NotWritten::OutOfMemory);
                 };
                 write_portion(&mut outputs.lines, out)?;
             }
-            Step::End(_) => return write_out(&mut outputs.lines, out),
+            Advanced::End(_) => return write_out(&mut outputs.lines, out),
         }
     }
 }

@@ -17,14 +17,13 @@ use std::alloc::Global;
 use std::io::Write;
 use tw_atomic::Atomic;
 use tw_network::Network;
+use tw_seq::Fault;
 use tw_tell::{Listener, outcome_telling};
 use tw_texts::Names;
-use tw_vtime::{Limit, Stamp};
 
 /// Writes the table of the records of a network's sequential run up to the end tick `until`, with the names of their
-/// components, and answers the limit fault that ended the run, if there was one: the least component that met a limit, the
-/// stamp of that round's transitions, and which limit. The fault is worked out first, so that nothing is written before the
-/// outcome is known; where the models tell beforehand that no limit can be met, there is one pass. After each round the listener hears
+/// components, and answers the limit fault that ended the run, if there was one. It is worked out first, so that nothing is written
+/// before the outcome is known; where the models tell beforehand that no limit can be met, there is one pass. After each round the listener hears
 /// how far the run is, with no record while its outcome is worked out.
 ///
 /// Refused by [`TableRefused::BadTick`] (10) exactly where `until` is above 1,099,511,627,774, and then nothing is written; by
@@ -38,7 +37,7 @@ pub fn table<M: Atomic, N: Names, L: Listener, W: Write>(
     rows: Rows,
     listener: &mut L,
     out: &mut W,
-) -> Result<Option<(usize, Stamp, Limit)>, TableRefused>
+) -> Result<Option<Fault>, TableRefused>
     ensures fault { IfOk result (λ fault. fault ≡ (sequential (network_of M.meaning network.now) until).fault) }
     ensures written { OnOk result (Appends (W.contents out.old) (W.contents out.new) (table_text rows (N.name_of names.now) (sequential (network_of M.meaning network.now) until).records)) }
     ensures bad_tick { IsErrOf result BadTick ↔ (max_tick < until) }

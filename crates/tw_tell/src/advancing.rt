@@ -3,7 +3,7 @@
 ghost use Rattle.std.specs.Prelude.{◌≡◌, ◌<◌, ◌-◌, List, IfOk};
 ghost use Rattle.tw_msgs.specs.declared.record.Record.{Record};
 ghost use Rattle.tw_seq.specs.Parts.{IsSimulating};
-ghost use Rattle.tw_seq.specs.Stepping.{IsStep};
+ghost use Rattle.tw_seq.specs.Stepping.{IsAdvanced};
 ghost use Rattle.tw_theory.specs.Simulator.{round_time};
 ghost use Rattle.tw_vtime.specs.Stamps.{stamp};
 
@@ -12,7 +12,7 @@ use crate::reached::Reached;
 use std::alloc::{AllocError, Global};
 use tw_atomic::Atomic;
 use tw_network::Network;
-use tw_seq::{Receiver, Simulation, Step, advance};
+use tw_seq::{Advanced, Receiver, Simulation, advance};
 
 /// Who knows how far a run is.
 pub trait Counting {
@@ -31,10 +31,10 @@ pub fn advance_telling<M: Atomic, R: Receiver + Counting, L: Listener>(
     outputs: &mut R,
     transitions: &mut R,
     listener: &mut L,
-) -> Result<Step, AllocError>
+) -> Result<Advanced, AllocError>
     requires { (done : List Record) × IsSimulating M.valid M.meaning network.now done simulation.old }
-    ensures step { IfOk result (IsStep R.takes M.valid M.meaning network.now simulation.old simulation.new outputs.old outputs.new transitions.old transitions.new) }
-    ensures sooner { IfOk result (λ step. step ≡ Step.Round → stamp simulation.old.until 0 0 - round_time simulation.new.run.at < stamp simulation.old.until 0 0 - round_time simulation.old.run.at) }
+    ensures step { IfOk result (IsAdvanced R.takes M.valid M.meaning network.now simulation.old simulation.new outputs.old outputs.new transitions.old transitions.new) }
+    ensures sooner { IfOk result (λ step. step ≡ Advanced.Round → stamp simulation.old.until 0 0 - round_time simulation.new.run.at < stamp simulation.old.until 0 0 - round_time simulation.old.run.at) }
     ensures until { simulation.new.until ≡ simulation.old.until }
 {
     let step = advance(alloc, network, simulation, outputs, transitions)?;

@@ -10,8 +10,8 @@ use crate::reached::Reached;
 use std::alloc::Global;
 use tw_atomic::Atomic;
 use tw_network::Network;
-use tw_seq::{SeqRefused, Step, advance, begin, meets_no_limit};
-use tw_vtime::{Limit, MAX_TICK, Stamp};
+use tw_seq::{Advanced, Fault, SeqRefused, advance, begin, meets_no_limit};
+use tw_vtime::MAX_TICK;
 
 /// The limit fault that ends the run of a network up to an end tick, or none, as [`tw_seq::outcome`] gives it: no record is kept, and
 /// where the models tell beforehand that no limit can be met, no round is made. After each round the listener hears how far this
@@ -24,7 +24,7 @@ pub fn outcome_telling<M: Atomic, L: Listener>(
     network: &Network<M>,
     until: u64,
     listener: &mut L,
-) -> Result<Option<(usize, Stamp, Limit)>, SeqRefused>
+) -> Result<Option<Fault>, SeqRefused>
     ensures fault { IfOk result (λ fault. fault ≡ (sequential (network_of M.meaning network.now) until).fault) }
     ensures bad_tick { IsErrOf result SeqRefused.BadTick ↔ (max_tick < until) }
 {
@@ -43,8 +43,8 @@ pub fn outcome_telling<M: Atomic, L: Listener>(
             &mut transitions,
         )?;
         match step {
-            Step::Round => listener.hear(unwritten(outputs.with(transitions))),
-            Step::End(fault) => return Ok(fault),
+            Advanced::Round => listener.hear(unwritten(outputs.with(transitions))),
+            Advanced::End(fault) => return Ok(fault),
         }
     }
 }

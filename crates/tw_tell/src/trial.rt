@@ -7,7 +7,7 @@ use crate::reached::Reached;
 use std::alloc::Global;
 use tw_atomic::Atomic;
 use tw_network::Network;
-use tw_seq::{SeqRefused, Step, advance, begin};
+use tw_seq::{Advanced, SeqRefused, advance, begin};
 
 /// Who looks at the first rounds of a run. What it does with that is no part of the run.
 pub trait Judge {
@@ -40,12 +40,12 @@ pub fn try_out<M: Atomic, J: Judge>(
             &mut transitions,
         )?;
         match step {
-            Step::Round => {
+            Advanced::Round => {
                 if !judge.wants_more(outputs.with(transitions)) {
                     return Ok(());
                 }
             }
-            Step::End(_) => return Ok(()),
+            Advanced::End(_) => return Ok(()),
         }
     }
 }

@@ -108,7 +108,7 @@ impl Lines {
     }
 }
 
-// Has the text of a stamp's time at hand.
+/// Has the text of a stamp's time at hand.
 fn keep_time(last: &mut Option<Stamp>, time: &mut String, at: Stamp) -> Result<(), AllocError>
     requires { IfSome last.old (λ s. string_bytes time.old ≡ time_text s) }
     ensures still { IfSome last.new (λ s. string_bytes time.new ≡ time_text s) }

@@ -10,12 +10,12 @@
 //! components come from a [`Names`], so that this crate knows no network.
 #![tactic(auto)]
 
-pub mod gathered;
-pub mod items;
+mod gathered;
+mod items;
 mod lines;
-pub mod names;
-pub mod texts;
-pub mod traces;
+mod names;
+mod texts;
+mod traces;
 
 pub use gathered::Lines;
 pub use items::{push_message, sign_name};

@@ -18,7 +18,7 @@ use std::alloc::AllocError;
 use tw_msgs::{Record, RecordKind};
 use tw_vtime::{Limit, Stamp};
 
-// A number in decimal.
+/// A number in decimal.
 fn add_number<I: Integer>(text: &mut String, number: I) -> Result<(), AllocError>
     ensures { OnOk result (string_bytes text.new ≡ string_bytes text.old ++ I.text number) }
 {

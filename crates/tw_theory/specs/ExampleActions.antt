@@ -195,4 +195,4 @@ pub record FaultAtGvt : Type 0 where
   -- the step that meets it is refused, again and again, and is the run's fault once gvt has come to it
   pub answered : Answers ring Aggressive (to_the_limit ++ Step 1 ∷ Raise ∷ Step 1 ∷ []) (to_the_limit_answers ++ Err (OverLimit Microstep) ∷ Ok (Raised (stamp 3 3 1)) ∷ Err (OverLimit Microstep) ∷ [])
   pub going : state ring until (after ring Aggressive to_the_limit) ≡ Going
-  pub shown : state ring until (after ring Aggressive (to_the_limit ++ Raise ∷ [])) ≡ Fault 1 (stamp 3 3 1) Microstep
+  pub shown : state ring until (after ring Aggressive (to_the_limit ++ Raise ∷ [])) ≡ Fault (record { component = 1; stamp = stamp 3 3 1; limit = Microstep })

@@ -4,12 +4,11 @@ use Rattle.tw_msgs.specs.Bags.{Bag}
 use Rattle.tw_msgs.specs.declared.record.Record.{Record}
 use Rattle.tw_msgs.specs.declared.record_kind.RecordKind.TheVariants.{Out, Int, Ext, Con}
 use Rattle.tw_vtime.specs.Stamps.{stamp}
-use Rattle.tw_vtime.specs.declared.limits.Limit.{Limit}
 use Rattle.tw_vtime.specs.declared.limits.Limit.TheVariants.{Microstep, Tick}
 use Rattle.tw_theory.specs.ExampleModels.{State}
 use Rattle.tw_theory.specs.ExampleNetworks.{gen_tally, no_components, two_gens, relay_row, ring, to_and_fro, lone}
 use Rattle.tw_theory.specs.Network.{Network}
-use Rattle.tw_theory.specs.Simulator.{sequential}
+use Rattle.tw_theory.specs.Simulator.{Fault, sequential}
 
 -- ---- records of component c at tick t and microstep m
 
@@ -30,7 +29,7 @@ abbrev pub item : ℕ → Bag
 item v = (0, pos v) ∷ []
 
 -- the run up to tick `until` gives these records and this fault
-pub record IsTraced (net : Network State) (until : ℕ) (records : List Record) (fault : Option (ℕ × ℕ × Limit)) : Type 0 where
+pub record IsTraced (net : Network State) (until : ℕ) (records : List Record) (fault : Option Fault) : Type 0 where
   pub records_are : (sequential net until).records ≡ records
   pub fault_is : (sequential net until).fault ≡ fault
 
@@ -87,7 +86,7 @@ MicrostepFault =
     ∷ out 3 1 0 (item 1) ∷ int 3 1 0 (pos 0 ∷ []) ∷ ext 3 1 1 (item 1) (pos 0 ∷ pos 1 ∷ [])
     ∷ out 3 2 1 (item 1) ∷ ext 3 2 0 (item 1) (pos 0 ∷ pos 1 ∷ []) ∷ int 3 2 1 (pos 0 ∷ [])
     ∷ out 3 3 0 (item 1) ∷ []
-    ) (Some (1, stamp 3 3 1, Microstep))
+    ) (Some (record { component = 1; stamp = stamp 3 3 1; limit = Microstep }))
 
 -- imminent and receiving at once: confluent
 abbrev pub MutualConfluent : Type 0
@@ -105,4 +104,4 @@ LastTick = IsTraced (lone 1099511627774) 1099511627774 [] None
 
 -- a second period would lead past the greatest tick
 abbrev pub TickFault : Type 0
-TickFault = IsTraced (lone 1099511627773) 1099511627774 (out 1099511627773 0 0 (item 1) ∷ []) (Some (0, stamp 1099511627773 0 1, Tick))
+TickFault = IsTraced (lone 1099511627773) 1099511627774 (out 1099511627773 0 0 (item 1) ∷ []) (Some (record { component = 0; stamp = stamp 1099511627773 0 1; limit = Tick }))

@@ -33,7 +33,7 @@ limit_of (Err NothingDue) = None
 
 abbrev pub fault_at : ℕ → ℕ → Option Limit → RunState → RunState
 fault_at c g None rest = rest
-fault_at c g (Some limit) rest = Fault c g limit
+fault_at c g (Some limit) rest = Fault (record { component = c; stamp = g; limit = limit })
 
 -- the first process, from number b on, whose next step is at g and meets a limit
 abbrev pub first_fault : {S : Type 0} → Network S → ℕ → ℕ → List (Process S) → RunState
@@ -55,5 +55,5 @@ state net until w =
 -- a run that is complete, or that ended in a fault, with this trace
 abbrev pub IsOutcome : {S : Type 0} → Network S → ℕ → RunState → List Record → Type 0
 IsOutcome net until Complete trace = ((sequential net until).fault ≡ None) × (trace ≡ (sequential net until).records)
-IsOutcome net until (Fault c s limit) trace = ((sequential net until).fault ≡ Some (c, s, limit)) × (trace ≡ before s (sequential net until).records)
+IsOutcome net until (Fault met) trace = ((sequential net until).fault ≡ Some met) × (trace ≡ before met.stamp (sequential net until).records)
 IsOutcome net until Going trace = ⊥

@@ -4,6 +4,7 @@
 --     records_before net until c s      the records of component c before stamp s
 --     moment_at net until c s      where component c stands after its transitions before stamp s
 use Rattle.std.specs.Prelude.{ℕ, zero, suc, ◌+◌, ◌-◌, min, List, [], ◌∷◌, ◌++◌, map, Bool, true, false, ◌&&◌, ◌==◌, nat_lt, if◌then◌else◌, Option, Some, None, Result, Ok, Err, slice_get, filter}
+pub use Rattle.tw_actions.specs.declared.fault.Fault.{Fault}
 use Rattle.tw_msgs.specs.Bags.{Bag, sorted_bag}
 use Rattle.tw_msgs.specs.declared.message.Message.{Message}
 use Rattle.tw_msgs.specs.declared.record.Record.{Record}
@@ -110,11 +111,11 @@ turned_moments (now ∷ moments) (Stops limit ∷ turns) = now ∷ turned_moment
 
 -- ---- rounds
 
--- where the network stands, all records so far, and the fault that ended the run: component, stamp and limit
+-- where the network stands, all records so far, and the fault that ended the run
 pub record Run (S : Type 0) : Type 0 where
   pub at : Configuration S
   pub records : List Record
-  pub fault : Option (ℕ × ℕ × Limit)
+  pub fault : Option Fault
 
 -- with a fault the outputs of the round count and none of its transitions
 abbrev pub round_end : {S : Type 0} → Run S → ℕ → List Record → List (RoundTurn S) → Option (ℕ × Limit) → Run S
@@ -123,7 +124,7 @@ round_end run t outs turns None = record {
   records = run.records ++ (outs ++ turn_records turns);
   fault = None;
 }
-round_end run t outs turns (Some stop) = record { at = run.at; records = run.records ++ outs; fault = Some (stop.0, t + 1, stop.1) }
+round_end run t outs turns (Some stop) = record { at = run.at; records = run.records ++ outs; fault = Some (record { component = stop.0; stamp = t + 1; limit = stop.1 }) }
 
 -- first all outputs, then their routing together with the inputs due, then all transitions
 unfoldable pub round : {S : Type 0} → Network S → Run S → ℕ → Run S
@@ -134,7 +135,7 @@ round net run t =
     round_end run t outs all (first_stop 0 all)
 
 -- at most n rounds, each of a time before the bound
-abbrev pub rounds_from : {S : Type 0} → Network S → ℕ → ℕ → Run S → Option (ℕ × ℕ × Limit) → Run S
+abbrev pub rounds_from : {S : Type 0} → Network S → ℕ → ℕ → Run S → Option Fault → Run S
 rounds_from net bound zero run fault = run
 rounds_from net bound (suc n) run (Some fault) = run
 rounds_from net bound (suc n) run None =

@@ -9,14 +9,13 @@ use Rattle.tw_msgs.specs.declared.message.Item.{Item}
 use Rattle.tw_msgs.specs.declared.message.Message.{Message}
 use Rattle.tw_msgs.specs.declared.record.Record.{Record}
 use Rattle.tw_vtime.specs.Stamps.{stamp}
-use Rattle.tw_vtime.specs.declared.limits.Limit.{Limit}
 use Rattle.tw_theory.specs.Balance.{Balance}
 use Rattle.tw_theory.specs.Bundles.{addressed}
 use Rattle.tw_theory.specs.Contents.{Cancel, Aggressive, Process, inputs, Stands}
 use Rattle.tw_theory.specs.Executive.{World, mail_of, column_of, least_of}
 use Rattle.tw_theory.specs.LocalRun.{Step}
 use Rattle.tw_theory.specs.Network.{Network, count_of, Fits}
-use Rattle.tw_theory.specs.Simulator.{sequential, up_to, records_before, moment_at}
+use Rattle.tw_theory.specs.Simulator.{Fault, sequential, up_to, records_before, moment_at}
 use Rattle.tw_theory.specs.Transitions.{Moment, start_moment}
 
 -- ---- the start
@@ -80,7 +79,7 @@ pub record IsSoundProcess {S : Type 0} (net : Network S) (until gvt c : ℕ) (co
   pub fit_owed : Each (Fits net) p.owed
   -- no line passes gvt, or the fault of the sequential simulator
   pub line_le : p.line ≤ gvt
-  pub line_le_fault : (b s : ℕ) (limit : Limit) → (sequential net until).fault ≡ Some (b, s, limit) → up_to until p.line ≤ s
+  pub line_le_fault : (met : Fault) → (sequential net until).fault ≡ Some met → up_to until p.line ≤ met.stamp
 
 -- it cancels so; and where anti-messages are made at once, nothing is owed
 pub record Cancels {S : Type 0} (cancel : Cancel) (p : Process S) : Type 0 where

@@ -7,7 +7,7 @@ ghost use Rattle.tw_tournament.specs.Winners.{at, IsPower, IsWon, PlayFor};
 use std::alloc::AllocError;
 use tw_vtime::Stamp;
 
-// Lists the numbers of this time below a place: they are so many from a first one on.
+/// Lists the numbers of this time below a place: they are so many from a first one on.
 pub(crate) fn gather(
     winners: &[Stamp],
     row: usize,
@@ -43,7 +43,7 @@ pub(crate) fn gather(
     Ok(())
 }
 
-// The least number of those at the time of the winner of all.
+/// The least number of those at the time of the winner of all.
 pub(crate) fn first_at(winners: &[Stamp], row: usize, time: Stamp) -> usize
     requires won { IsWon winners.now row }
     requires size { length winners.now ≡ row + row }

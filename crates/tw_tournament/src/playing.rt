@@ -5,7 +5,7 @@ ghost use Rattle.tw_tournament.specs.Winners.{IsWon};
 
 use tw_vtime::Stamp;
 
-// Puts a time at a place of the row, and lets it play its way up.
+/// Puts a time at a place of the row, and lets it play its way up.
 pub(crate) fn play(winners: &mut [Stamp], row: usize, place: usize, time: Stamp)
     requires won { IsWon winners.old row }
     requires size { length winners.old ≡ row + row }

@@ -105,7 +105,7 @@ impl Tournament {
     }
 }
 
-// The length of a row for so many: the least power of two that is not less.
+/// The length of a row for so many: the least power of two that is not less.
 fn row_of(count: usize) -> usize
     requires { count ≤ 4294967296 }
     ensures power { IsPower result }

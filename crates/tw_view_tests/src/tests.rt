@@ -237,7 +237,7 @@ fn assert_stats(
         &mut out,
     );
     let met = ended.ok().expect(rt, "a view");
-    assert!(rt; met.map(|(component, _, _)| component) == fault);
+    assert!(rt; met.map(|met| met.component) == fault);
     assert!(rt; out.as_slice() == wanted.as_bytes());
 }
 
@@ -262,7 +262,7 @@ fn assert_table(
         &mut out,
     );
     let met = ended.ok().expect(rt, "a table");
-    assert!(rt; met.map(|(component, _, _)| component) == fault);
+    assert!(rt; met.map(|met| met.component) == fault);
     assert!(rt; out.as_slice() == wanted.as_bytes());
 }
 

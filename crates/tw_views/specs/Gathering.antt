@@ -7,7 +7,7 @@ use Rattle.std.specs.Prelude.{◌≢◌, ℕ, ℤ, List, Option, Some, None, map
 use Rattle.tw_figures.specs.declared.figure.Measure.{Measure}
 use Rattle.tw_theory.specs.Network.{Network}
 use Rattle.tw_vtime.specs.Stamps.{never, tick_of}
-use Rattle.tw_vtime.specs.declared.limits.Limit.{Limit}
+use Rattle.tw_theory.specs.Simulator.{Fault}
 use Rattle.tw_views.specs.declared.gathering.Labels.{Labels}
 
 abbrev pub start_words : {S : Type 0} → Network S → List (List ℤ)
@@ -17,10 +17,10 @@ abbrev pub measures_in : List Labels → List (List Measure)
 measures_in labels = map (λ l. map (λ f. f.measure) l.figures.items) labels
 
 -- up to the end tick, or up to that of the fault
-abbrev pub run_ticks : ℕ → Option (ℕ × ℕ × Limit) → ℕ
+abbrev pub run_ticks : ℕ → Option Fault → ℕ
 run_ticks until None = until
-run_ticks until (Some fault) = tick_of fault.1
+run_ticks until (Some fault) = tick_of fault.stamp
 
-abbrev pub BeforeEnd : Option (ℕ × ℕ × Limit) → Type 0
+abbrev pub BeforeEnd : Option Fault → Type 0
 BeforeEnd None = Unit {0}
-BeforeEnd (Some fault) = fault.1 ≢ never
+BeforeEnd (Some fault) = fault.stamp ≢ never

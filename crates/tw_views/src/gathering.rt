@@ -15,9 +15,9 @@ use tw_atomic::Atomic;
 use tw_figures::{Figure, Gatherer};
 use tw_msgs::{Record, Words};
 use tw_network::Network;
-use tw_seq::{SeqRefused, Simulation, Step, advance, begin};
+use tw_seq::{Advanced, Fault, SeqRefused, Simulation, advance, begin};
 use tw_tell::{Listener, Reached};
-use tw_vtime::{Limit, Stamp};
+use tw_vtime::Stamp;
 
 /// What a component's model is called, and its figures.
 #[derive(Debug, PartialEq, Eq, Drop)]
@@ -33,9 +33,8 @@ pub struct Labels {
 pub struct Gathering {
     /// The counts and the courses of the figures of each component.
     pub gathered: Gatherer,
-    /// The limit fault that ended the run: the least component that met a limit, the stamp of that round's transitions, and
-    /// which limit.
-    pub fault: Option<(usize, Stamp, Limit)>,
+    /// The limit fault that ended the run.
+    pub fault: Option<Fault>,
     /// How many ticks the run has: up to its end tick, or up to that of its fault.
     pub ticks: u64,
 }
@@ -70,14 +69,14 @@ pub fn gather<M: Atomic, L: Listener>(
 }
 
 /// What is gathered of a run that ends so.
-fn ended(gathered: Gatherer, until: u64, fault: Option<(usize, Stamp, Limit)>) -> Gathering
+fn ended(gathered: Gatherer, until: u64, fault: Option<Fault>) -> Gathering
     requires { BeforeEnd fault }
     ensures gathered { result.gathered ≡ gathered }
     ensures fault { result.fault ≡ fault }
     ensures ticks { result.ticks ≡ run_ticks until fault }
 {
     let ticks = match &fault {
-        Some((_, at, _)) => at.tick(),
+        Some(fault) => fault.stamp.tick(),
         None => until,
     };
     Gathering {
@@ -94,7 +93,7 @@ fn follow<M: Atomic, L: Listener>(
     mut simulation: Simulation<M::State>,
     gathered: &mut Gatherer,
     listener: &mut L,
-) -> Result<Option<(usize, Stamp, Limit)>, AllocError>
+) -> Result<Option<Fault>, AllocError>
     requires so_far { IsSimulating M.valid M.meaning network.now [] simulation }
     requires gathered { (starts : List (List ℤ)) × IsGathered starts [] gathered.old }
     ensures gathered { (starts : List (List ℤ)) → IsGathered starts [] gathered.old
@@ -114,14 +113,14 @@ fn follow<M: Atomic, L: Listener>(
             &mut transitions,
         )?;
         match step {
-            Step::Round => {
+            Advanced::Round => {
                 outputs.append(&mut transitions)?;
                 let records = outputs.as_slice();
                 gathered.take_all(records)?;
                 listener.hear(reached(records, gathered.records));
                 outputs.clear();
             }
-            Step::End(fault) => {
+            Advanced::End(fault) => {
                 gathered.take_all(outputs.as_slice())?;
                 return Ok(fault);
             }

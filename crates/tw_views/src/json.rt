@@ -33,8 +33,8 @@ pub(crate) fn add_json<N: Names>(
         add_component(text, names.name(component), label, part)?;
     }
     text.push_str("]")?;
-    if let Some((component, at, limit)) = report.fault {
-        add_fault(text, names.name(component), at, limit)?;
+    if let Some(fault) = report.fault {
+        add_fault(text, names.name(fault.component), fault.stamp, fault.limit)?;
     }
     text.push_str("}\n")
 }

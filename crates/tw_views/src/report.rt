@@ -15,9 +15,8 @@ use std::alloc::{AllocError, Global};
 use tw_atomic::Atomic;
 use tw_figures::{Counts, Course, Member, Told};
 use tw_network::Network;
-use tw_seq::SeqRefused;
+use tw_seq::{Fault, SeqRefused};
 use tw_tell::Listener;
-use tw_vtime::{Limit, Stamp};
 
 /// What is told of a component.
 #[derive(Debug, Drop)]
@@ -37,9 +36,8 @@ pub struct Report {
     pub records: u64,
     /// The greatest microstep of a record plus one; 0 where there is no record.
     pub microsteps: u64,
-    /// The limit fault that ended the run: the least component that met a limit, the stamp of that round's transitions, and
-    /// which limit.
-    pub fault: Option<(usize, Stamp, Limit)>,
+    /// The limit fault that ended the run.
+    pub fault: Option<Fault>,
 }
 
 /// Simulates a network up to the end tick `until` and tells the counts and the figures of its components: of the records of

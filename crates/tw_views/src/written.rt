@@ -16,14 +16,13 @@ use std::alloc::{AllocError, Global};
 use std::io::Write;
 use tw_atomic::Atomic;
 use tw_network::Network;
+use tw_seq::Fault;
 use tw_tell::Listener;
 use tw_texts::{Names, write_out};
-use tw_vtime::{Limit, Stamp};
 
 /// Writes the counts and the figures of a network's sequential run up to the end tick `until`, with the names of its
-/// components, as tables or, with `json`, as one line of JSON. Answers the limit fault that ended the run, if there was one: the
-/// least component that met a limit, the stamp of that round's transitions, and which limit. They are then of the records
-/// before it, and of the time up to its tick. After each round the listener hears how far the run is.
+/// components, as tables or, with `json`, as one line of JSON. Answers the limit fault that ended the run, if there was one.
+/// They are then of the records before it, and of the time up to its tick. After each round the listener hears how far the run is.
 ///
 /// Refused by [`StatsRefused::BadTick`] (10) exactly where `until` is above 1,099,511,627,774, and by
 /// [`StatsRefused::OutOfMemory`] (4) where a growth of memory was refused, or a count or a sum would pass the range of its
@@ -38,7 +37,7 @@ pub fn stats<M: Atomic, N: Names, L: Listener, W: Write>(
     json: bool,
     listener: &mut L,
     out: &mut W,
-) -> Result<Option<(usize, Stamp, Limit)>, StatsRefused>
+) -> Result<Option<Fault>, StatsRefused>
     requires { length labels.now ≡ length network.now.models }
     ensures fault { IfOk result (λ fault. fault ≡ (sequential (network_of M.meaning network.now) until).fault) }
     ensures bad_tick { IsErrOf result BadTick ↔ (max_tick < until) }

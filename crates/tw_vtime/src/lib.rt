@@ -13,9 +13,9 @@
 //! No call takes memory.
 #![tactic(auto)]
 
-pub mod limits;
-pub mod refusal;
-pub mod stamps;
+mod limits;
+mod refusal;
+mod stamps;
 
 pub use limits::{Limit, advance};
 pub use refusal::Refusal;

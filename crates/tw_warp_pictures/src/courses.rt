@@ -59,7 +59,7 @@ fn draw_course(
 }
 
 impl Course {
-    // Goes on by a step or a fall, where it is the component's.
+    /// Goes on by a step or a fall, where it is the component's.
     fn follow(
         &mut self,
         alloc: Global,
@@ -83,7 +83,7 @@ impl Course {
         }
     }
 
-    // Level until a little before the step, then up to its mark.
+    /// Level until a little before the step, then up to its mark.
     fn climb(
         &mut self,
         alloc: Global,
@@ -105,7 +105,7 @@ impl Course {
         self.mark(alloc, scene, plan, step)
     }
 
-    // The mark of a step: hollow for an output, full for a transition.
+    /// The mark of a step: hollow for an output, full for a transition.
     fn mark(
         &mut self,
         alloc: Global,
@@ -126,7 +126,7 @@ impl Course {
             .path(class.as_str(), &figure, Some(scene.told(step.action)))
     }
 
-    // Level, and then down to where the component stands now.
+    /// Level, and then down to where the component stands now.
     fn fall(
         &mut self,
         alloc: Global,
@@ -155,7 +155,7 @@ impl Course {
         Ok(())
     }
 
-    // A long fall is told beside it.
+    /// A long fall is told beside it.
     fn say(
         &mut self,
         alloc: Global,
@@ -179,7 +179,7 @@ impl Course {
             .turned(middle, -90, "s z q halo", words.as_str(), None)
     }
 
-    // Draws the course under its marks.
+    /// Draws the course under its marks.
     fn draw(&mut self, svg: &mut Svg, alloc: Global, plan: &Plan) -> Result<(), AllocError> {
         let shade = Shade::Of(self.component);
         if !self.gone.is_empty() {
@@ -194,7 +194,7 @@ impl Course {
     }
 }
 
-// How large marks are.
+/// How large marks are.
 fn mark_size(plan: &Plan) -> Points {
     if plan.pitch.is_below(Points::whole(12)) {
         Points::of_tenths(32)
@@ -203,7 +203,7 @@ fn mark_size(plan: &Plan) -> Points {
     }
 }
 
-// A refused action: a cross where its component stands.
+/// A refused action: a cross where its component stands.
 fn draw_refused(
     svg: &mut Svg,
     alloc: Global,

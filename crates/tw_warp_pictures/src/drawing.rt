@@ -65,7 +65,7 @@ pub fn draw_seed<M: Atomic, W: Write>(
     write_picture(&picture, out)
 }
 
-// Hands a picture to a writer.
+/// Hands a picture to a writer.
 fn write_picture<W: Write>(picture: &Svg, out: &mut W) -> Result<(), NotWritten>
     ensures { IfErr result (λ e. e ≡ NotWritten.WriteFailed) }
 {
@@ -75,7 +75,7 @@ fn write_picture<W: Write>(picture: &Svg, out: &mut W) -> Result<(), NotWritten>
     }
 }
 
-// The picture of what was seen of an executive.
+/// The picture of what was seen of an executive.
 fn picture<M: Atomic>(
     alloc: Global,
     executive: &Executive<M>,
@@ -98,7 +98,7 @@ fn picture<M: Atomic>(
     Ok(whole)
 }
 
-// All below the legend, from the ground up. How far down it reaches, in points.
+/// All below the legend, from the ground up. How far down it reaches, in points.
 fn draw_body(body: &mut Svg, alloc: Global, scene: &Scene, plan: &Plan) -> Result<i64, AllocError> {
     draw_ground(body, alloc, scene, plan)?;
     draw_messages(body, alloc, scene, plan)?;

@@ -27,7 +27,7 @@ pub(crate) fn draw_ground(
     draw_edges(svg, alloc, plan)
 }
 
-// Ticks with several microsteps stand on a ground of their own.
+/// Ticks with several microsteps stand on a ground of their own.
 fn draw_opened(svg: &mut Svg, plan: &Plan) -> Result<(), AllocError> {
     let stops = plan.axis.stops();
     for (place, stop) in stops.iter().enumerate() {
@@ -42,7 +42,7 @@ fn draw_opened(svg: &mut Svg, plan: &Plan) -> Result<(), AllocError> {
     Ok(())
 }
 
-// The ground of an opened tick, down from its last microstep.
+/// The ground of an opened tick, down from its last microstep.
 fn draw_band(svg: &mut Svg, plan: &Plan, stop: &Stop, slots: Points) -> Result<(), AllocError> {
     let edge = Points::whole(3);
     let high = plan.stop_y(stop) - plan.lift() - edge;
@@ -55,7 +55,7 @@ fn draw_band(svg: &mut Svg, plan: &Plan, stop: &Stop, slots: Points) -> Result<(
     )
 }
 
-// A level line at each tick that is told.
+/// A level line at each tick that is told.
 fn draw_grid(svg: &mut Svg, alloc: Global, plan: &Plan, ticks: &[u64]) -> Result<(), AllocError> {
     let mut path = Path::new(alloc);
     for tick in ticks {
@@ -65,7 +65,7 @@ fn draw_grid(svg: &mut Svg, alloc: Global, plan: &Plan, ticks: &[u64]) -> Result
     svg.path("grid", &path, None)
 }
 
-// Global virtual time: a staircase.
+/// Global virtual time: a staircase.
 fn stair(alloc: Global, scene: &Scene, plan: &Plan) -> Result<Path, AllocError> {
     let mut path = Path::new(alloc);
     let mut y = plan.y(Some(Stamp::START));
@@ -82,7 +82,7 @@ fn stair(alloc: Global, scene: &Scene, plan: &Plan) -> Result<Path, AllocError> 
     Ok(path)
 }
 
-// What is below global virtual time is final.
+/// What is below global virtual time is final.
 fn draw_past(svg: &mut Svg, alloc: Global, scene: &Scene, plan: &Plan) -> Result<(), AllocError> {
     let mut path = stair(alloc, scene, plan)?;
     path.down(plan.base + Points::whole(4))?;
@@ -110,12 +110,12 @@ pub(crate) fn draw_final(
     Ok(())
 }
 
-// Where words stand that are told of the axis.
+/// Where words stand that are told of the axis.
 fn margin(plan: &Plan) -> Points {
     plan.left - Points::whole(8)
 }
 
-// The ticks.
+/// The ticks.
 fn draw_labels(svg: &mut Svg, alloc: Global, plan: &Plan, ticks: &[u64]) -> Result<(), AllocError> {
     for tick in ticks {
         let words = tick_text(alloc, *tick)?;
@@ -125,7 +125,7 @@ fn draw_labels(svg: &mut Svg, alloc: Global, plan: &Plan, ticks: &[u64]) -> Resu
     Ok(())
 }
 
-// The microsteps of opened ticks, where there is room.
+/// The microsteps of opened ticks, where there is room.
 fn draw_microsteps(svg: &mut Svg, alloc: Global, plan: &Plan) -> Result<(), AllocError> {
     if plan.slot.is_below(Points::whole(10)) {
         return Ok(());
@@ -152,7 +152,7 @@ fn draw_microstep(
     svg.text(spot, "s z r", words.as_str(), Some(told.as_str()))
 }
 
-// Where a silence is cut, and how long it is.
+/// Where a silence is cut, and how long it is.
 fn draw_cuts(svg: &mut Svg, alloc: Global, plan: &Plan) -> Result<(), AllocError> {
     for stop in plan.axis.stops() {
         if stop.cut {
@@ -171,7 +171,7 @@ fn draw_cut(svg: &mut Svg, alloc: Global, plan: &Plan, stop: &Stop) -> Result<()
     svg.text(spot, "s z", words.as_str(), None)
 }
 
-// The ends of the axis.
+/// The ends of the axis.
 fn draw_edges(svg: &mut Svg, alloc: Global, plan: &Plan) -> Result<(), AllocError> {
     let x = margin(plan);
     svg.text(

@@ -45,7 +45,7 @@ pub(crate) fn draw_keys(
     Ok(keys.legend.bottom())
 }
 
-// How much there is of what.
+/// How much there is of what.
 fn facts(alloc: Global, scene: &Scene) -> Result<String, AllocError> {
     let seen = &scene.seen;
     let mut text = many(alloc, scene.components() as u64, "component")?;
@@ -80,7 +80,7 @@ fn push_fact(text: &mut String, fact: &str) -> Result<(), AllocError> {
     text.push_str(fact)
 }
 
-// What is left out.
+/// What is left out.
 fn missing(alloc: Global, scene: &Scene) -> Result<Vec<String>, AllocError> {
     let mut lines = Vec::new(alloc);
     if scene.seen.goes_on {
@@ -100,7 +100,7 @@ struct Keys {
 }
 
 impl Keys {
-    // What is in the picture, and no more.
+    /// What is in the picture, and no more.
     fn draw(&mut self, svg: &mut Svg, scene: &Scene, axis: &Axis) -> Result<(), AllocError> {
         let count = scene.shown.len();
         if count > 1 && count <= NAMED {
@@ -113,7 +113,7 @@ impl Keys {
         self.time(svg, axis)
     }
 
-    // The middle of a sample of 8 points.
+    /// The middle of a sample of 8 points.
     fn mark(&mut self, svg: &mut Svg, words: &str) -> Result<Spot, AllocError> {
         let spot = self.legend.entry(svg, Points::whole(8), words)?;
         Ok(spot.moved(Points::whole(4), Points::ZERO))
@@ -226,7 +226,7 @@ impl Keys {
         )
     }
 
-    // Global virtual time, what is committed, and what is refused.
+    /// Global virtual time, what is committed, and what is refused.
     fn final_time(&mut self, svg: &mut Svg, scene: &Scene) -> Result<(), AllocError> {
         self.stair(svg)?;
         if !scene.seen.commits.is_empty() {
@@ -247,7 +247,7 @@ impl Keys {
         Ok(())
     }
 
-    // What the axis of virtual time has.
+    /// What the axis of virtual time has.
     fn time(&mut self, svg: &mut Svg, axis: &Axis) -> Result<(), AllocError> {
         if axis.has_opened() {
             let words = "microsteps of one tick";

@@ -15,7 +15,7 @@ pub(crate) enum Shade {
 }
 
 impl Shade {
-    // The number of the colour: there are seven, and one for what is of no component.
+    /// The number of the colour: there are seven, and one for what is of no component.
     fn number(self) -> usize {
         match self {
             Shade::Of(component) => component % 7,
@@ -137,7 +137,7 @@ pub(crate) struct Fall {
 }
 
 impl Fall {
-    // The class of the cause: whole, dashed or dotted.
+    /// The class of the cause: whole, dashed or dotted.
     fn class(&self) -> &'static str {
         match self.cause {
             Cause::Straggler => "straggler",
@@ -146,7 +146,7 @@ impl Fall {
         }
     }
 
-    // Where the thick part ends: it is 10 points long at least, and ends above the foot.
+    /// Where the thick part ends: it is 10 points long at least, and ends above the foot.
     fn middle(&self) -> Points {
         let low = self.to - Points::whole(3);
         low.least(self.undone.most(self.from + Points::whole(10)))
@@ -173,7 +173,7 @@ impl Fall {
         svg.path(shade.filled(), &foot, None)
     }
 
-    // A part of its line.
+    /// A part of its line.
     fn line(
         &self,
         svg: &mut Svg,
@@ -191,7 +191,7 @@ impl Fall {
     }
 }
 
-// The foot of a fall: a full head, an open one, or a bar.
+/// The foot of a fall: a full head, an open one, or a bar.
 fn add_foot(path: &mut Path, cause: Cause, spot: Spot) -> Result<(), AllocError> {
     path.start(spot)?;
     match cause {
@@ -207,7 +207,7 @@ fn add_foot(path: &mut Path, cause: Cause, spot: Spot) -> Result<(), AllocError>
     path.close()
 }
 
-// Lines from where the pen is, each so many tenths of a point right and down.
+/// Lines from where the pen is, each so many tenths of a point right and down.
 fn add_strokes(path: &mut Path, strokes: &[(i64, i64)]) -> Result<(), AllocError> {
     for (right, down) in strokes {
         path.by(Points::of_tenths(*right), Points::of_tenths(*down))?;

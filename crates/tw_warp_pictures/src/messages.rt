@@ -21,7 +21,7 @@ pub(crate) fn draw_messages(
     Ok(())
 }
 
-// A line from where it was made, and a ring where it was delivered; what is not delivered goes to the right edge.
+/// A line from where it was made, and a ring where it was delivered; what is not delivered goes to the right edge.
 fn draw_message(
     svg: &mut Svg,
     alloc: Global,
@@ -48,7 +48,7 @@ fn draw_message(
     svg.close()
 }
 
-// Where its line begins and ends.
+/// Where its line begins and ends.
 fn ends(plan: &Plan, carried: &Carried) -> (Spot, Spot) {
     let sending = carried.sending;
     let message = carried.item.message;
@@ -65,7 +65,7 @@ fn ends(plan: &Plan, carried: &Carried) -> (Spot, Spot) {
     (from, Spot::new(x, plan.y_of(message.to, at)))
 }
 
-// The line: upwards for a message, downwards for an anti-message, a little otherwise for each receiver.
+/// The line: upwards for a message, downwards for an anti-message, a little otherwise for each receiver.
 fn bow(alloc: Global, carried: &Carried, from: Spot, to: Spot) -> Result<Path, AllocError> {
     let long = to.x - from.x;
     let lane = counted(carried.item.message.to % 3);
@@ -103,7 +103,7 @@ fn draw_head(svg: &mut Svg, alloc: Global, spot: Spot, shade: Shade) -> Result<(
     svg.path(class.as_str(), &path, None)
 }
 
-// What is told of a message.
+/// What is told of a message.
 fn told_of(alloc: Global, scene: &Scene, carried: &Carried) -> Result<String, AllocError> {
     let kind = match carried.item.sign {
         Sign::Positive => "message",

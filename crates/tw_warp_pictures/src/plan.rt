@@ -162,7 +162,7 @@ impl Plan {
     }
 }
 
-// How much room the ticks at the left take.
+/// How much room the ticks at the left take.
 fn left_edge(alloc: Global, axis: &Axis) -> Result<Points, AllocError> {
     let last = axis.stops().last().map_or(0, |stop| stop.time.tick);
     let told = tick_text(alloc, last)?;
@@ -179,13 +179,13 @@ pub(crate) fn right_edge(alloc: Global, scene: &Scene) -> Result<Points, AllocEr
     Ok(Points::whole(30) + Points::of_tenths(74).times(counted(letters)))
 }
 
-// How far components at one time are beside each other, in hundredths of a point.
+/// How far components at one time are beside each other, in hundredths of a point.
 fn side_of(unit: Points, components: i64) -> i64 {
     let all = unit.tenths().saturating_mul(3);
     all.checked_div(components.max(1)).unwrap_or(0).min(200)
 }
 
-// The axis of the times at which anything happens.
+/// The axis of the times at which anything happens.
 fn axis_of(alloc: Global, scene: &Scene) -> Result<Axis, AllocError> {
     let mut stamps = Vec::new(alloc);
     stamps.push(Stamp::START.pack())?;
@@ -204,7 +204,7 @@ fn axis_of(alloc: Global, scene: &Scene) -> Result<Axis, AllocError> {
     Axis::new(alloc, times.as_slice(), 0, last.max(1))
 }
 
-// The times of stamps that are in order, each once, without the end.
+/// The times of stamps that are in order, each once, without the end.
 fn times_of(alloc: Global, stamps: &[u64]) -> Result<Vec<Time>, AllocError> {
     let mut times: Vec<Time> = Vec::new(alloc);
     for packed in stamps {
@@ -217,7 +217,7 @@ fn times_of(alloc: Global, stamps: &[u64]) -> Result<Vec<Time>, AllocError> {
     Ok(times)
 }
 
-// The time of a packed stamp; none of the end.
+/// The time of a packed stamp; none of the end.
 fn time_of(packed: u64) -> Option<Time> {
     let Ok(stamp) = Stamp::unpack(packed) else {
         return None;
@@ -231,7 +231,7 @@ fn time_of(packed: u64) -> Option<Time> {
     })
 }
 
-// How wide time is drawn: 60 points a tick, 22 a microstep, or so much less that the axis has room.
+/// How wide time is drawn: 60 points a tick, 22 a microstep, or so much less that the axis has room.
 fn fitted(axis: &mut Axis, room: Points) -> Spread {
     let mut spread = Spread {
         unit: Unit::new(Points::whole(60), 1),

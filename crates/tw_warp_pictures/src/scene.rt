@@ -54,7 +54,7 @@ impl Scene {
         Ok(scene)
     }
 
-    // Tells each action.
+    /// Tells each action.
     fn tell(&mut self, alloc: Global) -> Result<(), AllocError> {
         for (place, acted) in self.seen.actions.iter().enumerate() {
             let words = words_of(alloc, self.names.as_slice(), acted.command)?;
@@ -99,7 +99,7 @@ impl Scene {
     }
 }
 
-// The text at a place; past the last nothing.
+/// The text at a place; past the last nothing.
 fn name_in(texts: &[String], place: usize) -> &str {
     match texts.get(place) {
         Some(text) => text.as_str(),
@@ -107,7 +107,7 @@ fn name_in(texts: &[String], place: usize) -> &str {
     }
 }
 
-// The names of the components.
+/// The names of the components.
 fn names_of<M: Atomic>(alloc: Global, executive: &Executive<M>) -> Result<Vec<String>, AllocError> {
     let network = executive.network();
     let mut names = Vec::new(alloc);
@@ -117,12 +117,12 @@ fn names_of<M: Atomic>(alloc: Global, executive: &Executive<M>) -> Result<Vec<St
     Ok(names)
 }
 
-// Whether steps are cancelled lazily.
+/// Whether steps are cancelled lazily.
 fn is_lazy<M: Atomic>(executive: &Executive<M>) -> bool {
     !executive.network().is_empty() && executive.contents(0).cancel() == Cancel::Lazy
 }
 
-// The components that did something, or were to.
+/// The components that did something, or were to.
 fn shown_in(alloc: Global, seen: &Seen) -> Result<Vec<usize>, AllocError> {
     let mut shown = Vec::new(alloc);
     for (component, end) in seen.ends.iter().enumerate() {
@@ -133,14 +133,14 @@ fn shown_in(alloc: Global, seen: &Seen) -> Result<Vec<usize>, AllocError> {
     Ok(shown)
 }
 
-// Whether an action was for a component.
+/// Whether an action was for a component.
 fn is_named(seen: &Seen, component: usize) -> bool {
     seen.actions
         .iter()
         .any(|acted| acted.component() == Some(component))
 }
 
-// What a command says, as the line of a script.
+/// What a command says, as the line of a script.
 fn words_of(alloc: Global, names: &[String], command: Command) -> Result<String, AllocError> {
     let mut text = String::new(alloc);
     match command {
@@ -177,7 +177,7 @@ fn push_back(text: &mut String, name: &str, stamp: Stamp) -> Result<(), AllocErr
     write!(text, " {stamp}")
 }
 
-// What is told of an action: its number, its words and its reply.
+/// What is told of an action: its number, its words and its reply.
 fn told_of(alloc: Global, place: usize, words: &str, acted: &Acted) -> Result<String, AllocError> {
     let number = place.saturating_add(1);
     let mut text = String::new(alloc);

@@ -107,7 +107,7 @@ fn draw_stroke(
     svg.wide_path(class.as_str(), &path, wide, Some(scene.told(action)))
 }
 
-// The words of each action, from the lower left.
+/// The words of each action, from the lower left.
 fn draw_words(
     svg: &mut Svg,
     scene: &Scene,
@@ -125,7 +125,7 @@ fn draw_words(
     Ok(top + Points::whole(30) + Points::of_tenths(46).times(counted(letters)))
 }
 
-// The numbers of some actions.
+/// The numbers of some actions.
 fn draw_numbers(svg: &mut Svg, alloc: Global, plan: &Plan, top: Points) -> Result<(), AllocError> {
     let y = top + Points::whole(22);
     let x = plan.left - Points::whole(8);
@@ -140,7 +140,7 @@ fn draw_numbers(svg: &mut Svg, alloc: Global, plan: &Plan, top: Points) -> Resul
     Ok(())
 }
 
-// How far numbers are apart, in actions: round, and 46 points at least.
+/// How far numbers are apart, in actions: round, and 46 points at least.
 fn step_of(plan: &Plan) -> usize {
     for step in [1, 2, 5, 10, 20, 50] {
         if !plan.pitch.times(step).is_below(Points::whole(46)) {

@@ -130,7 +130,7 @@ impl Notes {
         Ok(())
     }
 
-    // A step, and what it sends.
+    /// A step, and what it sends.
     fn step<M: Atomic>(
         &mut self,
         executive: &Executive<M>,
@@ -161,7 +161,7 @@ impl Notes {
         lane.send(outgoing_len(executive, component), &sending)
     }
 
-    // The outgoing items, and the anti-messages that the Post settled, are in the mailboxes.
+    /// The outgoing items, and the anti-messages that the Post settled, are in the mailboxes.
     fn post<M: Atomic>(
         &mut self,
         alloc: Global,
@@ -190,7 +190,7 @@ impl Notes {
         Ok(())
     }
 
-    // A delivery, and the rollback for which it is the cause.
+    /// A delivery, and the rollback for which it is the cause.
     fn deliver<M: Atomic>(
         &mut self,
         executive: &Executive<M>,
@@ -218,7 +218,7 @@ impl Notes {
         self.fall(executive, action, component, cause, reached)
     }
 
-    // A rollback, where there is one, and the anti-messages that it makes.
+    /// A rollback, where there is one, and the anti-messages that it makes.
     fn fall<M: Atomic>(
         &mut self,
         executive: &Executive<M>,
@@ -252,7 +252,7 @@ impl Notes {
         lane.send(outgoing_len(executive, component), &sending)
     }
 
-    // A rise of global virtual time.
+    /// A rise of global virtual time.
     fn raise<M: Atomic>(
         &mut self,
         executive: &Executive<M>,
@@ -265,7 +265,7 @@ impl Notes {
         Ok(())
     }
 
-    // A harvest.
+    /// A harvest.
     fn harvest<M: Atomic>(
         &mut self,
         executive: &Executive<M>,
@@ -288,7 +288,7 @@ impl Notes {
         Ok(())
     }
 
-    // A rewind: each component falls for itself.
+    /// A rewind: each component falls for itself.
     fn rewind<M: Atomic>(
         &mut self,
         executive: &Executive<M>,
@@ -301,13 +301,13 @@ impl Notes {
     }
 }
 
-// Where the component of an action stands.
+/// Where the component of an action stands.
 fn place_after<M: Atomic>(executive: &Executive<M>, action: Action) -> Option<Stamp> {
     let component = component_of(action)?;
     place(executive, component)
 }
 
-// How many falls of an action came before the next one, where this is the last.
+/// How many falls of an action came before the next one, where this is the last.
 fn rank_after(last: Option<&Fallen>, action: usize) -> usize {
     match last {
         Some(last) if last.action == action => last.rank.saturating_add(1),

@@ -6,7 +6,7 @@ use std::alloc::{AllocError, Global};
 use tw_atomic::Atomic;
 use tw_exec::Refused;
 use tw_inspect::Reply;
-use tw_play::{Answer, Player};
+use tw_play::{Player, Response};
 use tw_script::{Command, Schedule};
 
 /// As many actions are watched.
@@ -61,12 +61,12 @@ pub fn watch_seed<M: Atomic>(
     ended(player, notes)
 }
 
-// Whether a command changes nothing.
+/// Whether a command changes nothing.
 fn is_shown(command: Command) -> bool {
     matches!(command, Command::Show | Command::Describe(_))
 }
 
-// A player obeys a command, and what comes of it is noted.
+/// A player obeys a command, and what comes of it is noted.
 fn watch<M: Atomic>(
     alloc: Global,
     player: &mut Player<M>,
@@ -74,7 +74,7 @@ fn watch<M: Atomic>(
     command: &Command,
 ) -> Result<(), AllocError> {
     let before = Before::new(alloc, player.executive(), *command)?;
-    let Answer::Reply(reply) = player.obey(alloc, *command) else {
+    let Response::Reply(reply) = player.obey(alloc, *command) else {
         return Ok(());
     };
     let executive = player.executive();
@@ -86,7 +86,7 @@ fn watch<M: Atomic>(
     }
 }
 
-// What was seen, with how things stand at the end.
+/// What was seen, with how things stand at the end.
 fn ended<M: Atomic>(player: &Player<M>, mut notes: Notes) -> Result<Seen, AllocError> {
     notes.end(player.executive())?;
     Ok(notes.seen)

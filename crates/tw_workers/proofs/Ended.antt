@@ -13,11 +13,10 @@ use Rattle.tw_msgs.specs.declared.record.Record.{Record}
 use Rattle.tw_network.specs.Contents.{network_of}
 use Rattle.tw_theory.specs.Contents.{Process}
 use Rattle.tw_theory.specs.Network.{Network}
-use Rattle.tw_theory.specs.Outcomes.{Complete, Fault, IsOutcome, all_past}
-use Rattle.tw_theory.specs.Simulator.{sequential}
+use Rattle.tw_theory.specs.Outcomes.{Complete, Fault as InFault, IsOutcome, all_past}
+use Rattle.tw_theory.specs.Simulator.{Fault, sequential}
 use Rattle.tw_theory.specs.Traces.{IsMerged, before, least_line}
 use Rattle.tw_vtime.specs.Stamps.{never, stamp}
-use Rattle.tw_vtime.specs.declared.limits.Limit.{Limit}
 use Rattle.tw_workers.specs.States.{state_of}
 
 -- what stands before s stands before any later stamp
@@ -62,19 +61,19 @@ module _ {M S : Type 0} (meaning : M → Meaning S) (e : Running M S) (sound : I
         is ∙ all_kept end (least_line e.world.processes) records (past_lines end e.world.processes stamped ((state_law.past ended e.until e.world).0 state)) all,
       )
 
-  pub fault_end : (c s : ℕ) (limit : Limit) (trace : List Record) → all_past s e.world.processes ≡ true → state_of meaning e ≡ Fault c s limit
+  pub fault_end : (met : Fault) (trace : List Record) → all_past met.stamp e.world.processes ≡ true → state_of meaning e ≡ InFault met
       → trace ≡ before (least_line e.world.processes) (sequential (network_of meaning e.network) e.until).records
-      → IsOutcome (network_of meaning e.network) e.until (Fault c s limit) trace
-  fault_end c s limit trace past state is =
+      → IsOutcome (network_of meaning e.network) e.until (InFault met) trace
+  fault_end met trace past state is =
       let bound = sound.bound in
-      let said = (state_law.shows ended e.until e.world c s limit).0 state in
-      let gvt : s ≡ e.world.gvt = said.1 in
+      let said = (state_law.shows ended e.until e.world met).0 state in
+      let gvt : met.stamp ≡ e.world.gvt = said.1 in
       let early = said.2.before in
-      let stamped : s ≤ never = omega (arith, bound, gvt, early) in
+      let stamped : met.stamp ≤ never = omega (arith, bound, gvt, early) in
       let records = (sequential ended e.until).records in
-      let simulated = (state_law.fault ended e.until e.world sound.network sound.bound sound.sound c s limit state).1 in
-      let all = outcome_law.before_fault ended e.until sound.network sound.bound c s limit simulated in
-      (simulated, is ∙ all_kept s (least_line e.world.processes) records (past_least s e.world.processes stamped past) all ∙ sym all)
+      let simulated = (state_law.fault ended e.until e.world sound.network sound.bound sound.sound met state).1 in
+      let all = outcome_law.before_fault ended e.until sound.network sound.bound met simulated in
+      (simulated, is ∙ all_kept met.stamp (least_line e.world.processes) records (past_least met.stamp e.world.processes stamped past) all ∙ sym all)
 
   -- ## How many records it has
 
@@ -91,13 +90,13 @@ module _ {M S : Type 0} (meaning : M → Meaning S) (e : Running M S) (sound : I
       let past : end ≤ least_line e.world.processes = past_lines end e.world.processes stamped ((state_law.past ended e.until e.world).0 state) in
       merged_all trace (omega (arith, past)) merged
 
-  pub fault_all : (c s : ℕ) (limit : Limit) (trace : List Record) → all_past s e.world.processes ≡ true → state_of meaning e ≡ Fault c s limit → IsMerged (least_line e.world.processes) e.world trace
+  pub fault_all : (met : Fault) (trace : List Record) → all_past met.stamp e.world.processes ≡ true → state_of meaning e ≡ InFault met → IsMerged (least_line e.world.processes) e.world trace
       → total length e.world.columns ≡ length trace
-  fault_all c s limit trace past state merged =
+  fault_all met trace past state merged =
       let bound = sound.bound in
-      let said = (state_law.shows ended e.until e.world c s limit).0 state in
-      let gvt : s ≡ e.world.gvt = said.1 in
+      let said = (state_law.shows ended e.until e.world met).0 state in
+      let gvt : met.stamp ≡ e.world.gvt = said.1 in
       let early = said.2.before in
-      let stamped : s ≤ never = omega (arith, bound, gvt, early) in
-      let least : s ≤ least_line e.world.processes = past_least s e.world.processes stamped past in
+      let stamped : met.stamp ≤ never = omega (arith, bound, gvt, early) in
+      let least : met.stamp ≤ least_line e.world.processes = past_least met.stamp e.world.processes stamped past in
       merged_all trace (omega (arith, gvt, least)) merged

@@ -26,11 +26,11 @@ use Rattle.tw_workers.specs.declared.outcome.Outcome.TheVariants.{Complete, Faul
 -- a complete run has all the simulator's records, and the simulator no fault; one with a fault has the simulator's fault and its records before it
 abbrev pub IsEnd : {M S : Type 0} → (M → Meaning S) → Contents M → ℕ → Outcome → Type 0
 IsEnd meaning n until (Complete trace) = IsOutcome (network_of meaning n) until theory.Complete trace.items
-IsEnd meaning n until (Fault trace component stamp limit) = IsOutcome (network_of meaning n) until (theory.Fault component stamp limit) trace.items
+IsEnd meaning n until (Fault trace met) = IsOutcome (network_of meaning n) until (theory.Fault met) trace.items
 
 abbrev pub trace_of : Outcome → List Record
 trace_of (Complete trace) = trace.items
-trace_of (Fault trace component stamp limit) = trace.items
+trace_of (Fault trace met) = trace.items
 
 pub record IsEndOf {M S : Type 0} (meaning : M → Meaning S) (e : Running M S) (outcome : Outcome) : Type 0 where
   pub end : IsEnd meaning e.network e.until outcome
@@ -39,7 +39,7 @@ pub record IsEndOf {M S : Type 0} (meaning : M → Meaning S) (e : Running M S) 
 
 abbrev pub IsOver : {M S : Type 0} → (M → Meaning S) → Running M S → theory.RunState → Type 0
 IsOver meaning e theory.Complete = state_of meaning e ≡ theory.Complete
-IsOver meaning e (theory.Fault c s limit) = (state_of meaning e ≡ theory.Fault c s limit) × (all_past s e.world.processes ≡ true)
+IsOver meaning e (theory.Fault met) = (state_of meaning e ≡ theory.Fault met) × (all_past met.stamp e.world.processes ≡ true)
 IsOver meaning e theory.Going = ⊥
 
 -- ---- what workers know of each other's work

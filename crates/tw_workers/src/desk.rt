@@ -232,7 +232,7 @@ impl<M: Atomic, H: Given<M>> Desk<M, H> {
         self.give_out(reach)
     }
 
-    // Gives out the component that comes next, for as much as it may go.
+    /// Gives out the component that comes next, for as much as it may go.
     fn give_out(&mut self, reach: u64) -> Option<Order<M>>
         ensures due { IfSome result (IsDue M.valid M.meaning self.old.executive.network self.old.executive.until) }
         ensures given { H.is_given self.old.executive.network self.old.executive.until self.old.publisher.board }
@@ -251,8 +251,8 @@ impl<M: Atomic, H: Given<M>> Desk<M, H> {
         }
     }
 
-    // Looks at the component that comes next, and answers how far it may go. Where there is none, it is noted whether there were one
-    // in a wider window, which then becomes wider at once where little was lost.
+    /// Looks at the component that comes next, and answers how far it may go. Where there is none, it is noted whether there were one
+    /// in a wider window, which then becomes wider at once where little was lost.
     fn begin(&mut self) -> u64
         ensures { self.new ≡ self.old }
     {
@@ -300,7 +300,7 @@ impl<M: Atomic, H: Given<M>> Desk<M, H> {
         }
     }
 
-    // Passes on what was sent, or sweeps where that is due.
+    /// Passes on what was sent, or sweeps where that is due.
     fn go_on(&mut self) {
         if self.handed_in >= self.sweep_after {
             self.sweep();
@@ -309,7 +309,7 @@ impl<M: Atomic, H: Given<M>> Desk<M, H> {
         }
     }
 
-    // A component has met a limit: where nothing else comes before its next step, that is the end of the run.
+    /// A component has met a limit: where nothing else comes before its next step, that is the end of the run.
     fn look_at(&mut self, component: usize) {
         self.raise();
         let executive = self.exchange.executive();
@@ -320,7 +320,7 @@ impl<M: Atomic, H: Given<M>> Desk<M, H> {
         }
     }
 
-    // Hands in what was worked out from an order. Answers why it went no further. Once the run has ended nothing is handed in any more.
+    /// Hands in what was worked out from an order. Answers why it went no further. Once the run has ended nothing is handed in any more.
     fn take_in(&mut self, prepareds: Prepareds<M>) -> Option<Stop>
         requires { (n : Contents M) (until : ℕ) (board : TableId) → H.is_given n until board → IsMadeFor M.meaning M.undone n until prepareds }
     {
@@ -338,7 +338,7 @@ impl<M: Atomic, H: Given<M>> Desk<M, H> {
         Some(finished.stop)
     }
 
-    // Learns from what became of a chain of so many steps of a component how far it may go, and the run.
+    /// Learns from what became of a chain of so many steps of a component how far it may go, and the run.
     fn learn(&mut self, component: usize, made: usize, finished: Finished)
         ensures { self.new ≡ self.old }
     {
@@ -372,7 +372,7 @@ impl<M: Atomic, H: Given<M>> Desk<M, H> {
             .count(ending.installed, lost, process.pending_len());
     }
 
-    // Posts and delivers what is in transit. Where that is refused it sweeps, as for any other want of memory or of nodes.
+    /// Posts and delivers what is in transit. Where that is refused it sweeps, as for any other want of memory or of nodes.
     fn pass_on(&mut self) {
         if self.end.is_some() {
             return;
@@ -382,8 +382,8 @@ impl<M: Atomic, H: Given<M>> Desk<M, H> {
         }
     }
 
-    // Sweeps because a component found no memory, or has used up its nodes: what is committed frees some. Where that brings global
-    // virtual time no further, the run has ended.
+    /// Sweeps because a component found no memory, or has used up its nodes: what is committed frees some. Where that brings global
+    /// virtual time no further, the run has ended.
     fn make_room(&mut self, why: SweepRefused) {
         let before = self.exchange.executive().gvt();
         self.sweep_and_look();
@@ -406,7 +406,7 @@ impl<M: Atomic, H: Given<M>> Desk<M, H> {
         self.look();
     }
 
-    // Sweeps. Where global virtual time has come to the end tick, the run has ended.
+    /// Sweeps. Where global virtual time has come to the end tick, the run has ended.
     fn sweep(&mut self) {
         self.commit();
         let executive = self.exchange.executive();
@@ -415,7 +415,7 @@ impl<M: Atomic, H: Given<M>> Desk<M, H> {
         }
     }
 
-    // Commits all that can be. Where that is refused, the run has ended.
+    /// Commits all that can be. Where that is refused, the run has ended.
     fn commit(&mut self) {
         if self.end.is_some() {
             return;
@@ -430,8 +430,8 @@ impl<M: Atomic, H: Given<M>> Desk<M, H> {
         }
     }
 
-    // Looks whether the run has ended. For that a component which stands at global virtual time may have to make its step there, to see
-    // whether it meets a limit.
+    /// Looks whether the run has ended. For that a component which stands at global virtual time may have to make its step there, to see
+    /// whether it meets a limit.
     fn look(&mut self) {
         if self.end.is_some() {
             return;
@@ -444,7 +444,7 @@ impl<M: Atomic, H: Given<M>> Desk<M, H> {
     }
 }
 
-// The least tick of all next steps.
+/// The least tick of all next steps.
 fn least_tick<M: Atomic>(executive: &Executive<M>) -> u64 {
     let mut least = u64::MAX;
     for component in 0..executive.network().len() {
@@ -453,7 +453,7 @@ fn least_tick<M: Atomic>(executive: &Executive<M>) -> u64 {
     least
 }
 
-// How many ticks lie between the least and the greatest next step of all components, the ends aside.
+/// How many ticks lie between the least and the greatest next step of all components, the ends aside.
 fn spread_of<M: Atomic>(executive: &Executive<M>) -> u64 {
     let mut greatest = 0;
     for component in 0..executive.network().len() {

@@ -38,14 +38,14 @@ impl Effort {
         (kept.saturating_mul(1_000) / u128::from(self.made)) as u64
     }
 
-    // A chain was handed in: so many steps of it were made by the component, and so many not.
+    /// A chain was handed in: so many steps of it were made by the component, and so many not.
     pub(crate) fn count_chain(&mut self, installed: u64, lost: u64) {
         let made = installed.saturating_add(lost);
         self.made = self.made.saturating_add(made);
         self.lost = self.lost.saturating_add(lost);
     }
 
-    // So much was taken back.
+    /// So much was taken back.
     pub(crate) fn count_undone(&mut self, undone: Undone) {
         self.lost = self.lost.saturating_add(undone.steps);
         self.rollbacks = self.rollbacks.saturating_add(undone.rollbacks);

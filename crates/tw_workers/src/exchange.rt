@@ -95,7 +95,7 @@ impl<M: Atomic> Exchange<M> {
         &self.executive
     }
 
-    // The least of the next steps of all components, as far as it is known; the end where there is none.
+    /// The least of the next steps of all components, as far as it is known; the end where there is none.
     pub(crate) fn least_next(&self) -> Stamp {
         match self.queues.standing.first() {
             Some((next, _)) => next,
@@ -103,7 +103,7 @@ impl<M: Atomic> Exchange<M> {
         }
     }
 
-    // What deliveries have taken back since this was last asked.
+    /// What deliveries have taken back since this was last asked.
     pub(crate) fn take_undone(&mut self) -> Undone
         ensures { self.new ≡ self.old }
     {

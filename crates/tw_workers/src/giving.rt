@@ -95,7 +95,7 @@ impl<M: Atomic> Exchange<M> {
         self.next_before(bound, window)
     }
 
-    // The component that is to be given out, where the window ends at a bound.
+    /// The component that is to be given out, where the window ends at a bound.
     fn next_before(&self, bound: Stamp, window: u64) -> Option<usize>
         requires { bound ≡ bound_at window self.now }
         ensures next { IfSome result (IsNext window self.now) }
@@ -145,8 +145,8 @@ impl<M: Atomic> Exchange<M> {
     }
 }
 
-// The stamp before which the steps of a component stand that is given out: the first of the tick after that of global virtual time
-// and the window, or the end tick's where that is before it.
+/// The stamp before which the steps of a component stand that is given out: the first of the tick after that of global virtual time
+/// and the window, or the end tick's where that is before it.
 fn bound_of(until: u64, gvt: Stamp, window: u64) -> Stamp
     requires { until ≤ max_tick }
     ensures { result ≡ bound_of until gvt window }
@@ -155,7 +155,7 @@ fn bound_of(until: u64, gvt: Stamp, window: u64) -> Stamp
     end.min(window_end(gvt, window))
 }
 
-// The first stamp of the tick after a stamp's and the window, or the end where no stamp has that tick.
+/// The first stamp of the tick after a stamp's and the window, or the end where no stamp has that tick.
 fn window_end(gvt: Stamp, window: u64) -> Stamp
     ensures { result ≡ window_end gvt window }
 {
@@ -166,14 +166,14 @@ fn window_end(gvt: Stamp, window: u64) -> Stamp
     Stamp::new(tick, 0, 0).unwrap_or(Stamp::END)
 }
 
-// The stamp before which the steps of an order stand that reaches so far from the component's next step.
+/// The stamp before which the steps of an order stand that reaches so far from the component's next step.
 fn near_bound(reach: u64, bound: Stamp, next: Stamp) -> Stamp
     ensures { result ≡ near_bound reach bound next }
 {
     bound.min(window_end(next, reach.saturating_sub(1)))
 }
 
-// How many steps an order is for that reaches so far: with a reach of 0 one at most.
+/// How many steps an order is for that reaches so far: with a reach of 0 one at most.
 fn near_burst(reach: u64, burst: usize) -> usize
     ensures { result ≡ near_burst reach burst }
 {

@@ -56,13 +56,13 @@ impl<M: Atomic> Prepareds<M> {
     ghost use Rattle.tw_theory.specs.Chains.{Chain};
 
     /// The component's number.
-    pub fn component(&self) -> usize
+    pub(crate) fn component(&self) -> usize
         ensures { result ≡ self.now.run.start.component }
     {
         self.chain.component()
     }
 
-    // Lets the chain go: its run has ended.
+    /// Lets the chain go: its run has ended.
     pub(crate) fn give_up(self) {
         let Prepareds { chain: _ } = self;
     }

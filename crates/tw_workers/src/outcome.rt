@@ -9,11 +9,10 @@ use crate::exchange::Exchange;
 use crate::refused::SweepRefused;
 use crate::states::all_past;
 use std::alloc::{AllocError, Global};
-use tw_actions::RunState;
+use tw_actions::{Fault, RunState};
 use tw_atomic::Atomic;
 use tw_exec::Executive;
 use tw_msgs::Record;
-use tw_vtime::{Limit, Stamp};
 
 /// How a run goes about its work. Its outcome does not depend on it. Burst and window are bounds: within them a run finds by itself how
 /// far its components run ahead.
@@ -32,8 +31,8 @@ pub struct Setting {
 pub enum Outcome {
     /// All steps before the end tick are made, and no limit is met. All records, by stamp and then component.
     Complete(Vec<Record>),
-    /// The records before the stamp of the fault; the least component that meets a limit there, that stamp, and which limit.
-    Fault(Vec<Record>, usize, Stamp, Limit),
+    /// A component met a limit. The records before the stamp of this fault.
+    Fault(Vec<Record>, Fault),
 }
 
 /// A run that was given up, for want of memory (4) or of nodes (12), and its executive, which can be run again.
@@ -45,7 +44,7 @@ pub struct RunFault<M: Atomic> {
     pub executive: Executive<M>,
 }
 
-// How a run has ended, where it has and all before its end is committed.
+/// How a run has ended, where it has and all before its end is committed.
 pub(crate) fn find_end<M: Atomic>(
     exchange: &mut Exchange<M>,
 ) -> Result<Option<RunState>, AllocError>
@@ -60,19 +59,19 @@ pub(crate) fn find_end<M: Atomic>(
     }
 }
 
-// Whether the run of an executive that stands so is over, and all before its end is committed.
+/// Whether the run of an executive that stands so is over, and all before its end is committed.
 fn is_over<M: Atomic>(executive: &Executive<M>, state: &RunState) -> bool
     requires { state.now ≡ state_of M.meaning executive.now }
     ensures { IsTrue result → IsOver M.meaning executive.now state.now }
 {
     match state {
         RunState::Complete => true,
-        RunState::Fault(_, stamp, _) => all_past(executive, *stamp),
+        RunState::Fault(fault) => all_past(executive, fault.stamp),
         RunState::Going => false,
     }
 }
 
-// The outcome of the run of an executive that is over, with the executive's own records. Where memory is refused it comes back.
+/// The outcome of the run of an executive that is over, with the executive's own records. Where memory is refused it comes back.
 pub(crate) fn outcome_of<M: Atomic>(
     alloc: Global,
     executive: Executive<M>,
@@ -89,9 +88,7 @@ pub(crate) fn outcome_of<M: Atomic>(
     };
     match end {
         RunState::Complete => Ok(Outcome::Complete(trace)),
-        RunState::Fault(component, stamp, limit) => {
-            Ok(Outcome::Fault(trace, component, stamp, limit))
-        }
+        RunState::Fault(fault) => Ok(Outcome::Fault(trace, fault)),
         RunState::Going => unreachable!(),
     }
 }

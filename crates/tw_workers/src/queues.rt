@@ -96,7 +96,7 @@ impl Queues {
         }
     }
 
-    // Whether a component has something to post.
+    /// Whether a component has something to post.
     fn note_post<M: Atomic>(&mut self, executive: &Executive<M>, component: usize)
         requires near { component < length executive.now.network.models }
         requires within { component < length self.old.posting }
@@ -109,7 +109,7 @@ impl Queues {
         self.posting.mark(component, !idle);
     }
 
-    // Whether a component's mailbox holds something.
+    /// Whether a component's mailbox holds something.
     fn note_box<M: Atomic>(&mut self, executive: &Executive<M>, component: usize)
         requires near { component < length executive.now.network.models }
         requires within { component < length self.old.delivering }
@@ -121,7 +121,7 @@ impl Queues {
         self.delivering.mark(component, !empty);
     }
 
-    // The next step of a component.
+    /// The next step of a component.
     fn note_standing<M: Atomic>(&mut self, executive: &Executive<M>, component: usize)
         requires { component < length executive.now.network.models }
         ensures free { self.new.free ≡ self.old.free }

@@ -137,8 +137,8 @@ where
     }
 }
 
-// A run that is over, and its publisher, which has posted just the executive's numbers. Where memory is refused for the trace it is
-// given up.
+/// A run that is over, and its publisher, which has posted just the executive's numbers. Where memory is refused for the trace it is
+/// given up.
 fn ended<M: Atomic>(
     alloc: Global,
     executive: Executive<M>,
@@ -163,7 +163,7 @@ fn ended<M: Atomic>(
     }
 }
 
-// A run that is given up, and its publisher, which has posted just the executive's numbers.
+/// A run that is given up, and its publisher, which has posted just the executive's numbers.
 fn given_up<M: Atomic>(
     why: SweepRefused,
     executive: Executive<M>,
@@ -179,7 +179,7 @@ fn given_up<M: Atomic>(
     (Err(RunFault { why, executive }), publisher, effort)
 }
 
-// Runs what was handed in.
+/// Runs what was handed in.
 fn run_given<
     M: Atomic + Send + Sync,
     H: Given<M> + Send + Sync,
@@ -228,7 +228,7 @@ where
     desk.into_inner().into_parts()
 }
 
-// Starts the workers, of which the calling thread is one, and waits for them.
+/// Starts the workers, of which the calling thread is one, and waits for them.
 fn work_all<
     'a,
     M: Atomic + Send + Sync,
@@ -260,7 +260,7 @@ where
     );
 }
 
-// One worker: takes an order under the lock, works it out apart from it, and hands it in under the lock, until the run has ended.
+/// One worker: takes an order under the lock, works it out apart from it, and hands it in under the lock, until the run has ended.
 fn work<M: Atomic, H: Given<M>, G: Gate, R: Wait>(rt: &R, shared: &Shared<M, H>, gate: &G)
     requires { IsOnly H.is_given (arc_value shared.now.network) shared.now.until }
 {
@@ -280,7 +280,7 @@ fn work<M: Atomic, H: Given<M>, G: Gate, R: Wait>(rt: &R, shared: &Shared<M, H>,
     unreachable!()
 }
 
-// Hands in what was worked out, if anything was, and waits for an order. None where the run has ended.
+/// Hands in what was worked out, if anything was, and waits for an order. None where the run has ended.
 fn next_order<M: Atomic, H: Given<M>, R: Wait>(
     rt: &R,
     shared: &Shared<M, H>,
@@ -321,7 +321,7 @@ fn next_order<M: Atomic, H: Given<M>, R: Wait>(
     unreachable!()
 }
 
-// Waits until something may have changed: looks again at first, and then sleeps.
+/// Waits until something may have changed: looks again at first, and then sleeps.
 fn wait_for_change<'a, M: Atomic, H: Given<M>, R: Wait>(
     rt: &R,
     shared: &'a Shared<M, H>,
@@ -339,8 +339,8 @@ fn wait_for_change<'a, M: Atomic, H: Given<M>, R: Wait>(
     desk
 }
 
-// From time to time a worker looks at how often another one had the lock: it steps back where that was nearly always so, until it is
-// called, and calls one that stepped back where that was seldom so.
+/// From time to time a worker looks at how often another one had the lock: it steps back where that was nearly always so, until it is
+/// called, and calls one that stepped back where that was seldom so.
 fn take_turns<'a, M: Atomic, H: Given<M>, R: Wait>(
     rt: &R,
     shared: &'a Shared<M, H>,
@@ -361,7 +361,7 @@ fn take_turns<'a, M: Atomic, H: Given<M>, R: Wait>(
     desk
 }
 
-// Takes the lock. It looks a while before it sleeps: who holds it soon lets go.
+/// Takes the lock. It looks a while before it sleeps: who holds it soon lets go.
 fn lock_soon<'a, T, R: Wait>(rt: &R, lock: &'a Mutex<T>, looks: &mut Looks) -> MutexGuard<'a, T> {
     if let Some(guard) = lock.try_lock() {
         looks.note(false);
@@ -377,7 +377,7 @@ fn lock_soon<'a, T, R: Wait>(rt: &R, lock: &'a Mutex<T>, looks: &mut Looks) -> M
     lock.lock(rt)
 }
 
-// Lets a moment pass.
+/// Lets a moment pass.
 fn pause(length: u64) {
     for _ in 0..length {
         spin_loop();

@@ -11,7 +11,7 @@ ghost use Rattle.tw_workers.specs.States.{fault_from, is_quiet, limit_at, state_
 use crate::exchange::Exchange;
 use crate::sweeping::all_empty;
 use std::alloc::AllocError;
-use tw_actions::RunState;
+use tw_actions::{Fault, RunState};
 use tw_atomic::Atomic;
 use tw_exec::{Action, Executive, Refused};
 use tw_process::Process;
@@ -30,7 +30,7 @@ impl<M: Atomic> Exchange<M> {
     }
 }
 
-// How the run of an executive stands.
+/// How the run of an executive stands.
 fn find_state<M: Atomic>(executive: &mut Executive<M>) -> Result<RunState, AllocError>
     ensures state { IfOk result (λ state. state ≡ state_of M.meaning executive.old) }
     ensures stays { executive.new ≡ executive.old }
@@ -56,7 +56,7 @@ fn find_state<M: Atomic>(executive: &mut Executive<M>) -> Result<RunState, Alloc
     first_fault(executive)
 }
 
-// Whether every commit line is at a stamp or after it.
+/// Whether every commit line is at a stamp or after it.
 pub(crate) fn all_past<M: Atomic>(executive: &Executive<M>, end: Stamp) -> bool
     ensures { result ≡ all_past end executive.now.world.processes }
 {
@@ -69,7 +69,7 @@ pub(crate) fn all_past<M: Atomic>(executive: &Executive<M>, end: Stamp) -> bool
     true
 }
 
-// Whether nothing is outgoing, and nothing owed is at global virtual time.
+/// Whether nothing is outgoing, and nothing owed is at global virtual time.
 fn all_quiet<M: Atomic>(executive: &Executive<M>) -> bool
     requires { executive.now.world.gvt < stamp executive.now.until 0 0 }
     ensures { result ≡ all_quiet executive.now.world.gvt executive.now.world.processes }
@@ -84,7 +84,7 @@ fn all_quiet<M: Atomic>(executive: &Executive<M>) -> bool
     true
 }
 
-// Whether nothing of a component is outgoing, and nothing that it owes is at a stamp, before which it owes nothing.
+/// Whether nothing of a component is outgoing, and nothing that it owes is at a stamp, before which it owes nothing.
 fn is_quiet<M: Atomic>(process: &Process<M>, gvt: Stamp) -> bool
     requires before { gvt < never }
     requires from { gvt ≤ least_owed process.now.process.owed }
@@ -96,7 +96,7 @@ fn is_quiet<M: Atomic>(process: &Process<M>, gvt: Stamp) -> bool
     process.least_owed() != gvt
 }
 
-// The least component that meets a limit at global virtual time.
+/// The least component that meets a limit at global virtual time.
 fn first_fault<M: Atomic>(executive: &mut Executive<M>) -> Result<RunState, AllocError>
     requires before { executive.old.world.gvt < stamp executive.old.until 0 0 }
     requires odd { phase_of executive.old.world.gvt ≡ 1 }
@@ -106,14 +106,18 @@ fn first_fault<M: Atomic>(executive: &mut Executive<M>) -> Result<RunState, Allo
     executive.facts();
     for component in 0..executive.network().len() {
         if let Some(limit) = find_limit(executive, component)? {
-            return Ok(RunState::Fault(component, executive.gvt(), limit));
+            return Ok(RunState::Fault(Fault {
+                component,
+                stamp: executive.gvt(),
+                limit,
+            }));
         }
     }
     Ok(RunState::Going)
 }
 
-// The limit that a component meets at global virtual time. Its step there is a transition, which sends nothing: made and taken back,
-// it leaves everything as it was.
+/// The limit that a component meets at global virtual time. Its step there is a transition, which sends nothing: made and taken back,
+/// it leaves everything as it was.
 fn find_limit<M: Atomic>(
     executive: &mut Executive<M>,
     component: usize,
@@ -143,7 +147,7 @@ fn find_limit<M: Atomic>(
     }
 }
 
-// The limit for which an action is refused.
+/// The limit for which an action is refused.
 fn limit_met(refused: Refused) -> Option<Limit>
     ensures { IfSome result (λ limit. reason refused ≡ Some (OverLimit limit)) }
 {

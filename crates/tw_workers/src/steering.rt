@@ -101,8 +101,8 @@ impl Pace {
         false
     }
 
-    // Where the component stands before the end of its last chain, steps of it were taken back since. It went too far, unless all of
-    // its steps were at one time: these would have been taken back in any case.
+    /// Where the component stands before the end of its last chain, steps of it were taken back since. It went too far, unless all of
+    /// its steps were at one time: these would have been taken back in any case.
     fn look_back(&mut self, last: Stamp) {
         let ahead = self.last.pack() / 2 > self.first.pack() / 2;
         if last < self.last && ahead {
@@ -110,7 +110,7 @@ impl Pace {
         }
     }
 
-    // It may go further: at least twice as far, and as far as the last chain went.
+    /// It may go further: at least twice as far, and as far as the last chain went.
     fn grow(&mut self, next: Stamp) {
         self.well = 0;
         self.need = (self.need / 2).max(LEAST_NEED);
@@ -122,7 +122,7 @@ impl Pace {
         };
     }
 
-    // It went too far.
+    /// It went too far.
     fn lose(&mut self) {
         self.reach /= 2;
         self.well = 0;

@@ -84,7 +84,7 @@ impl<M: Atomic> Exchange<M> {
     }
 }
 
-// A sweep of an executive. Beside it is kept only who is given out.
+/// A sweep of an executive. Beside it is kept only who is given out.
 fn sweep_all<M: Atomic>(
     executive: &mut Executive<M>,
     queues: &mut Queues,
@@ -104,7 +104,7 @@ fn sweep_all<M: Atomic>(
     Ok(executive.gvt())
 }
 
-// The passes of a sweep.
+/// The passes of a sweep.
 fn settle_all<M: Atomic>(
     executive: &mut Executive<M>,
     queues: &mut Queues,
@@ -124,7 +124,7 @@ fn settle_all<M: Atomic>(
     Ok(())
 }
 
-// Whether no mailbox holds anything.
+/// Whether no mailbox holds anything.
 pub(crate) fn all_empty<M: Atomic>(executive: &Executive<M>) -> bool
     ensures { result ≡ all_empty executive.now.world.mail }
 {
@@ -137,7 +137,7 @@ pub(crate) fn all_empty<M: Atomic>(executive: &Executive<M>) -> bool
     true
 }
 
-// Whether nothing of a component is outgoing, and nothing that it owes is overdue.
+/// Whether nothing of a component is outgoing, and nothing that it owes is overdue.
 pub(crate) fn is_idle<M: Atomic>(process: &Process<M>) -> bool
     requires { Each (λ m. m.stamp < never) process.now.process.owed }
     ensures { result ≡ is_idle process.now.process }
@@ -151,7 +151,7 @@ pub(crate) fn is_idle<M: Atomic>(process: &Process<M>) -> bool
     process.least_owed().pack().saturating_sub(1) >= process.next().pack()
 }
 
-// A post of each component, and a delivery of each item that lies in a mailbox then.
+/// A post of each component, and a delivery of each item that lies in a mailbox then.
 fn pass<M: Atomic>(executive: &mut Executive<M>, queues: &mut Queues) -> Result<(), SweepRefused>
     requires { IsKept queues.old executive.old.world }
     ensures done { OnOk result (executive.new ≡ replayed M.meaning (pass_of M.meaning executive.old) executive.old) }
@@ -164,7 +164,7 @@ fn pass<M: Atomic>(executive: &mut Executive<M>, queues: &mut Queues) -> Result<
     Ok(())
 }
 
-// A post of each component: of those that have something to post. Another one's would do nothing.
+/// A post of each component: of those that have something to post. Another one's would do nothing.
 fn post_all<M: Atomic>(
     executive: &mut Executive<M>,
     queues: &mut Queues,
@@ -183,7 +183,7 @@ fn post_all<M: Atomic>(
     Ok(())
 }
 
-// A post of a component.
+/// A post of a component.
 fn post_one<M: Atomic>(
     executive: &mut Executive<M>,
     queues: &mut Queues,
@@ -211,7 +211,7 @@ fn post_one<M: Atomic>(
     Ok(())
 }
 
-// A post of a component that owes messages. Whose anti-messages it makes is not known before, so each mailbox is looked at again.
+/// A post of a component that owes messages. Whose anti-messages it makes is not known before, so each mailbox is looked at again.
 fn post_owing<M: Atomic>(
     executive: &mut Executive<M>,
     queues: &mut Queues,
@@ -232,7 +232,7 @@ fn post_owing<M: Atomic>(
     Ok(())
 }
 
-// A delivery of each item that lies in a mailbox.
+/// A delivery of each item that lies in a mailbox.
 fn deliver_all<M: Atomic>(
     executive: &mut Executive<M>,
     queues: &mut Queues,
@@ -251,7 +251,7 @@ fn deliver_all<M: Atomic>(
     Ok(())
 }
 
-// A delivery of each item that lies in the mailbox of a component.
+/// A delivery of each item that lies in the mailbox of a component.
 fn deliver_box<M: Atomic>(
     executive: &mut Executive<M>,
     queues: &mut Queues,
@@ -271,7 +271,7 @@ fn deliver_box<M: Atomic>(
     delivered
 }
 
-// A delivery of each item that lies in the mailbox of a component; those of the mailboxes behind it are left.
+/// A delivery of each item that lies in the mailbox of a component; those of the mailboxes behind it are left.
 fn deliver_to<M: Atomic>(
     executive: &mut Executive<M>,
     receiver: usize,
@@ -293,7 +293,7 @@ fn deliver_to<M: Atomic>(
     Ok(())
 }
 
-// A harvest of each component.
+/// A harvest of each component.
 fn harvest_all<M: Atomic>(executive: &mut Executive<M>) -> Result<(), SweepRefused>
     ensures done { OnOk result (executive.new ≡ replayed M.meaning (harvests 0 (length executive.old.world.processes)) executive.old) }
     ensures cut_short { IfErr result (IsCutShort M.meaning (harvests 0 (length executive.old.world.processes)) executive.old executive.new) }
@@ -306,7 +306,7 @@ fn harvest_all<M: Atomic>(executive: &mut Executive<M>) -> Result<(), SweepRefus
     Ok(())
 }
 
-// Takes an action of a sweep. None of these is refused but for want of memory or of nodes, and so none that takes no memory.
+/// Takes an action of a sweep. None of these is refused but for want of memory or of nodes, and so none that takes no memory.
 fn take<M: Atomic>(executive: &mut Executive<M>, action: Action) -> Result<Done, SweepRefused>
     ensures done { OnOk result (executive.new ≡ after M.meaning action executive.old) }
     ensures wanting { IfErr result (IsWanting M.meaning executive.old action) }
@@ -320,7 +320,7 @@ fn take<M: Atomic>(executive: &mut Executive<M>, action: Action) -> Result<Done,
     }
 }
 
-// How many steps an action took back, a delivery.
+/// How many steps an action took back, a delivery.
 fn undone_by(done: &Done) -> u64 {
     match *done {
         Done::Received(Received::Straggler(count) | Received::Annihilated(count)) => count,

@@ -18,7 +18,7 @@ use tw_engine::{Exit, engine};
 use tw_line::{Driver, Job, NoJob, Picture, job};
 use tw_vtime::Refusal;
 
-// How the run of the program ends.
+/// How the run of the program ends.
 fn run<T: Threads + Wait + Clock + Eprint + Sync>(rt: &HostRuntime, threads: &T) -> Exit {
     let given = match env::args(rt) {
         Ok(given) => given,
@@ -38,7 +38,7 @@ fn run<T: Threads + Wait + Clock + Eprint + Sync>(rt: &HostRuntime, threads: &T)
     }
 }
 
-// How a run ends whose words cannot be had: they are not UTF-8, or there is no memory for them.
+/// How a run ends whose words cannot be had: they are not UTF-8, or there is no memory for them.
 fn exit_of(error: &io::Error) -> Exit {
     if error.kind() == ErrorKind::OutOfMemory {
         Exit::Want(Refusal::OutOfMemory)
@@ -47,7 +47,7 @@ fn exit_of(error: &io::Error) -> Exit {
     }
 }
 
-// Does a job on its files and standard output, by these threads where it takes any.
+/// Does a job on its files and standard output, by these threads where it takes any.
 fn do_job<T: Threads + Wait + Clock + Eprint + Sync>(
     rt: &HostRuntime,
     threads: &T,
@@ -81,8 +81,8 @@ fn do_job<T: Threads + Wait + Clock + Eprint + Sync>(
     engine(threads, rt.alloc(), job, &mut net, &mut script, &mut out)
 }
 
-// Writes the line for standard error, and answers the status. Where standard error is gone, the status
-// still tells.
+/// Writes the line for standard error, and answers the status. Where standard error is gone, the status
+/// still tells.
 fn finish(rt: &HostRuntime, exit: Exit) -> u8 {
     let errors = rt.stderr();
     let mut errors = &errors;

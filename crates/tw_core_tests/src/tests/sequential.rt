@@ -4,7 +4,7 @@ use super::helpers::{Line, Made, Net, assert_records, network_of, stamp};
 use std::alloc::{AllocError, Global};
 use std::process::Abort;
 use tw_msgs::RecordKind;
-use tw_seq::{SeqRefused, Step, advance, begin, outcome, simulate};
+use tw_seq::{Advanced, Fault, SeqRefused, advance, begin, outcome, simulate};
 use tw_vtime::{Limit, MAX_TICK, Refusal};
 
 /// A generator of 5 each 2 ticks and its tally, which has 3=7 at tick 1.
@@ -77,7 +77,11 @@ fn assert_outcome(
 ) -> Result<(), Refusal> {
     let network = network_of(alloc, net)?;
     let fault = match limit {
-        Some((tick, limit)) => Some((0, stamp(rt, tick, 0, 1), limit)),
+        Some((tick, limit)) => Some(Fault {
+            component: 0,
+            stamp: stamp(rt, tick, 0, 1),
+            limit,
+        }),
         None => None,
     };
     assert!(rt; outcome(alloc, &network, until)? == fault);
@@ -112,7 +116,7 @@ static ROUNDS: [(u64, bool, &'static [Line], &'static [Line]); 2] = [
 ];
 
 /// Makes the first round of the pair, and asserts what is handed over.
-fn assert_round(rt: &impl Abort, alloc: Global, until: u64, lines: (&[Line], &[Line])) -> Step {
+fn assert_round(rt: &impl Abort, alloc: Global, until: u64, lines: (&[Line], &[Line])) -> Advanced {
     let network = network_of(alloc, &PAIR).expect(rt, "memory");
     let mut run = begin(alloc, &network, until).expect(rt, "memory");
     let mut outputs = Vec::new(alloc);
@@ -129,7 +133,9 @@ fn assert_round(rt: &impl Abort, alloc: Global, until: u64, lines: (&[Line], &[L
 fn round_is_handed_over(rt: HostRuntime) {
     for (until, is_round, outputs, transitions) in ROUNDS.iter() {
         let step = assert_round(&rt, rt.alloc(), *until, (outputs, transitions));
-        assert!(rt; (step == Step::Round) == *is_round && (step == Step::End(None)) != *is_round);
+        assert!(rt;
+            (step == Advanced::Round) == *is_round && (step == Advanced::End(None)) != *is_round
+        );
     }
 }
 

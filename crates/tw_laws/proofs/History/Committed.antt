@@ -9,7 +9,7 @@ use Rattle.tw_theory.specs.Balance.{all_consumed}
 use Rattle.tw_theory.specs.Bundles.{first_stamp}
 use Rattle.tw_theory.specs.Contents.{before_all, steps_before, records_of, sent_by}
 use Rattle.tw_theory.specs.Network.{Network}
-use Rattle.tw_theory.specs.Simulator.{Stops, all_sent, Run, rounds, sequential, up_to, records_before, due_from, moment_at}
+use Rattle.tw_theory.specs.Simulator.{Fault, Stops, all_sent, Run, rounds, sequential, up_to, records_before, due_from, moment_at}
 use Rattle.tw_theory.specs.Transitions.{Moment, output}
 use Rattle.tw_laws.specs.History.{count, sum_below, AreInputs, Holdings, StandsTo, sent_count, IsRunTo, IsCommitted}
 use Rattle.tw_laws.proofs.History.Agreement.{made, own_run, Ready, Follows, clocked_law}
@@ -19,7 +19,7 @@ use Rattle.tw_laws.proofs.History.Counts.{count-append, all_sent-append}
 use Rattle.tw_laws.proofs.History.GoingOn.{clock_goes_on, clock_before}
 use Rattle.tw_laws.proofs.History.LocalRuns.{Ahead, Come, RunFacts, leads_facts, leads_ends, records_split}
 use Rattle.tw_laws.proofs.History.RoundBags.{after_out, even_place}
-use Rattle.tw_laws.proofs.History.Rounds.{Stand, Reached, Running, Faulted, rounds_reach}
+use Rattle.tw_laws.proofs.History.Rounds.{Stand, Reached, Running, Faulted, met_by, rounds_reach}
 
 -- the records before s of a run that has come to e
 records_are : {S : Type 0} (net : Network S) (c s e : ℕ) (run : Run S) → own c run.records ≡ (clock net e).records c → s ≤ e
@@ -136,9 +136,9 @@ pub record Extent {S : Type 0} (net : Network S) (until e : ℕ) : Type 0 where
   pub within : e ≤ stamp until 0 0
   pub calm : (d r : ℕ) → r < e → NoLimit (clock_step net d r)
   pub records : (c : ℕ) → own c (sequential net until).records ≡ (clock net e).records c
-  pub fault : (f : ℕ × ℕ × Limit) → (sequential net until).fault ≡ Some f
-      → (f.1 ≡ e) × (f.0 < length net.models) × (clock_step net f.0 e ≡ Stops f.2) × ((d : ℕ) → d < f.0 → NoLimit (clock_step net d e))
-  pub ends : (e ≡ stamp until 0 0) ⊎ ((b : ℕ) × (limit : Limit) × ((sequential net until).fault ≡ Some (b, e, limit)))
+  pub fault : (f : Fault) → (sequential net until).fault ≡ Some f
+      → (f.stamp ≡ e) × (f.component < length net.models) × (clock_step net f.component e ≡ Stops f.limit) × ((d : ℕ) → d < f.component → NoLimit (clock_step net d e))
+  pub ends : (e ≡ stamp until 0 0) ⊎ ((b : ℕ) × (limit : Limit) × ((sequential net until).fault ≡ Some (met_by b e limit)))
 
 reached_extent : {S : Type 0} (net : Network S) (until : ℕ) (run : Run S) → sequential net until ≡ run → Reached net (stamp until 0 0) run
     → (e : ℕ) × Extent net until e
@@ -163,13 +163,13 @@ reached_extent {S} net until run q (Faulted f m ended) = (
   },
 )
   where
-    fault : (g : ℕ × ℕ × Limit) → (sequential net until).fault ≡ Some g
-        → (g.1 ≡ f) × (g.0 < length net.models) × (clock_step net g.0 f ≡ Stops g.2) × ((d : ℕ) → d < g.0 → NoLimit (clock_step net d f))
+    fault : (g : Fault) → (sequential net until).fault ≡ Some g
+        → (g.stamp ≡ f) × (g.component < length net.models) × (clock_step net g.component f ≡ Stops g.limit) × ((d : ℕ) → d < g.component → NoLimit (clock_step net d f))
     fault g k =
-        let one : (ended.component, f, ended.limit) ≡ g = cc (sym (ap (λ r. r.fault) q ∙ ended.fault) ∙ k) in
-        let b = ap (λ x. x.0) one in
+        let one : met_by ended.component f ended.limit ≡ g = cc (sym (ap (λ r. r.fault) q ∙ ended.fault) ∙ k) in
+        let b : ended.component ≡ g.component = ap (λ (x : Fault). x.component) one in
         let below = ended.below in
-        (sym (ap (λ x. x.1) one), omega (arith, b, below), ap (λ d. clock_step net d f) (sym b) ∙ ended.stops ∙ ap (λ x. Stops x.2) one, λ d l. ended.least d (omega (arith, b, l)))
+        (sym (ap (λ (x : Fault). x.stamp) one), omega (arith, b, below), ap (λ d. clock_step net d f) (sym b) ∙ ended.stops ∙ ap (λ (x : Fault). Stops x.limit) one, λ d l. ended.least d (omega (arith, b, l)))
 
 pub extent : {S : Type 0} (net : Network S) (until : ℕ) → Rattle.tw_laws.specs.History.AllPhaseOne net.inputs → until ≤ max_tick
     → (e : ℕ) × Extent net until e
@@ -191,7 +191,7 @@ kept h = record { line = h.line; column = h.column; history = λ c. records_of (
 line_within : {S : Type 0} (net : Network S) (until g e : ℕ) (h : Holdings S) → IsRunTo net until g h → Extent net until e → (c : ℕ)
     → c < length net.models → h.line c ≤ e
 line_within net until g e h run_to x c below =
-    ⊎_elim (λ q. let l = run_to.lines c below in let u = run_to.horizon in omega (arith, q, l, u)) (λ f. run_to.unstopped c f.0 e f.1 below f.2) x.ends
+    ⊎_elim (λ q. let l = run_to.lines c below in let u = run_to.horizon in omega (arith, q, l, u)) (λ f. run_to.unstopped c (met_by f.0 e f.1) below f.2) x.ends
 
 -- what the local run of a component that stands comes to
 pub record Local {S : Type 0} (net : Network S) (until g : ℕ) (h : Holdings S) (c k : ℕ) (now : Moment S) : Type 0 where
@@ -317,14 +317,14 @@ committed_history {S} net until g h m run_to =
     by : (e : ℕ) → Extent net until e → Follows net g (kept h) → IsCommitted net until g h
     by e x follows = record { unstopped = unstopped; records = records; moment = moment }
       where
-        unstopped : (b s : ℕ) (limit : Limit) → (sequential net until).fault ≡ Some (b, s, limit) → g ≤ s
-        unstopped b s limit q =
-            let f = x.fault (b, s, limit) q in
-            let at : s ≡ e = f.0 in
-            ⊎_elim (λ l. absurd (subst NoLimit f.2 (follows.unstopped b e f.1 (omega (arith, l, at))))) (λ l. l) (cases_lt s g)
+        unstopped : (met : Fault) → (sequential net until).fault ≡ Some met → g ≤ met.stamp
+        unstopped met q =
+            let f = x.fault met q in
+            let at : met.stamp ≡ e = f.0 in
+            ⊎_elim (λ l. absurd (subst NoLimit f.2 (follows.unstopped met.component e f.1 (omega (arith, l, at))))) (λ l. l) (cases_lt met.stamp g)
 
         reach : g ≤ e
-        reach = ⊎_elim (λ q. let u = run_to.horizon in omega (arith, q, u)) (λ f. unstopped f.0 e f.1 f.2) x.ends
+        reach = ⊎_elim (λ q. let u = run_to.horizon in omega (arith, q, u)) (λ f. unstopped (met_by f.0 e f.1) f.2) x.ends
 
         records : (c : ℕ) → c < length net.models
             → h.column c ++ records_of (take (steps_before g (h.history c)) (h.history c)) ≡ records_before net until c g
@@ -346,22 +346,20 @@ committed_history {S} net until g h m run_to =
 -- ---- the fault's stamp
 
 faulted_before : {S : Type 0} (net : Network S) (until : ℕ) (run : Run S) → sequential net until ≡ run → Reached net (stamp until 0 0) run
-    → (b s : ℕ) (limit : Limit) → (sequential net until).fault ≡ Some (b, s, limit)
-    → (b < length net.models) × (s < stamp until 0 0) × (phase_of s ≡ 1)
-faulted_before net until run q (Running at) b s limit k = let none = sym (ap (λ r. r.fault) q ∙ at.going) ∙ k in absurd (cc none)
-faulted_before net until run q (Faulted f m ended) b s limit k =
-    let mine : ℕ × ℕ × Limit = (ended.component, f, ended.limit) in
-    let its : ℕ × ℕ × Limit = (b, s, limit) in
-    let fault : mine ≡ its = cc (sym (ap (λ r. r.fault) q ∙ ended.fault) ∙ k) in
-    let component : ended.component ≡ b = ap (λ x. x.0) fault in
-    let at : f ≡ s = ap (λ x. x.1) fault in
+    → (met : Fault) → (sequential net until).fault ≡ Some met
+    → (met.component < length net.models) × (met.stamp < stamp until 0 0) × (phase_of met.stamp ≡ 1)
+faulted_before net until run q (Running at) met k = let none = sym (ap (λ r. r.fault) q ∙ at.going) ∙ k in absurd (cc none)
+faulted_before net until run q (Faulted f m ended) met k =
+    let fault : met_by ended.component f ended.limit ≡ met = cc (sym (ap (λ r. r.fault) q ∙ ended.fault) ∙ k) in
+    let component : ended.component ≡ met.component = ap (λ (x : Fault). x.component) fault in
+    let at : f ≡ met.stamp = ap (λ (x : Fault). x.stamp) fault in
     let below = ended.below in
     let odd = ended.odd in
     (omega (arith, component, below), omega (arith, at, m), omega (arith, at, odd))
 
 pub fault_stamp : {S : Type 0} (net : Network S) (until : ℕ) → until ≤ max_tick → Rattle.tw_laws.specs.History.AllPhaseOne net.inputs
-    → (b s : ℕ) (limit : Limit) → (sequential net until).fault ≡ Some (b, s, limit)
-    → (b < length net.models) × (s < stamp until 0 0) × (phase_of s ≡ 1)
+    → (met : Fault) → (sequential net until).fault ≡ Some met
+    → (met.component < length net.models) × (met.stamp < stamp until 0 0) × (phase_of met.stamp ≡ 1)
 unfolding sequential
 fault_stamp net until m given =
     faulted_before net until (rounds net (stamp until 0 0)) refl (rounds_reach net (stamp until 0 0) (stamp until 0 0) given (omega arith) (omega arith) (omega arith) (omega (arith, m)))

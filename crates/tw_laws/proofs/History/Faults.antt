@@ -17,6 +17,7 @@ use Rattle.tw_laws.proofs.History.Agreement.{made, Follows, clocked_law, bag_at}
 use Rattle.tw_laws.proofs.History.Clock.{bag_of, act, act_if, NoLimit, sent_below, sent_in_all, clock, clock_step}
 use Rattle.tw_laws.proofs.History.Committed.{Extent, extent, kept, ready, local_of, line_moment, ahead_of, facts_at, made_count}
 use Rattle.tw_laws.proofs.History.Counts.{count-append}
+use Rattle.tw_laws.proofs.History.Rounds.{met_by}
 use Rattle.tw_laws.proofs.History.LocalRuns.{Ahead, RunRest, leads_rest, leads_later, act_idle, bag_idle, arrived_front, front_sorted, turn_is, front_some, step_taken}
 
 -- ---- one component at g
@@ -171,7 +172,7 @@ at_g {S} net until g e h m run_to x follows balance apart c p = record { rest = 
     step = ap (λ b. act_if net c g b ((clock net g).place c)) bag ∙ ap (act_if net c g (bag_of c g (h.inputs c))) place
 
 pub fault_law : {S : Type 0} (net : Network S) (until g : ℕ) (h : Holdings S) → until ≤ max_tick → (run_to : IsRunTo net until g h)
-    → (c : ℕ) (limit : Limit) → IsFaulting net until g h run_to c limit → (sequential net until).fault ≡ Some (c, g, limit)
+    → (c : ℕ) (limit : Limit) → IsFaulting net until g h run_to c limit → (sequential net until).fault ≡ Some (met_by c g limit)
 unfolding NoLimit
 fault_law {S} net until g h m run_to c limit is =
     let x = extent net until run_to.given m in
@@ -180,7 +181,7 @@ fault_law {S} net until g h m run_to c limit is =
     top : g < never
     top = let b = is.before in omega (arith, b, m)
 
-    by : (e : ℕ) → Extent net until e → Follows net g (kept h) → (sequential net until).fault ≡ Some (c, g, limit)
+    by : (e : ℕ) → Extent net until e → Follows net g (kept h) → (sequential net until).fault ≡ Some (met_by c g limit)
     by e x follows = ⊎_elim whole (λ f. found f.0 f.1 f.2) x.ends
       where
         here : (d : ℕ) → (p : d < length net.models) → AtG net g (h.inputs d) d (h.history d) (run_to.stands d p).now (run_to.stands d p).pending
@@ -198,12 +199,12 @@ fault_law {S} net until g h m run_to c limit is =
         low : e ≤ g
         low = ⊎_elim (λ l. absurd (not_calm (x.calm c g l))) (λ l. l) (cases_lt g e)
 
-        whole : e ≡ stamp until 0 0 → (sequential net until).fault ≡ Some (c, g, limit)
+        whole : e ≡ stamp until 0 0 → (sequential net until).fault ≡ Some (met_by c g limit)
         whole q = let b = is.before in let l = low in absurd (omega (arith, q, b, l))
 
-        found : (b : ℕ) (other : Limit) → (sequential net until).fault ≡ Some (b, e, other) → (sequential net until).fault ≡ Some (c, g, limit)
+        found : (b : ℕ) (other : Limit) → (sequential net until).fault ≡ Some (met_by b e other) → (sequential net until).fault ≡ Some (met_by c g limit)
         found b other fault =
-            let f = x.fault (b, e, other) fault in
+            let f = x.fault (met_by b e other) fault in
             let high : g ≤ e = ⊎_elim (λ l. absurd (subst NoLimit f.2 (follows.unstopped b e f.1 l))) (λ l. l) (cases_lt e g) in
             let under = low in
             let same : e ≡ g = omega (arith, high, under) in
@@ -221,9 +222,9 @@ fault_law {S} net until g h m run_to c limit is =
                 let at = stops_meets net b (h.inputs b) g _ _ a.rest.pending stand.now stand.pending other a.rest.ahead a.rest.leads is.odd top (sym a.step ∙ its) in
                 is.least b p other l (record { at = at.at; meets = at.meets })
 
-            equal : (b : ℕ) (other : Limit) → e ≡ g → (sequential net until).fault ≡ Some (b, e, other) → clock_step net b g ≡ Stops other → b ≡ c
-                → (sequential net until).fault ≡ Some (c, g, limit)
+            equal : (b : ℕ) (other : Limit) → e ≡ g → (sequential net until).fault ≡ Some (met_by b e other) → clock_step net b g ≡ Stops other → b ≡ c
+                → (sequential net until).fault ≡ Some (met_by c g limit)
             equal b other same fault its q =
                 let both : ◌≡◌ {A = RoundTurn S} (Stops other) (Stops limit) = sym its ∙ ap (λ d. clock_step net d g) q ∙ stops in
                 let limits : other ≡ limit = cc both in
-                fault ∙ (λ i. Some (q i, same i, limits i))
+                fault ∙ (λ i. Some (met_by (q i) (same i) (limits i)))

@@ -11,17 +11,21 @@ use Rattle.tw_msgs.specs.declared.record.Record.{Record}
 use Rattle.tw_vtime.specs.Stamps.{never, phase_of}
 use Rattle.tw_vtime.specs.declared.limits.Limit.{Limit}
 use Rattle.tw_theory.specs.Network.{Network}
-use Rattle.tw_theory.specs.Simulator.{RoundTurn, Stays, Stops, start_moments, take_turn, after_output, Configuration, least_due, least_input, round_time, outputs, turns, turn_records, turned_moments, first_stop, all_sent, with_stamp, past_stamp, Run, round_end, round, rounds_from, rounds}
+use Rattle.tw_theory.specs.Simulator.{Fault, RoundTurn, Stays, Stops, start_moments, take_turn, after_output, Configuration, least_due, least_input, round_time, outputs, turns, turn_records, turned_moments, first_stop, all_sent, with_stamp, past_stamp, Run, round_end, round, rounds_from, rounds}
 use Rattle.tw_theory.specs.Traces.{IsTrace}
 use Rattle.tw_theory.specs.Transitions.{Moment, first_due, start_moment}
 use Rattle.tw_theory.proofs.Elements.{each-append, each_weaker}
-use Rattle.tw_theory.proofs.Rounds.{from_round, from_rest}
+use Rattle.tw_theory.proofs.Rounds.{from_round, from_rest, from_fault}
 use Rattle.tw_laws.specs.History.{count, AllPhaseOne}
 use Rattle.tw_laws.proofs.History.Clock.{place_after, record_after, NoLimit, clock, clock_step}
 use Rattle.tw_laws.proofs.History.Components.{own, own-append, count-past_stamp}
 use Rattle.tw_laws.proofs.History.RecordOrder.{IsAt, outputs_trace, turns_trace, trace-append, each_at}
 use Rattle.tw_laws.proofs.History.RoundBags.{out_of, outs_own, after_out, even_record, even_place, even_quiet}
 use Rattle.tw_laws.proofs.History.RoundTurns.{messages_at, odd_turn, odd_if, turns_own, IsDue, odd_step, turned_one, turned_own, length-turned, odd_place, odd_due, turns_made, record_if, records_own, record_turn, stop_none, no_stop, stop_some}
+
+-- a fault, by its parts
+abbrev pub met_by : ℕ → ℕ → Limit → Fault
+met_by c s limit = record { component = c; stamp = s; limit = limit }
 
 -- inputs after stamp s, of phase 1
 abbrev pub AllAfter : ℕ → List Message → Type 0
@@ -48,7 +52,7 @@ pub record Ended {S : Type 0} (net : Network S) (s : ℕ) (run : Run S) : Type 0
   pub limit : Limit
   pub below : component < length net.models
   pub odd : phase_of s ≡ 1
-  pub fault : run.fault ≡ Some (component, s, limit)
+  pub fault : run.fault ≡ Some (met_by component s limit)
   pub stops : clock_step net component s ≡ Stops limit
   pub least : (d : ℕ) → d < component → NoLimit (clock_step net d s)
   pub records : (c : ℕ) → own c run.records ≡ (clock net s).records c
@@ -218,7 +222,7 @@ round_stop net t run at n f stop =
       limit = f.1;
       below = omega (arith, here, size, below);
       odd = (let p = at.even in omega (arith, p));
-      fault = ap (λ n. Some (f.0, n, f.1)) e;
+      fault = ap (λ (n : ℕ). Some (met_by f.0 n f.1)) e;
       least = λ d l.
           subst NoLimit (sym (step_at_one net t run at n d))
           (no_stop net t d msgs (slice_get run.at.moments d)
@@ -339,10 +343,6 @@ pub data Reached {S : Type 0} (net : Network S) (b : ℕ) (run : Run S) : Type 0
   Running : Stand net b run → Reached net b run
   Faulted : (f : ℕ) → f < b → Ended net f run → Reached net b run
 
-from_fault : {S : Type 0} (net : Network S) (bound n : ℕ) (run : Run S) (f : ℕ × ℕ × Limit) → rounds_from net bound n run (Some f) ≡ run
-from_fault net bound zero run f = refl
-from_fault net bound (suc n) run f = refl
-
 -- with fuel for the stamps that are left
 go : {S : Type 0} (net : Network S) (bound b : ℕ) → bound ≤ b → b ≤ bound + 1 → phase_of b ≡ 0 → b < never → (n s : ℕ) (run : Run S) → Stand net s run
     → s ≤ b → b ≤ s + (n + n) → Reached net b (rounds_from net bound n run None)
@@ -376,7 +376,7 @@ go {S} net bound b low high even top (suc n) s run at l m =
     one_round net bound b n t run at top next on fuel (Some f) e =
         let ended = round_end run t (outs_at net t run) (turns_at net t run) (Some f) in
         subst (λ r. Reached net b (rounds_from net bound n r r.fault)) (sym (round_by net t run (Some f) e))
-        (subst (Reached net b) (sym (from_fault net bound n ended (f.0, t + 1, f.1))) (Faulted (suc t) (omega (arith, next)) (round_stop net t run at top f e)))
+        (subst (Reached net b) (sym (from_fault net bound n ended (met_by f.0 (t + 1) f.1))) (Faulted (suc t) (omega (arith, next)) (round_stop net t run at top f e)))
 
 -- ---- the start
 

@@ -259,7 +259,7 @@ fn the_oldest_step_is_committed(rt: HostRuntime) {
     assert!(rt; column.push(done).is_ok() && column.len() == 1);
     process.set_line(stamp_at(&rt, Some((4, 0))));
     assert!(rt; process.line() == stamp_at(&rt, Some((4, 0))) && process.history_len() == 1);
-    assert_records(&rt, column.into_records().as_slice(), &COMMITTED);
+    assert_records(&rt, column.records(), &COMMITTED);
 }
 
 /// One more message is pending, before a step is made; room is made first, or with it.

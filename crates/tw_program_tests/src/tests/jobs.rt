@@ -8,7 +8,7 @@ use std::sync::Wait;
 use std::thread::Threads;
 use std::time::Clock;
 use tw_engine::{Exit, engine};
-use tw_line::{Driver, Job, Rows, Setting, Workers};
+use tw_line::{Driver, Job, Rows, RunOptions, Workers};
 use tw_process::Cancel;
 use tw_vtime::Refusal;
 
@@ -130,7 +130,7 @@ static JOBS: [Example; 9] = [
             net: "net.json",
             until: 5,
             cancel: Cancel::Aggressive,
-            setting: Setting {
+            setting: RunOptions {
                 workers: Workers::Count(2),
                 burst: 16,
                 window: 1000,
@@ -221,7 +221,7 @@ fn a_writer_that_fails_gets_a_beginning(rt: HostRuntime) {
     }
 }
 
-// The demonstration reads nothing, and of these jobs one alone reads a script.
+/// The demonstration reads nothing, and of these jobs one alone reads a script.
 #[test]
 fn a_reader_that_fails_is_unreadable(rt: HostRuntime) {
     for example in JOBS.iter() {
@@ -232,7 +232,7 @@ fn a_reader_that_fails_is_unreadable(rt: HostRuntime) {
     }
 }
 
-// Whatever is wrong with the script, the network's fault comes first, and the script is not read.
+/// Whatever is wrong with the script, the network's fault comes first, and the script is not read.
 #[test]
 fn a_bad_network_comes_before_an_unreadable_script(rt: HostRuntime) {
     for (network, refusal) in [("{", Refusal::NotJson), ("{}", Refusal::BadShape)] {

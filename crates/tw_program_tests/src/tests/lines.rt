@@ -87,55 +87,55 @@ static TAKEN: [(&str, &str); 45] = [
     ),
     (
         "twarp run n.json --until 5",
-        r#"Run { net: "n.json", until: 5, cancel: Aggressive, setting: Setting { workers: Count(2), burst: 64, window: 1099511627774, progress: false } }"#,
+        r#"Run { net: "n.json", until: 5, cancel: Aggressive, setting: RunOptions { workers: Count(2), burst: 64, window: 1099511627774, progress: false } }"#,
     ),
     (
         "twarp run n.json --until 0 --workers 1",
-        r#"Run { net: "n.json", until: 0, cancel: Aggressive, setting: Setting { workers: Count(1), burst: 64, window: 1099511627774, progress: false } }"#,
+        r#"Run { net: "n.json", until: 0, cancel: Aggressive, setting: RunOptions { workers: Count(1), burst: 64, window: 1099511627774, progress: false } }"#,
     ),
     (
         "twarp run n.json --until 5 --workers 64",
-        r#"Run { net: "n.json", until: 5, cancel: Aggressive, setting: Setting { workers: Count(64), burst: 64, window: 1099511627774, progress: false } }"#,
+        r#"Run { net: "n.json", until: 5, cancel: Aggressive, setting: RunOptions { workers: Count(64), burst: 64, window: 1099511627774, progress: false } }"#,
     ),
     (
         "twarp run n.json --until 5 --workers=auto",
-        r#"Run { net: "n.json", until: 5, cancel: Aggressive, setting: Setting { workers: Auto, burst: 64, window: 1099511627774, progress: false } }"#,
+        r#"Run { net: "n.json", until: 5, cancel: Aggressive, setting: RunOptions { workers: Auto, burst: 64, window: 1099511627774, progress: false } }"#,
     ),
     (
         "twarp run n.json --until 5 --burst 1",
-        r#"Run { net: "n.json", until: 5, cancel: Aggressive, setting: Setting { workers: Count(2), burst: 1, window: 1099511627774, progress: false } }"#,
+        r#"Run { net: "n.json", until: 5, cancel: Aggressive, setting: RunOptions { workers: Count(2), burst: 1, window: 1099511627774, progress: false } }"#,
     ),
     (
         "twarp run n.json --until 5 --burst 256",
-        r#"Run { net: "n.json", until: 5, cancel: Aggressive, setting: Setting { workers: Count(2), burst: 256, window: 1099511627774, progress: false } }"#,
+        r#"Run { net: "n.json", until: 5, cancel: Aggressive, setting: RunOptions { workers: Count(2), burst: 256, window: 1099511627774, progress: false } }"#,
     ),
     (
         "twarp run n.json --until 5 --window 0",
-        r#"Run { net: "n.json", until: 5, cancel: Aggressive, setting: Setting { workers: Count(2), burst: 64, window: 0, progress: false } }"#,
+        r#"Run { net: "n.json", until: 5, cancel: Aggressive, setting: RunOptions { workers: Count(2), burst: 64, window: 0, progress: false } }"#,
     ),
     (
         "twarp run n.json --until 1099511627774 --window 1099511627774 --cancel aggressive",
-        r#"Run { net: "n.json", until: 1099511627774, cancel: Aggressive, setting: Setting { workers: Count(2), burst: 64, window: 1099511627774, progress: false } }"#,
+        r#"Run { net: "n.json", until: 1099511627774, cancel: Aggressive, setting: RunOptions { workers: Count(2), burst: 64, window: 1099511627774, progress: false } }"#,
     ),
     (
         "twarp run --window=+7 --burst=007 --workers=3 --cancel=lazy --until=5 n.json",
-        r#"Run { net: "n.json", until: 5, cancel: Lazy, setting: Setting { workers: Count(3), burst: 7, window: 7, progress: false } }"#,
+        r#"Run { net: "n.json", until: 5, cancel: Lazy, setting: RunOptions { workers: Count(3), burst: 7, window: 7, progress: false } }"#,
     ),
     (
         "twarp run --workers 2 --until 5 --cancel lazy -- -n.json",
-        r#"Run { net: "-n.json", until: 5, cancel: Lazy, setting: Setting { workers: Count(2), burst: 64, window: 1099511627774, progress: false } }"#,
+        r#"Run { net: "-n.json", until: 5, cancel: Lazy, setting: RunOptions { workers: Count(2), burst: 64, window: 1099511627774, progress: false } }"#,
     ),
     (
         "twarp run n.json --until 5 --progress",
-        r#"Run { net: "n.json", until: 5, cancel: Aggressive, setting: Setting { workers: Count(2), burst: 64, window: 1099511627774, progress: true } }"#,
+        r#"Run { net: "n.json", until: 5, cancel: Aggressive, setting: RunOptions { workers: Count(2), burst: 64, window: 1099511627774, progress: true } }"#,
     ),
     (
         "twarp run --progress n.json --until 5 --workers 3 --cancel lazy",
-        r#"Run { net: "n.json", until: 5, cancel: Lazy, setting: Setting { workers: Count(3), burst: 64, window: 1099511627774, progress: true } }"#,
+        r#"Run { net: "n.json", until: 5, cancel: Lazy, setting: RunOptions { workers: Count(3), burst: 64, window: 1099511627774, progress: true } }"#,
     ),
     (
         "twarp run --until 5 -- --progress",
-        r#"Run { net: "--progress", until: 5, cancel: Aggressive, setting: Setting { workers: Count(2), burst: 64, window: 1099511627774, progress: false } }"#,
+        r#"Run { net: "--progress", until: 5, cancel: Aggressive, setting: RunOptions { workers: Count(2), burst: 64, window: 1099511627774, progress: false } }"#,
     ),
     (
         "twarp play n.json --until 5 --script s",

@@ -56,7 +56,7 @@ fn assert_gives(rt: &impl Abort, executive: &Executive<AnyModel>, seed: u64, act
     }
 }
 
-// The actions of these seeds were worked out apart from this program.
+/// The actions of these seeds were worked out apart from this program.
 #[test]
 fn a_seed_gives_its_actions(rt: HostRuntime) {
     let alloc = rt.alloc();
@@ -80,7 +80,7 @@ fn a_seed_gives_its_actions(rt: HostRuntime) {
     assert_gives(&rt, &executive, 42, &second);
 }
 
-// The first words of the generator's own demonstration (O'Neill, pcg32-demo, state 42, stream 54).
+/// The first words of the generator's own demonstration (O'Neill, pcg32-demo, state 42, stream 54).
 #[test]
 fn the_generator_has_its_published_words(rt: HostRuntime) {
     let mut random = Pcg32::new(42, 54);

@@ -79,7 +79,7 @@ fn assert_made(rt: &impl Abort, alloc: Global, before: &[Action], made: Finished
     assert_relay(rt, alloc, exchange.executive(), seen);
 }
 
-// The generator's message comes; or a step of the relay's own; or that step and its way back.
+/// The generator's message comes; or a step of the relay's own; or that step and its way back.
 #[test]
 fn a_chain_is_stale_where_its_component_stands_elsewhere(rt: HostRuntime) {
     let alloc = rt.alloc();

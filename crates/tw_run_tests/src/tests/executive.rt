@@ -24,7 +24,7 @@ outgoing - t 0=5 at 3.0.1
 /// What is committed then.
 const COMMITTED: &str = "2.0 g out 0=5\n2.0 g int | 1\n2.0 r ext 0=5 | 0 5\n";
 
-// Of the actions the one that would go back before global virtual time is refused.
+/// Of the actions the one that would go back before global virtual time is refused.
 #[test]
 fn commit_and_cut_by_one_replay(rt: HostRuntime) {
     let alloc = rt.alloc();

@@ -38,7 +38,7 @@ fn lacks(executive: &Executive<Model>, component: usize) -> bool
     component >= executive.network().len()
 }
 
-// Of three generators the last one's chain of four steps, installed where there are two.
+/// Of three generators the last one's chain of four steps, installed where there are two.
 #[test]
 fn a_chain_of_a_larger_network_is_refused(rt: HostRuntime) {
     let alloc = rt.alloc();

@@ -115,7 +115,7 @@ fn wait_for(rt: &impl Wait, heard: &AtomicU64, lines: u64) {
     }
 }
 
-// Work that is soon done tells nothing; a line comes after a second; and with no clock lines come until standard error is gone.
+/// Work that is soon done tells nothing; a line comes after a second; and with no clock lines come until standard error is gone.
 #[test]
 fn lines_come_while_work_goes_on(rt: HostRuntime) -> Result<(), Fail> {
     assert!(rt; told(&rt, rt.alloc(), 0, 9, true) == 0);

@@ -252,7 +252,7 @@ fn forwards_meet(rt: HostRuntime) {
     assert!(rt; meeting.calls() == (2, 2));
 }
 
-// At the first refusal a sweep brings global virtual time further, and the run goes on; at the second it does not.
+/// At the first refusal a sweep brings global virtual time further, and the run goes on; at the second it does not.
 #[test]
 fn a_run_that_was_given_up_goes_on(rt: HostRuntime) {
     let models = [

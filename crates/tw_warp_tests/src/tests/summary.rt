@@ -32,7 +32,7 @@ fn push_counts(text: &mut String, seen: &Seen) -> Result<(), AllocError> {
     )
 }
 
-// A stamp; `start` where there is none.
+/// A stamp; `start` where there is none.
 fn push_stamp(text: &mut String, stamp: Option<Stamp>) -> Result<(), AllocError> {
     match stamp {
         Some(stamp) => write!(text, " {stamp}"),

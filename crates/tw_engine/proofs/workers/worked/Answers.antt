@@ -11,4 +11,4 @@ returns-in-Ok-Fault-clause-records g c =
     let met = c.in-Ok-Fault in
     let outcome = subst (λ r. IfOk r (IsEnd any_meaning e.network e.until)) met.is c.outcome-ended.ensures.outcome in
     let ended = subst (λ outcome. IsEnd any_meaning e.network e.until outcome) met.field-0-is outcome in
-    ended.1 ∙ c.outcome_law.ensures.before_fault (network_of any_meaning e.network) e.until c.facts.ensures.network c.facts.ensures.bound met.component met.stamp met.limit ended.0
+    ended.1 ∙ c.outcome_law.ensures.before_fault (network_of any_meaning e.network) e.until c.facts.ensures.network c.facts.ensures.bound met.fault ended.0

@@ -1,7 +1,7 @@
 -- Round by round, as for any receiver of the records.
 use Rattle.std.proofs.Common.{◌∙◌, ◌++◌, [], inr, refl, ap, subst}
 use Rattle.tw_network.specs.Contents.{network_of}
-use Rattle.tw_seq.specs.Stepping.{IsStep}
+use Rattle.tw_seq.specs.Stepping.{IsAdvanced}
 use Rattle.tw_theory.specs.Simulator.{sequential}
 use Rattle.tw_pictures.proofs.following.follow.Goals as goal
 
@@ -18,7 +18,7 @@ advance-requires g c = (c.loop-transitions.invariant.done, c.loop-transitions.in
 pub loop-transitions-preserved : goal.loop-transitions-preserved
 loop-transitions-preserved g c =
     let inv = c.loop-transitions.invariant in
-    let made = subst (IsStep _ g.M.Atomic.valid g.M.Atomic.meaning c.args.network.now c.loop-transitions.simulation c.advance.new.simulation c.loop-transitions.outputs c.advance.new.outputs c.loop-transitions.transitions c.advance.new.transitions) c.in-Round.is c.in_ok-step.ensures.step in
+    let made = subst (IsAdvanced _ g.M.Atomic.valid g.M.Atomic.meaning c.args.network.now c.loop-transitions.simulation c.advance.new.simulation c.loop-transitions.outputs c.advance.new.outputs c.loop-transitions.transitions c.advance.new.transitions) c.in-Round.is c.in_ok-step.ensures.step in
     record {
       done = inv.done ++ (made.outs ++ made.turns);
       so_far = made.on inv.done inv.so_far;
@@ -29,5 +29,5 @@ loop-transitions-preserved g c =
 pub returns-in-End : goal.returns-in-End
 returns-in-End g c =
     let inv = c.loop-transitions.invariant in
-    let last = subst (IsStep _ g.M.Atomic.valid g.M.Atomic.meaning c.args.network.now c.loop-transitions.simulation c.advance.new.simulation c.loop-transitions.outputs c.advance.new.outputs c.loop-transitions.transitions c.advance.new.transitions) c.in-End.is c.in_ok-step.ensures.step in
+    let last = subst (IsAdvanced _ g.M.Atomic.valid g.M.Atomic.meaning c.args.network.now c.loop-transitions.simulation c.advance.new.simulation c.loop-transitions.outputs c.advance.new.outputs c.loop-transitions.transitions c.advance.new.transitions) c.in-End.is c.in_ok-step.ensures.step in
     inr ((last.all inv.done inv.so_far).fault ∙ ap (λ u. (sequential (network_of g.M.Atomic.meaning c.args.network.now) u).fault) inv.until)

@@ -1,10 +1,10 @@
 -- A round more, or the end.
-use Rattle.std.proofs.Common.{rules, ◌≡◌, ◌≤◌, ◌<◌, ◌∙◌, ◌++◌, [], ap, sym, refl, subst, Some}
+use Rattle.std.proofs.Common.{rules, ℕ, ◌≡◌, ◌≤◌, ◌<◌, ◌∙◌, ◌++◌, [], ap, sym, refl, subst, Some}
 use Rattle.std.specs.Prelude.{length}
 use Rattle.tw_network.specs.Contents.{network_of}
 use Rattle.tw_seq.specs.Invariant.{IsToCome}
 use Rattle.tw_seq.specs.Turning.{all_outputs, all_turns}
-use Rattle.tw_theory.specs.Simulator.{round_time, turn_records}
+use Rattle.tw_theory.specs.Simulator.{Fault, round_time, turn_records}
 use Rattle.tw_theory.proofs.Elements.{each_weaker}
 use Rattle.tw_vtime.specs.Stamps.{never, phase_of, stamp}
 use Rattle.tw_seq.proofs.RoundOutputs.{transition_of}
@@ -53,13 +53,14 @@ returns-in-Some-stop-clause-step g c =
     let under = part_underway g.M.Atomic.valid meaning c.args.network.now c.args.until c.requires.0 run part t c.in-Some.ensures.time before in
     let made = round_some net t run c.in_ok-stop.stop c.in_ok-stop.ensures.stop (c.in-Some-stop.component, c.in-Some-stop.limit) c.in-Some-stop.is in
     let at = c.transition.ensures ∙ transition_of t under.even in
+    let met : ℕ → Fault = λ s. record { component = c.in-Some-stop.component; stamp = s; limit = c.in-Some-stop.limit } in
     let outs = made.1 ∙ ap (λ l. l ++ all_outputs net t run) part.empty in
     record {
       outs = all_outputs net t run;
       outputs = c.in_ok-stop.ensures.outputs;
       all = λ done h. part_fault g.M.Atomic.valid meaning c.args.network.now c.args.until done run h.part t c.in-Some.ensures.time before
-          (all_outputs net t run) (c.in-Some-stop.component, c.transition.result, c.in-Some-stop.limit) (sym outs)
-          (made.0 ∙ ap (λ s. Some (c.in-Some-stop.component, s, c.in-Some-stop.limit)) (sym at));
+          (all_outputs net t run) (met c.transition.result) (sym outs)
+          (made.0 ∙ ap (λ (s : ℕ). Some (met s)) (sym at));
     }
 
 pub returns-in-None-clause-step : goal.returns-in-None-clause-step

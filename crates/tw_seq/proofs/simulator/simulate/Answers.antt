@@ -1,7 +1,7 @@
 -- Round after round until none is left, or a fault.
 use Rattle.std.proofs.Common.{◌≡◌, ◌∙◌, ◌++◌, ap, sym, subst, append_assoc}
 use Rattle.tw_seq.specs.Parts.{IsEnd, IsSimulating}
-use Rattle.tw_seq.specs.Stepping.{IsStep}
+use Rattle.tw_seq.specs.Stepping.{IsAdvanced}
 use Rattle.tw_seq.proofs.Received.{collected}
 use Rattle.tw_seq.proofs.simulator.simulate.Goals as goal
 use Rattle.tw_seq.proofs.simulator.simulate.Goals.{In-End}
@@ -15,7 +15,7 @@ advance-requires g c = (c.loop-transitions.records.items, c.loop-transitions.inv
 all_is : (g : _) (c : In-End g) → IsEnd g.M.Atomic.meaning c.args.network.now c.args.until c.advance.new.outputs.items c.in-End.fault
 all_is g c =
     let inv = c.loop-transitions.invariant in
-    let last = subst (IsStep _ g.M.Atomic.valid g.M.Atomic.meaning c.args.network.now c.loop-transitions.simulation c.advance.new.simulation c.loop-transitions.records c.advance.new.outputs c.loop-transitions.transitions c.advance.new.transitions) c.in-End.is c.in_ok-step.ensures.step in
+    let last = subst (IsAdvanced _ g.M.Atomic.valid g.M.Atomic.meaning c.args.network.now c.loop-transitions.simulation c.advance.new.simulation c.loop-transitions.records c.advance.new.outputs c.loop-transitions.transitions c.advance.new.transitions) c.in-End.is c.in_ok-step.ensures.step in
     let got = collected (λ v. v.items) c.loop-transitions.records last.outs c.advance.new.outputs last.outputs in
     subst (λ u. IsEnd g.M.Atomic.meaning c.args.network.now u c.advance.new.outputs.items c.in-End.fault) inv.until
     (subst (λ rs. IsEnd g.M.Atomic.meaning c.args.network.now c.loop-transitions.simulation.until rs c.in-End.fault) (sym got) (last.all c.loop-transitions.records.items inv.so_far))
@@ -29,7 +29,7 @@ returns-in-End-clause-fault g c = (all_is g (goal.at.returns-in-End-clause-fault
 pub loop-transitions-preserved : goal.loop-transitions-preserved
 loop-transitions-preserved g c =
     let inv = c.loop-transitions.invariant in
-    let made = subst (IsStep _ g.M.Atomic.valid g.M.Atomic.meaning c.args.network.now c.loop-transitions.simulation c.advance.new.simulation c.loop-transitions.records c.advance.new.outputs c.loop-transitions.transitions c.advance.new.transitions) c.in-Round.is c.in_ok-step.ensures.step in
+    let made = subst (IsAdvanced _ g.M.Atomic.valid g.M.Atomic.meaning c.args.network.now c.loop-transitions.simulation c.advance.new.simulation c.loop-transitions.records c.advance.new.outputs c.loop-transitions.transitions c.advance.new.transitions) c.in-Round.is c.in_ok-step.ensures.step in
     let outs = collected (λ v. v.items) c.loop-transitions.records made.outs c.advance.new.outputs made.outputs in
     let turns = collected (λ v. v.items) c.loop-transitions.transitions made.turns c.advance.new.transitions made.transitions ∙ ap (λ l. l ++ made.turns) inv.none in
     let all : c.append.new.self.items ≡ c.loop-transitions.records.items ++ (made.outs ++ made.turns) =

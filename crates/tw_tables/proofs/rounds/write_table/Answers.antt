@@ -3,7 +3,7 @@ use Rattle.std.proofs.Common.{◌≡◌, ◌++◌, ◌∙◌, List, [], sym, ap,
 use Rattle.std.proofs.lemmas.Result.{on_ok_weaker}
 use Rattle.tw_msgs.specs.declared.record.Record.{Record}
 use Rattle.tw_network.specs.Contents.{network_of}
-use Rattle.tw_seq.specs.Stepping.{IsStep}
+use Rattle.tw_seq.specs.Stepping.{IsAdvanced}
 use Rattle.tw_seq.proofs.Parted.{part_begins}
 use Rattle.tw_tables.specs.Tables.{head_text, rows_text, table_text}
 use Rattle.tw_texts.proofs.Portions.{appends_nothing}
@@ -51,7 +51,7 @@ returns-in-End-clause-ok g c =
     let inv = c.loop-step.invariant in
     let net = network_of g.M.Atomic.meaning c.args.network.now in
     let name_of = g.N.Names.name_of c.args.names.now in
-    let last = subst (IsStep _ g.M.Atomic.valid g.M.Atomic.meaning c.args.network.now c.loop-step.simulation c.advance_telling.new.simulation c.loop-step.outputs c.advance_telling.new.outputs c.loop-step.transitions c.advance_telling.new.transitions) c.in-End.is c.in-Ok-advance_telling.ensures.step in
+    let last = subst (IsAdvanced _ g.M.Atomic.valid g.M.Atomic.meaning c.args.network.now c.loop-step.simulation c.advance_telling.new.simulation c.loop-step.outputs c.advance_telling.new.outputs c.loop-step.transitions c.advance_telling.new.transitions) c.in-End.is c.in-Ok-advance_telling.ensures.step in
     let got = gathered (λ v. v.names.now) (λ v. v.rows) (λ v. string_bytes v.lines) g.N.Names.name_of c.loop-step.outputs last.outs c.advance_telling.new.outputs last.outputs in
     let grown : string_bytes c.advance_telling.new.outputs.lines ≡ string_bytes c.loop-step.outputs.lines ++ rows_text c.args.rows name_of last.outs =
     got.2 ∙ (λ i. string_bytes c.loop-step.outputs.lines ++ rows_text (inv.kinds i) (g.N.Names.name_of (inv.names i)) last.outs) in
@@ -64,7 +64,7 @@ pub loop-step-preserved : goal.loop-step-preserved
 loop-step-preserved g c =
     let inv = c.loop-step.invariant in
     let name_of = g.N.Names.name_of c.args.names.now in
-    let made = subst (IsStep _ g.M.Atomic.valid g.M.Atomic.meaning c.args.network.now c.loop-step.simulation c.advance_telling.new.simulation c.loop-step.outputs c.advance_telling.new.outputs c.loop-step.transitions c.advance_telling.new.transitions) c.in-Round.is c.in-Ok-advance_telling.ensures.step in
+    let made = subst (IsAdvanced _ g.M.Atomic.valid g.M.Atomic.meaning c.args.network.now c.loop-step.simulation c.advance_telling.new.simulation c.loop-step.outputs c.advance_telling.new.outputs c.loop-step.transitions c.advance_telling.new.transitions) c.in-Round.is c.in-Ok-advance_telling.ensures.step in
     let outs = gathered (λ v. v.names.now) (λ v. v.rows) (λ v. string_bytes v.lines) g.N.Names.name_of c.loop-step.outputs made.outs c.advance_telling.new.outputs made.outputs in
     let turns = gathered (λ v. v.names.now) (λ v. v.rows) (λ v. string_bytes v.lines) g.N.Names.name_of c.loop-step.transitions made.turns c.advance_telling.new.transitions made.transitions in
     let first : string_bytes c.advance_telling.new.outputs.lines ≡ string_bytes c.loop-step.outputs.lines ++ rows_text c.args.rows name_of made.outs =

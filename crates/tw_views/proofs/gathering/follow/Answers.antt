@@ -3,7 +3,7 @@ use Rattle.std.proofs.Common.{◌≡◌, ◌∙◌, ◌++◌, [], List, refl, ap
 use Rattle.tw_msgs.specs.declared.record.Record.{Record}
 use Rattle.tw_network.specs.Contents.{network_of}
 use Rattle.tw_seq.specs.Parts.{IsSimulating}
-use Rattle.tw_seq.specs.Stepping.{IsStep}
+use Rattle.tw_seq.specs.Stepping.{IsAdvanced}
 use Rattle.tw_seq.proofs.Received.{collected}
 use Rattle.tw_theory.specs.Simulator.{sequential}
 use Rattle.tw_figures.specs.Figures.{IsSteady}
@@ -35,7 +35,7 @@ record Made (g : _) (c : After-as_slice-records g) : Type 0 where
 made_in : (g : _) (c : After-as_slice-records g) → Made g c
 made_in g c =
     let inv = c.loop-transitions.invariant in
-    let made = subst (IsStep _ g.M.Atomic.valid g.M.Atomic.meaning c.args.network.now c.loop-transitions.simulation c.advance.new.simulation c.loop-transitions.outputs c.advance.new.outputs c.loop-transitions.transitions c.advance.new.transitions) c.in-Round.is c.in_ok-step.ensures.step in
+    let made = subst (IsAdvanced _ g.M.Atomic.valid g.M.Atomic.meaning c.args.network.now c.loop-transitions.simulation c.advance.new.simulation c.loop-transitions.outputs c.advance.new.outputs c.loop-transitions.transitions c.advance.new.transitions) c.in-Round.is c.in_ok-step.ensures.step in
     let outs = collected (λ v. v.items) c.loop-transitions.outputs made.outs c.advance.new.outputs made.outputs ∙ ap (λ l. l ++ made.outs) inv.no_outputs in
     let turns = collected (λ v. v.items) c.loop-transitions.transitions made.turns c.advance.new.transitions made.transitions ∙ ap (λ l. l ++ made.turns) inv.no_transitions in
     record {
@@ -80,7 +80,7 @@ ended_in : (g : _) (c : After-as_slice g) → Ended g c
 ended_in g c =
     let inv = c.loop-transitions.invariant in
     let net = network_of g.M.Atomic.meaning c.args.network.now in
-    let last = subst (IsStep _ g.M.Atomic.valid g.M.Atomic.meaning c.args.network.now c.loop-transitions.simulation c.advance.new.simulation c.loop-transitions.outputs c.advance.new.outputs c.loop-transitions.transitions c.advance.new.transitions) c.in-End.is c.in_ok-step.ensures.step in
+    let last = subst (IsAdvanced _ g.M.Atomic.valid g.M.Atomic.meaning c.args.network.now c.loop-transitions.simulation c.advance.new.simulation c.loop-transitions.outputs c.advance.new.outputs c.loop-transitions.transitions c.advance.new.transitions) c.in-End.is c.in_ok-step.ensures.step in
     let outs = collected (λ v. v.items) c.loop-transitions.outputs last.outs c.advance.new.outputs last.outputs ∙ ap (λ l. l ++ last.outs) inv.no_outputs in
     let all = last.all inv.done inv.so_far in
     record {

@@ -19,6 +19,6 @@ returns-in-Fault-clause-outcome g c =
     let trace = c.in-Ok.trace.items in
     let over = subst (λ end. IsOver g.M.Atomic.meaning e end) c.in-Fault.is c.requires in
     record {
-      end = fault_end g.M.Atomic.meaning e c.facts.ensures c.in-Fault.component c.in-Fault.stamp c.in-Fault.limit trace over.1 over.0 c.in-Ok.ensures.sequential;
-      committed = fault_all g.M.Atomic.meaning e c.facts.ensures c.in-Fault.component c.in-Fault.stamp c.in-Fault.limit trace over.1 over.0 c.in-Ok.ensures.merged;
+      end = fault_end g.M.Atomic.meaning e c.facts.ensures c.in-Fault.fault trace over.1 over.0 c.in-Ok.ensures.sequential;
+      committed = fault_all g.M.Atomic.meaning e c.facts.ensures c.in-Fault.fault trace over.1 over.0 c.in-Ok.ensures.merged;
     }

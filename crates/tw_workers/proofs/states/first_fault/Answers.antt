@@ -1,7 +1,8 @@
-use Rattle.std.proofs.Common.{◌≡◌, ◌+◌, suc, Some, None, ap, sym, ◌∙◌, arith, length}
+use Rattle.std.proofs.Common.{ℕ, ◌≡◌, ◌+◌, suc, Some, None, ap, sym, ◌∙◌, arith, length}
 use Rattle.std.specs.Prelude.{slice_get}
 use Rattle.tw_theory.proofs.Elements.{present}
-use Rattle.tw_theory.specs.Outcomes.{Fault}
+use Rattle.tw_theory.specs.Outcomes.{Fault as InFault}
+use Rattle.tw_theory.specs.Simulator.{Fault}
 use Rattle.tw_workers.proofs.Drawing.{if_there}
 use Rattle.tw_workers.proofs.PassByPass.{process_count}
 use Rattle.tw_workers.proofs.Standing.{fault_here}
@@ -18,7 +19,8 @@ returns-in-Some-clause-state g c =
     let p = present e.world.processes k (omega (arith, c.loop-component-test.true, c.len-component-end.ensures, ap (λ x. length x.models) (c.deref.ensures ∙ c.network.ensures), process_count m e c.facts.ensures)) in
     let limit : Some c.in-Some.limit ≡ limit_at m e k p.0 =
     sym c.in-Some.is ∙ if_there (λ p. c.in_ok-limit.field-0 ≡ limit_at m now k p) (slice_get now.world.processes k) p.0 (ap (λ x. slice_get x.world.processes k) same ∙ p.1) c.in_ok-limit.ensures.limit ∙ ap (λ x. limit_at m x k p.0) same in
-    ap (λ s. Fault k s c.in-Some.limit) (c.gvt.ensures ∙ ap (λ x. x.world.gvt) (c.in_ok-limit.ensures.stays ∙ same)) ∙ sym (c.loop-component.invariant.none ∙ fault_here m e k p.0 (Some c.in-Some.limit) p.1 limit)
+    let met : ℕ → Fault = λ s. record { component = k; stamp = s; limit = c.in-Some.limit } in
+    ap (λ s. InFault (met s)) (c.gvt.ensures ∙ ap (λ x. x.world.gvt) (c.in_ok-limit.ensures.stays ∙ same)) ∙ sym (c.loop-component.invariant.none ∙ fault_here m e k p.0 (Some c.in-Some.limit) p.1 limit)
 
 pub loop-component-preserved : goal.loop-component-preserved
 loop-component-preserved g c =

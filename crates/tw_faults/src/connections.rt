@@ -1,13 +1,11 @@
 //! Names, couplings and inputs that are at fault.
 
 use crate::given::late_starts;
-use crate::machines::machines_of;
-use crate::outline::{Level, Outline, items_at, name_of, place_of};
+use crate::outline::{Level, Outline, place_of};
 use crate::parameters::check_range;
-use crate::stop::Stop;
-use crate::words::quoted;
 use serde_json::Value;
 use std::alloc::Global;
+use tw_machine_faults::{Stop, items_at, machines_of, name_of, quoted};
 use tw_vtime::MAX_TICK;
 
 /// The greatest port.
@@ -25,7 +23,7 @@ struct Coupling<'a> {
     destination_port: u64,
 }
 
-// The coupling that a value says.
+/// The coupling that a value says.
 fn coupling_of<'a>(value: &'a Value) -> Option<Coupling<'a>> {
     let source = value.get(0)?.as_str()?;
     let source_port = value.get(1)?.as_u64()?;
@@ -39,7 +37,7 @@ fn coupling_of<'a>(value: &'a Value) -> Option<Coupling<'a>> {
     })
 }
 
-// Looks for a name that is not made as names are.
+/// Looks for a name that is not made as names are.
 pub(crate) fn bad_names(alloc: Global, outline: &Outline<'_>) -> Result<(), Stop> {
     for level in &outline.levels {
         for (i, component) in items_at(level.value, "components").iter().enumerate() {
@@ -57,7 +55,7 @@ pub(crate) fn bad_names(alloc: Global, outline: &Outline<'_>) -> Result<(), Stop
     Ok(())
 }
 
-// Whether a text is made as names are.
+/// Whether a text is made as names are.
 fn is_name(name: &str) -> bool {
     for letter in name.as_bytes() {
         if !letter.is_ascii_alphanumeric() && *letter != b'_' && *letter != b'-' {
@@ -67,7 +65,7 @@ fn is_name(name: &str) -> bool {
     !name.is_empty() && name.len() <= MAX_NAME
 }
 
-// Looks for a name that stood before in the same model.
+/// Looks for a name that stood before in the same model.
 pub(crate) fn repeated_names(alloc: Global, outline: &Outline<'_>) -> Result<(), Stop> {
     for level in &outline.levels {
         let components = items_at(level.value, "components");
@@ -88,7 +86,7 @@ pub(crate) fn repeated_names(alloc: Global, outline: &Outline<'_>) -> Result<(),
     Ok(())
 }
 
-// The place of the first component of this name.
+/// The place of the first component of this name.
 fn first_named(components: &[Value], name: &str) -> Option<usize> {
     for (i, component) in components.iter().enumerate() {
         if name_of(component) == Some(name) {
@@ -98,7 +96,7 @@ fn first_named(components: &[Value], name: &str) -> Option<usize> {
     None
 }
 
-// Looks for a name of a coupling or an input that nothing has.
+/// Looks for a name of a coupling or an input that nothing has.
 pub(crate) fn unknown_names(
     alloc: Global,
     value: &Value,
@@ -123,7 +121,7 @@ pub(crate) fn unknown_names(
     Ok(())
 }
 
-// Stops at an end of a coupling that is no component of the model. In a coupled model the empty name is itself.
+/// Stops at an end of a coupling that is no component of the model. In a coupled model the empty name is itself.
 fn check_end(alloc: Global, level: &Level<'_>, i: usize, name: &str) -> Result<(), Stop> {
     if name.is_empty() && level.depth > 0 {
         return Ok(());
@@ -144,7 +142,7 @@ fn check_end(alloc: Global, level: &Level<'_>, i: usize, name: &str) -> Result<(
     Err(Stop::Fault(line))
 }
 
-// Whether an atom has this flat name.
+/// Whether an atom has this flat name.
 fn has_atom(outline: &Outline<'_>, name: &str) -> bool {
     for atom in &outline.atoms {
         if atom.name.as_str() == name {
@@ -154,7 +152,7 @@ fn has_atom(outline: &Outline<'_>, name: &str) -> bool {
     false
 }
 
-// Looks for a port that is too great.
+/// Looks for a port that is too great.
 pub(crate) fn bad_ports(alloc: Global, value: &Value, outline: &Outline<'_>) -> Result<(), Stop> {
     for level in &outline.levels {
         for (i, item) in items_at(level.value, "couplings").iter().enumerate() {
@@ -181,7 +179,7 @@ pub(crate) fn bad_ports(alloc: Global, value: &Value, outline: &Outline<'_>) -> 
     Ok(())
 }
 
-// Looks for a coupling whose ends are the same.
+/// Looks for a coupling whose ends are the same.
 pub(crate) fn self_couplings(alloc: Global, outline: &Outline<'_>) -> Result<(), Stop> {
     for level in &outline.levels {
         for (i, item) in items_at(level.value, "couplings").iter().enumerate() {
@@ -204,7 +202,7 @@ pub(crate) fn self_couplings(alloc: Global, outline: &Outline<'_>) -> Result<(),
     Ok(())
 }
 
-// Looks for a coupling that stood before in the same model.
+/// Looks for a coupling that stood before in the same model.
 pub(crate) fn repeated_routes(alloc: Global, outline: &Outline<'_>) -> Result<(), Stop> {
     for level in &outline.levels {
         let couplings = items_at(level.value, "couplings");
@@ -223,7 +221,7 @@ pub(crate) fn repeated_routes(alloc: Global, outline: &Outline<'_>) -> Result<()
     Ok(())
 }
 
-// The place of the first coupling like this one.
+/// The place of the first coupling like this one.
 fn first_like(couplings: &[Value], item: &Value) -> Option<usize> {
     let wanted = coupling_of(item)?;
     for (i, other) in couplings.iter().enumerate() {
@@ -234,7 +232,7 @@ fn first_like(couplings: &[Value], item: &Value) -> Option<usize> {
     None
 }
 
-// Looks for a first wait of a machine that is too long, and then for an input whose tick is too late.
+/// Looks for a first wait of a machine that is too long, and then for an input whose tick is too late.
 pub(crate) fn bad_ticks(alloc: Global, value: &Value, outline: &Outline<'_>) -> Result<(), Stop> {
     if outline.has_machines {
         let machines = machines_of(alloc, value)?;

@@ -1,10 +1,10 @@
 //! Counts and the greatest microstep that are out of range.
 
-use crate::outline::{Outline, items_at};
+use crate::outline::Outline;
 use crate::parameters::check_range;
-use crate::stop::Stop;
 use serde_json::Value;
 use std::alloc::Global;
+use tw_machine_faults::{Stop, items_at};
 
 const MAX_LEVELS: usize = 16;
 
@@ -18,7 +18,7 @@ const MAX_INPUTS: usize = 65_536;
 
 const MAX_MICROSTEP: u64 = 8_388_607;
 
-// Looks for a count above the most that is taken.
+/// Looks for a count above the most that is taken.
 pub(crate) fn too_many(alloc: Global, value: &Value, outline: &Outline<'_>) -> Result<(), Stop> {
     let mut depth = 0usize;
     let mut couplings = 0usize;
@@ -40,7 +40,7 @@ pub(crate) fn too_many(alloc: Global, value: &Value, outline: &Outline<'_>) -> R
     Err(Stop::Fault(line))
 }
 
-// Stops at a count that is too large.
+/// Stops at a count that is too large.
 fn check_count(alloc: Global, count: usize, of: &str, most: usize) -> Result<(), Stop> {
     if count > most {
         let line = format!(in alloc; "the file: {count} {of}, at most {most}")?;
@@ -49,7 +49,7 @@ fn check_count(alloc: Global, count: usize, of: &str, most: usize) -> Result<(),
     Ok(())
 }
 
-// Looks at the greatest microstep.
+/// Looks at the greatest microstep.
 pub(crate) fn bad_limit(alloc: Global, value: &Value) -> Result<(), Stop> {
     check_range(alloc, "the file", value, "micro_limit", 1, MAX_MICROSTEP)
 }

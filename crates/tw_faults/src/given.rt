@@ -1,16 +1,11 @@
 //! Components of machines: their members, and the limits with their numbers.
 
-use crate::entries::WHOLE;
-use crate::limits::own_numbers;
-use crate::machines::{Machine, check_limits};
-use crate::names::{is_list, parameters_of};
 use crate::outline::Outline;
 use crate::shape::{check_members, check_value};
-use crate::stop::Stop;
-use crate::words::{described, quoted};
 use serde_json::Value;
-use std::alloc::{AllocError, Global};
+use std::alloc::Global;
 use tw_costs::constant;
+use tw_machine_faults::{Machine, Stop, WHOLE, described, quoted};
 use tw_machine_file::{MachineFault, given_of};
 use tw_vtime::MAX_TICK;
 
@@ -20,7 +15,7 @@ const MAX_LIST: usize = 65_536;
 /// The most numbers of all tables of a file.
 const MAX_NUMBERS: usize = 1_048_576;
 
-// The machine of this name.
+/// The machine of this name.
 pub(crate) fn machine_named<'a, 'b>(
     machines: &'a [Machine<'b>],
     name: &str,
@@ -33,14 +28,14 @@ pub(crate) fn machine_named<'a, 'b>(
     None
 }
 
-// Looks at a component of a machine.
+/// Looks at a component of a machine.
 pub(crate) fn check_given(
     alloc: Global,
     place: &str,
     component: &Value,
     machine: &Machine<'_>,
 ) -> Result<(), Stop> {
-    let names = parameter_names(alloc, machine.value)?;
+    let names = machine.parameters(alloc)?;
     let what = quoted(alloc, machine.read.name.as_str())?;
     let common = &["name", "model"];
     check_members(
@@ -52,31 +47,20 @@ pub(crate) fn check_given(
         names.as_slice(),
     )?;
     for name in &names {
-        if is_list(machine.value, name) {
+        if machine.takes_list(name) {
             check_numbers(alloc, place, component, name)?;
         } else {
             check_value(alloc, place, component, name)?;
         }
     }
     match given_of(alloc, &machine.read, component) {
-        Ok(given) => check_limits(alloc, place, &given, machine),
+        Ok(given) => machine.check_limits(alloc, place, &given),
         Err(MachineFault::OutOfMemory) => Err(Stop::OutOfMemory),
         Err(fault) => Err(Stop::Fault(format!(in alloc; "{place}: {fault}")?)),
     }
 }
 
-// The names of a machine's parameters, in order.
-fn parameter_names<'a>(alloc: Global, machine: &'a Value) -> Result<Vec<&'a str>, AllocError> {
-    let mut names = Vec::new(alloc);
-    for name in parameters_of(machine) {
-        if let Some(name) = name.as_str() {
-            names.push(name)?;
-        }
-    }
-    Ok(names)
-}
-
-// Stops at a member that is no list of 1 to 65,536 whole numbers.
+/// Stops at a member that is no list of 1 to 65,536 whole numbers.
 fn check_numbers(alloc: Global, place: &str, component: &Value, name: &str) -> Result<(), Stop> {
     let Some(value) = component.get(name) else {
         return Ok(());
@@ -101,7 +85,7 @@ fn check_numbers(alloc: Global, place: &str, component: &Value, name: &str) -> R
     Ok(())
 }
 
-// Stops where the tables of all machines and components have too many numbers together.
+/// Stops where the tables of all machines and components have too many numbers together.
 pub(crate) fn check_tables(
     alloc: Global,
     outline: &Outline<'_>,
@@ -109,7 +93,7 @@ pub(crate) fn check_tables(
 ) -> Result<(), Stop> {
     let mut total = 0usize;
     for machine in machines {
-        total = total.saturating_add(own_numbers(alloc, &machine.read));
+        total = total.saturating_add(machine.own_numbers(alloc));
     }
     for atom in &outline.atoms {
         let model = atom
@@ -136,7 +120,7 @@ pub(crate) fn check_tables(
     Ok(())
 }
 
-// Looks for a component of a machine whose first wait is too long.
+/// Looks for a component of a machine whose first wait is too long.
 pub(crate) fn late_starts(
     alloc: Global,
     outline: &Outline<'_>,
@@ -160,7 +144,7 @@ pub(crate) fn late_starts(
     Ok(())
 }
 
-// The first wait of a component; 0 where it has none.
+/// The first wait of a component; 0 where it has none.
 fn first_wait(alloc: Global, machine: &Machine<'_>, component: &Value) -> Result<u64, Stop> {
     let given = match given_of(alloc, &machine.read, component) {
         Ok(given) => given,

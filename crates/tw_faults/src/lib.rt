@@ -7,31 +7,18 @@
 //!
 //! - `outline`: the models and components of a file, each with its place and its name.
 //! - `shape`, `parameters`, `connections`, `counts`: the first place of a fault of each kind.
-//! - `machines`: the first fault of `models`; within, `names`, `entries` and `members` look at a machine's members, and
-//!   `limits` at its counts. `given`: components of machines.
-//! - `spelling`, `reading`, `texts`: where a machine's text goes wrong, what it wants there; `nearest`: the name that was
-//!   meant.
+//! - `given`: components of machines. The machines themselves, the first fault of `models`, are left to
+//!   `tw_machine_faults`, which has the words too that lines are made of.
 //! - `syntax`: what a text that is no JSON wants where it goes wrong.
 #![tactic(auto)]
 
 mod connections;
 mod counts;
-mod entries;
 mod given;
-mod limits;
 mod lines;
-mod machines;
-mod members;
-mod names;
-mod nearest;
 mod outline;
 mod parameters;
-mod reading;
 mod shape;
-mod spelling;
-mod stop;
 mod syntax;
-mod texts;
-mod words;
 
 pub use lines::explain;

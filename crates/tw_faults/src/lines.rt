@@ -7,10 +7,10 @@ use crate::counts::{bad_limit, too_many};
 use crate::outline::Outline;
 use crate::parameters::bad_parameters;
 use crate::shape::bad_shape;
-use crate::stop::Stop;
 use crate::syntax::not_json;
 use serde_json::Value;
 use std::alloc::{AllocError, Global};
+use tw_machine_faults::Stop;
 use tw_netfile::FileRefused;
 use tw_network::NetworkRefused;
 
@@ -37,7 +37,7 @@ pub fn explain(alloc: Global, bytes: &[u8], fault: FileRefused) -> Result<String
     }
 }
 
-// Looks for a fault, and stops there.
+/// Looks for a fault, and stops there.
 fn found(alloc: Global, bytes: &[u8], fault: FileRefused) -> Result<(), Stop> {
     let value = match Value::from_slice(alloc, bytes) {
         Ok(value) => value,
@@ -53,7 +53,7 @@ fn found(alloc: Global, bytes: &[u8], fault: FileRefused) -> Result<(), Stop> {
     }
 }
 
-// Looks for a fault of a network whose members and parameters are good.
+/// Looks for a fault of a network whose members and parameters are good.
 fn unconnected(
     alloc: Global,
     value: &Value,

@@ -1,8 +1,8 @@
 //! The models and the components of a file, each with its place.
 
-use crate::words::quoted;
 use serde_json::Value;
 use std::alloc::{AllocError, Global};
+use tw_machine_faults::{items_at, name_of, quoted};
 
 /// More levels than a JSON text can have: a level of components takes two of its 127.
 const ROOM: usize = 64;
@@ -45,7 +45,7 @@ pub(crate) struct Outline<'a> {
 }
 
 impl<'a> Outline<'a> {
-    // The outline of a file.
+    /// The outline of a file.
     pub(crate) fn new(alloc: Global, value: &'a Value) -> Result<Outline<'a>, AllocError> {
         let format = value.get("format").and_then(Value::as_str).unwrap_or("");
         let mut outline = Outline {
@@ -66,7 +66,7 @@ impl<'a> Outline<'a> {
     }
 }
 
-// Adds a model and all that is in it.
+/// Adds a model and all that is in it.
 fn add_level<'a>(
     alloc: Global,
     outline: &mut Outline<'a>,
@@ -104,7 +104,7 @@ fn add_level<'a>(
     Ok(())
 }
 
-// The place of a component with its flat name, where it has a name.
+/// The place of a component with its flat name, where it has a name.
 pub(crate) fn place_of(
     alloc: Global,
     path: &str,
@@ -122,20 +122,7 @@ pub(crate) fn place_of(
     }
 }
 
-// The text that a component has as its name.
-pub(crate) fn name_of<'a>(component: &'a Value) -> Option<&'a str> {
-    component.get("name").and_then(Value::as_str)
-}
-
-// The items of a member that is a list, and none of any other.
-pub(crate) fn items_at<'a>(value: &'a Value, name: &str) -> &'a [Value] {
-    match value.get(name).and_then(Value::as_array) {
-        Some(items) => items.as_slice(),
-        None => &[],
-    }
-}
-
-// Whether a component is written as a coupled model.
+/// Whether a component is written as a coupled model.
 fn is_coupled(component: &Value) -> bool {
     component.get("model").is_none() && component.get("components").is_some()
 }

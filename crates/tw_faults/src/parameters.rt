@@ -1,9 +1,9 @@
 //! Parameters of models that are out of range.
 
 use crate::outline::Outline;
-use crate::stop::Stop;
 use serde_json::Value;
 use std::alloc::Global;
+use tw_machine_faults::Stop;
 use tw_vtime::MAX_TICK;
 
 /// The most output ports of a hop.
@@ -12,7 +12,7 @@ const MAX_PORTS: u64 = 16;
 /// The widest spread of a hop's waits, in ticks.
 const MAX_SPREAD: u64 = 1_048_576;
 
-// Looks for a parameter out of range, by atom in order; of a hop its ports first.
+/// Looks for a parameter out of range, by atom in order; of a hop its ports first.
 pub(crate) fn bad_parameters(alloc: Global, outline: &Outline<'_>) -> Result<(), Stop> {
     for atom in &outline.atoms {
         let value = atom.value;
@@ -31,7 +31,7 @@ pub(crate) fn bad_parameters(alloc: Global, outline: &Outline<'_>) -> Result<(),
     Ok(())
 }
 
-// Stops at a member that is a whole number out of this range.
+/// Stops at a member that is a whole number out of this range.
 pub(crate) fn check_range(
     alloc: Global,
     place: &str,

@@ -1,14 +1,12 @@
 //! Members that are missing, unknown or of another type.
 
 use crate::given::{check_given, check_tables, machine_named};
-use crate::machines::{Machine, machines_of};
-use crate::names::MODELS;
-use crate::nearest::Nearest;
-use crate::outline::{Outline, items_at, place_of};
-use crate::stop::Stop;
-use crate::words::{described, listed, quoted};
+use crate::outline::{Outline, place_of};
 use serde_json::Value;
 use std::alloc::Global;
+use tw_machine_faults::{
+    MODELS, Machine, Nearest, Stop, described, items_at, listed, machines_of, quoted,
+};
 
 /// The members of a network file.
 const MEMBERS: [&str; 5] = ["format", "micro_limit", "components", "couplings", "inputs"];
@@ -23,8 +21,8 @@ const MEMBERS_OF_MACHINES: [&str; 6] = [
     "inputs",
 ];
 
-// Looks for another shape: first in the members of the file, then in its machines in order, then in its models in
-// order, then in its inputs.
+/// Looks for another shape: first in the members of the file, then in its machines in order, then in its models in
+/// order, then in its inputs.
 pub(crate) fn bad_shape(alloc: Global, value: &Value, outline: &Outline<'_>) -> Result<(), Stop> {
     check_file(alloc, value, outline)?;
     let machines = if outline.has_machines {
@@ -41,7 +39,7 @@ pub(crate) fn bad_shape(alloc: Global, value: &Value, outline: &Outline<'_>) -> 
     Ok(())
 }
 
-// Looks at the components and couplings of the file and of the models in it.
+/// Looks at the components and couplings of the file and of the models in it.
 fn check_levels(
     alloc: Global,
     outline: &Outline<'_>,
@@ -75,7 +73,7 @@ fn check_levels(
     Ok(())
 }
 
-// Looks at the members of the file itself.
+/// Looks at the members of the file itself.
 fn check_file(alloc: Global, value: &Value, outline: &Outline<'_>) -> Result<(), Stop> {
     let place = "the file";
     let what = "a network file";
@@ -99,7 +97,7 @@ fn check_file(alloc: Global, value: &Value, outline: &Outline<'_>) -> Result<(),
     check_list(alloc, place, value, "inputs")
 }
 
-// Looks at a component: an atom, or where there are trees a coupled model.
+/// Looks at a component: an atom, or where there are trees a coupled model.
 fn check_component(
     alloc: Global,
     place: &str,
@@ -125,7 +123,7 @@ fn check_component(
     check_atom(alloc, place, component, machines)
 }
 
-// Looks at a component that has a model, or should have one.
+/// Looks at a component that has a model, or should have one.
 fn check_atom(
     alloc: Global,
     place: &str,
@@ -160,7 +158,7 @@ fn check_atom(
     }
 }
 
-// Looks at a hop.
+/// Looks at a hop.
 fn check_hop(alloc: Global, place: &str, atom: &Value, common: &[&str]) -> Result<(), Stop> {
     let own = &["seed", "ports", "spread"];
     check_members(alloc, place, atom, "a hop", common, own)?;
@@ -169,7 +167,7 @@ fn check_hop(alloc: Global, place: &str, atom: &Value, common: &[&str]) -> Resul
     check_count(alloc, place, atom, "spread")
 }
 
-// Stops at a model that there is not.
+/// Stops at a model that there is not.
 fn unknown_model(
     alloc: Global,
     place: &str,
@@ -195,7 +193,7 @@ fn unknown_model(
     Err(Stop::Fault(line))
 }
 
-// Looks at a coupling.
+/// Looks at a coupling.
 fn check_coupling(alloc: Global, place: &str, coupling: &Value) -> Result<(), Stop> {
     let takes = "a source name, a port, a destination name, a port";
     let Some(items) = coupling.as_array() else {
@@ -222,7 +220,7 @@ fn check_coupling(alloc: Global, place: &str, coupling: &Value) -> Result<(), St
     Ok(())
 }
 
-// Looks at an input from outside.
+/// Looks at an input from outside.
 fn check_input(alloc: Global, place: &str, input: &Value) -> Result<(), Stop> {
     check_members(
         alloc,
@@ -238,7 +236,7 @@ fn check_input(alloc: Global, place: &str, input: &Value) -> Result<(), Stop> {
     check_value(alloc, place, input, "value")
 }
 
-// Stops at what is no object, at an unknown member, and then at a missing one. The words name those of `own`.
+/// Stops at what is no object, at an unknown member, and then at a missing one. The words name those of `own`.
 pub(crate) fn check_members(
     alloc: Global,
     place: &str,
@@ -280,7 +278,7 @@ pub(crate) fn check_members(
     Ok(())
 }
 
-// Stops where a member is missing.
+/// Stops where a member is missing.
 fn check_present(
     alloc: Global,
     place: &str,
@@ -299,7 +297,7 @@ fn check_present(
     Ok(())
 }
 
-// Stops at a member that is there and no text.
+/// Stops at a member that is there and no text.
 fn check_text(alloc: Global, place: &str, value: &Value, name: &str) -> Result<(), Stop> {
     match value.get(name) {
         Some(found) if !found.is_string() => other_type(alloc, place, name, found, "a text"),
@@ -307,7 +305,7 @@ fn check_text(alloc: Global, place: &str, value: &Value, name: &str) -> Result<(
     }
 }
 
-// Stops at a member that is there and no list.
+/// Stops at a member that is there and no list.
 fn check_list(alloc: Global, place: &str, value: &Value, name: &str) -> Result<(), Stop> {
     match value.get(name) {
         Some(found) if !found.is_array() => other_type(alloc, place, name, found, "a list"),
@@ -315,7 +313,7 @@ fn check_list(alloc: Global, place: &str, value: &Value, name: &str) -> Result<(
     }
 }
 
-// Stops at a member that is there and no whole number of 64 bits without sign.
+/// Stops at a member that is there and no whole number of 64 bits without sign.
 fn check_count(alloc: Global, place: &str, value: &Value, name: &str) -> Result<(), Stop> {
     match value.get(name) {
         Some(found) if !found.is_u64() => other_type(
@@ -329,7 +327,7 @@ fn check_count(alloc: Global, place: &str, value: &Value, name: &str) -> Result<
     }
 }
 
-// Stops at a member that is there and no whole number of 64 bits with sign.
+/// Stops at a member that is there and no whole number of 64 bits with sign.
 pub(crate) fn check_value(
     alloc: Global,
     place: &str,
@@ -348,7 +346,7 @@ pub(crate) fn check_value(
     }
 }
 
-// Stops at a member of another type.
+/// Stops at a member of another type.
 fn other_type(
     alloc: Global,
     place: &str,
@@ -361,7 +359,7 @@ fn other_type(
     Err(Stop::Fault(line))
 }
 
-// Whether a word is among others.
+/// Whether a word is among others.
 fn has_word(words: &[&str], word: &str) -> bool {
     for other in words {
         if *other == word {

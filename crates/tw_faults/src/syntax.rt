@@ -27,14 +27,14 @@ struct Scan {
     is_escaped: bool,
 }
 
-// The line for bytes that are no JSON: where, and what is wanted there.
+/// The line for bytes that are no JSON: where, and what is wanted there.
 pub(crate) fn not_json(alloc: Global, bytes: &[u8], error: &Error) -> Result<String, AllocError> {
     let (line, column) = (error.line(), error.column());
     let reason = reason(alloc, bytes, error)?;
     format!(in alloc; "line {line}, column {column}: not JSON: {reason}")
 }
 
-// Why bytes are no JSON.
+/// Why bytes are no JSON.
 fn reason(alloc: Global, bytes: &[u8], error: &Error) -> Result<&'static str, AllocError> {
     if bytes.starts_with(&[0xef, 0xbb, 0xbf]) {
         return Ok("a byte order mark before the text");
@@ -55,7 +55,7 @@ fn reason(alloc: Global, bytes: &[u8], error: &Error) -> Result<&'static str, Al
     Ok(wanted(&scan, next))
 }
 
-// How many bytes stand before a line and a column.
+/// How many bytes stand before a line and a column.
 fn offset_of(bytes: &[u8], line: usize, column: usize) -> usize {
     let mut offset = 0usize;
     let mut before = 1usize;
@@ -71,7 +71,7 @@ fn offset_of(bytes: &[u8], line: usize, column: usize) -> usize {
     offset.saturating_add(column.saturating_sub(1))
 }
 
-// Reads so many bytes of a text.
+/// Reads so many bytes of a text.
 fn scanned(alloc: Global, bytes: &[u8], count: usize) -> Result<Scan, AllocError> {
     let mut scan = Scan {
         last: Last::Nothing,
@@ -89,7 +89,7 @@ fn scanned(alloc: Global, bytes: &[u8], count: usize) -> Result<Scan, AllocError
     Ok(scan)
 }
 
-// Reads a byte of a text in quotes.
+/// Reads a byte of a text in quotes.
 fn read_in_text(scan: &mut Scan, byte: u8) {
     if scan.is_escaped {
         scan.is_escaped = false;
@@ -103,7 +103,7 @@ fn read_in_text(scan: &mut Scan, byte: u8) {
     }
 }
 
-// Reads a byte outside of quotes.
+/// Reads a byte outside of quotes.
 fn read_between(scan: &mut Scan, byte: u8) -> Result<(), AllocError> {
     match byte {
         b'"' => scan.in_text = true,
@@ -123,7 +123,7 @@ fn read_between(scan: &mut Scan, byte: u8) -> Result<(), AllocError> {
     Ok(())
 }
 
-// What is wanted after what has been read, where the next byte is this one: the first of what goes wrong.
+/// What is wanted after what has been read, where the next byte is this one: the first of what goes wrong.
 fn wanted(scan: &Scan, next: u8) -> &'static str {
     if scan.open.len() > MAX_DEPTH {
         return "nested deeper than 127 levels";

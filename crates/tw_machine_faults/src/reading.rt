@@ -90,7 +90,7 @@ pub(crate) struct Reading {
 }
 
 impl Reading {
-    // Of no words yet.
+    /// Of no words yet.
     pub(crate) fn new(alloc: Global, member: Option<Member>) -> Reading {
         Reading {
             last: match member {
@@ -107,12 +107,12 @@ impl Reading {
         }
     }
 
-    // How deep the words so far are.
+    /// How deep the words so far are.
     pub(crate) fn depth(&self) -> usize {
         self.open.len().saturating_add(self.signs)
     }
 
-    // Reads a word that can stand here.
+    /// Reads a word that can stand here.
     pub(crate) fn read(&mut self, declared: &[Declared], word: &str) -> Result<(), AllocError> {
         if is_node(word) {
             self.nodes = self.nodes.saturating_add(1);
@@ -178,7 +178,7 @@ impl Reading {
         self.signs = 0;
     }
 
-    // A queue is whole.
+    /// A queue is whole.
     fn end_queue(&mut self) {
         match (self.open.last(), self.member) {
             (Some(Open::Function(..)), _) | (None, Some(_)) => self.last = Last::Operand,
@@ -196,7 +196,7 @@ impl Reading {
         }
     }
 
-    // Reads an operator, or a sign of a change.
+    /// Reads an operator, or a sign of a change.
     fn read_sign(&mut self, word: &str) {
         if word == "-" && self.last != Last::Operand {
             self.signs = self.signs.saturating_add(1);
@@ -204,7 +204,7 @@ impl Reading {
         self.last = Last::Operator;
     }
 
-    // Reads a run of letters and digits.
+    /// Reads a run of letters and digits.
     fn read_letters(&mut self, declared: &[Declared], word: &str) {
         match word {
             "draw" | "passivate" => self.end_statement(),
@@ -234,7 +234,7 @@ impl Reading {
         self.last = last;
     }
 
-    // Reads a name or a number, where it can stand.
+    /// Reads a name or a number, where it can stand.
     fn read_name(&mut self, declared: &[Declared], word: &str) {
         let kind = kind_of(declared, word);
         match self.last {
@@ -260,7 +260,7 @@ impl Reading {
         }
     }
 
-    // What stands behind a name of this kind in an expression.
+    /// What stands behind a name of this kind in an expression.
     fn after_operand(&self, kind: Option<Kind>) -> Last {
         match (kind, self.called) {
             (None, Some(called)) => Last::Function(called),
@@ -271,13 +271,13 @@ impl Reading {
         }
     }
 
-    // Whether a queue or an array register can stand here as what it is.
+    /// Whether a queue or an array register can stand here as what it is.
     pub(crate) fn is_shown(&self) -> bool {
         self.member == Some(Member::Shown) && self.nodes <= 1 && self.open.is_empty()
     }
 }
 
-// What is declared by a name.
+/// What is declared by a name.
 pub(crate) fn kind_of(declared: &[Declared], name: &str) -> Option<Kind> {
     for one in declared {
         if one.name.as_str() == name {
@@ -287,7 +287,7 @@ pub(crate) fn kind_of(declared: &[Declared], name: &str) -> Option<Kind> {
     None
 }
 
-// The arguments of the function of this name.
+/// The arguments of the function of this name.
 pub(crate) fn arguments(name: &str) -> Option<Called> {
     let (count, of_queue) = match name {
         "random" => (1, false),
@@ -300,7 +300,7 @@ pub(crate) fn arguments(name: &str) -> Option<Called> {
     Some(Called { count, of_queue })
 }
 
-// Whether a word is a run of letters and digits.
+/// Whether a word is a run of letters and digits.
 pub(crate) fn is_name(word: &str) -> bool {
     match word.chars().next() {
         Some(letter) => is_word(letter),
@@ -308,7 +308,7 @@ pub(crate) fn is_name(word: &str) -> bool {
     }
 }
 
-// Whether a word is a node.
+/// Whether a word is a node.
 fn is_node(word: &str) -> bool {
     !matches!(word, "(" | ")" | "[" | "]" | "{" | "}" | ";" | "," | "else")
 }

@@ -1,7 +1,7 @@
 //! The outputs and words of a machine: their texts, and what is wrong with them.
 
 use crate::entries::WHOLE;
-use crate::outline::items_at;
+use crate::values::items_at;
 use crate::words::{described, quoted};
 use serde_json::Value;
 use std::alloc::{AllocError, Global};
@@ -21,7 +21,7 @@ pub(crate) struct Said {
     pub(crate) member: Option<Member>,
 }
 
-// The text of a part.
+/// The text of a part.
 pub(crate) fn member_text(alloc: Global, machine: &Value, part: Part) -> Result<Said, AllocError> {
     match part {
         Part::Internal => program_text(alloc, machine, "internal"),
@@ -39,7 +39,7 @@ pub(crate) fn member_text(alloc: Global, machine: &Value, part: Part) -> Result<
     }
 }
 
-// The text of a member that is a program, its lines joined.
+/// The text of a member that is a program, its lines joined.
 fn program_text(alloc: Global, machine: &Value, member: &str) -> Result<Said, AllocError> {
     let mut text = text_of(alloc, machine.get(member))?;
     for (i, line) in items_at(machine, member).iter().enumerate() {
@@ -55,7 +55,7 @@ fn program_text(alloc: Global, machine: &Value, member: &str) -> Result<Said, Al
     })
 }
 
-// The text of a member of an output.
+/// The text of a member of an output.
 fn output_text(
     alloc: Global,
     machine: &Value,
@@ -73,12 +73,12 @@ fn output_text(
     })
 }
 
-// The text that a value is.
+/// The text that a value is.
 fn text_of(alloc: Global, value: Option<&Value>) -> Result<String, AllocError> {
     String::from_str(alloc, value.and_then(Value::as_str).unwrap_or(""))
 }
 
-// What is wrong with an entry of the outputs or words.
+/// What is wrong with an entry of the outputs or words.
 pub(crate) fn entry_fault(
     alloc: Global,
     machine: &Value,
@@ -102,7 +102,7 @@ pub(crate) fn entry_fault(
     }
 }
 
-// What is wrong with an output: it is no object, or has a member that none has.
+/// What is wrong with an output: it is no object, or has a member that none has.
 fn output_fault(alloc: Global, machine: &Value, i: usize) -> Result<Option<String>, AllocError> {
     let Some(entry) = items_at(machine, "output").get(i) else {
         return Ok(None);
@@ -123,7 +123,7 @@ fn output_fault(alloc: Global, machine: &Value, i: usize) -> Result<Option<Strin
     Ok(None)
 }
 
-// What is wrong with a member of an output: it is missing, or of another type.
+/// What is wrong with a member of an output: it is missing, or of another type.
 fn sent_fault(
     alloc: Global,
     machine: &Value,
@@ -146,7 +146,7 @@ fn sent_fault(
     Ok(Some(line))
 }
 
-// The line for a queue or an array register that has come before in the words.
+/// The line for a queue or an array register that has come before in the words.
 pub(crate) fn word_again(alloc: Global, machine: &Value, i: usize) -> Result<String, AllocError> {
     let word = items_at(machine, "words")
         .get(i)

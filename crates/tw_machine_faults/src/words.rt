@@ -6,8 +6,10 @@ use std::alloc::{AllocError, Global};
 /// The most characters of a text of the file that a line shows.
 const SHOWN: usize = 64;
 
-// A text in quotes, with what would break the line written as an escape, and its end left out where it is long.
-pub(crate) fn quoted(alloc: Global, text: &str) -> Result<String, AllocError> {
+/// A text in quotes, with what would break the line written as an escape, and its end left out where it is long.
+///
+/// Refused where a growth of memory is.
+pub fn quoted(alloc: Global, text: &str) -> Result<String, AllocError> {
     let mut shown = String::new(alloc);
     for (count, letter) in text.chars().enumerate() {
         if count == SHOWN {
@@ -18,8 +20,10 @@ pub(crate) fn quoted(alloc: Global, text: &str) -> Result<String, AllocError> {
     format!(in alloc; "{:?}", shown.as_str())
 }
 
-// What a value is: a number, a text, `true`, `false` or `null` as written, and of the others the kind.
-pub(crate) fn described(alloc: Global, value: &Value) -> Result<String, AllocError> {
+/// What a value is: a number, a text, `true`, `false` or `null` as written, and of the others the kind.
+///
+/// Refused where a growth of memory is.
+pub fn described(alloc: Global, value: &Value) -> Result<String, AllocError> {
     match value {
         Value::Null | Value::Bool(_) | Value::Number(_) => value.to_string(alloc),
         Value::String(text) => quoted(alloc, text.as_str()),
@@ -28,8 +32,10 @@ pub(crate) fn described(alloc: Global, value: &Value) -> Result<String, AllocErr
     }
 }
 
-// Words with a comma between them.
-pub(crate) fn listed(alloc: Global, words: &[&str]) -> Result<String, AllocError> {
+/// Words with a comma between them.
+///
+/// Refused where a growth of memory is.
+pub fn listed(alloc: Global, words: &[&str]) -> Result<String, AllocError> {
     let mut list = String::new(alloc);
     for word in words {
         if !list.is_empty() {

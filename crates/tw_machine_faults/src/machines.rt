@@ -1,13 +1,13 @@
 //! The machines of a file: the first fault of `models`.
 
 use crate::entries::{not_constant, out_of_range, parameters_fault, section_fault};
-use crate::limits::limit_fault;
+use crate::limits::{limit_fault, own_numbers};
 use crate::members::{entry_fault, member_text, word_again};
-use crate::names::{MODELS, declared_in};
+use crate::names::{MODELS, declared_in, is_list, parameter_names};
 use crate::nearest::Nearest;
-use crate::outline::{items_at, name_of};
 use crate::stop::Stop;
 use crate::texts::reason;
+use crate::values::{items_at, name_of};
 use crate::words::{described, listed, quoted};
 use serde_json::Value;
 use std::alloc::{AllocError, Global};
@@ -37,13 +37,45 @@ const MEMBERS: [&str; 12] = [
 
 /// A machine of a file, and the value that declares it.
 #[derive(Drop)]
-pub(crate) struct Machine<'a> {
+pub struct Machine<'a> {
     pub(crate) value: &'a Value,
-    pub(crate) read: FileMachine,
+    /// What it declares.
+    pub read: FileMachine,
 }
 
-// The machines of a file in order; stops at the first fault of one.
-pub(crate) fn machines_of<'a>(alloc: Global, value: &'a Value) -> Result<Vec<Machine<'a>>, Stop> {
+impl<'a> Machine<'a> {
+    /// The names of its parameters, in order.
+    ///
+    /// Refused where a growth of memory is.
+    pub fn parameters(&self, alloc: Global) -> Result<Vec<&'a str>, AllocError> {
+        parameter_names(alloc, self.value)
+    }
+
+    /// Whether a component gives a list for the parameter of this name: a table is named after it.
+    pub fn takes_list(&self, name: &str) -> bool {
+        is_list(self.value, name)
+    }
+
+    /// How many numbers its tables have that stand in the machine itself.
+    pub fn own_numbers(&self, alloc: Global) -> usize {
+        own_numbers(alloc, &self.read)
+    }
+
+    /// Stops at the first limit that it passes with these numbers; `place` is where the line says that this is.
+    pub fn check_limits(&self, alloc: Global, place: &str, given: &Given) -> Result<(), Stop> {
+        match declared(alloc, given, &self.read.declaration) {
+            Ok(_) => Ok(()),
+            Err(BadMachine::OutOfMemory) => Err(Stop::OutOfMemory),
+            Err(bad) => {
+                let reason = limit_fault(alloc, given, self, bad)?;
+                Err(Stop::Fault(format!(in alloc; "{place}: {reason}")?))
+            }
+        }
+    }
+}
+
+/// The machines of a file in order; stops at the first fault of one.
+pub fn machines_of<'a>(alloc: Global, value: &'a Value) -> Result<Vec<Machine<'a>>, Stop> {
     let models = items_at(value, "models");
     let count = models.len();
     if count > MAX_MACHINES {
@@ -62,7 +94,7 @@ pub(crate) fn machines_of<'a>(alloc: Global, value: &'a Value) -> Result<Vec<Mac
     Ok(machines)
 }
 
-// The machine at a place of `models`, with its limits looked at.
+/// The machine at a place of `models`, with its limits looked at.
 fn read_machine<'a>(
     alloc: Global,
     before: &[String],
@@ -91,28 +123,11 @@ fn read_machine<'a>(
         lists: Vec::new(alloc),
     };
     let machine = Machine { value: model, read };
-    check_limits(alloc, place.as_str(), &given, &machine)?;
+    machine.check_limits(alloc, place.as_str(), &given)?;
     Ok(machine)
 }
 
-// Stops at the first limit that a machine passes with these numbers.
-pub(crate) fn check_limits(
-    alloc: Global,
-    place: &str,
-    given: &Given,
-    machine: &Machine<'_>,
-) -> Result<(), Stop> {
-    match declared(alloc, given, &machine.read.declaration) {
-        Ok(_) => Ok(()),
-        Err(BadMachine::OutOfMemory) => Err(Stop::OutOfMemory),
-        Err(bad) => {
-            let reason = limit_fault(alloc, given, machine, bad)?;
-            Err(Stop::Fault(format!(in alloc; "{place}: {reason}")?))
-        }
-    }
-}
-
-// The place of a machine, with its name where it has one.
+/// The place of a machine, with its name where it has one.
 fn machine_place(alloc: Global, i: usize, model: &Value) -> Result<String, AllocError> {
     match name_of(model) {
         Some(name) => {
@@ -123,7 +138,7 @@ fn machine_place(alloc: Global, i: usize, model: &Value) -> Result<String, Alloc
     }
 }
 
-// Why the text of a part goes wrong at a place.
+/// Why the text of a part goes wrong at a place.
 fn wrong_text(alloc: Global, model: &Value, part: Part, at: Place) -> Result<String, AllocError> {
     let said = member_text(alloc, model, part)?;
     let names = declared_in(alloc, model)?;
@@ -133,7 +148,7 @@ fn wrong_text(alloc: Global, model: &Value, part: Part, at: Place) -> Result<Str
     format!(in alloc; "{place}, line {line}, column {column}: {reason}")
 }
 
-// Why a part of a machine has not its form.
+/// Why a part of a machine has not its form.
 fn wrong(
     alloc: Global,
     models: &[Value],
@@ -167,7 +182,7 @@ fn wrong(
     }
 }
 
-// What is wrong with the machine itself: it is no object, or has a member that none has.
+/// What is wrong with the machine itself: it is no object, or has a member that none has.
 fn whole_fault(alloc: Global, model: &Value) -> Result<Option<String>, AllocError> {
     let Some(members) = model.as_object() else {
         let found = described(alloc, model)?;
@@ -189,7 +204,7 @@ fn whole_fault(alloc: Global, model: &Value) -> Result<Option<String>, AllocErro
     Ok(None)
 }
 
-// What is wrong with the name of a machine.
+/// What is wrong with the name of a machine.
 fn name_fault(
     alloc: Global,
     models: &[Value],
@@ -216,7 +231,7 @@ fn name_fault(
     Ok(Some(line))
 }
 
-// The place of the first machine of this name.
+/// The place of the first machine of this name.
 fn first_named(models: &[Value], name: &str) -> usize {
     for (i, model) in models.iter().enumerate() {
         if name_of(model) == Some(name) {
@@ -226,7 +241,7 @@ fn first_named(models: &[Value], name: &str) -> usize {
     models.len()
 }
 
-// What is said of a member that is there and no list.
+/// What is said of a member that is there and no list.
 fn other_type(
     alloc: Global,
     model: &Value,
@@ -242,7 +257,7 @@ fn other_type(
     }
 }
 
-// What is wrong with a member that is a constant, from 1 to what is said.
+/// What is wrong with a member that is a constant, from 1 to what is said.
 fn constant_fault(
     alloc: Global,
     model: &Value,
@@ -259,7 +274,7 @@ fn constant_fault(
     }
 }
 
-// What is wrong with a program that is no text and no list of texts.
+/// What is wrong with a program that is no text and no list of texts.
 fn lines_fault(alloc: Global, model: &Value, member: &str) -> Result<Option<String>, AllocError> {
     let Some(value) = model.get(member) else {
         return Ok(None);
@@ -278,7 +293,7 @@ fn lines_fault(alloc: Global, model: &Value, member: &str) -> Result<Option<Stri
     Ok(None)
 }
 
-// What is wrong with the list of outputs or words.
+/// What is wrong with the list of outputs or words.
 fn count_fault(
     alloc: Global,
     model: &Value,

@@ -7,7 +7,7 @@ use serde_json::Value;
 use std::alloc::{AllocError, Global};
 
 /// What a whole number with a sign is.
-pub(crate) const WHOLE: &str = "a whole number from -9223372036854775808 to 9223372036854775807";
+pub const WHOLE: &str = "a whole number from -9223372036854775808 to 9223372036854775807";
 
 /// The kinds of what is declared by name: their members, and what one is called.
 const SECTIONS: [(&str, &str); 3] = [
@@ -16,7 +16,7 @@ const SECTIONS: [(&str, &str); 3] = [
     ("tables", "a table"),
 ];
 
-// The first fault of the parameters.
+/// The first fault of the parameters.
 pub(crate) fn parameters_fault(
     alloc: Global,
     machine: &Value,
@@ -37,7 +37,7 @@ pub(crate) fn parameters_fault(
     Ok(None)
 }
 
-// The place of the first text like this one; their number where there is none.
+/// The place of the first text like this one; their number where there is none.
 fn first_text(texts: &[Value], text: &str) -> usize {
     for (i, other) in texts.iter().enumerate() {
         if other.as_str() == Some(text) {
@@ -47,7 +47,7 @@ fn first_text(texts: &[Value], text: &str) -> usize {
     texts.len()
 }
 
-// The first fault of registers, queues or tables.
+/// The first fault of registers, queues or tables.
 pub(crate) fn section_fault(
     alloc: Global,
     machine: &Value,
@@ -73,7 +73,7 @@ pub(crate) fn section_fault(
     Ok(None)
 }
 
-// Why a name may not be declared here.
+/// Why a name may not be declared here.
 fn name_fault(
     alloc: Global,
     machine: &Value,
@@ -99,7 +99,7 @@ fn name_fault(
     Ok(None)
 }
 
-// What is wrong with what a name declares, as words behind the name.
+/// What is wrong with what a name declares, as words behind the name.
 fn entry_fault(
     alloc: Global,
     machine: &Value,
@@ -116,7 +116,7 @@ fn entry_fault(
     }
 }
 
-// What is wrong with the cells of an array register.
+/// What is wrong with the cells of an array register.
 fn cells_fault(
     alloc: Global,
     machine: &Value,
@@ -135,7 +135,7 @@ fn cells_fault(
     Ok(None)
 }
 
-// What is wrong with an array of queues.
+/// What is wrong with an array of queues.
 fn queues_fault(
     alloc: Global,
     machine: &Value,
@@ -152,7 +152,7 @@ fn queues_fault(
     out_of_range(alloc, machine, room, "has room for", 1024)
 }
 
-// What is wrong with the numbers of a table.
+/// What is wrong with the numbers of a table.
 fn numbers_fault(alloc: Global, numbers: &[Value]) -> Result<Option<String>, AllocError> {
     let count = numbers.len();
     if count < 1 || count > 65536 {
@@ -167,7 +167,7 @@ fn numbers_fault(alloc: Global, numbers: &[Value]) -> Result<Option<String>, All
     Ok(None)
 }
 
-// Why a table is no list, if it is no name of a parameter.
+/// Why a table is no list, if it is no name of a parameter.
 fn not_list(alloc: Global, machine: &Value, value: &Value) -> Result<Option<String>, AllocError> {
     let name = value.as_str().unwrap_or("");
     if is_parameter(machine, name) {
@@ -181,7 +181,7 @@ fn not_list(alloc: Global, machine: &Value, value: &Value) -> Result<Option<Stri
     Ok(Some(line))
 }
 
-// Why a value is no constant, if it is none.
+/// Why a value is no constant, if it is none.
 pub(crate) fn not_constant(
     alloc: Global,
     machine: &Value,
@@ -200,7 +200,7 @@ pub(crate) fn not_constant(
     Ok(Some(line))
 }
 
-// Why a value is no constant from 1 to this, if it is none.
+/// Why a value is no constant from 1 to this, if it is none.
 pub(crate) fn out_of_range(
     alloc: Global,
     machine: &Value,
@@ -220,7 +220,7 @@ pub(crate) fn out_of_range(
     }
 }
 
-// The question for the parameter that was meant, of those that may be lists or of those that are numbers.
+/// The question for the parameter that was meant, of those that may be lists or of those that are numbers.
 fn nearest_parameter(
     alloc: Global,
     machine: &Value,

@@ -27,7 +27,7 @@ enum Counted {
     Numbers,
 }
 
-// The line for a limit that a machine passes with these numbers.
+/// The line for a limit that a machine passes with these numbers.
 pub(crate) fn limit_fault(
     alloc: Global,
     given: &Given,
@@ -64,7 +64,7 @@ pub(crate) fn limit_fault(
     }
 }
 
-// A number of all things that a machine declares.
+/// A number of all things that a machine declares.
 fn total(given: &Given, machine: &FileMachine, counted: Counted) -> usize {
     let mut total = 0usize;
     for named in &machine.declaration.names {
@@ -73,7 +73,7 @@ fn total(given: &Given, machine: &FileMachine, counted: Counted) -> usize {
     total
 }
 
-// A number of a thing that a machine declares.
+/// A number of a thing that a machine declares.
 fn count(given: &Given, thing: &Thing, counted: Counted) -> usize {
     match (counted, thing) {
         (Counted::Cells, Thing::Register(_)) | (Counted::Queues, Thing::Queue(_)) => 1,
@@ -90,7 +90,7 @@ fn count(given: &Given, thing: &Thing, counted: Counted) -> usize {
     }
 }
 
-// How many numbers the tables of a machine have that stand in it.
+/// How many numbers the tables of a machine have that stand in it.
 pub(crate) fn own_numbers(alloc: Global, machine: &FileMachine) -> usize {
     let nothing = Given {
         numbers: Vec::new(alloc),
@@ -99,7 +99,7 @@ pub(crate) fn own_numbers(alloc: Global, machine: &FileMachine) -> usize {
     total(&nothing, machine, Counted::Numbers)
 }
 
-// The words for a number out of its range, behind what has it.
+/// The words for a number out of its range, behind what has it.
 fn range_words(
     alloc: Global,
     number: i64,
@@ -115,7 +115,7 @@ fn range_words(
     Ok(None)
 }
 
-// The words for a constant out of its range, if it is given.
+/// The words for a constant out of its range, if it is given.
 fn given_words(
     alloc: Global,
     given: &Given,
@@ -128,7 +128,7 @@ fn given_words(
     }
 }
 
-// The words for a count or a room of a queue.
+/// The words for a count or a room of a queue.
 fn queue_words(alloc: Global, given: &Given, thing: &Thing) -> Result<Option<String>, AllocError> {
     let room = match thing {
         Thing::Queue(room) => *room,
@@ -146,7 +146,7 @@ fn queue_words(alloc: Global, given: &Given, thing: &Thing) -> Result<Option<Str
     }
 }
 
-// The first queue whose count or room is out of its range.
+/// The first queue whose count or room is out of its range.
 fn queue_fault(
     alloc: Global,
     given: &Given,
@@ -162,7 +162,7 @@ fn queue_fault(
     format!(in alloc; "{bad}")
 }
 
-// The longest wait, out of its range.
+/// The longest wait, out of its range.
 fn longest_fault(
     alloc: Global,
     given: &Given,
@@ -177,7 +177,7 @@ fn longest_fault(
     format!(in alloc; "{bad}")
 }
 
-// The first block that is repeated too often, or a negative number of times.
+/// The first block that is repeated too often, or a negative number of times.
 fn turns_fault(
     alloc: Global,
     given: &Given,
@@ -204,7 +204,7 @@ fn turns_fault(
     format!(in alloc; "{bad}")
 }
 
-// The words for a parameter by which a block is repeated.
+/// The words for a parameter by which a block is repeated.
 fn turns_words(
     alloc: Global,
     given: &Given,
@@ -222,7 +222,7 @@ fn turns_words(
     Ok(None)
 }
 
-// The first run that may make too many computations.
+/// The first run that may make too many computations.
 fn work_fault(alloc: Global, given: &Given, machine: &FileMachine) -> Result<String, AllocError> {
     let declaration = &machine.declaration;
     let standings = standings_of(alloc, given, declaration.names.as_slice())?;

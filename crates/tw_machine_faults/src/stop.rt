@@ -4,7 +4,7 @@ use std::alloc::{AllocError, AllocFailed};
 
 /// A walk over a file has ended.
 #[derive(Debug, Drop)]
-pub(crate) enum Stop {
+pub enum Stop {
     /// Here is the fault, as a line of words.
     Fault(String),
     /// A growth of memory was refused.

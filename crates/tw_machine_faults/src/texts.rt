@@ -41,7 +41,7 @@ const SIGNS: [&str; 23] = [
     "<=", ">=", "+=", "-=", "^=",
 ];
 
-// Why a text goes wrong at a place: a program, or the text of such a member.
+/// Why a text goes wrong at a place: a program, or the text of such a member.
 pub(crate) fn reason(
     alloc: Global,
     declared: &[Declared],
@@ -81,7 +81,7 @@ pub(crate) fn reason(
     out_of_place(alloc, declared, &reading, word, next)
 }
 
-// The text of the word at a place in a list.
+/// The text of the word at a place in a list.
 fn text_at(words: &[Spelled], i: usize) -> &str {
     match words.get(i) {
         Some(word) => word.text.as_str(),
@@ -89,13 +89,13 @@ fn text_at(words: &[Spelled], i: usize) -> &str {
     }
 }
 
-// Whether a word stands before a place.
+/// Whether a word stands before a place.
 fn is_before(word: &Spelled, place: Place) -> bool {
     word.place.line < place.line
         || (word.place.line == place.line && word.place.column < place.column)
 }
 
-// Whether a word begins as a number.
+/// Whether a word begins as a number.
 fn is_number(word: &str) -> bool {
     match word.chars().next() {
         Some(letter) => letter.is_ascii_digit(),
@@ -103,7 +103,7 @@ fn is_number(word: &str) -> bool {
     }
 }
 
-// Why a word is none of the language, if it is none.
+/// Why a word is none of the language, if it is none.
 fn no_word(alloc: Global, word: &str) -> Result<Option<String>, AllocError> {
     let shown = quoted(alloc, word)?;
     if is_number(word) {
@@ -115,7 +115,7 @@ fn no_word(alloc: Global, word: &str) -> Result<Option<String>, AllocError> {
     Ok(None)
 }
 
-// Why a word that begins with a digit is no number, if it is none.
+/// Why a word that begins with a digit is no number, if it is none.
 fn no_number(alloc: Global, word: &str, shown: &str) -> Result<Option<String>, AllocError> {
     for letter in word.chars() {
         if !letter.is_ascii_digit() {
@@ -131,7 +131,7 @@ fn no_number(alloc: Global, word: &str, shown: &str) -> Result<Option<String>, A
     Ok(None)
 }
 
-// Whether digits are more than the greatest number.
+/// Whether digits are more than the greatest number.
 fn is_too_great(digits: &str) -> bool {
     if digits.len() != MAX_NUMBER.len() {
         return digits.len() > MAX_NUMBER.len();
@@ -144,7 +144,7 @@ fn is_too_great(digits: &str) -> bool {
     false
 }
 
-// The limit of a text that a word passes, which could stand here.
+/// The limit of a text that a word passes, which could stand here.
 fn limit(reading: &Reading, word: &str) -> Option<&'static str> {
     let opens = matches!(word, "(" | "[" | "{" | "not" | "-");
     if opens && reading.depth() >= MAX_LEVELS {
@@ -158,17 +158,17 @@ fn limit(reading: &Reading, word: &str) -> Option<&'static str> {
     None
 }
 
-// Whether a name is declared, or one of the language.
+/// Whether a name is declared, or one of the language.
 fn is_known(declared: &[Declared], word: &str) -> bool {
     kind_of(declared, word).is_some() || is_reserved(word) || FUNCTIONS.contains(&word)
 }
 
-// Whether a word is one of the language that no name may be.
+/// Whether a word is one of the language that no name may be.
 pub(crate) fn is_reserved(word: &str) -> bool {
     STATEMENTS.contains(&word) || KNOWN.contains(&word) || OTHERS.contains(&word)
 }
 
-// The line for a name that nothing has.
+/// The line for a name that nothing has.
 fn unknown(
     alloc: Global,
     declared: &[Declared],
@@ -195,7 +195,7 @@ fn unknown(
     format!(in alloc; "no {nothing} {shown}{question}")
 }
 
-// Whether a statement can begin here.
+/// Whether a statement can begin here.
 fn can_begin_statement(reading: &Reading) -> bool {
     let is_inside = match reading.open.last() {
         Some(Open::Block) | None => false,
@@ -208,7 +208,7 @@ fn can_begin_statement(reading: &Reading) -> bool {
     reading.last == Last::Statement || is_behind_operand
 }
 
-// Looks at the names that could stand here.
+/// Looks at the names that could stand here.
 fn look_at_names<'b>(
     alloc: Global,
     nearest: &mut Nearest<'_, 'b>,
@@ -227,7 +227,7 @@ fn look_at_names<'b>(
     Ok(())
 }
 
-// Whether a name of this kind can stand here.
+/// Whether a name of this kind can stand here.
 fn may_stand(last: Last, kind: Kind) -> bool {
     match last {
         Last::NoQueue => matches!(kind, Kind::Queue | Kind::QueueArray),
@@ -240,7 +240,7 @@ fn may_stand(last: Last, kind: Kind) -> bool {
     }
 }
 
-// The line for a word of the language that cannot stand here.
+/// The line for a word of the language that cannot stand here.
 fn out_of_place(
     alloc: Global,
     declared: &[Declared],
@@ -264,7 +264,7 @@ fn out_of_place(
     format!(in alloc; "expected {wanted}, not {shown}{more}")
 }
 
-// What is to be said of a word that cannot stand here.
+/// What is to be said of a word that cannot stand here.
 fn more_of(reading: &Reading, word: &str, kind: Option<Kind>) -> &'static str {
     if let Some(kind) = kind {
         return kind_words(kind);
@@ -284,7 +284,7 @@ fn more_of(reading: &Reading, word: &str, kind: Option<Kind>) -> &'static str {
     }
 }
 
-// What a name is.
+/// What a name is.
 fn kind_words(kind: Kind) -> &'static str {
     match kind {
         Kind::Nothing => "",
@@ -298,7 +298,7 @@ fn kind_words(kind: Kind) -> &'static str {
     }
 }
 
-// What can stand behind the words so far.
+/// What can stand behind the words so far.
 fn wanted(reading: &Reading) -> &'static str {
     match reading.last {
         Last::Statement => match reading.open.last() {
@@ -318,7 +318,7 @@ fn wanted(reading: &Reading) -> &'static str {
     }
 }
 
-// What can stand behind an operand.
+/// What can stand behind an operand.
 fn behind_operand(reading: &Reading) -> &'static str {
     match reading.open.last() {
         Some(Open::Group) => "an operator or )",
@@ -336,7 +336,7 @@ fn behind_operand(reading: &Reading) -> &'static str {
     }
 }
 
-// What can stand behind an argument of a function.
+/// What can stand behind an argument of a function.
 fn behind_argument(called: Called, commas: usize) -> &'static str {
     let is_last = commas.saturating_add(1) >= called.count;
     match (called.of_queue && commas == 0, is_last) {
@@ -347,7 +347,7 @@ fn behind_argument(called: Called, commas: usize) -> &'static str {
     }
 }
 
-// What has to stand behind an operand where no statement can begin.
+/// What has to stand behind an operand where no statement can begin.
 fn behind_statement(reading: &Reading) -> Option<&'static str> {
     match (reading.head, reading.member) {
         (Head::Block, _) => Some("an operator or {"),

@@ -13,9 +13,9 @@ const MAX_NAME: usize = 32;
 const MEMBERS: [&str; 4] = ["name", "model", "components", "couplings"];
 
 /// The models that are no machines.
-pub(crate) const MODELS: [&str; 5] = ["gen", "tally", "relay", "queue", "hop"];
+pub const MODELS: [&str; 5] = ["gen", "tally", "relay", "queue", "hop"];
 
-// What a machine's names stand for, as far as they are declared.
+/// What a machine's names stand for, as far as they are declared.
 pub(crate) fn declared_in(alloc: Global, machine: &Value) -> Result<Vec<Declared>, AllocError> {
     let mut declared = Vec::new(alloc);
     for name in parameters_of(machine) {
@@ -55,7 +55,7 @@ pub(crate) fn declared_in(alloc: Global, machine: &Value) -> Result<Vec<Declared
     Ok(declared)
 }
 
-// Adds the names of a member: those of lists are of a kind of their own.
+/// Adds the names of a member: those of lists are of a kind of their own.
 fn add_all(
     alloc: Global,
     declared: &mut Vec<Declared>,
@@ -84,7 +84,7 @@ fn add(
     Ok(())
 }
 
-// The parameters of a machine, as they are written.
+/// The parameters of a machine, as they are written.
 pub(crate) fn parameters_of<'a>(machine: &'a Value) -> &'a [Value] {
     match machine.get("parameters").and_then(Value::as_array) {
         Some(items) => items.as_slice(),
@@ -92,7 +92,21 @@ pub(crate) fn parameters_of<'a>(machine: &'a Value) -> &'a [Value] {
     }
 }
 
-// Whether a table is named after this parameter.
+/// The names of a machine's parameters, in order.
+pub(crate) fn parameter_names<'a>(
+    alloc: Global,
+    machine: &'a Value,
+) -> Result<Vec<&'a str>, AllocError> {
+    let mut names = Vec::new(alloc);
+    for name in parameters_of(machine) {
+        if let Some(name) = name.as_str() {
+            names.push(name)?;
+        }
+    }
+    Ok(names)
+}
+
+/// Whether a table is named after this parameter.
 pub(crate) fn is_list(machine: &Value, name: &str) -> bool {
     if let Some(tables) = machine.get("tables").and_then(Value::as_object) {
         for (_, value) in tables.iter() {
@@ -104,7 +118,7 @@ pub(crate) fn is_list(machine: &Value, name: &str) -> bool {
     false
 }
 
-// Whether this is a parameter.
+/// Whether this is a parameter.
 pub(crate) fn is_parameter(machine: &Value, name: &str) -> bool {
     for one in parameters_of(machine) {
         if one.as_str() == Some(name) {
@@ -114,7 +128,7 @@ pub(crate) fn is_parameter(machine: &Value, name: &str) -> bool {
     false
 }
 
-// Why a name may not be one, if it may not.
+/// Why a name may not be one, if it may not.
 pub(crate) fn bad_name(alloc: Global, name: &str) -> Result<Option<String>, AllocError> {
     let shown = quoted(alloc, name)?;
     if is_reserved(name) {
@@ -129,7 +143,7 @@ pub(crate) fn bad_name(alloc: Global, name: &str) -> Result<Option<String>, Allo
     Ok(None)
 }
 
-// Why a name may be none of a parameter, if it may not.
+/// Why a name may be none of a parameter, if it may not.
 pub(crate) fn bad_parameter(alloc: Global, name: &str) -> Result<Option<String>, AllocError> {
     if MEMBERS.contains(&name) {
         let shown = quoted(alloc, name)?;
@@ -139,7 +153,7 @@ pub(crate) fn bad_parameter(alloc: Global, name: &str) -> Result<Option<String>,
     bad_name(alloc, name)
 }
 
-// Whether a name is made as those of registers are.
+/// Whether a name is made as those of registers are.
 fn is_made(name: &str) -> bool {
     for letter in name.chars() {
         if !letter.is_ascii_alphanumeric() && letter != '_' {

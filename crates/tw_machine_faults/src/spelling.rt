@@ -29,7 +29,7 @@ struct Reader {
     mode: Mode,
 }
 
-// All words of a text, what is none of the language too.
+/// All words of a text, what is none of the language too.
 pub(crate) fn words_of(alloc: Global, text: &str) -> Result<Vec<Spelled>, AllocError> {
     let start = Place { line: 1, column: 1 };
     let mut reader = Reader {
@@ -47,7 +47,7 @@ pub(crate) fn words_of(alloc: Global, text: &str) -> Result<Vec<Spelled>, AllocE
     Ok(reader.words)
 }
 
-// Goes one letter on.
+/// Goes one letter on.
 fn pass(reader: &mut Reader, letter: char) {
     if letter == '\n' {
         reader.at.line = reader.at.line.saturating_add(1);
@@ -57,7 +57,7 @@ fn pass(reader: &mut Reader, letter: char) {
     }
 }
 
-// Reads a letter.
+/// Reads a letter.
 fn read_letter(alloc: Global, reader: &mut Reader, letter: char) -> Result<(), AllocError> {
     if reader.mode == Mode::Comment {
         if letter == '\n' {
@@ -76,7 +76,7 @@ fn read_letter(alloc: Global, reader: &mut Reader, letter: char) -> Result<(), A
     Ok(())
 }
 
-// Whether a letter makes what is read longer.
+/// Whether a letter makes what is read longer.
 fn goes_on(reader: &Reader, letter: char) -> bool {
     match reader.mode {
         Mode::Word => is_word(letter),
@@ -85,12 +85,12 @@ fn goes_on(reader: &Reader, letter: char) -> bool {
     }
 }
 
-// Whether a sign may have an equality sign behind it.
+/// Whether a sign may have an equality sign behind it.
 fn may_be_equal(sign: &str) -> bool {
     matches!(sign, "<" | ">" | "=" | "!" | "+" | "-" | "^")
 }
 
-// What a letter begins.
+/// What a letter begins.
 fn mode_of(letter: char) -> Mode {
     if letter == ' ' || letter == '\t' || letter == '\r' || letter == '\n' {
         Mode::Between
@@ -103,12 +103,12 @@ fn mode_of(letter: char) -> Mode {
     }
 }
 
-// Whether a letter is one of a name or a number.
+/// Whether a letter is one of a name or a number.
 pub(crate) fn is_word(letter: char) -> bool {
     letter.is_ascii_alphanumeric() || letter == '_'
 }
 
-// Ends the word that is read, if there is one.
+/// Ends the word that is read, if there is one.
 fn end_word(alloc: Global, reader: &mut Reader) -> Result<(), AllocError> {
     if reader.text.is_empty() {
         return Ok(());

@@ -4,7 +4,6 @@ use Rattle.tw_atomic.specs.Atomic.{Meaning}
 use Rattle.tw_network.specs.Contents.{Contents, network_of}
 use Rattle.tw_seq.specs.InOrder.{start_in_order, rounds_in_order}
 use Rattle.tw_seq.specs.Invariant.{IsUnderway}
-use Rattle.tw_theory.specs.Network.{Network}
 use Rattle.tw_theory.specs.Simulator.{Fault, Run, round, round_time, rounds_from}
 use Rattle.tw_theory.proofs.Rounds.{from_round, from_rest, from_fault}
 use Rattle.tw_vtime.specs.Stamps.{max_tick, stamp, tick_of, phase_of}

@@ -2,7 +2,7 @@
 --     IsRound takes valid meaning contents old new o o' t t'      one round: the two receivers got its outputs and its transitions
 --     IsLast takes valid meaning contents old o o' fault      the run has ended, after the outputs of a last round or none
 --     IsAdvanced takes valid meaning contents old new o o' t t' step      either, as it is told
-use Rattle.std.specs.Prelude.{ℕ, List, ◌++◌, Option}
+use Rattle.std.specs.Prelude.{List, ◌++◌, Option}
 use Rattle.tw_atomic.specs.Atomic.{Meaning}
 use Rattle.tw_msgs.specs.declared.record.Record.{Record}
 use Rattle.tw_network.specs.Contents.{Contents}

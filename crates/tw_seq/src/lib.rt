@@ -18,6 +18,7 @@ mod beforehand;
 mod outputs;
 mod receiver;
 mod refused;
+mod round;
 mod rounds;
 mod simulation;
 mod simulator;

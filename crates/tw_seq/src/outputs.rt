@@ -14,12 +14,11 @@ ghost use Rattle.tw_vtime.specs.Stamps.{max_tick, tick_of, phase_of};
 
 use crate::bags::{Arrivals, route};
 use crate::receiver::Receiver;
+use crate::round::Round;
 use std::alloc::{AllocError, Global};
 use tw_atomic::{Atomic, Outbox};
 use tw_msgs::{Bag, RecordKind};
-use tw_network::Network;
 use tw_step::{Moment, fill_output};
-use tw_vtime::Stamp;
 
 /// What an output is put into, kept from one output to the next.
 #[derive(Drop)]
@@ -38,41 +37,37 @@ impl Sending {
     }
 }
 
-/// Hands the output of each imminent component to the receiver, and puts what it sends into the bags of the
-/// components to which it goes.
+/// Hands the output of each component that is imminent in a round to the receiver, and puts what it sends into the
+/// bags of the components to which it goes.
 pub(crate) fn make_outputs<M: Atomic, R: Receiver>(
-    network: &Network<M>,
+    round: &Round<'_, M>,
     moments: &[Moment<M::State>],
     imminent: &[usize],
-    time: Stamp,
     sending: &mut Sending,
     arrivals: &mut Arrivals,
     receiver: &mut R,
 ) -> Result<(), AllocError>
-    requires time { tick_of time < max_tick }
-    requires even { phase_of time ≡ 0 }
-    requires moments { AllStand M.valid M.meaning network.now.models time moments.now }
+    requires time { tick_of round.now.time < max_tick }
+    requires even { phase_of round.now.time ≡ 0 }
+    requires moments { AllStand M.valid M.meaning round.now.network.now.models round.now.time moments.now }
     requires rising { IsStrictlyIncreasing imminent.now }
-    requires each { All (λ c. IsDueAt moments.now c time) imminent.now }
-    requires all { (c : ℕ) → IsDueAt moments.now c time → Contains imminent.now c }
-    requires bags { length arrivals.old.bags.items ≡ length network.now.models }
+    requires each { All (λ c. IsDueAt moments.now c round.now.time) imminent.now }
+    requires all { (c : ℕ) → IsDueAt moments.now c round.now.time → Contains imminent.now c }
+    requires bags { length arrivals.old.bags.items ≡ length round.now.network.now.models }
     requires awake { WakesAll arrivals.old.bags.items arrivals.old.awake.items }
-    ensures received { OnOk result (Receives R.takes receiver.old (outputs (network_of M.meaning network.now) time 0 moments.now) receiver.new) }
-    ensures bags { OnOk result (arrivals.new.bags.items ≡ dealt 0 arrivals.old.bags.items (all_sent (network_of M.meaning network.now) (outputs (network_of M.meaning network.now) time 0 moments.now))) }
+    ensures received { OnOk result (Receives R.takes receiver.old (outputs (network_of M.meaning round.now.network.now) round.now.time 0 moments.now) receiver.new) }
+    ensures bags { OnOk result (arrivals.new.bags.items ≡ dealt 0 arrivals.old.bags.items (all_sent (network_of M.meaning round.now.network.now) (outputs (network_of M.meaning round.now.network.now) round.now.time 0 moments.now))) }
     ensures awake { OnOk result (WakesAll arrivals.new.bags.items arrivals.new.awake.items) }
 {
+    let at = round.time.transition();
     for component in imminent {
         let component = *component;
         let now = &moments[component];
+        let model = round.network.model(component);
         let bag = &mut sending.bag;
-        fill_output(
-            network.model(component),
-            &now.state,
-            &mut sending.outbox,
-            bag,
-        )?;
-        route(network, component, time.transition(), bag, arrivals)?;
-        receiver.take(component, time, RecordKind::Out, bag, &[])?;
+        fill_output(model, &now.state, &mut sending.outbox, bag)?;
+        route(round.network, component, at, bag, arrivals)?;
+        receiver.take(component, round.time, RecordKind::Out, bag, &[])?;
     }
     Ok(())
 }

@@ -26,12 +26,13 @@ ghost use Rattle.tw_seq.specs.Parts.{after};
 ghost use Rattle.tw_seq.specs.Receiving.{Receives};
 ghost use Rattle.tw_seq.specs.Turning.{all_outputs, all_turns};
 ghost use Rattle.tw_theory.specs.Bundles.{Ascending};
-ghost use Rattle.tw_theory.specs.Simulator.{first_stop, least_input, round_time, round, turn_records};
+ghost use Rattle.tw_theory.specs.Simulator.{first_stop, least_input, round_time, round as after_round, turn_records};
 ghost use Rattle.tw_vtime.specs.Stamps.{max_tick, never, tick_of, phase_of};
 
 use crate::bags::Arrivals;
 use crate::outputs::{Sending, make_outputs};
 use crate::receiver::Receiver;
+use crate::round::Round;
 use crate::turns::make_turns;
 use std::alloc::{AllocError, Global};
 use std::marker::Model;
@@ -59,7 +60,7 @@ pub struct Bench {
     pub(crate) arrivals: Arrivals,
     imminent: Vec<usize>,
     sending: Sending,
-    words: Vec<i128>,
+    pub(crate) words: Vec<i128>,
 }
 
 impl<S: Drop> Model for Running<S> {
@@ -166,56 +167,45 @@ pub(crate) fn start_bench<S: Drop>(alloc: Global, run: &Running<S>) -> Result<Be
     })
 }
 
-/// Makes the round of a time, and hands its outputs to one receiver and then its transitions to another. Answers the
+/// Makes a round, and hands its outputs to one receiver and then its transitions to another. Answers the
 /// least component that met a limit, with that limit; then the second receiver has got a part of the transitions,
 /// which the run does not have, and the run has ended.
 pub(crate) fn make_round<M: Atomic, R: Receiver>(
     alloc: Global,
-    network: &Network<M>,
+    round: &Round<'_, M>,
     run: &mut Running<M::State>,
     bench: &mut Bench,
-    time: Stamp,
     outputs: &mut R,
     transitions: &mut R,
 ) -> Result<Option<(usize, Limit)>, AllocError>
-    requires time { tick_of time < max_tick }
-    requires underway { IsUnderway M.valid M.meaning network.now time run.old }
+    requires time { tick_of round.now.time < max_tick }
+    requires underway { IsUnderway M.valid M.meaning round.now.network.now round.now.time run.old }
     requires agenda { bench.old.agenda.times ≡ dues run.old.at.moments }
     requires bags { bench.old.arrivals.bags.items ≡ replicate (length run.old.at.moments) [] }
-    ensures outputs { OnOk result (Receives R.takes outputs.old (all_outputs (network_of M.meaning network.now) time run.old) outputs.new) }
-    ensures transitions { IfOk result (λ stop. stop ≡ None → Receives R.takes transitions.old (turn_records (all_turns (network_of M.meaning network.now) time run.old)) transitions.new) }
-    ensures stop { IfOk result (λ stop. stop ≡ first_stop 0 (all_turns (network_of M.meaning network.now) time run.old)) }
-    ensures going { IfOk result (λ stop. stop ≡ None → run.new ≡ after [] (round (network_of M.meaning network.now) run.old time)) }
-    ensures underway { IfOk result (λ stop. stop ≡ None → IsUnderway M.valid M.meaning network.now (time + 2) run.new) }
+    ensures outputs { OnOk result (Receives R.takes outputs.old (all_outputs (network_of M.meaning round.now.network.now) round.now.time run.old) outputs.new) }
+    ensures transitions { IfOk result (λ stop. stop ≡ None → Receives R.takes transitions.old (turn_records (all_turns (network_of M.meaning round.now.network.now) round.now.time run.old)) transitions.new) }
+    ensures stop { IfOk result (λ stop. stop ≡ first_stop 0 (all_turns (network_of M.meaning round.now.network.now) round.now.time run.old)) }
+    ensures going { IfOk result (λ stop. stop ≡ None → run.new ≡ after [] (after_round (network_of M.meaning round.now.network.now) run.old round.now.time)) }
+    ensures underway { IfOk result (λ stop. stop ≡ None → IsUnderway M.valid M.meaning round.now.network.now (round.now.time + 2) run.new) }
     ensures agenda { IfOk result (λ stop. stop ≡ None → bench.new.agenda.times ≡ dues run.new.at.moments) }
     ensures bags { IfOk result (λ stop. stop ≡ None → bench.new.arrivals.bags.items ≡ replicate (length run.new.at.moments) []) }
 {
-    network.facts();
+    round.network.facts();
     bench.arrivals.awake.clear();
     bench.imminent.clear();
-    bench.agenda.collect(time, &mut bench.imminent)?;
+    bench.agenda.collect(round.time, &mut bench.imminent)?;
     make_outputs(
-        network,
+        round,
         &run.moments,
         &bench.imminent,
-        time,
         &mut bench.sending,
         &mut bench.arrivals,
         outputs,
     )?;
-    let at = time.transition();
+    let at = round.time.transition();
     let given = bench.arrivals.deliver_inputs(&run.inputs, run.given, at)?;
     bench.arrivals.wake(&bench.imminent)?;
-    let stop = make_turns(
-        alloc,
-        network,
-        &mut run.moments,
-        time,
-        &mut bench.arrivals,
-        &mut bench.agenda,
-        &mut bench.words,
-        transitions,
-    )?;
+    let stop = make_turns(alloc, round, &mut run.moments, bench, transitions)?;
     run.given = given;
     Ok(stop)
 }

@@ -2,13 +2,14 @@
 
 ghost use Rattle.std.specs.Prelude.{◌≡◌, ◌<◌, ◌-◌, ◌↔◌, [], List, IfOk, IsErrOf};
 ghost use Rattle.tw_msgs.specs.declared.record.Record.{Record as TheRecord};
-ghost use Rattle.tw_seq.specs.Parts.{IsSimulating, stage_of};
+ghost use Rattle.tw_seq.specs.Parts.{IsSimulating};
 ghost use Rattle.tw_seq.specs.Stepping.{IsAdvanced};
 ghost use Rattle.tw_theory.specs.Simulator.{round_time};
 ghost use Rattle.tw_vtime.specs.Stamps.{max_tick, stamp};
 
 use crate::receiver::Receiver;
 use crate::refused::SeqRefused;
+use crate::round::Round;
 use crate::rounds::{Bench, Running, make_round, start, start_bench};
 use std::alloc::{AllocError, Global};
 use std::marker::Model;
@@ -81,46 +82,20 @@ pub fn advance<M: Atomic, R: Receiver>(
     ensures sooner { IfOk result (λ step. step ≡ Advanced.Round → stamp simulation.old.until 0 0 - round_time simulation.new.run.at < stamp simulation.old.until 0 0 - round_time simulation.old.run.at) }
     ensures until { simulation.new.until ≡ simulation.old.until }
 {
-    let step = make_step(
-        alloc,
-        network,
-        simulation.until,
-        &mut simulation.run,
-        &mut simulation.bench,
-        outputs,
-        transitions,
-    )?;
-    Ok(step)
-}
-
-/// Makes the next round of a run, if one is left.
-fn make_step<M: Atomic, R: Receiver>(
-    alloc: Global,
-    network: &Network<M>,
-    until: u64,
-    run: &mut Running<M::State>,
-    bench: &mut Bench,
-    outputs: &mut R,
-    transitions: &mut R,
-) -> Result<Advanced, AllocError>
-    requires { (done : List TheRecord) × IsSimulating M.valid M.meaning network.now done (stage_of until run.old bench.old.agenda.times bench.old.arrivals.bags.items) }
-    ensures step { IfOk result (IsAdvanced R.takes M.valid M.meaning network.now
-        (stage_of until run.old bench.old.agenda.times bench.old.arrivals.bags.items)
-        (stage_of until run.new bench.new.agenda.times bench.new.arrivals.bags.items)
-        outputs.old outputs.new transitions.old transitions.new) }
-    ensures sooner { IfOk result (λ step. step ≡ Advanced.Round → stamp until 0 0 - round_time run.new.at < stamp until 0 0 - round_time run.old.at) }
-{
-    let end = Stamp::new(until, 0, 0).unwrap();
-    let Some(time) = run.next_time(&bench.agenda, end) else {
+    let end = Stamp::new(simulation.until, 0, 0).unwrap();
+    let Some(time) = simulation.run.next_time(&simulation.bench.agenda, end) else {
         return Ok(Advanced::End(None));
     };
-    let stop = make_round(alloc, network, run, bench, time, outputs, transitions)?;
-    match stop {
-        Some((component, limit)) => Ok(Advanced::End(Some(Fault {
+    let round = Round { network, time };
+    let run = &mut simulation.run;
+    let bench = &mut simulation.bench;
+    let stop = make_round(alloc, &round, run, bench, outputs, transitions)?;
+    if let Some((component, limit)) = stop {
+        return Ok(Advanced::End(Some(Fault {
             component,
             stamp: time.transition(),
             limit,
-        }))),
-        None => Ok(Advanced::Round),
+        })));
     }
+    Ok(Advanced::Round)
 }

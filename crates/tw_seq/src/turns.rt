@@ -13,14 +13,13 @@ ghost use Rattle.tw_seq.specs.Waking.{IsInTurn};
 ghost use Rattle.tw_theory.specs.Simulator.{take_turn, after_output, turn_records, turned_moments, first_stop};
 ghost use Rattle.tw_vtime.specs.Stamps.{max_tick, tick_of, phase_of};
 
-use crate::bags::Arrivals;
 use crate::receiver::Receiver;
+use crate::round::Round;
+use crate::rounds::Bench;
 use std::alloc::{AllocError, Global};
 use tw_atomic::Atomic;
 use tw_msgs::{Bag, RecordKind};
-use tw_network::Network;
 use tw_step::{Moment, pass_turn};
-use tw_tournament::Tournament;
 use tw_vtime::{Limit, Stamp};
 
 /// What a component did at the transition of a round.
@@ -55,37 +54,37 @@ fn pass_output<S: Drop>(now: &mut Moment<S>, time: Stamp) -> bool
     imminent
 }
 
-/// Makes the transition of a component at a time, if it is imminent or receives something: its bag is sorted, and
+/// Makes the transition of a component in a round, if it is imminent or receives something: its bag is sorted, and
 /// `words` are those of its new state. Without a limit it then stands where the definition says; with one, its state
 /// is of no more use.
 fn take_turn<M: Atomic>(
     alloc: Global,
-    network: &Network<M>,
+    round: &Round<'_, M>,
     component: usize,
     now: &mut Moment<M::State>,
-    time: Stamp,
     bag: &mut Bag,
     words: &mut Vec<i128>,
 ) -> Result<Taken, AllocError>
-    requires component { component < length network.now.models }
-    requires time { tick_of time < max_tick }
-    requires even { phase_of time ≡ 0 }
-    requires standing { (model : M) → slice_get network.now.models component ≡ Some model → IsBetween (M.valid model) (M.meaning model) time now.old }
+    requires component { component < length round.now.network.now.models }
+    requires time { tick_of round.now.time < max_tick }
+    requires even { phase_of round.now.time ≡ 0 }
+    requires standing { (model : M) → slice_get round.now.network.now.models component ≡ Some model → IsBetween (M.valid model) (M.meaning model) round.now.time now.old }
     requires fits { FitsBag bag.old }
-    ensures turn { IfOk result (λ taken. seen (part_of component (time + 1) bag.new words.new.items taken) now.new
-        ≡ take_turn (network_of M.meaning network.now) component (after_output (network_of M.meaning network.now) component now.old time) (time + 1) (now.old.due == time) (sorted_bag bag.old)) }
+    ensures turn { IfOk result (λ taken. seen (part_of component (round.now.time + 1) bag.new words.new.items taken) now.new
+        ≡ take_turn (network_of M.meaning round.now.network.now) component (after_output (network_of M.meaning round.now.network.now) component now.old round.now.time) (round.now.time + 1) (now.old.due == round.now.time) (sorted_bag bag.old)) }
     ensures kept { IfOk result (λ taken. taken ≡ Taken.Stays → now.new ≡ now.old) }
     ensures standing { IfOk result (λ taken. CanGoOn taken →
-        (model : M) → slice_get network.now.models component ≡ Some model → IsBetween (M.valid model) (M.meaning model) (time + 2) now.new) }
+        (model : M) → slice_get round.now.network.now.models component ≡ Some model → IsBetween (M.valid model) (M.meaning model) (round.now.time + 2) now.new) }
 {
     bag.sort();
-    let imminent = pass_output(now, time);
+    let imminent = pass_output(now, round.time);
     if !has_turn(imminent, bag.is_empty()) {
         return Ok(Taken::Stays);
     }
+    let network = round.network;
     network.facts();
     let model = network.model(component);
-    let at = time.transition();
+    let at = round.time.transition();
     match pass_turn(alloc, model, now, at, bag.as_slice(), network.micro_limit())? {
         Ok(kind) => {
             words.clear();
@@ -96,43 +95,42 @@ fn take_turn<M: Atomic>(
     }
 }
 
-/// Makes the transition of each component that is awake, hands them to the receiver, and puts their next own
-/// steps on the agenda. Where a component meets a limit, the least one is answered, and the receiver has got a part
+/// Makes the transition of each component that is awake in a round, hands them to the receiver, and puts their next
+/// own steps on the agenda. Where a component meets a limit, the least one is answered, and the receiver has got a part
 /// of the transitions.
 pub(crate) fn make_turns<M: Atomic, R: Receiver>(
     alloc: Global,
-    network: &Network<M>,
+    round: &Round<'_, M>,
     moments: &mut [Moment<M::State>],
-    time: Stamp,
-    arrivals: &mut Arrivals,
-    agenda: &mut Tournament,
-    words: &mut Vec<i128>,
+    bench: &mut Bench,
     receiver: &mut R,
 ) -> Result<Option<(usize, Limit)>, AllocError>
-    requires time { tick_of time < max_tick }
-    requires even { phase_of time ≡ 0 }
-    requires moments { AllStand M.valid M.meaning network.now.models time moments.old }
-    requires bags { length arrivals.old.bags.items ≡ length network.now.models }
-    requires fits { Each FitsBag arrivals.old.bags.items }
-    requires awake { IsInTurn time moments.old arrivals.old.bags.items arrivals.old.awake.items }
-    requires agenda { agenda.old.times ≡ dues moments.old }
-    ensures stop { IfOk result (λ stop. stop ≡ first_stop 0 (turns_with (network_of M.meaning network.now) time 0 moments.old arrivals.old.bags.items)) }
+    requires time { tick_of round.now.time < max_tick }
+    requires even { phase_of round.now.time ≡ 0 }
+    requires moments { AllStand M.valid M.meaning round.now.network.now.models round.now.time moments.old }
+    requires bags { length bench.old.arrivals.bags.items ≡ length round.now.network.now.models }
+    requires fits { Each FitsBag bench.old.arrivals.bags.items }
+    requires awake { IsInTurn round.now.time moments.old bench.old.arrivals.bags.items bench.old.arrivals.awake.items }
+    requires agenda { bench.old.agenda.times ≡ dues moments.old }
+    ensures stop { IfOk result (λ stop. stop ≡ first_stop 0 (turns_with (network_of M.meaning round.now.network.now) round.now.time 0 moments.old bench.old.arrivals.bags.items)) }
     ensures received { IfOk result (λ stop. stop ≡ None →
-        Receives R.takes receiver.old (turn_records (turns_with (network_of M.meaning network.now) time 0 moments.old arrivals.old.bags.items)) receiver.new) }
+        Receives R.takes receiver.old (turn_records (turns_with (network_of M.meaning round.now.network.now) round.now.time 0 moments.old bench.old.arrivals.bags.items)) receiver.new) }
     ensures moments { IfOk result (λ stop. stop ≡ None →
-        moments.new ≡ turned_moments moments.old (turns_with (network_of M.meaning network.now) time 0 moments.old arrivals.old.bags.items)) }
-    ensures standing { IfOk result (λ stop. stop ≡ None → AllStand M.valid M.meaning network.now.models (time + 2) moments.new) }
-    ensures bags { IfOk result (λ stop. stop ≡ None → arrivals.new.bags.items ≡ replicate (length network.now.models) []) }
-    ensures agenda { IfOk result (λ stop. stop ≡ None → agenda.new.times ≡ dues moments.new) }
+        moments.new ≡ turned_moments moments.old (turns_with (network_of M.meaning round.now.network.now) round.now.time 0 moments.old bench.old.arrivals.bags.items)) }
+    ensures standing { IfOk result (λ stop. stop ≡ None → AllStand M.valid M.meaning round.now.network.now.models (round.now.time + 2) moments.new) }
+    ensures bags { IfOk result (λ stop. stop ≡ None → bench.new.arrivals.bags.items ≡ replicate (length round.now.network.now.models) []) }
+    ensures agenda { IfOk result (λ stop. stop ≡ None → bench.new.agenda.times ≡ dues moments.new) }
 {
-    let at = time.transition();
-    let awake = &arrivals.awake;
-    let bags = arrivals.bags.as_mut_slice();
+    let at = round.time.transition();
+    let agenda = &mut bench.agenda;
+    let words = &mut bench.words;
+    let awake = &bench.arrivals.awake;
+    let bags = bench.arrivals.bags.as_mut_slice();
     for component in awake {
         let component = *component;
         let bag = &mut bags[component];
         let now = &mut moments[component];
-        match take_turn(alloc, network, component, now, time, bag, words)? {
+        match take_turn(alloc, round, component, now, bag, words)? {
             Taken::Stays => {}
             Taken::Moves(kind) => {
                 receiver.take(component, at, kind, bag, words)?;

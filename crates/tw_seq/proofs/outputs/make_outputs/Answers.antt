@@ -27,8 +27,8 @@ offset_bounds-moments-component g c =
     let l = slice_get_within c.args.moments.now (slice_index c.args.imminent.now c.loop-component.component-index) at.0 at.1 in
     omega (arith, l)
 
-pub model-requires : goal.model-requires
-model-requires g c =
+pub model-model-requires : goal.model-model-requires
+model-model-requires g c =
     let at = c.requires.each c.loop-component.component-index 0 c.loop-component-test.true in
     let l = slice_get_within c.args.moments.now (slice_index c.args.imminent.now c.loop-component.component-index) at.0 at.1 in
     let size = c.requires.moments.size in
@@ -47,16 +47,16 @@ fill_output-requires g c =
     let at = c.requires.each c.loop-component.component-index 0 c.loop-component-test.true in
     let l = slice_get_within c.args.moments.now i at.0 at.1 in
     let now = c.index-moments-component.result in
-    let standing = c.requires.moments.each i c.model.result.now now c.model.ensures (slice_get_read c.args.moments.now (length c.args.moments.now) i now refl l c.index-moments-component.is) in
-    subst (g.M.Atomic.valid c.model.result.now) (sym (ap (λ m. m.state) c.now.view_is)) standing.stands.valid
+    let standing = c.requires.moments.each i c.model-model.result.now now c.model-model.ensures (slice_get_read c.args.moments.now (length c.args.moments.now) i now refl l c.index-moments-component.is) in
+    subst (g.M.Atomic.valid c.model-model.result.now) (sym (ap (λ m. m.state) c.now.view_is)) standing.stands.valid
 
 pub loop-component-init : goal.loop-component-init
 loop-component-init g c = record { told = []; received = refl; records = refl; bags = refl; size = refl; awake = c.requires.awake }
 
 pub loop-component-preserved : goal.loop-component-preserved
 loop-component-preserved g c =
-    let net = network_of g.M.Atomic.meaning c.args.network.now in
-    let t = c.args.time in
+    let net = network_of g.M.Atomic.meaning c.args.round.now.network.now in
+    let t = c.args.round.now.time in
     let imminent = c.args.imminent.now in
     let k = c.loop-component.component-index in
     let m = c.loop-component-test.true in
@@ -73,7 +73,7 @@ loop-component-preserved g c =
     outs_passed net t from i moments (onward_next imminent c.requires.rising k m) (omega (arith, l))
     (λ d low high h. none_between imminent c.requires.rising k d m low high (c.requires.all d h)) in
     let next : i + 1 ≡ onward imminent (k + 1) = sym (onward_more imminent k) in
-    let model = c.model.result.now in
+    let model = c.model-model.result.now in
     let bag = c.fill_output.new.bag in
     let given = c.in_ok-fill_output.ensures ∙ ap (λ x. sorted_bag ((g.M.Atomic.meaning model).out x.state)) c.now.view_is in
     let bags = c.loop-component.arrivals.bags.items in
@@ -84,27 +84,27 @@ loop-component-preserved g c =
       received = received_more g.R.Receiver.takes _ inv.told c.loop-component.receiver c.take.new.self _ inv.received c.in_ok-take.ensures;
       records =
           ap (λ n. (inv.told ++ record { component = i; stamp = t; kind = Out; bag = bag; words = [] } ∷ []) ++ outputs net t n (drop n moments)) (sym next)
-          ∙ output_recorded g.M.Atomic.meaning c.args.network.now t i moments now model bag l is due c.model.ensures given
+          ∙ output_recorded g.M.Atomic.meaning c.args.round.now.network.now t i moments now model bag l is due c.model-model.ensures given
           inv.told _ [] refl (ap (λ rs. inv.told ++ rs) (sym jump) ∙ inv.records);
       bags =
           ap (λ n. dealt 0 c.route.new.arrivals.bags.items (all_sent net (outputs net t n (drop n moments)))) (sym next)
-          ∙ output_sent g.M.Atomic.meaning c.args.network.now t i moments now model bag l is due c.model.ensures given
-          bags c.route.new.arrivals.bags.items _ c.requires.even (routed_to ∙ ap (λ s. dealt 0 bags (routed net i s bag)) c.transition.ensures)
+          ∙ output_sent g.M.Atomic.meaning c.args.round.now.network.now t i moments now model bag l is due c.model-model.ensures given
+          bags c.route.new.arrivals.bags.items _ c.requires.even (routed_to ∙ ap (λ s. dealt 0 bags (routed net i s bag)) c.transition-at.ensures)
           (ap (λ rs. dealt 0 bags (all_sent net rs)) (sym jump) ∙ inv.bags);
       size = ap length routed_to ∙ length-dealt 0 bags _ ∙ inv.size;
       awake = c.in_ok-route.ensures.awake;
     }
 
 -- no component is imminent after the last
-passed : (g : _) (c : After-loop-component g) → outputs (network_of g.M.Atomic.meaning c.args.network.now) c.args.time (onward c.args.imminent.now c.loop-component.component-index) (drop (onward c.args.imminent.now c.loop-component.component-index) c.args.moments.now)
-    ≡ outputs (network_of g.M.Atomic.meaning c.args.network.now) c.args.time (length c.args.moments.now) (drop (length c.args.moments.now) c.args.moments.now)
+passed : (g : _) (c : After-loop-component g) → outputs (network_of g.M.Atomic.meaning c.args.round.now.network.now) c.args.round.now.time (onward c.args.imminent.now c.loop-component.component-index) (drop (onward c.args.imminent.now c.loop-component.component-index) c.args.moments.now)
+    ≡ outputs (network_of g.M.Atomic.meaning c.args.round.now.network.now) c.args.round.now.time (length c.args.moments.now) (drop (length c.args.moments.now) c.args.moments.now)
 passed g c =
     let imminent = c.args.imminent.now in
     let moments = c.args.moments.now in
     let k = c.loop-component.component-index in
     let end : k ≤ length imminent = c.loop-component.auto.component-index-end in
     let within : All (λ d. d < length moments) imminent = λ j d l. let at = c.requires.each j d l in slice_get_within moments _ at.0 at.1 in
-    outs_passed (network_of g.M.Atomic.meaning c.args.network.now) c.args.time (onward imminent k) (length moments) moments
+    outs_passed (network_of g.M.Atomic.meaning c.args.round.now.network.now) c.args.round.now.time (onward imminent k) (length moments) moments
     (onward_within imminent (length moments) k within end) (omega arith)
     (λ d low high h. none_after imminent c.requires.rising k d c.loop-component-test.false end low (c.requires.all d h))
 
@@ -113,12 +113,12 @@ returns-clause-received g c =
     let moments = c.args.moments.now in
     let inv = c.loop-component.invariant in
     subst (λ rs. Receives g.R.Receiver.takes c.args.receiver.now rs c.loop-component.receiver)
-    (records_all (network_of g.M.Atomic.meaning c.args.network.now) c.args.time (length moments) moments inv.told _ (omega arith) (ap (λ rs. inv.told ++ rs) (sym (passed g c)) ∙ inv.records))
+    (records_all (network_of g.M.Atomic.meaning c.args.round.now.network.now) c.args.round.now.time (length moments) moments inv.told _ (omega arith) (ap (λ rs. inv.told ++ rs) (sym (passed g c)) ∙ inv.records))
     inv.received
 
 pub returns-clause-bags : goal.returns-clause-bags
 returns-clause-bags g c =
-    let net = network_of g.M.Atomic.meaning c.args.network.now in
+    let net = network_of g.M.Atomic.meaning c.args.round.now.network.now in
     let moments = c.args.moments.now in
     let bags = c.loop-component.arrivals.bags.items in
-    sent_all net c.args.time (length moments) moments bags _ (omega arith) (ap (λ rs. dealt 0 bags (all_sent net rs)) (sym (passed g c)) ∙ c.loop-component.invariant.bags)
+    sent_all net c.args.round.now.time (length moments) moments bags _ (omega arith) (ap (λ rs. dealt 0 bags (all_sent net rs)) (sym (passed g c)) ∙ c.loop-component.invariant.bags)

@@ -23,15 +23,15 @@ use Rattle.tw_seq.proofs.turns.make_turns.Goals.{in-Stays, in-Moves+in_ok-take-i
 module _ (g : _) (c : After-index-moments-component g) where
   here_within : slice_index c.deref-component-items.result.now c.loop-component.component-index < length c.args.moments.now
   here_within =
-      turn_within g.M.Atomic.valid g.M.Atomic.meaning c.args.network.now c.args.time c.args.moments.now c.as_mut_slice-bags.result.now [] c.loop-component.moments c.loop-component.bags c.loop-component.invariant.told c.deref-component-items.result.now
-      (listed_as c.args.time c.args.moments.now _ _ _ _ c.as_mut_slice-bags.ensures.value c.deref-component-items.ensures.value c.requires.awake)
+      turn_within g.M.Atomic.valid g.M.Atomic.meaning c.args.round.now.network.now c.args.round.now.time c.args.moments.now c.as_mut_slice-bags.result.now [] c.loop-component.moments c.loop-component.bags c.loop-component.invariant.told c.deref-component-items.result.now
+      (listed_as c.args.round.now.time c.args.moments.now _ _ _ _ c.as_mut_slice-bags.ensures.value c.deref-component-items.ensures.value c.requires.awake)
       c.loop-component.auto.moments c.loop-component.auto.bags (ap length c.as_mut_slice-bags.ensures.value ∙ c.requires.bags ∙ sym c.requires.moments.size)
       c.requires.moments c.requires.even c.requires.time c.loop-component.component-index c.loop-component-test.true
 
-  here_swept : Swept g.M.Atomic.valid g.M.Atomic.meaning c.args.network.now c.args.time c.args.moments.now c.as_mut_slice-bags.result.now [] (slice_index c.deref-component-items.result.now c.loop-component.component-index) c.loop-component.moments c.loop-component.bags c.loop-component.invariant.told
+  here_swept : Swept g.M.Atomic.valid g.M.Atomic.meaning c.args.round.now.network.now c.args.round.now.time c.args.moments.now c.as_mut_slice-bags.result.now [] (slice_index c.deref-component-items.result.now c.loop-component.component-index) c.loop-component.moments c.loop-component.bags c.loop-component.invariant.told
   here_swept =
-      at_turn g.M.Atomic.valid g.M.Atomic.meaning c.args.network.now c.args.time c.args.moments.now c.as_mut_slice-bags.result.now [] c.loop-component.moments c.loop-component.bags c.loop-component.invariant.told c.deref-component-items.result.now
-      (listed_as c.args.time c.args.moments.now _ _ _ _ c.as_mut_slice-bags.ensures.value c.deref-component-items.ensures.value c.requires.awake)
+      at_turn g.M.Atomic.valid g.M.Atomic.meaning c.args.round.now.network.now c.args.round.now.time c.args.moments.now c.as_mut_slice-bags.result.now [] c.loop-component.moments c.loop-component.bags c.loop-component.invariant.told c.deref-component-items.result.now
+      (listed_as c.args.round.now.time c.args.moments.now _ _ _ _ c.as_mut_slice-bags.ensures.value c.deref-component-items.ensures.value c.requires.awake)
       c.loop-component.auto.moments c.loop-component.auto.bags (ap length c.as_mut_slice-bags.ensures.value ∙ c.requires.bags ∙ sym c.requires.moments.size)
       c.requires.moments c.requires.even c.requires.time c.loop-component.component-index c.loop-component-test.true c.loop-component.invariant.swept
 
@@ -39,7 +39,7 @@ pub loop-component-init : goal.loop-component-init
 loop-component-init g c = record {
   told = [];
   received = refl;
-  swept = swept_start g.M.Atomic.valid g.M.Atomic.meaning c.args.network.now c.args.time c.args.moments.now c.as_mut_slice-bags.result.now;
+  swept = swept_start g.M.Atomic.valid g.M.Atomic.meaning c.args.round.now.network.now c.args.round.now.time c.args.moments.now c.as_mut_slice-bags.result.now;
   agenda = c.requires.agenda;
 }
 
@@ -71,13 +71,13 @@ take_turn-requires-clause-standing g c model found =
 
 -- what the component in turn did, with its record
 abbrev what_is : (g : _) → In_ok-take_turn g → Part
-what_is g c = part_of (slice_index c.deref-component-items.result.now c.loop-component.component-index) (c.args.time + 1) c.take_turn.new.bag c.take_turn.new.words.items c.in_ok-take_turn.field-0
+what_is g c = part_of (slice_index c.deref-component-items.result.now c.loop-component.component-index) (c.args.round.now.time + 1) c.take_turn.new.bag c.take_turn.new.words.items c.in_ok-take_turn.field-0
 
 pub returns-in-Stops-clause-stop : goal.returns-in-Stops-clause-stop
 returns-in-Stops-clause-stop g c =
     let before = (goal.at.returns-in-Stops-clause-stop g c).After-index-moments-component in
-    let net = network_of g.M.Atomic.meaning c.args.network.now in
-    let t = c.args.time in
+    let net = network_of g.M.Atomic.meaning c.args.round.now.network.now in
+    let t = c.args.round.now.time in
     let i = slice_index c.deref-component-items.result.now c.loop-component.component-index in
     let old = c.args.moments.now in
     let moments = c.loop-component.moments in
@@ -101,9 +101,9 @@ loop-component-preserved g c =
     let before = (goal.at.loop-component-preserved g c).After-index-moments-component in
     let valid = g.M.Atomic.valid in
     let meaning = g.M.Atomic.meaning in
-    let contents = c.args.network.now in
+    let contents = c.args.round.now.network.now in
     let net = network_of meaning contents in
-    let t = c.args.time in
+    let t = c.args.round.now.time in
     let items = c.deref-component-items.result.now in
     let k = c.loop-component.component-index in
     let i = slice_index items k in
@@ -165,40 +165,40 @@ loop-component-preserved g c =
     ]
 
 -- all have taken their turns
-final : (g : _) (c : After-loop-component g) → Swept g.M.Atomic.valid g.M.Atomic.meaning c.args.network.now c.args.time c.args.moments.now c.as_mut_slice-bags.result.now [] (length c.args.moments.now) c.loop-component.moments c.loop-component.bags c.loop-component.invariant.told
+final : (g : _) (c : After-loop-component g) → Swept g.M.Atomic.valid g.M.Atomic.meaning c.args.round.now.network.now c.args.round.now.time c.args.moments.now c.as_mut_slice-bags.result.now [] (length c.args.moments.now) c.loop-component.moments c.loop-component.bags c.loop-component.invariant.told
 final g c =
-    at_end g.M.Atomic.valid g.M.Atomic.meaning c.args.network.now c.args.time c.args.moments.now c.as_mut_slice-bags.result.now [] c.loop-component.moments c.loop-component.bags c.loop-component.invariant.told c.deref-component-items.result.now
-    (listed_as c.args.time c.args.moments.now _ _ _ _ c.as_mut_slice-bags.ensures.value c.deref-component-items.ensures.value c.requires.awake)
+    at_end g.M.Atomic.valid g.M.Atomic.meaning c.args.round.now.network.now c.args.round.now.time c.args.moments.now c.as_mut_slice-bags.result.now [] c.loop-component.moments c.loop-component.bags c.loop-component.invariant.told c.deref-component-items.result.now
+    (listed_as c.args.round.now.time c.args.moments.now _ _ _ _ c.as_mut_slice-bags.ensures.value c.deref-component-items.ensures.value c.requires.awake)
     c.loop-component.auto.moments c.loop-component.auto.bags (ap length c.as_mut_slice-bags.ensures.value ∙ c.requires.bags ∙ sym c.requires.moments.size)
     c.requires.moments c.requires.even c.requires.time c.loop-component.component-index c.loop-component-test.false c.loop-component.auto.component-index-end c.loop-component.invariant.swept
 
 pub returns-clause-stop : goal.returns-clause-stop
 returns-clause-stop g c =
-    let net = network_of g.M.Atomic.meaning c.args.network.now in
+    let net = network_of g.M.Atomic.meaning c.args.round.now.network.now in
     let old = c.args.moments.now in
     let n = length old in
     let bags0 = c.as_mut_slice-bags.result.now in
-    sym (ap (λ ms. first_stop n (turns_with net c.args.time n ms (drop n bags0))) (drop_all n old (omega arith)))
+    sym (ap (λ ms. first_stop n (turns_with net c.args.round.now.time n ms (drop n bags0))) (drop_all n old (omega arith)))
     ∙ (final g (goal.at.returns-clause-stop g c).After-loop-component).stop
-    ∙ ap (λ bs. first_stop 0 (turns_with net c.args.time 0 old bs)) c.as_mut_slice-bags.ensures.value
+    ∙ ap (λ bs. first_stop 0 (turns_with net c.args.round.now.time 0 old bs)) c.as_mut_slice-bags.ensures.value
 
 pub returns-clause-received : goal.returns-clause-received
 returns-clause-received g c none =
-    let net = network_of g.M.Atomic.meaning c.args.network.now in
+    let net = network_of g.M.Atomic.meaning c.args.round.now.network.now in
     let old = c.args.moments.now in
     let n = length old in
     let bags0 = c.as_mut_slice-bags.result.now in
     let told = c.loop-component.invariant.told in
     subst (λ rs. Receives g.R.Receiver.takes c.args.receiver.now rs c.loop-component.receiver)
     (sym (append-nil told)
-    ∙ sym (ap (λ ms. told ++ turn_records (turns_with net c.args.time n ms (drop n bags0))) (drop_all n old (omega arith)))
+    ∙ sym (ap (λ ms. told ++ turn_records (turns_with net c.args.round.now.time n ms (drop n bags0))) (drop_all n old (omega arith)))
     ∙ (final g (goal.at.returns-clause-received g c).After-loop-component).recorded
-    ∙ ap (λ bs. turn_records (turns_with net c.args.time 0 old bs)) c.as_mut_slice-bags.ensures.value)
+    ∙ ap (λ bs. turn_records (turns_with net c.args.round.now.time 0 old bs)) c.as_mut_slice-bags.ensures.value)
     c.loop-component.invariant.received
 
 pub returns-clause-moments : goal.returns-clause-moments
 returns-clause-moments g c _ =
-    let net = network_of g.M.Atomic.meaning c.args.network.now in
+    let net = network_of g.M.Atomic.meaning c.args.round.now.network.now in
     let old = c.args.moments.now in
     let n = length old in
     let bags0 = c.as_mut_slice-bags.result.now in
@@ -206,9 +206,9 @@ returns-clause-moments g c _ =
     let size = c.loop-component.auto.moments in
     sym (append-nil moments)
     ∙ ap (λ ms. ms ++ []) (sym (take_all n moments (omega (arith, size))))
-    ∙ sym (ap (λ ms. take n moments ++ turned_moments ms (turns_with net c.args.time n ms (drop n bags0))) (drop_all n old (omega arith)))
+    ∙ sym (ap (λ ms. take n moments ++ turned_moments ms (turns_with net c.args.round.now.time n ms (drop n bags0))) (drop_all n old (omega arith)))
     ∙ (final g (goal.at.returns-clause-moments g c).After-loop-component).moved
-    ∙ ap (λ bs. turned_moments old (turns_with net c.args.time 0 old bs)) c.as_mut_slice-bags.ensures.value
+    ∙ ap (λ bs. turned_moments old (turns_with net c.args.round.now.time 0 old bs)) c.as_mut_slice-bags.ensures.value
 
 pub returns-clause-standing : goal.returns-clause-standing
 returns-clause-standing g c _ =
@@ -225,6 +225,6 @@ returns-clause-bags g c _ =
     let bags = c.loop-component.bags in
     let size = c.loop-component.auto.bags in
     let whole : length c.as_mut_slice-bags.result.now ≡ length c.args.moments.now = ap length c.as_mut_slice-bags.ensures.value ∙ c.requires.bags ∙ sym c.requires.moments.size in
-    all_written c.args.arrivals.now.bags bags (size ∙ ap length c.as_mut_slice-bags.ensures.value)
+    all_written c.args.bench.now.arrivals.bags bags (size ∙ ap length c.as_mut_slice-bags.ensures.value)
     ∙ all_empty bags (λ d bag e. all.empty d bag (let l = slice_get_within bags d bag e in omega (arith, l, size, whole)) e)
     ∙ ap (λ n. replicate n []) (size ∙ ap length c.as_mut_slice-bags.ensures.value ∙ c.requires.bags)

@@ -11,6 +11,6 @@ abbrev pub invariant-loop-component : goal.invariant-loop-component
 invariant-loop-component g l = record {
   told : List Record;
   received : Receives g.R.Receiver.takes l.initial.receiver told l.receiver;
-  swept : Swept g.M.Atomic.valid g.M.Atomic.meaning l.network l.time l.initial.moments l.initial.bags [] (onward l.component-items l.component-index) l.moments l.bags told;
+  swept : Swept g.M.Atomic.valid g.M.Atomic.meaning l.round.network.now l.round.time l.initial.moments l.initial.bags [] (onward l.component-items l.component-index) l.moments l.bags told;
   agenda : l.agenda.times ≡ dues l.moments;
 }

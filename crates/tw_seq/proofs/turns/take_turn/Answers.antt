@@ -20,7 +20,7 @@ use Rattle.tw_seq.proofs.turns.take_turn.Goals as goal
 
 pub returns-then-not-has_turn-clause-standing : goal.returns-then-not-has_turn-clause-standing
 returns-then-not-has_turn-clause-standing g c u model found =
-    let t = c.args.time in
+    let t = c.args.round.now.time in
     let now = c.args.now.now in
     let valid = g.M.Atomic.valid model in
     let meaning = g.M.Atomic.meaning model in
@@ -31,22 +31,22 @@ returns-then-not-has_turn-clause-standing g c u model found =
 
 -- the parts of the turn, in the definition's words
 module _ (g : Over) (c : After-micro_limit g) where
-  stamp_is : c.transition-at.result ≡ c.args.time + 1
-  stamp_is = c.transition-at.ensures ∙ transition_of c.args.time c.requires.even
+  stamp_is : c.transition-at.result ≡ c.args.round.now.time + 1
+  stamp_is = c.transition-at.ensures ∙ transition_of c.args.round.now.time c.requires.even
 
-  some : (c.args.now.now.due == c.args.time) ≡ false → c.sort.new.self ≢ []
+  some : (c.args.now.now.due == c.args.round.now.time) ≡ false → c.sort.new.self ≢ []
   some e none =
       let reached = c.if-not-has_turn.ensures.some refl (c.pass_output-imminent.ensures.imminent ∙ e) in
       cc (sym (c.is_empty.ensures.1 none) ∙ reached)
 
-  stands : IsBetween (g.M.Atomic.valid c.model-model.result.now) (g.M.Atomic.meaning c.model-model.result.now) c.args.time c.args.now.now
+  stands : IsBetween (g.M.Atomic.valid c.model-model.result.now) (g.M.Atomic.meaning c.model-model.result.now) c.args.round.now.time c.args.now.now
   stands = c.requires.standing c.model-model.result.now c.model-model.ensures
 
 pub pass_turn-requires-clause-last : goal.pass_turn-requires-clause-last
 pass_turn-requires-clause-last g c =
     let at = (goal.at.pass_turn-requires-clause-last g c).After-micro_limit in
     let last = (stands g at).stands.last_is in
-    let same = past_last c.args.time c.args.now.now in
+    let same = past_last c.args.round.now.time c.args.now.now in
     subst (λ m. m.last < never) (sym c.pass_output-imminent.ensures.now) (omega (arith, last, same))
 
 pub pass_turn-requires-clause-can_move : goal.pass_turn-requires-clause-can_move
@@ -57,17 +57,17 @@ pass_turn-requires-clause-can_move g c =
     let sorted = subst IsSorted (sym c.sort.ensures.sorted) (sorted_bag-sorted c.args.bag.now) in
     let fits = subst FitsBag (sym c.sort.ensures.sorted) (sorted_bag-FitsBag c.args.bag.now c.requires.fits) in
     subst (λ (x : Type 0). x) (λ i. CanMove valid meaning (sym c.pass_output-imminent.ensures.now i) (sym (stamp_is g at) i) (sym c.as_slice.ensures i))
-    (can_move valid meaning c.args.time c.args.now.now (stands g at) c.requires.even c.requires.time c.sort.new.self (some g at) sorted fits)
+    (can_move valid meaning c.args.round.now.time c.args.now.now (stands g at) c.requires.even c.requires.time c.sort.new.self (some g at) sorted fits)
 
 pub returns-clause-turn : goal.returns-clause-turn
 returns-clause-turn g c =
     let at = (goal.at.returns-clause-turn g c).After-micro_limit in
     let mean = g.M.Atomic.meaning in
     let model = c.model-model.result.now in
-    let contents = c.args.network.now in
+    let contents = c.args.round.now.network.now in
     let net = network_of mean contents in
     let k = c.args.component in
-    let t = c.args.time in
+    let t = c.args.round.now.time in
     let now = c.args.now.now in
     let bag = c.sort.new.self in
     let after = c.pass_turn.new.now in

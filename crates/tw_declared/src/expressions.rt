@@ -180,32 +180,34 @@ fn applied(
 ) -> Result<Expr, AllocError>
     ensures { IfOk result (λ e. seen e ≡ applied standings.now joining (tree arguments.now)) }
 {
-    match (joining, arguments) {
-        (Joining::Least, Tree::Binary(Operator::Comma, a, b)) => {
-            let a = expression(alloc, standings, a)?;
-            let b = expression(alloc, standings, b)?;
+    let Tree::Binary(Operator::Comma, first, last) = arguments else {
+        return Ok(zero());
+    };
+    match joining {
+        Joining::Least => {
+            let a = expression(alloc, standings, first)?;
+            let b = expression(alloc, standings, last)?;
             two(alloc, Binary::Least, a, b)
         }
-        (Joining::Greatest, Tree::Binary(Operator::Comma, a, b)) => {
-            let a = expression(alloc, standings, a)?;
-            let b = expression(alloc, standings, b)?;
+        Joining::Greatest => {
+            let a = expression(alloc, standings, first)?;
+            let b = expression(alloc, standings, last)?;
             two(alloc, Binary::Greatest, a, b)
         }
-        (Joining::Choose, Tree::Binary(Operator::Comma, before, b)) => {
-            let b = expression(alloc, standings, b)?;
-            choice(alloc, standings, before, b)
+        Joining::Choose => {
+            let b = expression(alloc, standings, last)?;
+            choice(alloc, standings, first, b)
         }
-        (Joining::At, Tree::Binary(Operator::Comma, queued, index)) => {
-            let queue = queue(alloc, standings, queued)?;
-            let index = expression(alloc, standings, index)?;
+        Joining::At => {
+            let queue = queue(alloc, standings, first)?;
+            let index = expression(alloc, standings, last)?;
             at(alloc, queue, index)
         }
-        (Joining::Place, Tree::Binary(Operator::Comma, queued, value)) => {
-            let queue = queue(alloc, standings, queued)?;
-            let value = expression(alloc, standings, value)?;
+        Joining::Place => {
+            let queue = queue(alloc, standings, first)?;
+            let value = expression(alloc, standings, last)?;
             place(alloc, queue, value)
         }
-        _ => Ok(zero()),
     }
 }
 

@@ -1,7 +1,7 @@
 //! Expressions and statements of the machine's language, made of parts.
 ghost use Rattle.std.specs.Prelude.{◌≡◌, IfOk};
 ghost use Rattle.tw_declared.specs.Expressions.{zero_expr};
-ghost use Rattle.tw_machine.specs.Seen.{seen, seen_statement, one, two, choose, both, branch, repeated};
+ghost use Rattle.tw_machine.specs.Seen.{seen, seen_statement, one, two, choose, branch, repeated};
 
 use std::alloc::{AllocError, Global};
 use tw_machine::language::{Binary, Expr, Leaf, Statement, Unary};
@@ -35,23 +35,16 @@ pub fn choose(alloc: Global, test: Expr, a: Expr, b: Expr) -> Result<Expr, Alloc
     ))
 }
 
-/// One statement, and then another.
-pub fn both(alloc: Global, a: Statement, b: Statement) -> Result<Statement, AllocError>
-    ensures { IfOk result (λ s. seen_statement s ≡ both (seen_statement a) (seen_statement b)) }
-{
-    Ok(Statement::Then(Box::new(alloc, a)?, Box::new(alloc, b)?))
-}
-
 /// One statement or another.
 pub fn branch(
     alloc: Global,
     test: Expr,
     a: Statement,
-    b: Statement,
+    b: Box<Statement>,
 ) -> Result<Statement, AllocError>
-    ensures { IfOk result (λ s. seen_statement s ≡ branch (seen test) (seen_statement a) (seen_statement b)) }
+    ensures { IfOk result (λ s. seen_statement s ≡ branch (seen test) (seen_statement a) (seen_statement b.value)) }
 {
-    Ok(Statement::If(test, Box::new(alloc, a)?, Box::new(alloc, b)?))
+    Ok(Statement::If(test, Box::new(alloc, a)?, b))
 }
 
 /// A statement so many times.

@@ -1,12 +1,12 @@
 //! The program of a machine with the numbers of a component put in.
-ghost use Rattle.std.specs.Prelude.{◌≡◌, ◌≢◌, IfOk, IfErr, Some, None};
+ghost use Rattle.std.specs.Prelude.{◌≡◌, ◌≢◌, IfOk, IfErr, Some, None, flat_map, map};
 ghost use Rattle.tw_machine.specs.Limits.{fault_of as limits_of};
 ghost use Rattle.tw_machine.specs.Program.{text_of};
 ghost use Rattle.tw_costs.specs.Seen as plain;
-ghost use Rattle.tw_costs.specs.Names.{standings_of};
-ghost use Rattle.tw_machine.specs.Seen.{seen_statement, seen_program};
+ghost use Rattle.tw_costs.specs.Names.{cells, numbers, rooms, standings_of, things};
+ghost use Rattle.tw_machine.specs.Seen.{seen_output, seen_statement, seen_program, seen_word};
 ghost use Rattle.tw_declared.specs.Statements.{block};
-ghost use Rattle.tw_declared.specs.Program.{program_of};
+ghost use Rattle.tw_declared.specs.Program.{output, program_of, shown_word};
 ghost use Rattle.tw_declared.specs.Limits.{members_fault, limit, fault_of};
 ghost use Rattle.tw_declared.specs.declared.limits.BadMachine.TheVariants.{OutOfMemory};
 
@@ -15,8 +15,54 @@ use crate::members::{outputs, seed, ticks, words};
 use crate::starts::{all_cells, all_numbers, all_rooms};
 use crate::statements::block;
 use std::alloc::{AllocError, Global};
-use tw_costs::{Declaration, Given, Standing, standings_of};
+use tw_costs::{Declaration, Given, Named, Standing, standings_of};
+use tw_machine::language::{Output, Statement, Word};
 use tw_machine::program::{Parts, Program};
+
+/// What a machine has at the start: the cells of its registers, the rooms of its queues and the numbers of its tables.
+/// The only error is want of memory.
+fn starts_of(
+    alloc: Global,
+    given: &Given,
+    names: &[Named],
+) -> Result<(Vec<i64>, Vec<u16>, Vec<i64>), AllocError>
+    ensures cells { IfOk result (λ s. s.0.items ≡ flat_map (cells (plain.given given.now)) (things (map plain.name names.now))) }
+    ensures rooms { IfOk result (λ s. s.1.items ≡ flat_map (rooms (plain.given given.now)) (things (map plain.name names.now))) }
+    ensures numbers { IfOk result (λ s. s.2.items ≡ flat_map (numbers (plain.given given.now)) (things (map plain.name names.now))) }
+{
+    let cells = all_cells(alloc, given, names)?;
+    let rooms = all_rooms(alloc, given, names)?;
+    let numbers = all_numbers(alloc, given, names)?;
+    Ok((cells, rooms, numbers))
+}
+
+/// What a machine does: in an internal transition, and for each item that comes. The only error is want of memory.
+fn blocks_of(
+    alloc: Global,
+    standings: &[Standing],
+    declaration: &Declaration,
+) -> Result<(Statement, Statement), AllocError>
+    ensures internal { IfOk result (λ s. seen_statement s.0 ≡ block standings.now (plain.declaration declaration.now).internal) }
+    ensures external { IfOk result (λ s. seen_statement s.1 ≡ block standings.now (plain.declaration declaration.now).external) }
+{
+    let internal = block(alloc, standings, &declaration.internal)?;
+    let external = block(alloc, standings, &declaration.external)?;
+    Ok((internal, external))
+}
+
+/// What a machine sends and shows. The only error is want of memory.
+fn texts_of(
+    alloc: Global,
+    standings: &[Standing],
+    declaration: &Declaration,
+) -> Result<(Vec<Output>, Vec<Word>), AllocError>
+    ensures outputs { IfOk result (λ s. map seen_output s.0.items ≡ map (output standings.now) (plain.declaration declaration.now).outputs) }
+    ensures words { IfOk result (λ s. map seen_word s.1.items ≡ map (shown_word standings.now) (plain.declaration declaration.now).words) }
+{
+    let outputs = outputs(alloc, standings, declaration.outputs.as_slice())?;
+    let words = words(alloc, standings, declaration.words.as_slice())?;
+    Ok((outputs, words))
+}
 
 /// The parts of the program that a machine means with these numbers, by what its names stand for. The only error is
 /// want of memory.
@@ -29,18 +75,20 @@ fn parts_of(
     requires { standings.now ≡ standings_of (plain.given given.now) (plain.declaration declaration.now).names }
     ensures { IfOk result (λ parts. seen_program (text_of parts) ≡ program_of (plain.given given.now) (plain.declaration declaration.now)) }
 {
-    let names = declaration.names.as_slice();
+    let (cells, rooms, numbers) = starts_of(alloc, given, declaration.names.as_slice())?;
+    let (outputs, words) = texts_of(alloc, standings, declaration)?;
+    let (internal, external) = blocks_of(alloc, standings, declaration)?;
     Ok(Parts {
-        cells: all_cells(alloc, given, names)?,
-        rooms: all_rooms(alloc, given, names)?,
+        cells,
+        rooms,
         seed: seed(given, declaration.random),
         first: ticks(given, declaration.first),
         longest: ticks(given, declaration.longest),
-        numbers: all_numbers(alloc, given, names)?,
-        internal: block(alloc, standings, &declaration.internal)?,
-        external: block(alloc, standings, &declaration.external)?,
-        outputs: outputs(alloc, standings, declaration.outputs.as_slice())?,
-        words: words(alloc, standings, declaration.words.as_slice())?,
+        numbers,
+        internal,
+        external,
+        outputs,
+        words,
     })
 }
 
@@ -92,8 +140,13 @@ fn limited(
     ensures sound { IfOk result (λ _. limit standings.now (plain.declaration declaration.now) (text_of parts) ≡ None) }
     ensures refused { IfErr result (λ bad. limit standings.now (plain.declaration declaration.now) (text_of parts) ≡ Some bad) }
 {
-    held(limit(standings, declaration, &parts))?;
-    Ok(program(parts))
+    match limit(standings, declaration, &parts) {
+        Some(bad) => {
+            drop(parts);
+            Err(bad)
+        }
+        None => Ok(program(parts)),
+    }
 }
 
 /// The program that a machine means with these numbers, or its first fault: 21 (BadShape). Want of memory (4) may come

@@ -5,7 +5,7 @@ ghost use Rattle.tw_machine.specs.Seen.{seen, seen_target, seen_statement};
 ghost use Rattle.tw_declared.specs.Statements.{cell_named, cell_indexed, cell, assigned, put, acted, turns, statement, block, chosen};
 
 use crate::expressions::{expression, queue};
-use crate::making::{both, branch, repeated};
+use crate::making::{branch, repeated};
 use std::alloc::{AllocError, Global};
 use tw_costs::{Standing, standing_at, written_turns};
 use tw_machine::language::{Change, Expr, Position, Statement, Target, Which};
@@ -138,10 +138,10 @@ fn statement(alloc: Global, standings: &[Standing], said: &Said) -> Result<State
         Said::Draw => Ok(Statement::Draw),
         Said::Wait(ticks) => Ok(Statement::Wait(expression(alloc, standings, ticks)?)),
         Said::Passivate => Ok(Statement::Passivate),
-        Said::If(arms) => chosen(alloc, standings, arms, Statement::Skip),
+        Said::If(arms) => chosen(alloc, standings, arms, Box::new(alloc, Statement::Skip)?),
         Said::IfElse(arms, last) => {
             let last = block(alloc, standings, last)?;
-            chosen(alloc, standings, arms, last)
+            chosen(alloc, standings, arms, Box::new(alloc, last)?)
         }
         Said::Repeat(count, each) => {
             let each = block(alloc, standings, each)?;
@@ -162,9 +162,9 @@ pub fn block(
     match program {
         Block::Empty => Ok(Statement::Skip),
         Block::Then(before, last, _) => {
-            let before = block(alloc, standings, before)?;
-            let last = statement(alloc, standings, last)?;
-            both(alloc, before, last)
+            let before = Box::new(alloc, block(alloc, standings, before)?)?;
+            let last = Box::new(alloc, statement(alloc, standings, last)?)?;
+            Ok(Statement::Then(before, last))
         }
     }
 }
@@ -175,9 +175,9 @@ fn chosen(
     alloc: Global,
     standings: &[Standing],
     arms: &Arms,
-    last: Statement,
+    last: Box<Statement>,
 ) -> Result<Statement, AllocError>
-    ensures { IfOk result (λ s. seen_statement s ≡ chosen standings.now (chain arms.now) (seen_statement last)) }
+    ensures { IfOk result (λ s. seen_statement s ≡ chosen standings.now (chain arms.now) (seen_statement last.value)) }
 {
     match arms {
         Arms::One(test, then) => {
@@ -189,7 +189,7 @@ fn chosen(
             let test = expression(alloc, standings, test)?;
             let then = block(alloc, standings, then)?;
             let rest = branch(alloc, test, then, last)?;
-            chosen(alloc, standings, before, rest)
+            chosen(alloc, standings, before, Box::new(alloc, rest)?)
         }
     }
 }

@@ -1,3 +1,4 @@
+pub mod Adding
 pub mod Missing
 pub mod Reading
 pub mod Refusing

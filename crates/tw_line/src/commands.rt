@@ -389,15 +389,13 @@ fn first_commands<'a>(alloc: Global) -> Result<Command<'a>, AllocError>
     ensures app { IfOk result (λ c. app_of c ≡ first_app) }
     ensures local { IfOk result (λ c. (out-Command c).has_globals ≡ false) }
 {
-    let demo = demo_command(alloc);
-    let check = check_command(alloc)?;
     let first = Command::new(alloc, "twarp")
         .version(VERSION)
         .about("Simulate networks of Parallel DEVS models")
         .after_help(TWARP_END)
         .subcommand_required(true)
-        .subcommand(demo)?;
-    first.subcommand(check)
+        .subcommand(demo_command(alloc))?;
+    first.subcommand(check_command(alloc)?)
 }
 
 /// The program with the subcommands that tell of the sequential run.
@@ -405,24 +403,18 @@ fn alone_commands<'a>(alloc: Global) -> Result<Command<'a>, AllocError>
     ensures app { IfOk result (λ c. app_of c ≡ alone_app) }
     ensures local { IfOk result (λ c. (out-Command c).has_globals ≡ false) }
 {
-    let seq = seq_command(alloc)?;
-    let stats = stats_command(alloc)?;
-    let table = table_command(alloc)?;
     let first = first_commands(alloc)?;
-    let second = first.subcommand(seq)?;
-    let third = second.subcommand(stats)?;
-    third.subcommand(table)
+    let second = first.subcommand(seq_command(alloc)?)?;
+    let third = second.subcommand(stats_command(alloc)?)?;
+    third.subcommand(table_command(alloc)?)
 }
 
 /// The whole command.
 pub(crate) fn command<'a>(alloc: Global) -> Result<Command<'a>, AllocError>
     ensures app { IfOk result (λ c. app_of c ≡ twarp_app) }
 {
-    let draw = draw_command(alloc)?;
-    let run = run_command(alloc)?;
-    let play = play_command(alloc)?;
     let first = alone_commands(alloc)?;
-    let second = first.subcommand(draw)?;
-    let third = second.subcommand(run)?;
-    third.subcommand(play)
+    let second = first.subcommand(draw_command(alloc)?)?;
+    let third = second.subcommand(run_command(alloc)?)?;
+    third.subcommand(play_command(alloc)?)
 }

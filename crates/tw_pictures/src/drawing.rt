@@ -9,7 +9,7 @@ ghost use Rattle.tw_vtime.specs.Stamps.{max_tick};
 use crate::following::follow;
 use crate::heading::{Told, push_heading};
 use crate::kept::{Kept, time_of};
-use crate::lanes::lanes_of;
+use crate::lanes::{Lanes, lanes_of};
 use crate::layout::Layout;
 use crate::refused::DrawRefused;
 use crate::staves::{ShownFault, push_staves};
@@ -19,7 +19,7 @@ use std::alloc::{AllocError, Global};
 use std::io::Write;
 use tw_atomic::Atomic;
 use tw_network::Network;
-use tw_seq::{Fault, begin};
+use tw_seq::Fault;
 use tw_svg::Svg;
 use tw_texts::{Names, push_fault};
 use tw_views::Labels;
@@ -53,11 +53,27 @@ pub fn draw<M: Atomic, N: Names, W: Write>(
     let Some(lanes) = lanes_of(alloc, network, names, labels, view)? else {
         return Err(DrawRefused::NoSuch);
     };
-    let Ok(simulation) = begin(alloc, network, until) else {
-        return Err(DrawRefused::OutOfMemory);
+    let (picture, fault) = drawn(alloc, network, names, lanes, until, view)?;
+    let Ok(()) = out.write_all(picture.as_str().as_bytes()) else {
+        return Err(DrawRefused::WriteFailed);
     };
+    Ok(fault)
+}
+
+/// The picture of the run of a network in these lanes, and the fault that ended the run. The only error is want of memory, where
+/// `until` is a tick that a run may end at.
+fn drawn<M: Atomic, N: Names>(
+    alloc: Global,
+    network: &Network<M>,
+    names: &N,
+    lanes: Lanes,
+    until: u64,
+    view: &View<'_>,
+) -> Result<(Svg, Option<Fault>), AllocError>
+    ensures fault { IfOk result (λ p. (p.1 ≡ None) ⊎ (p.1 ≡ (sequential (network_of M.meaning network.now) until).fault)) }
+{
     let mut kept = Kept::new(alloc, lanes, view.from)?;
-    let fault = follow(alloc, network, simulation, &mut kept)?;
+    let fault = follow(alloc, network, until, &mut kept)?;
     let told = Told {
         view,
         until,
@@ -65,10 +81,7 @@ pub fn draw<M: Atomic, N: Names, W: Write>(
         fault: None,
     };
     let picture = picture_of(alloc, names, &mut kept, told, &fault)?;
-    let Ok(()) = out.write_all(picture.as_str().as_bytes()) else {
-        return Err(DrawRefused::WriteFailed);
-    };
-    Ok(fault)
+    Ok((picture, fault))
 }
 
 /// The line of a fault.
@@ -122,16 +135,27 @@ fn picture(
     fault: Option<ShownFault<'_>>,
 ) -> Result<Svg, AllocError> {
     let layout = Layout::new(alloc, kept, end, fault.map(|fault| fault.time))?;
+    laid_out(alloc, kept, told, &layout, fault)
+}
+
+/// The picture in a layout.
+fn laid_out(
+    alloc: Global,
+    kept: &Kept,
+    told: &Told<'_>,
+    layout: &Layout,
+    fault: Option<ShownFault<'_>>,
+) -> Result<Svg, AllocError> {
     let mut heading = Svg::new(alloc);
-    let top = push_heading(&mut heading, alloc, kept, &layout, told)?;
-    let sheet = sheet_of(alloc, kept, &layout)?;
+    let top = push_heading(&mut heading, alloc, kept, layout, told)?;
+    let sheet = sheet_of(alloc, kept, layout)?;
     let width = layout.width.rounded_up();
     let height = (top + layout.staves_height()).rounded_up();
     let mut svg = Svg::new(alloc);
     svg.begin(width, height, told.view.title, sheet.as_str())?;
     svg.append(&heading)?;
     svg.open_moved(top)?;
-    push_staves(&mut svg, alloc, kept, &layout, fault)?;
+    push_staves(&mut svg, alloc, kept, layout, fault)?;
     svg.close()?;
     svg.end()?;
     Ok(svg)

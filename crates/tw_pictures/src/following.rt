@@ -9,29 +9,38 @@ use crate::kept::Kept;
 use std::alloc::{AllocError, Global};
 use tw_atomic::Atomic;
 use tw_network::Network;
-use tw_seq::{Advanced, Fault, Simulation, advance};
+use tw_seq::{Advanced, Fault, Simulation, advance, begin};
 
-/// Makes the rounds of a run and keeps what the picture shows, to the end of the run or of the picture. Answers the fault that
-/// ended the run, if it did.
+/// Makes the rounds of a run up to a tick and keeps what the picture shows, to the end of the run or of the picture. Answers the
+/// fault that ended the run, if it did. The only error is want of memory, where the tick is one that a run may end at.
 pub fn follow<M: Atomic>(
     alloc: Global,
     network: &Network<M>,
-    mut simulation: Simulation<M::State>,
+    until: u64,
     kept: &mut Kept,
 ) -> Result<Option<Fault>, AllocError>
-    requires { IsSimulating M.valid M.meaning network.now [] simulation }
-    ensures { IfOk result (λ fault. (fault ≡ None) ⊎ (fault ≡ (sequential (network_of M.meaning network.now) simulation.until).fault)) }
+    ensures { IfOk result (λ fault. (fault ≡ None) ⊎ (fault ≡ (sequential (network_of M.meaning network.now) until).fault)) }
+{
+    let Ok(mut simulation) = begin(alloc, network, until) else {
+        return Err(AllocError);
+    };
+    make_rounds(alloc, network, &mut simulation, kept)
+}
+
+/// Makes the rounds of a run that has begun.
+fn make_rounds<M: Atomic>(
+    alloc: Global,
+    network: &Network<M>,
+    simulation: &mut Simulation<M::State>,
+    kept: &mut Kept,
+) -> Result<Option<Fault>, AllocError>
+    requires { IsSimulating M.valid M.meaning network.now [] simulation.old }
+    ensures { IfOk result (λ fault. (fault ≡ None) ⊎ (fault ≡ (sequential (network_of M.meaning network.now) simulation.old.until).fault)) }
 {
     let mut outputs = Vec::new(alloc);
     let mut transitions = Vec::new(alloc);
     loop {
-        let step = advance(
-            alloc,
-            network,
-            &mut simulation,
-            &mut outputs,
-            &mut transitions,
-        )?;
+        let step = advance(alloc, network, simulation, &mut outputs, &mut transitions)?;
         match step {
             Advanced::Round => {
                 outputs.append(&mut transitions)?;

@@ -73,8 +73,8 @@ fn missing(alloc: Global, kept: &Kept) -> Result<Vec<String>, AllocError> {
     Ok(lines)
 }
 
-/// Draws what stands above the staves, and answers how far down they begin.
-pub fn push_heading(
+/// Draws title, facts, faults and what is left out, and answers how far down they end.
+fn push_front(
     svg: &mut Svg,
     alloc: Global,
     kept: &Kept,
@@ -94,7 +94,18 @@ pub fn push_heading(
         faults: faults.as_slice(),
         missing: missing.as_slice(),
     };
-    let top = front.push_to(svg)?;
+    front.push_to(svg)
+}
+
+/// Draws what stands above the staves, and answers how far down they begin.
+pub fn push_heading(
+    svg: &mut Svg,
+    alloc: Global,
+    kept: &Kept,
+    layout: &Layout,
+    told: &Told<'_>,
+) -> Result<Points, AllocError> {
+    let top = push_front(svg, alloc, kept, layout, told)?;
     let mut legend = Legend::new(top + Points::whole(6), layout.width);
     push_kinds(svg, alloc, kept, &mut legend)?;
     push_ways(svg, alloc, kept, told, &mut legend)?;

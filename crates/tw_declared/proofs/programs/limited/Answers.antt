@@ -10,5 +10,5 @@ use Rattle.tw_declared.proofs.programs.limited.Goals as goal
 pub program-requires : goal.program-requires
 program-requires c =
     let p = text_of c.args.parts in
-    let none = sym c.limit.ensures ∙ c.in_ok-held.ensures.held in
+    let none = sym c.limit.ensures ∙ c.in-None.is in
     sym (limits_seen p) ∙ within_any c.args.standings.now (declaration c.args.declaration.now) (seen_program p) c.requires.internal c.requires.external none

@@ -4,14 +4,14 @@ use Rattle.tw_msgs.specs.declared.record.Record.{Record}
 use Rattle.tw_seq.specs.Parts.{IsSimulating}
 use Rattle.tw_theory.specs.Simulator.{round_time}
 use Rattle.tw_vtime.specs.Stamps.{stamp}
-use Rattle.tw_pictures.proofs.following.follow.Given as goal
+use Rattle.tw_pictures.proofs.following.make_rounds.Given as goal
 
 abbrev pub invariant-loop-transitions : goal.invariant-loop-transitions
 invariant-loop-transitions g l = record {
   done : List Record;
   so_far : IsSimulating g.M.Atomic.valid g.M.Atomic.meaning l.network done l.simulation;
-  until : l.simulation.until ≡ l.fn.simulation.until;
+  until : l.simulation.until ≡ l.initial.simulation.until;
 }
 
 abbrev pub decreases-loop-transitions : goal.decreases-loop-transitions
-decreases-loop-transitions g l = stamp l.fn.simulation.until 0 0 - round_time l.simulation.run.at
+decreases-loop-transitions g l = stamp l.initial.simulation.until 0 0 - round_time l.simulation.run.at

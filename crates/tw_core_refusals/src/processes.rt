@@ -316,9 +316,10 @@ fn tell_times(told: &mut Told, process: &Process<Model>) {
 
 /// Tells how many steps and messages there are.
 fn tell_lengths(told: &mut Told, process: &Process<Model>) {
-    let (steps, pending) = (process.history_len(), process.pending_len());
-    let (waiting, outgoing) = (process.waiting_len(), process.outgoing_len());
-    let owed = process.owed_len();
+    let lists = process.lists();
+    let (steps, pending) = (process.history_len(), lists.pending_len());
+    let (waiting, outgoing) = (lists.waiting_len(), lists.outgoing_len());
+    let owed = lists.owed_len();
     if write!(
         told.text_mut(),
         "steps {steps} pending {pending} waiting {waiting} outgoing {outgoing} owed {owed}\n"
@@ -344,13 +345,14 @@ fn tell_copies(told: &mut Told, words: &str, copies: Result<Vec<Message>, AllocE
 
 /// Tells the messages of a process, each list by a copy, at the second try where the first finds no memory.
 fn tell_lists(told: &mut Told, process: &Process<Model>) {
-    let pending = match process.pending() {
-        Err(_) => process.pending(),
+    let lists = process.lists();
+    let pending = match lists.pending() {
+        Err(_) => lists.pending(),
         made => made,
     };
     tell_copies(told, "pending ", pending);
-    let waiting = match process.waiting() {
-        Err(_) => process.waiting(),
+    let waiting = match lists.waiting() {
+        Err(_) => lists.waiting(),
         made => made,
     };
     tell_copies(told, "waiting ", waiting);
@@ -363,8 +365,8 @@ fn tell_lists(told: &mut Told, process: &Process<Model>) {
 
 /// Tells the outgoing items of a process.
 fn tell_outgoing(told: &mut Told, process: &Process<Model>) {
-    let outgoing = match process.outgoing() {
-        Err(_) => process.outgoing(),
+    let outgoing = match process.lists().outgoing() {
+        Err(_) => process.lists().outgoing(),
         made => made,
     };
     match outgoing {

@@ -173,7 +173,7 @@ impl<M: Atomic> Executive<M> {
 fn to_post<M: Atomic>(process: &Process<M>) -> Result<Vec<Item>, AllocError>
     ensures { IfOk result (λ items. items.items ≡ (settle process.now.process).outgoing) }
 {
-    let mut items = process.outgoing()?;
+    let mut items = process.lists().outgoing()?;
     match process.cancel() {
         Cancel::Aggressive => Ok(items),
         Cancel::Lazy => {

@@ -25,8 +25,9 @@ pub fn least_of<M: Atomic>(processes: &[Process<M>], mail: &Mailboxes) -> Stamp
 fn least_in<M: Atomic>(process: &Process<M>) -> Stamp
     ensures { result ≡ least_in process.now.process }
 {
+    let lists = process.lists();
     process
         .next()
-        .min(process.least_outgoing())
-        .min(process.least_owed())
+        .min(lists.least_outgoing())
+        .min(lists.least_owed())
 }

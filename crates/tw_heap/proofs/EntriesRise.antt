@@ -32,7 +32,7 @@ rising-insert e (y ∷ ys) vacant rising = go (rising-insert e ys (vacant-behind
     go rest true is = subst (λ l. IsRising l) (sym (insert-past e y ys is)) (leads-insert y e ys is rising.0, rest)
     go rest false is = subst (λ l. IsRising l) (sym (insert-here e y ys is)) (one_before e y (vacant-first e.index y ys vacant) is, rising)
 
-vacant-sorted : (index : ℕ) (es : List Entry) → entry_of index es ≡ None → entry_of index (sort_by is_before es) ≡ None
+pub vacant-sorted : (index : ℕ) (es : List Entry) → entry_of index es ≡ None → entry_of index (sort_by is_before es) ≡ None
 vacant-sorted index es vacant = none_entry index (sort_by is_before es) (none_sorted index es (none_of_entry index es vacant))
 
 pub distinct-sorted : (es : List Entry) → AreDistinct es → AreDistinct (sort_by is_before es)

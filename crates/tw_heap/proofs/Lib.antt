@@ -4,4 +4,5 @@ pub mod EntriesByIndex
 pub mod HeapMoves
 pub mod HeapChanges
 pub mod EntriesRise
+pub mod Found
 pub mod Fronts

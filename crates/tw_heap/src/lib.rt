@@ -9,6 +9,7 @@
 #![tactic(auto)]
 
 mod entries;
+mod finding;
 mod front;
 mod heap;
 mod sifting;

@@ -54,14 +54,15 @@ fn add_counts<M: Atomic>(text: &mut String, process: &Process<M>) -> Result<(), 
     ensures { OnOk result (string_bytes text.new ≡ string_bytes text.old ++ counts_part process.now.process) }
 {
     let steps = process.history_len();
-    let pending = process.pending_len();
-    let waiting = process.waiting_len();
-    let outgoing = process.outgoing_len();
+    let lists = process.lists();
+    let pending = lists.pending_len();
+    let waiting = lists.waiting_len();
+    let outgoing = lists.outgoing_len();
     write!(
         text,
         " steps {steps} pending {pending} waiting {waiting} outgoing {outgoing}"
     )?;
-    add_owed_count(text, process.cancel(), process.owed_len())
+    add_owed_count(text, process.cancel(), lists.owed_len())
 }
 
 /// How many items are in its mailbox, and the words of its present state.

@@ -118,10 +118,11 @@ fn add_messages<M: Atomic>(
     requires { Sorted process.now.process.pending }
     ensures { OnOk result (string_bytes text.new ≡ string_bytes text.old ++ messages_part network.now.names process.now.process mail.now) }
 {
-    let pending = process.pending()?;
-    let waiting = process.waiting()?;
-    let outgoing = process.outgoing()?;
-    let owed = process.owed()?;
+    let lists = process.lists();
+    let pending = lists.pending()?;
+    let waiting = lists.waiting()?;
+    let outgoing = lists.outgoing()?;
+    let owed = lists.owed()?;
     add_pending(text, pending.as_slice())?;
     add_waiting(text, waiting.as_slice())?;
     add_outgoing(text, network, outgoing.as_slice())?;

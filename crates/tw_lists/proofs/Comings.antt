@@ -1,5 +1,5 @@
 -- What the lists keep as messages come and go.
-use Rattle.std.proofs.Common.{◌≡◌, ◌≢◌, ℕ, zero, suc, drop, length-drop, ◌+◌, ◌-◌, ◌==◌, ◌<◌, ◌≤◌, Bool, true, false, nat_le, List, [], ◌∷◌, ◌++◌, length, map, set, Some, None, Result, Ok, Err, IfOk, OnErr, refl, sym, ap, subst, ◌∙◌, inl, inr, arith, append-nil, length-append}
+use Rattle.std.proofs.Common.{◌≡◌, ◌≢◌, ℕ, zero, suc, drop, length-drop, ◌+◌, ◌-◌, ◌==◌, ◌<◌, ◌≤◌, Bool, true, false, nat_le, List, [], ◌∷◌, ◌++◌, length, map, set, Some, None, refl, sym, ap, subst, ◌∙◌, inl, inr, arith, append-nil, length-append}
 use Rattle.std.proofs.lemmas.Bool.{cases_eq, leb-true, cond-true, cond-false, le-leb}
 use Rattle.std.proofs.lemmas.List.{map-append, length-set, get_or-set_same, get_or-set_other}
 use Rattle.std.specs.Map.{lookup}
@@ -16,9 +16,10 @@ use Rattle.tw_theory.specs.Bundles.{positive, anti}
 use Rattle.tw_lists.specs.Lists.{with_pending, without_pending, without_orphan, forgotten}
 use Rattle.tw_lists.specs.Nodes.{contents, spare_of, IsBelow, AreOf, IsKept, index_of}
 use Rattle.tw_lists.specs.Lists.{Nodes, event, message_at, item_at}
-use Rattle.tw_lists.proofs.NodeMoves.{below_more}
+use Rattle.tw_lists.proofs.NodeMoves.{below_more, node_of}
 use Rattle.tw_lists.proofs.Signs.{map-drop, are_at, are_push, are_out, are_drop}
 use Rattle.tw_lists.proofs.Counts.{insert-length, without-length}
+use Rattle.tw_lists.proofs.Found.{Untouched}
 use Rattle.tw_lists.proofs.Finding.{found_at, entry_has}
 
 -- a heap with more room
@@ -69,6 +70,7 @@ pushed lists now index item six is distinct =
 
 pub record Put (lists now : List Nodes) (room spare room0 spare0 : ℕ) (heap new : Events) (m : Message) : Type 0 where
   pub kept : IsKept now new
+  pub untouched : Untouched lists now
   pub contents_is : contents now room spare new.entries ≡ record (with_pending m (contents lists room0 spare0 heap.entries)) { room = room; spare = spare }
 
 pub put_kept : (lists now : List Nodes) (room spare room0 spare0 : ℕ) (heap new : Events) (index : ℕ) (item : Item) → IsKept lists heap → item ≡ positive item.message → Pushed lists now index item
@@ -99,6 +101,7 @@ put_kept lists now room spare room0 spare0 heap new index item kept sign push pl
           owed = are_at anti (list_at lists 5) (list_at now 5) (push.others 5 (λ e. omega (arith, e))) kept.signed.owed;
         };
       };
+      untouched = record { waiting = push.others 4 (λ e. omega (arith, e)); owed = push.others 5 (λ e. omega (arith, e)) };
       contents_is = λ i. record {
         pending = (ap (map message_of) placed_is ∙ messages-insert (record { key = item.message; index = index }) heap.entries sorted) i;
         consumed = map message_at (one_is i);
@@ -127,33 +130,31 @@ less lists now number index item a b within distinct split is =
 
 pub record Withdrawn (lists now : List Nodes) (room spare room0 spare0 : ℕ) (heap new : Events) (m : Message) : Type 0 where
   pub kept : IsKept now new
+  pub untouched : Untouched lists now
   pub contents_is : contents now room spare new.entries ≡ record (without_pending m (contents lists room0 spare0 heap.entries)) { room = room; spare = spare }
   pub there : has m (map message_of heap.entries) ≡ true
 
--- the event of what was found
-pub pending_entry : (lists : List Nodes) (heap : Events) (index : ℕ) (m : Message) → IsKept lists heap → AreDistinct lists → index_of m (list_at lists 0) ≡ Some index → entry_of index heap.entries ≡ Some (record { key = m; index = index })
-pending_entry lists heap index m kept distinct is =
-    let at = found_at m (list_at lists 0) index is in
-    let alone = distinct 0 at.before index at.item at.behind at.split in
-    let lacks = lacks_left (Some index) at.before at.behind alone.0 in
-    kept.same index ∙ ap (λ l. event index (lookup (λ k. k == index) l)) at.split ∙ ap (event index) (lookup_found index at.before at.item at.behind lacks) ∙ ap (λ k. Some (record { key = k; index = index })) at.same
+-- what the heap has is in the pool
+pub pending_live : (lists : List Nodes) (heap : Events) (index : ℕ) (m : Message) → IsKept lists heap → length lists ≡ 6 → AreDistinct lists → entry_of index heap.entries ≡ Some (record { key = m; index = index }) → IsLive index lists
+pending_live lists heap index m kept six distinct entry =
+    let at = node_of (list_at lists 0) (record { key = m; index = index }) heap.entries entry (kept.same index) in
+    item_live lists index at.item (item_is lists index 0 at.item at.before at.behind distinct (omega (arith, six)) at.split)
 
 pub found_live : (lists : List Nodes) (number index : ℕ) (m : Message) → number < length lists → AreDistinct lists → index_of m (list_at lists number) ≡ Some index → IsLive index lists
 found_live lists number index m within distinct is =
     let at = found_at m (list_at lists number) index is in
     item_live lists index at.item (item_is lists index number at.item at.before at.behind distinct within at.split)
 
-pub withdrawn_kept : (lists now : List Nodes) (room spare room0 spare0 : ℕ) (heap new : Events) (index : ℕ) (m : Message) → IsKept lists heap → length lists ≡ 6 → AreDistinct lists → Sorted (map message_of heap.entries) → index_of m (list_at lists 0) ≡ Some index
+pub withdrawn_kept : (lists now : List Nodes) (room spare room0 spare0 : ℕ) (heap new : Events) (index : ℕ) (m : Message) → IsKept lists heap → length lists ≡ 6 → AreDistinct lists → Sorted (map message_of heap.entries) → entry_of index heap.entries ≡ Some (record { key = m; index = index })
     → now ≡ without_node index lists → new.entries ≡ without index heap.entries → entry_of index new.entries ≡ None → ((other : ℕ) → other ≢ index → entry_of other new.entries ≡ entry_of other heap.entries)
     → new.room ≡ heap.room + 1 → new.top ≡ heap.top → Withdrawn lists now room spare room0 spare0 heap new m
-withdrawn_kept lists now room spare room0 spare0 heap new index m kept six distinct sorted is now_is removed gone others more top =
-    let at = found_at m (list_at lists 0) index is in
+withdrawn_kept lists now room spare room0 spare0 heap new index m kept six distinct sorted entry now_is removed gone others more top =
+    let at = node_of (list_at lists 0) (record { key = m; index = index }) heap.entries entry (kept.same index) in
     let a = at.before in
     let b = at.behind in
     let alone = distinct 0 a index at.item b at.split in
     let l = less lists now 0 index at.item a b (omega (arith, six)) distinct at.split now_is in
     let one = l.others 1 (λ e. omega (arith, e)) in
-    let entry = pending_entry lists heap index m kept distinct is in
     record {
       kept = record {
         same = λ other.
@@ -176,6 +177,7 @@ withdrawn_kept lists now room spare room0 spare0 heap new index m kept six disti
           owed = are_at anti (list_at lists 5) (list_at now 5) (l.others 5 (λ e. omega (arith, e))) kept.signed.owed;
         };
       };
+      untouched = record { waiting = l.others 4 (λ e. omega (arith, e)); owed = l.others 5 (λ e. omega (arith, e)) };
       contents_is = λ i. record {
         pending = (ap (map message_of) removed ∙ messages-without index (record { key = m; index = index }) heap.entries sorted entry) i;
         consumed = map message_at (one i);
@@ -191,6 +193,7 @@ withdrawn_kept lists now room spare room0 spare0 heap new index m kept six disti
 
 pub record Cleared (lists now : List Nodes) (room spare room0 spare0 : ℕ) (heap : Events) (m : Message) : Type 0 where
   pub kept : IsKept now heap
+  pub owed_stays : list_at now 5 ≡ list_at lists 5
   pub contents_is : contents now room spare heap.entries ≡ record (without_orphan m (contents lists room0 spare0 heap.entries)) { room = room; spare = spare }
 
 pub cleared_kept : (lists now : List Nodes) (room spare room0 spare0 : ℕ) (heap : Events) (index : ℕ) (m : Message) → IsKept lists heap → length lists ≡ 6 → AreDistinct lists → index_of m (list_at lists 4) ≡ Some index
@@ -214,6 +217,7 @@ cleared_kept lists now room spare room0 spare0 heap index m kept six distinct is
           owed = are_at anti (list_at lists 5) (list_at now 5) (l.others 5 (λ e. omega (arith, e))) kept.signed.owed;
         };
       };
+      owed_stays = l.others 5 (λ e. omega (arith, e));
       contents_is = λ i. record {
         pending = map message_of heap.entries;
         consumed = map message_at (one_is i);
@@ -263,10 +267,9 @@ waits_kept lists now room spare room0 spare0 heap index item kept sign six is =
       };
     }
 
--- an anti-message that waits, or for which there was no room
-pub orphan_kept : {E : Type 0} (lists now : List Nodes) (heap : Events) (m : Message) (r : Result ℕ E) → IsKept lists heap → length lists ≡ 6 → IfOk r (λ index. now ≡ with_item_last lists 4 (index, anti m)) → OnErr r (now ≡ lists) → IsKept now heap
-orphan_kept lists now heap m (Ok index) kept six added same = (waits_kept lists now 0 0 0 0 heap index (anti m) kept refl six added).kept
-orphan_kept lists now heap m (Err e) kept six added same = subst (λ ls. IsKept ls heap) (sym same) kept
+-- one anti-message more waits
+pub orphan_kept : (lists now : List Nodes) (heap : Events) (index : ℕ) (m : Message) → IsKept lists heap → length lists ≡ 6 → now ≡ with_item_last lists 4 (index, anti m) → IsKept now heap
+orphan_kept lists now heap index m kept six added = (waits_kept lists now 0 0 0 0 heap index (anti m) kept refl six added).kept
 
 below_drop : (top n : ℕ) (l : Nodes) → IsBelow top l → IsBelow top (drop n l)
 below_drop top zero l h = h
@@ -275,6 +278,7 @@ below_drop top (suc n) (x ∷ l) h = below_drop top n l h.1
 
 pub record Forgotten (lists now : List Nodes) (n k room spare room0 spare0 : ℕ) (heap : Events) : Type 0 where
   pub kept : IsKept now heap
+  pub untouched : Untouched lists now
   pub contents_is : contents now room spare heap.entries ≡ record (forgotten n k (contents lists room0 spare0 heap.entries)) { room = room; spare = spare }
 
 pub sent_there : (lists : List Nodes) (n : ℕ) → list_at (without_first lists 1 n) 2 ≡ list_at lists 2
@@ -305,6 +309,7 @@ forgotten_kept lists now n k room spare room0 spare0 heap kept six is =
           owed = are_at anti (list_at lists 5) (list_at now 5) (others 5 (λ e. omega (arith, e)) (λ e. omega (arith, e))) kept.signed.owed;
         };
       };
+      untouched = record { waiting = others 4 (λ e. omega (arith, e)) (λ e. omega (arith, e)); owed = others 5 (λ e. omega (arith, e)) (λ e. omega (arith, e)) };
       contents_is = λ i. record {
         pending = map message_of heap.entries;
         consumed = (ap (map message_at) one ∙ map-drop message_at n l1) i;

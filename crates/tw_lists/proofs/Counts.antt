@@ -26,7 +26,7 @@ without-length index e (y ∷ es) is = go (y.index == index) (λ i. without-leng
     go true rest is = omega arith
     go false rest is = let more = rest is in omega (arith, more)
 
-live_six : (lists : List Nodes) → length lists ≡ 6 → live_count lists ≡ length (list_at lists 0) + length (list_at lists 1) + length (list_at lists 2) + length (list_at lists 3) + length (list_at lists 4) + length (list_at lists 5)
+pub live_six : (lists : List Nodes) → length lists ≡ 6 → live_count lists ≡ length (list_at lists 0) + length (list_at lists 1) + length (list_at lists 2) + length (list_at lists 3) + length (list_at lists 4) + length (list_at lists 5)
 live_six (a ∷ b ∷ c ∷ d ∷ e ∷ f ∷ []) six = omega (arith, sum_by-cons length a (b ∷ c ∷ d ∷ e ∷ f ∷ []), sum_by-cons length b (c ∷ d ∷ e ∷ f ∷ []), sum_by-cons length c (d ∷ e ∷ f ∷ []), sum_by-cons length d (e ∷ f ∷ []), sum_by-cons length e (f ∷ []), sum_by-cons length f [])
 live_six [] six = absurd (omega (arith, six))
 live_six (a ∷ []) six = absurd (omega (arith, six))

@@ -1,18 +1,16 @@
 -- A message looked for in a list of nodes.
-use Rattle.std.proofs.Common.{◌≡◌, ℕ, ◌+◌, ◌==◌, ◌<◌, ◌≤◌, Bool, true, false, ◌||◌, List, [], ◌∷◌, ◌++◌, length, map, take, drop, Some, None, is_some, cond, refl, sym, ap, ◌∙◌, inl, inr, take-append-drop, drop-drop, drop_of_length-le}
+use Rattle.std.proofs.Common.{◌≡◌, ℕ, ◌+◌, ◌<◌, ◌≤◌, Bool, true, false, ◌||◌, List, [], ◌∷◌, ◌++◌, length, map, take, drop, Some, None, is_some, cond, refl, sym, ap, ◌∙◌, inl, inr, take-append-drop, drop-drop, drop_of_length-le}
 use Rattle.std.proofs.lemmas.Bool.{cases_eq, eq-eqb, ne_eqb}
-use Rattle.std.specs.Map.{lookup}
 use Rattle.tw_pool.specs.Lists.{list_at, item_of, first_of, next_of, AreDistinct}
 use Rattle.tw_pool.proofs.ListsByIndex.{item_is, next_is}
 use Rattle.tw_heap.specs.declared.entries.Entry.{Entry}
-use Rattle.tw_heap.specs.Entries.{entry_of, message_of, AreDistinct as AreDistinctEntries}
+use Rattle.tw_heap.specs.Entries.{entry_of, message_of}
 use Rattle.tw_msgs.specs.Messages.{same_message, has, without}
 use Rattle.tw_msgs.specs.declared.message.Message.{Message}
 use Rattle.tw_msgs.specs.declared.message.Item.{Item}
 use Rattle.tw_msgs.proofs.Messages.{same_message_is, same_message_from}
 use Rattle.tw_lists.specs.Nodes.{index_of}
-use Rattle.tw_lists.specs.Lists.{Nodes, message_at, event}
-use Rattle.tw_lists.proofs.NodeMoves.{node_of}
+use Rattle.tw_lists.specs.Lists.{Nodes, message_at}
 
 pub record FindStep (lists : List Nodes) (number k index : ℕ) : Type 0 where
   pub item : Item
@@ -131,42 +129,3 @@ entry_has m index (y ∷ ys) is =
     go : (b : Bool) → has m (map message_of ys) ≡ true → (b || has m (map message_of ys)) ≡ true
     go true h = refl
     go false h = h
-
-record HasEntry (m : Message) (es : List Entry) : Type 0 where
-  pub entry : Entry
-  pub key : entry.key ≡ m
-  pub there : entry_of entry.index es ≡ Some entry
-
-has_entry : (m : Message) (es : List Entry) → AreDistinctEntries es → has m (map message_of es) ≡ true → HasEntry m es
-has_entry m [] distinct h = absurd (cc)
-has_entry m (y ∷ ys) distinct h = go (λ i. has_entry m ys distinct.1 i) (same_message m y.key) refl
-  where
-    go : (has m (map message_of ys) ≡ true → HasEntry m ys) → (b : Bool) → same_message m y.key ≡ b → HasEntry m (y ∷ ys)
-    go later true t = record { entry = y; key = sym (same_message_is m y.key t); there = ap (λ b. cond b (Some y) (entry_of y.index ys)) (eq-eqb y.index y.index refl) }
-    go later false t =
-        let rest = later (sym (ap (λ b. b || has m (map message_of ys)) t) ∙ h) in
-        record {
-          entry = rest.entry;
-          key = rest.key;
-          there = ap (λ b. cond b (Some y) (entry_of rest.entry.index ys)) (ne_eqb y.index rest.entry.index (λ same. let none = sym distinct.0 ∙ ap (λ k. entry_of k ys) same ∙ rest.there in cc none)) ∙ rest.there;
-        }
-
-node_found : (m : Message) (a : Nodes) (index : ℕ) (item : Item) (b : Nodes) → item.message ≡ m → index_of m (a ++ (index, item) ∷ b) ≡ None → ⊥
-node_found m [] index item b same none =
-    let some : Some index ≡ None = sym (ap (λ t. cond t (Some index) (index_of m b)) (same_message_from m item.message (sym same))) ∙ none in
-    cc some
-node_found m (e ∷ a) index item b same none = go (λ i. node_found m a index item b same i) (same_message m e.1.message) none
-  where
-    go : (index_of m (a ++ (index, item) ∷ b) ≡ None → ⊥) → (t : Bool) → cond t (Some e.0) (index_of m (a ++ (index, item) ∷ b)) ≡ None → ⊥
-    go later true is = cc is
-    go later false is = later is
-
-pub none_pending : (m : Message) (l : Nodes) (es : List Entry) → AreDistinctEntries es → ((index : ℕ) → entry_of index es ≡ event index (lookup (λ k. k == index) l)) → index_of m l ≡ None → has m (map message_of es) ≡ false
-none_pending m l es distinct same none = go (has m (map message_of es)) refl
-  where
-    go : (b : Bool) → has m (map message_of es) ≡ b → has m (map message_of es) ≡ false
-    go false is = is
-    go true is =
-        let at = has_entry m es distinct is in
-        let node = node_of l at.entry es at.there (same at.entry.index) in
-        absurd (node_found m node.before at.entry.index node.item node.behind (node.key ∙ at.key) (sym (ap (index_of m) node.split) ∙ none))

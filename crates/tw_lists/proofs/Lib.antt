@@ -1,9 +1,12 @@
 pub mod Counts
 pub mod Ends
 pub mod Signs
+pub mod Found
 pub mod NodeMoves
 pub mod Sends
 pub mod Finding
+pub mod Behind
+pub mod Learning
 pub mod Owing
 pub mod Comings
 pub mod Loops

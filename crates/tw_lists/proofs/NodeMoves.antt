@@ -19,6 +19,7 @@ use Rattle.tw_lists.specs.Lists.{first_consumed, restored}
 use Rattle.tw_lists.specs.Nodes.{contents, spare_of, IsBelow, AreOf, IsKept}
 use Rattle.tw_lists.specs.Lists.{Nodes, event, message_at, item_at}
 use Rattle.tw_lists.proofs.Counts.{insert-length}
+use Rattle.tw_lists.proofs.Found.{Untouched}
 use Rattle.tw_lists.proofs.Ends.{last_off}
 use Rattle.tw_lists.proofs.Signs.{are_at, are_push, are_out}
 
@@ -68,6 +69,7 @@ node_of nodes e entries is same =
 
 pub record Consumed (lists now : List Nodes) (room top top' : ℕ) (heap new : Events) : Type 0 where
   pub kept : IsKept now new
+  pub untouched : Untouched lists now
   pub contents_is : contents now room (spare_of top' new (length (list_at now 1))) new.entries ≡ first_consumed (contents lists room (spare_of top heap (length (list_at lists 1))) heap.entries)
 
 pub consumed_kept : (lists now : List Nodes) (room top top' : ℕ) (heap new : Events) (e : Entry) (es : List Entry) → IsKept lists heap → length lists ≡ 6 → AreDistinct lists → heap.entries ≡ e ∷ es
@@ -109,6 +111,7 @@ consumed_kept lists now room top top' heap new e es kept six distinct first reli
           owed = are_at anti (list_at lists 5) (list_at now 5) (move.others 5 (λ e. omega (arith, e)) (λ e. omega (arith, e))) kept.signed.owed;
         };
       };
+      untouched = record { waiting = move.others 4 (λ e. omega (arith, e)) (λ e. omega (arith, e)); owed = move.others 5 (λ e. omega (arith, e)) (λ e. omega (arith, e)) };
       contents_is =
           (λ i. record {
             pending = map message_of (rest i);
@@ -153,6 +156,7 @@ restoring lists heap index item kept six distinct is got =
 
 pub record Restored (lists now : List Nodes) (room top top' : ℕ) (heap new : Events) : Type 0 where
   pub kept : IsKept now new
+  pub untouched : Untouched lists now
   pub contents_is : contents now room (spare_of top' new (length (list_at now 1))) new.entries ≡ restored 1 (contents lists room (spare_of top heap (length (list_at lists 1))) heap.entries)
 
 pub restored_kept : (lists now : List Nodes) (room top top' : ℕ) (heap new : Events) (index : ℕ) (item : Item) → IsKept lists heap → length lists ≡ 6 → AreDistinct lists → Restoring lists heap index item
@@ -197,6 +201,7 @@ restored_kept lists now room top top' heap new index item kept six distinct at n
           owed = are_at anti (list_at lists 5) (list_at now 5) (move.others 5 (λ e. omega (arith, e)) (λ e. omega (arith, e))) kept.signed.owed;
         };
       };
+      untouched = record { waiting = move.others 4 (λ e. omega (arith, e)) (λ e. omega (arith, e)); owed = move.others 5 (λ e. omega (arith, e)) (λ e. omega (arith, e)) };
       contents_is = λ i. record {
         pending = (ap (map message_of) placed_is ∙ messages-insert e heap.entries in_order.1 ∙ place-first item.message (map message_of heap.entries) in_order.0 ∙ sym (ap (λ ms. ms ++ map message_of heap.entries) off.dropped)) i;
         consumed = (ap (map message_at) (move.left ∙ append-nil a) ∙ sym off.taken) i;

@@ -21,6 +21,7 @@ use Rattle.tw_lists.specs.Lists.{Lists, with_sent_again, with_overdue_posted, wi
 use Rattle.tw_lists.specs.Nodes.{contents, spare_of, IsKept, AreOf, index_of, overdue_nodes, not_overdue_nodes, IsSettled, IsPosted}
 use Rattle.tw_lists.specs.Lists.{Nodes, message_at, item_at}
 use Rattle.tw_lists.proofs.Finding.{found_at}
+use Rattle.tw_lists.proofs.Found.{pushed_other}
 use Rattle.tw_lists.proofs.Signs.{are_cons, are_push, are_out}
 use Rattle.tw_lists.proofs.Sends.{Changed, changed_kept, changed_contents}
 
@@ -36,12 +37,14 @@ antis_overdue s (x ∷ l) is = go (is_overdue x.1.message.stamp s) (antis_overdu
 
 -- ---- A message sent again
 
-pub record Resent (lists now : List Nodes) (room spare room0 spare0 : ℕ) (heap : Events) (m : Message) : Type 0 where
+pub record Resent (lists now : List Nodes) (room spare room0 spare0 : ℕ) (heap : Events) (index : ℕ) (m : Message) : Type 0 where
   pub kept : IsKept now heap
+  pub waiting_stays : list_at now 4 ≡ list_at lists 4
+  pub owed_is : list_at now 5 ≡ list_at (without_node index lists) 5
   pub contents_is : contents now room spare heap.entries ≡ record (with_sent_again m (contents lists room0 spare0 heap.entries)) { room = room; spare = spare }
 
 pub resent_kept : (lists now : List Nodes) (room spare room0 spare0 : ℕ) (heap : Events) (index : ℕ) (m : Message) → IsKept lists heap → length lists ≡ 6 → AreDistinct lists → index_of m (list_at lists 5) ≡ Some index
-    → ((item : Item) → item_of index lists ≡ Some item → now ≡ with_item_last (without_node index lists) 2 (index, item)) → Resent lists now room spare room0 spare0 heap m
+    → ((item : Item) → item_of index lists ≡ Some item → now ≡ with_item_last (without_node index lists) 2 (index, item)) → Resent lists now room spare room0 spare0 heap index m
 resent_kept lists now room spare room0 spare0 heap index m kept six distinct is relinked =
     let at = found_at m (list_at lists 5) index is in
     let item = at.item in
@@ -59,6 +62,8 @@ resent_kept lists now room spare room0 spare0 heap index m kept six distinct is 
     let out = are_out anti at.before (index, item) at.behind (subst (AreOf anti) at.split kept.signed.owed) in
     record {
       kept = changed_kept lists now sent (list_at lists 3) owed heap kept change (are_push anti (list_at lists 2) (index, item) kept.signed.sent out.0) out.1;
+      waiting_stays = move.others 4 (λ e. omega (arith, e)) (λ e. omega (arith, e));
+      owed_is = pushed_other (without_node index lists) now 2 5 (index, item) (λ e. omega (arith, e)) now_is;
       contents_is =
           changed_contents lists now sent (list_at lists 3) owed room spare heap change
           ∙ (λ i. record {
@@ -139,6 +144,14 @@ still_total m owed (x ∷ xs) = go (has x owed) refl (still_total m (without x o
     go false is left right = right ∙ none (same_message m x) refl is
 
 -- one message more is sent anew exactly where it came as often before as it is owed
+pub anew_within : (owed ms : List Message) → length (sent_anew owed ms) ≤ length ms
+anew_within owed [] = omega arith
+anew_within owed (m ∷ ms) = go (has m owed) (anew_within (without m owed) ms) (anew_within owed ms)
+  where
+    go : (b : Bool) → length (sent_anew (without m owed) ms) ≤ length ms → length (sent_anew owed ms) ≤ length ms → length (cond b (sent_anew (without m owed) ms) (m ∷ sent_anew owed ms)) ≤ length (m ∷ ms)
+    go true matched fresh = omega (arith, matched)
+    go false matched fresh = omega (arith, fresh)
+
 pub fresh_more : (owed xs : List Message) (m : Message) → length (sent_anew owed (xs ++ m ∷ [])) ≡ length (sent_anew owed xs) + cond (nat_le (total (one_at m) owed) (total (one_at m) xs)) 1 0
 fresh_more owed xs m =
     ap length (anew-append owed xs (m ∷ [])) ∙ length-append (sent_anew owed xs) (sent_anew (still_owed owed xs) (m ∷ []))
@@ -305,6 +318,8 @@ overdue_messages s (x ∷ l) = go (is_overdue x.1.message.stamp s) (overdue_mess
 
 pub record Settled (lists now : List Nodes) (s room top top' : ℕ) (heap : Events) : Type 0 where
   pub kept : IsKept now heap
+  pub waiting_stays : list_at now 4 ≡ list_at lists 4
+  pub owed_is : list_at now 5 ≡ not_overdue_nodes s (list_at lists 5)
   pub contents_is : contents now room (spare_of top' heap (length (list_at now 1))) heap.entries ≡ with_overdue_posted s (contents lists room (spare_of top heap (length (list_at lists 1))) heap.entries)
 
 pub settled_kept : (lists now : List Nodes) (s room top top' : ℕ) (heap : Events) → IsKept lists heap → IsSettled s (length (list_at lists 5)) lists now → top' ≡ top → Settled lists now s room top top' heap
@@ -324,6 +339,8 @@ settled_kept lists now s room top top' heap kept at tops =
     let messages = overdue_messages s l in
     record {
       kept = changed_kept lists now (list_at lists 2) (list_at lists 3 ++ over) left heap kept change kept.signed.sent are.1;
+      waiting_stays = at.others 4 (λ e. omega (arith, e)) (λ e. omega (arith, e));
+      owed_is = change.owed_is;
       contents_is =
           changed_contents lists now (list_at lists 2) (list_at lists 3 ++ over) left room (spare_of top' heap (length (list_at now 1))) heap change
           ∙ (λ i. record {

@@ -9,6 +9,7 @@ use Rattle.tw_theory.specs.Contents.{Cancel, Aggressive, Lazy}
 use Rattle.tw_lists.specs.Lists.{cancelled, with_sent}
 use Rattle.tw_lists.specs.Nodes.{contents, spare_of, IsKept, AreOf}
 use Rattle.tw_lists.specs.Lists.{Nodes, message_at, item_at}
+use Rattle.tw_lists.proofs.Found.{Untouched}
 use Rattle.tw_lists.proofs.Signs.{map-take, map-drop, are_at, are_append, are_push, are_take, are_drop}
 
 -- the lists after a change of the sent, the outgoing and the owed ones
@@ -141,6 +142,7 @@ on_ok P (Err e) held ok = absurd (cc)
 
 pub record Sent (lists now : List Nodes) (room spare : ℕ) (m : Message) (spare0 room0 : ℕ) (heap : Events) : Type 0 where
   pub kept : IsKept now heap
+  pub untouched : Untouched lists now
   pub contents_is : contents now room spare heap.entries ≡ record (with_sent m (contents lists room0 spare0 heap.entries)) { room = room; spare = spare }
 
 pub sent_kept : (lists mid now : List Nodes) (room spare room0 spare0 : ℕ) (i j : ℕ) (m : Message) (heap : Events) → IsKept lists heap → length lists ≡ 6 → mid ≡ with_item_last lists 2 (i, anti m) → now ≡ with_item_last mid 3 (j, positive m) → Sent lists now room spare m spare0 room0 heap
@@ -152,6 +154,7 @@ sent_kept lists mid now room spare room0 spare0 i j m heap kept six first second
     record {
       kept = changed_kept lists now sent outgoing (list_at lists 5) heap kept change
           (are_push anti (list_at lists 2) (i, anti m) kept.signed.sent refl) kept.signed.owed;
+      untouched = record { waiting = change.others 4 (λ e. omega (arith, e)) (λ e. omega (arith, e)) (λ e. omega (arith, e)); owed = change.owed_is };
       contents_is =
           changed_contents lists now sent outgoing (list_at lists 5) room spare heap change
           ∙ (λ k. record {

@@ -15,12 +15,18 @@
 //! | `moves` | messages consumed and pending again, coming and going |
 //! | `sending` | messages sent, or sent again where an equal one is owed |
 //! | `settling` | messages taken back: as anti-messages, or owed, and what is owed for too long |
+//! | `searching` | one message looked for in a list |
+//! | `finder` | where the messages of a list stand, by a hash map |
 //!
-//! Memory is asked for by `reserve`, `reserve_pending`, `note_orphan`, and by the calls that answer a bag or a
-//! vector. A refusal ([`PoolRefused`](tw_pool::PoolRefused)) leaves the lists as they were; it is `Full` exactly where
+//! No call walks through a list that grows with the messages under way to find one of them: a pending message is found
+//! in the heap, a consumed one from the last one on, down to its stamp, a waiting and an owed one by its finder.
+//!
+//! Memory is asked for by `reserve`, `reserve_pending`, `reserve_to_send`, `note_orphan`, and by the calls that answer a
+//! bag or a vector. A refusal ([`PoolRefused`](tw_pool::PoolRefused)) leaves the lists as they were; it is `Full` exactly where
 //! the nodes of all six lists would be more than [`LIVE_LIMIT`](tw_pool::LIVE_LIMIT).
 #![tactic(auto)]
 
+mod finder;
 mod lists;
 mod moves;
 mod reading;

@@ -5,6 +5,7 @@ ghost use Rattle.tw_msgs.specs.Messages.{Sorted};
 ghost use Rattle.tw_pool.specs.declared.refused.PoolRefused.TheVariants.{Full};
 ghost use Rattle.tw_lists.specs.Lists.{first_of, with_room, node_count};
 
+use crate::finder::Finder;
 use std::alloc::{AllocError, Global};
 use std::marker::Model;
 use tw_heap::EventHeap;
@@ -32,6 +33,9 @@ pub struct EventLists {
     pub(crate) pool: Pool<Item, 6>,
     // The pending nodes by their messages, with room for the consumed ones too.
     pub(crate) heap: EventHeap,
+    // Where the waiting and the owed messages stand.
+    pub(crate) waiting: Finder,
+    pub(crate) owed: Finder,
 }
 
 impl Model for EventLists {
@@ -39,13 +43,14 @@ impl Model for EventLists {
     ghost use Rattle.tw_pool.specs.Lists.{list_at};
     ghost use Rattle.tw_lists.specs.Lists.{Lists};
     ghost use Rattle.tw_lists.specs.Nodes.{contents, spare_of, IsKept};
+    ghost use Rattle.tw_lists.specs.Finders.{AreFound};
 
     ghost Value = { Lists };
 
     ghost view = { λ s. contents s.pool.lists s.pool.room
         (spare_of s.pool.top s.heap (length (list_at s.pool.lists 1))) s.heap.entries };
 
-    ghost invariant = { λ s. IsKept s.pool.lists s.heap };
+    ghost invariant = { λ s. IsKept s.pool.lists s.heap × AreFound s.waiting s.owed s.pool.lists };
 }
 
 impl EventLists {
@@ -62,6 +67,8 @@ impl EventLists {
             alloc,
             pool: Pool::new(alloc),
             heap: EventHeap::new(alloc),
+            waiting: Finder::new(alloc),
+            owed: Finder::new(alloc),
         }
     }
 

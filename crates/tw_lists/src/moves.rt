@@ -9,7 +9,7 @@ ghost use Rattle.tw_lists.specs.Lists.{first_consumed, front_consumed, restored,
 ghost use Rattle.tw_lists.specs.Nodes.{IsNext};
 
 use crate::lists::{CONSUMED, EventLists, OUTGOING, PENDING, SENT, WAITING, signed};
-use crate::searching::find;
+use crate::searching::has_late;
 use std::alloc::AllocError;
 use tw_msgs::{Bag, Message, Sign};
 use tw_pool::{LIVE_LIMIT, PoolRefused};
@@ -144,7 +144,7 @@ impl EventLists {
     {
         self.pool.lists_law();
         self.heap.entries_law();
-        let Some(index) = find(&self.pool, PENDING, message) else {
+        let Some(index) = self.heap.find(message) else {
             return false;
         };
         self.heap.remove(index);
@@ -152,11 +152,12 @@ impl EventLists {
         true
     }
 
-    /// Whether an equal message was consumed.
+    /// Whether an equal message was consumed. It is looked for from the last one on, down to its stamp.
     pub fn has_consumed(&self, message: &Message) -> bool
+        requires { Sorted self.now.consumed }
         ensures { result ≡ has message.now self.now.consumed }
     {
-        find(&self.pool, CONSUMED, message).is_some()
+        has_late(&self.pool, CONSUMED, message)
     }
 
     /// The first equal message that waits goes, or the answer is that there is none.
@@ -165,9 +166,10 @@ impl EventLists {
         ensures contents { self.new ≡ with_room self.new.room self.new.spare (without_orphan message.now self.old) }
     {
         self.pool.lists_law();
-        let Some(index) = find(&self.pool, WAITING, message) else {
+        let Some(index) = self.waiting.first(&self.pool, WAITING, message) else {
             return false;
         };
+        self.waiting.leave(&self.pool, WAITING, index, message);
         self.pool.take(index);
         true
     }
@@ -180,7 +182,11 @@ impl EventLists {
     {
         self.pool.lists_law();
         match self.pool.push_back(WAITING, signed(Sign::Anti, &message)) {
-            Ok(_index) => Ok(()),
+            Ok(_index) => {
+                self.waiting.grow(1);
+                self.waiting.learn(&self.pool, WAITING);
+                Ok(())
+            }
             Err((_, refused)) => Err(refused),
         }
     }

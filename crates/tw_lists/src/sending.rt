@@ -1,29 +1,49 @@
 //! Messages sent, or sent again where an equal one is owed.
 
-ghost use Rattle.std.specs.Prelude.{map, take, cond, ◌≡◌, ◌+◌, ◌*◌, ◌≤◌, [], ◌∷◌, length, IsTrue, false};
+ghost use Rattle.std.specs.Prelude.{map, take, cond, ◌≡◌, ◌↔◌, ◌+◌, ◌*◌, ◌<◌, ◌≤◌, [], ◌∷◌, length, Err, IsTrue, OnOk, false};
 ghost use Rattle.tw_msgs.specs.Counting.{total, one_at};
 ghost use Rattle.tw_msgs.specs.Messages.{has};
 ghost use Rattle.tw_pool.specs.Lists.{list_at};
+ghost use Rattle.tw_pool.specs.declared.refused.PoolRefused.TheVariants.{Full};
 ghost use Rattle.tw_theory.specs.Bundles.{sent_anew};
 ghost use Rattle.tw_theory.specs.Contents.{Aggressive, Lazy, sent_out};
-ghost use Rattle.tw_lists.specs.Lists.{with_room, with_sent, with_all_sent, with_sent_again};
+ghost use Rattle.tw_lists.specs.Lists.{node_count, with_room, with_sent, with_all_sent, with_sent_again};
 ghost use Rattle.tw_lists.specs.Lists.{message_at};
 
 use crate::lists::{EventLists, OUTGOING, OWED, SENT, signed};
-use crate::searching::find;
 use tw_actions::Cancel;
 use tw_msgs::{Item, Message, Sign};
-use tw_pool::Pool;
+use tw_pool::{LIVE_LIMIT, Pool, PoolRefused};
 
 impl EventLists {
-    /// How many of these messages no owed one matches, each owed one being taken once.
-    pub fn fresh_count(&self, messages: &[Message], way: Cancel) -> usize
-        ensures count { result ≡ length (sent_out way self.now.owed messages.now) }
-        ensures within { result ≤ length messages.now }
+    /// Makes room to send these messages, two nodes for each that no owed one matches.
+    ///
+    /// It is refused as [`reserve`](EventLists::reserve) is for so many nodes. The messages are compared with those owed only where there is
+    /// no room for all of them.
+    pub fn reserve_to_send(&mut self, messages: &[Message], way: Cancel) -> Result<(), PoolRefused>
+        ensures contents { self.new ≡ with_room self.new.room self.new.spare self.old }
+        ensures room { OnOk result (2 * length (sent_out way self.old.owed messages.now) ≤ self.new.room) }
+        ensures limit { LIVE_LIMIT < node_count self.old + 2 * length (sent_out way self.old.owed messages.now) ↔ result ≡ Err Full }
     {
         match way {
-            Cancel::Aggressive => messages.len(),
-            Cancel::Lazy => fresh_count(&self.pool, messages),
+            Cancel::Aggressive => self.reserve(2 * messages.len()),
+            Cancel::Lazy => self.reserve_anew(messages),
+        }
+    }
+
+    /// Makes room for all these messages, or at least for those that no owed one matches.
+    fn reserve_anew(&mut self, messages: &[Message]) -> Result<(), PoolRefused>
+        ensures contents { self.new ≡ with_room self.new.room self.new.spare self.old }
+        ensures room { OnOk result (2 * length (sent_anew self.old.owed messages.now) ≤ self.new.room) }
+        ensures limit { LIVE_LIMIT < node_count self.old + 2 * length (sent_anew self.old.owed messages.now) ↔ result ≡ Err Full }
+    {
+        self.owed.learn(&self.pool, OWED);
+        match self.reserve(2 * messages.len()) {
+            Ok(()) => Ok(()),
+            Err(_) => {
+                let fresh = fresh_count(&self.pool, messages);
+                self.reserve(2 * fresh)
+            }
         }
     }
 
@@ -77,9 +97,10 @@ impl EventLists {
         ensures room { self.new.room ≡ self.old.room }
     {
         self.pool.lists_law();
-        let Some(index) = find(&self.pool, OWED, message) else {
+        let Some(index) = self.owed.first(&self.pool, OWED, message) else {
             return false;
         };
+        self.owed.leave(&self.pool, OWED, index, message);
         self.pool.relink(index, SENT);
         true
     }

@@ -40,6 +40,7 @@ impl EventLists {
     {
         self.pool.lists_law();
         self.pool.relink_last(SENT, n, OWED);
+        self.owed.grow(n);
     }
 
     /// The owed messages that were sent before this stamp go to the outgoing list, as anti-messages. It takes no memory.
@@ -47,7 +48,12 @@ impl EventLists {
         ensures { self.new ≡ with_overdue_posted next self.old }
     {
         self.pool.lists_law();
+        let before = self.pool.len(OWED);
         post_overdue(&mut self.pool, next);
+        let left = self.pool.len(OWED);
+        if left < before {
+            self.owed.forget(left);
+        }
     }
 }
 

@@ -40,11 +40,12 @@ fn add_times<M: Atomic>(sum: &mut Sum, process: &Process<M>) {
 
 /// How many steps and messages there are.
 fn add_lengths<M: Atomic>(sum: &mut Sum, process: &Process<M>) {
+    let lists = process.lists();
     sum.add_count(process.history_len());
-    sum.add_count(process.pending_len());
-    sum.add_count(process.waiting_len());
-    sum.add_count(process.outgoing_len());
-    sum.add_count(process.owed_len());
+    sum.add_count(lists.pending_len());
+    sum.add_count(lists.waiting_len());
+    sum.add_count(lists.outgoing_len());
+    sum.add_count(lists.owed_len());
 }
 
 /// Its steps that are not committed: the record of each, and how many messages it consumed and sent.

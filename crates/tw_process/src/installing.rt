@@ -9,7 +9,7 @@ ghost use Rattle.tw_theory.specs.Installing.{IsInstalled};
 
 use crate::entry::Entry;
 use crate::process::Process;
-use crate::taking::{Taken, take_steps};
+use crate::taking::{Place, Taken, take_steps};
 use std::collections::VecDeque;
 use tw_actions::{Finished, Stop};
 use tw_atomic::Atomic;
@@ -42,11 +42,14 @@ impl<M: Atomic> Process<M> {
             };
             return Finished { installed: 0, stop };
         }
+        let place = Place {
+            network,
+            component: self.component,
+            cancel: self.cancel,
+        };
         let Taken { counts, stop } = take_steps(
             self.alloc,
-            network,
-            self.component,
-            self.cancel,
+            &place,
             chain.steps(),
             &mut self.lists,
             &mut self.history,

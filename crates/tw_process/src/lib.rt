@@ -10,7 +10,7 @@
 //! | File | Calls |
 //! |---|---|
 //! | `process` | making, the next stamp, the history: its length, last stamp, records and counts |
-//! | `reading` | all other contents; the pool and the heap |
+//! | `reading` | all other contents; the lists, their pool and their heap |
 //! | `chains` | `start`: what a chain is worked out from |
 //! | `installing` | `install`: the steps of a chain made here ([`Finished`]) |
 //! | `stepping` | `step`: the next step, or why it is not made ([`StepRefused`]) |

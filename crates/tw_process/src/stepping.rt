@@ -59,8 +59,7 @@ impl<M: Atomic> Process<M> {
             stamp.transition(),
             &step.done.bag,
         )?;
-        let fresh = self.lists.fresh_count(&sent, self.cancel);
-        self.lists.reserve(2 * fresh)?;
+        self.lists.reserve_to_send(&sent, self.cancel)?;
         self.history.reserve(1)?;
         self.lists.send_all(&sent, self.cancel);
         self.history.push_back_reserved(Entry {

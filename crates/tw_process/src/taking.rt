@@ -20,6 +20,14 @@ use tw_pool::PoolRefused;
 use tw_step::{Step, routed};
 use tw_vtime::Stamp;
 
+/// Where a chain is taken: a component of a network, and how what is taken back there is cancelled.
+#[derive(Drop)]
+pub(crate) struct Place<'a, M: Atomic> {
+    pub(crate) network: &'a Network<M>,
+    pub(crate) component: usize,
+    pub(crate) cancel: Cancel,
+}
+
 /// What was made of a chain: how many messages each step sent, and why no more steps were made.
 #[derive(Drop)]
 pub(crate) struct Taken {
@@ -31,22 +39,20 @@ pub(crate) struct Taken {
 /// send goes out. Room for them is made in the history.
 pub(crate) fn take_steps<M: Atomic>(
     alloc: Global,
-    network: &Network<M>,
-    component: usize,
-    cancel: Cancel,
+    place: &Place<'_, M>,
     steps: &[Step<M::State, M::Residue>],
     lists: &mut EventLists,
     history: &mut VecDeque<Entry<M::State, M::Residue>>,
 ) -> Taken
-    requires known { component < length network.now.models }
+    requires known { place.now.component < length place.now.network.now.models }
     ensures within { length result.counts.items ≤ length steps.now }
-    ensures counts { result.counts.items ≡ sent_counts (network_of M.meaning network.now) component (take (length result.counts.items) steps.now) }
-    ensures lists { lists.new ≡ with_room lists.new.room lists.new.spare (after_steps (network_of M.meaning network.now) component cancel (take (length result.counts.items) steps.now) lists.old) }
-    ensures next { AreNext (network_of M.meaning network.now) component cancel (take (length result.counts.items) steps.now) lists.old }
+    ensures counts { result.counts.items ≡ sent_counts (network_of M.meaning place.now.network.now) place.now.component (take (length result.counts.items) steps.now) }
+    ensures lists { lists.new ≡ with_room lists.new.room lists.new.spare (after_steps (network_of M.meaning place.now.network.now) place.now.component place.now.cancel (take (length result.counts.items) steps.now) lists.old) }
+    ensures next { AreNext (network_of M.meaning place.now.network.now) place.now.component place.now.cancel (take (length result.counts.items) steps.now) lists.old }
     ensures history { history.new.items ≡ history.old.items }
     ensures room { deque_len history.new + length result.counts.items ≤ deque_capacity history.new }
     ensures all { IfNone result.stop (length result.counts.items ≡ length steps.now) }
-    ensures stop { IfSome result.stop (λ stop. (e : _) → slice_get steps.now (length result.counts.items) ≡ Some e → WhyNot (network_of M.meaning network.now) component cancel e lists.new stop) }
+    ensures stop { IfSome result.stop (λ stop. (e : _) → slice_get steps.now (length result.counts.items) ≡ Some e → WhyNot (network_of M.meaning place.now.network.now) place.now.component place.now.cancel e lists.new stop) }
     ensures short { IfSome result.stop (λ stop. length result.counts.items < length steps.now) }
 {
     let mut taken = Taken {
@@ -54,16 +60,7 @@ pub(crate) fn take_steps<M: Atomic>(
         stop: None,
     };
     for step in steps {
-        if let Err(stop) = take_step(
-            alloc,
-            network,
-            component,
-            cancel,
-            step,
-            lists,
-            history,
-            &mut taken.counts,
-        ) {
+        if let Err(stop) = take_step(alloc, place, step, lists, history, &mut taken.counts) {
             taken.stop = Some(stop);
             return taken;
         }
@@ -74,21 +71,19 @@ pub(crate) fn take_steps<M: Atomic>(
 /// One step of a chain, if it is the component's next one.
 fn take_step<M: Atomic>(
     alloc: Global,
-    network: &Network<M>,
-    component: usize,
-    cancel: Cancel,
+    place: &Place<'_, M>,
     step: &Step<M::State, M::Residue>,
     lists: &mut EventLists,
     history: &mut VecDeque<Entry<M::State, M::Residue>>,
     counts: &mut Vec<usize>,
 ) -> Result<(), Stop>
-    requires known { component < length network.now.models }
-    ensures taken { OnOk result (lists.new ≡ with_room lists.new.room lists.new.spare (after_record (network_of M.meaning network.now) component cancel step.now.done lists.old)) }
+    requires known { place.now.component < length place.now.network.now.models }
+    ensures taken { OnOk result (lists.new ≡ with_room lists.new.room lists.new.spare (after_record (network_of M.meaning place.now.network.now) place.now.component place.now.cancel step.now.done lists.old)) }
     ensures next { OnOk result (IsNext step.now lists.old) }
-    ensures counted { OnOk result (counts.new.items ≡ counts.old.items ++ length (sent_at (network_of M.meaning network.now) component step.now.done) ∷ []) }
+    ensures counted { OnOk result (counts.new.items ≡ counts.old.items ++ length (sent_at (network_of M.meaning place.now.network.now) place.now.component step.now.done) ∷ []) }
     ensures stays { OnErr result (lists.new ≡ with_room lists.new.room lists.new.spare lists.old) }
     ensures none { OnErr result (counts.new.items ≡ counts.old.items) }
-    ensures stop { IfErr result (WhyNot (network_of M.meaning network.now) component cancel step.now lists.old) }
+    ensures stop { IfErr result (WhyNot (network_of M.meaning place.now.network.now) place.now.component place.now.cancel step.now lists.old) }
     ensures history { history.new.items ≡ history.old.items }
     ensures room { OnOk result (deque_len history.new + (vec_len counts.old + 1) ≤ deque_capacity history.new) }
     ensures kept { deque_len history.old + vec_len counts.old ≤ deque_capacity history.old → deque_len history.new + vec_len counts.old ≤ deque_capacity history.new }
@@ -97,9 +92,7 @@ fn take_step<M: Atomic>(
         return Err(Stop::Stale);
     }
     if step.done.stamp.is_output() {
-        return take_output(
-            alloc, network, component, cancel, step, lists, history, counts,
-        );
+        return take_output(alloc, place, step, lists, history, counts);
     }
     take_transition(step, lists, history, counts)
 }
@@ -118,38 +111,35 @@ fn next_stamp(lists: &EventLists, due: Stamp) -> Stamp
 /// An output of a chain that comes next: what it sends goes out.
 fn take_output<M: Atomic>(
     alloc: Global,
-    network: &Network<M>,
-    component: usize,
-    cancel: Cancel,
+    place: &Place<'_, M>,
     step: &Step<M::State, M::Residue>,
     lists: &mut EventLists,
     history: &mut VecDeque<Entry<M::State, M::Residue>>,
     counts: &mut Vec<usize>,
 ) -> Result<(), Stop>
-    requires known { component < length network.now.models }
+    requires known { place.now.component < length place.now.network.now.models }
     requires comes { min step.now.due (first_stamp lists.old.pending) ≡ step.now.done.stamp }
     requires is_output { phase_of step.now.done.stamp ≡ 0 }
-    ensures taken { OnOk result (lists.new ≡ with_room lists.new.room lists.new.spare (after_record (network_of M.meaning network.now) component cancel step.now.done lists.old)) }
+    ensures taken { OnOk result (lists.new ≡ with_room lists.new.room lists.new.spare (after_record (network_of M.meaning place.now.network.now) place.now.component place.now.cancel step.now.done lists.old)) }
     ensures next { OnOk result (IsNext step.now lists.old) }
-    ensures counted { OnOk result (counts.new.items ≡ counts.old.items ++ length (sent_at (network_of M.meaning network.now) component step.now.done) ∷ []) }
+    ensures counted { OnOk result (counts.new.items ≡ counts.old.items ++ length (sent_at (network_of M.meaning place.now.network.now) place.now.component step.now.done) ∷ []) }
     ensures stays { OnErr result (lists.new ≡ with_room lists.new.room lists.new.spare lists.old) }
     ensures none { OnErr result (counts.new.items ≡ counts.old.items) }
-    ensures stop { IfErr result (WhyNot (network_of M.meaning network.now) component cancel step.now lists.old) }
+    ensures stop { IfErr result (WhyNot (network_of M.meaning place.now.network.now) place.now.component place.now.cancel step.now lists.old) }
     ensures history { history.new.items ≡ history.old.items }
     ensures room { OnOk result (deque_len history.new + (vec_len counts.old + 1) ≤ deque_capacity history.new) }
     ensures kept { deque_len history.old + vec_len counts.old ≤ deque_capacity history.old → deque_len history.new + vec_len counts.old ≤ deque_capacity history.new }
 {
     let Ok(sent) = routed(
         alloc,
-        network,
-        component,
+        place.network,
+        place.component,
         step.done.stamp.transition(),
         &step.done.bag,
     ) else {
         return Err(Stop::OutOfMemory);
     };
-    let fresh = lists.fresh_count(&sent, cancel);
-    match lists.reserve(2 * fresh) {
+    match lists.reserve_to_send(&sent, place.cancel) {
         Ok(()) => {}
         Err(PoolRefused::Full) => return Err(Stop::Full),
         Err(PoolRefused::OutOfMemory) => return Err(Stop::OutOfMemory),
@@ -157,7 +147,7 @@ fn take_output<M: Atomic>(
     if !has_room(history, counts) {
         return Err(Stop::OutOfMemory);
     }
-    lists.send_all(&sent, cancel);
+    lists.send_all(&sent, place.cancel);
     counts.push_reserved(sent.len());
     Ok(())
 }

@@ -43,7 +43,7 @@ pub(crate) fn outgoing<M: Atomic>(
     if component >= executive.network().len() {
         return Ok(Vec::new(alloc));
     }
-    executive.contents(component).outgoing()
+    executive.contents(component).lists().outgoing()
 }
 
 /// How many items of a component are outgoing.
@@ -51,7 +51,7 @@ pub(crate) fn outgoing_len<M: Atomic>(executive: &Executive<M>, component: usize
     if component >= executive.network().len() {
         return 0;
     }
-    executive.contents(component).outgoing_len()
+    executive.contents(component).lists().outgoing_len()
 }
 
 /// The items of a component's mailbox.

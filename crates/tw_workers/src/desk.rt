@@ -369,7 +369,7 @@ impl<M: Atomic, H: Given<M>> Desk<M, H> {
         let lost = ending.made.saturating_sub(ending.installed);
         self.effort.count_chain(ending.installed, lost);
         self.window
-            .count(ending.installed, lost, process.pending_len());
+            .count(ending.installed, lost, process.lists().pending_len());
     }
 
     /// Posts and delivers what is in transit. Where that is refused it sweeps, as for any other want of memory or of nodes.

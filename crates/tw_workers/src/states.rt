@@ -90,10 +90,11 @@ fn is_quiet<M: Atomic>(process: &Process<M>, gvt: Stamp) -> bool
     requires from { gvt ≤ least_owed process.now.process.owed }
     ensures { result ≡ is_quiet gvt process.now.process }
 {
-    if process.outgoing_len() > 0 {
+    let lists = process.lists();
+    if lists.outgoing_len() > 0 {
         return false;
     }
-    process.least_owed() != gvt
+    lists.least_owed() != gvt
 }
 
 /// The least component that meets a limit at global virtual time.

@@ -142,13 +142,14 @@ pub(crate) fn is_idle<M: Atomic>(process: &Process<M>) -> bool
     requires { Each (λ m. m.stamp < never) process.now.process.owed }
     ensures { result ≡ is_idle process.now.process }
 {
-    if process.outgoing_len() > 0 {
+    let lists = process.lists();
+    if lists.outgoing_len() > 0 {
         return false;
     }
-    if process.owed_len() == 0 {
+    if lists.owed_len() == 0 {
         return true;
     }
-    process.least_owed().pack().saturating_sub(1) >= process.next().pack()
+    lists.least_owed().pack().saturating_sub(1) >= process.next().pack()
 }
 
 /// A post of each component, and a delivery of each item that lies in a mailbox then.
@@ -198,11 +199,11 @@ fn post_one<M: Atomic>(
     ensures busy { busy_in queues.new.free ≡ busy_in queues.old.free }
 {
     executive.facts();
-    let process = executive.contents(sender);
-    if process.owed_len() > 0 {
+    let lists = executive.contents(sender).lists();
+    if lists.owed_len() > 0 {
         return post_owing(executive, queues, sender);
     }
-    let Ok(items) = process.outgoing() else {
+    let Ok(items) = lists.outgoing() else {
         return Err(SweepRefused::OutOfMemory);
     };
     take(executive, Action::Post(sender))?;

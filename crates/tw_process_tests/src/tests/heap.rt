@@ -32,6 +32,8 @@ fn orders_messages(rt: HostRuntime) {
         Err(_) => three_of_four(&rt, rt.alloc()).expect(&rt, "memory"),
     };
     assert!(rt; heap.first().expect(&rt, "an entry").key == message(&rt, 2, 0, 0, 9));
+    assert!(rt; heap.find(&message(&rt, 3, 0, 0, 8)) == Some(0));
+    assert!(rt; heap.find(&message(&rt, 2, 0, 1, 4)).is_none());
     for index in [2, 3, 0] {
         assert!(rt; take_first(&mut heap) == Some(index));
     }

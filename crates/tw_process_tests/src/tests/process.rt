@@ -203,8 +203,11 @@ fn assert_steps(rt: &impl Abort, alloc: Global, process: &Process<Model>) {
     assert!(rt; process.last_stamp() == Some(stamp_at(rt, Some((4, 0)))));
     assert!(rt; process.steps_before(stamp_at(rt, Some((4, 0)))) == 1);
     assert!(rt; process.has_consumed(&said(rt, 1, &(3, 0, 8))));
+    assert!(rt; !process.has_consumed(&said(rt, 1, &(3, 0, 9))));
+    assert!(rt; !process.has_consumed(&said(rt, 1, &(2, 0, 8))));
+    let lists = process.lists();
     assert!(rt;
-        process.least_outgoing() == stamp_at(rt, Some((4, 1))) && process.least_owed() == Stamp::END
+        lists.least_outgoing() == stamp_at(rt, Some((4, 1))) && lists.least_owed() == Stamp::END
     );
     assert!(rt; process.cancel() == Cancel::Aggressive && process.line() == Stamp::START);
     assert!(rt; words_of(alloc, process).expect(rt, "memory").as_slice() == [0, 8].as_slice());
@@ -300,7 +303,7 @@ fn with_two_put(rt: &impl Abort, alloc: Global) -> Result<Process<Model>, Refusa
 /// Asserts in which lists the messages lie after a step.
 fn assert_lists(rt: &impl Abort, process: &Process<Model>) {
     let late = said(rt, 1, &(3, 0, 8));
-    let (pool, heap) = process.nodes();
+    let (pool, heap) = process.lists().nodes();
     assert!(rt; pool.len(0) == 1 && pool.len(1) == 2);
     let first = heap.first().expect(rt, "an entry");
     assert!(rt; first.key == late && process.heap().first() == Some(first));
@@ -310,7 +313,7 @@ fn assert_lists(rt: &impl Abort, process: &Process<Model>) {
 #[test]
 fn messages_are_put_and_lie_in_the_lists(rt: HostRuntime) {
     let mut process = with_two_put(&rt, rt.alloc()).expect(&rt, "memory");
-    let pending = process.pending().expect(&rt, "memory");
+    let pending = process.lists().pending().expect(&rt, "memory");
     assert_messages(
         &rt,
         pending.as_slice(),

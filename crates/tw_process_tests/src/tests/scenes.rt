@@ -185,12 +185,13 @@ pub(crate) fn process_of(
 
 /// How many steps there are, and how many messages are pending, waiting, outgoing and owed.
 fn lengths(process: &Process<Model>) -> [usize; 5] {
+    let lists = process.lists();
     [
         process.history_len(),
-        process.pending_len(),
-        process.waiting_len(),
-        process.outgoing_len(),
-        process.owed_len(),
+        lists.pending_len(),
+        lists.waiting_len(),
+        lists.outgoing_len(),
+        lists.owed_len(),
     ]
 }
 
@@ -208,9 +209,10 @@ fn assert_contents(
 ) -> Result<(), AllocError> {
     let here = process.component();
     assert!(rt; here < 3);
-    assert_messages(rt, process.pending()?.as_slice(), here, scene.pending);
-    assert_messages(rt, process.waiting()?.as_slice(), here, scene.waiting);
-    assert_items(rt, process.outgoing()?.as_slice(), here + 1, scene.outgoing);
+    let lists = process.lists();
+    assert_messages(rt, lists.pending()?.as_slice(), here, scene.pending);
+    assert_messages(rt, lists.waiting()?.as_slice(), here, scene.waiting);
+    assert_items(rt, lists.outgoing()?.as_slice(), here + 1, scene.outgoing);
     assert_messages(rt, process.owed()?.as_slice(), here + 1, scene.owed);
     Ok(())
 }

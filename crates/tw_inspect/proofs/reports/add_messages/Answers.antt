@@ -10,11 +10,12 @@ pub returns : goal.returns
 returns g c =
     let names = c.args.network.now.names in
     let p = c.args.process.now.process in
+    let lists = c.lists-lists.ensures in
     let pending = part_of (flat_map pending_line) _ _ _ _ c.in_ok-add_pending.ensures
-    (c.as_slice.ensures.value ∙ c.in_ok-pending.ensures ∙ sym (sorted_messages-of_Sorted p.pending c.requires)) in
-    let waiting = part_of (flat_map waiting_line) _ _ _ _ c.in_ok-add_waiting.ensures (c.as_slice-2.ensures.value ∙ c.in_ok-waiting.ensures) in
-    let outgoing = part_of (flat_map (outgoing_line names)) _ _ _ _ c.in_ok-add_outgoing.ensures (c.as_slice-3.ensures.value ∙ c.in_ok-outgoing.ensures) in
+    (c.as_slice.ensures.value ∙ c.in_ok-pending.ensures ∙ lists.pending ∙ sym (sorted_messages-of_Sorted p.pending c.requires)) in
+    let waiting = part_of (flat_map waiting_line) _ _ _ _ c.in_ok-add_waiting.ensures (c.as_slice-2.ensures.value ∙ c.in_ok-waiting.ensures ∙ lists.waiting) in
+    let outgoing = part_of (flat_map (outgoing_line names)) _ _ _ _ c.in_ok-add_outgoing.ensures (c.as_slice-3.ensures.value ∙ c.in_ok-outgoing.ensures ∙ lists.outgoing) in
     let owed = part_of (owed_lines names p.cancel) _ _ _ _ (part_of (λ way. owed_lines names way c.as_slice-4.result.now) _ _ _ _ c.in_ok-add_owed.ensures c.cancel.ensures)
-    (c.as_slice-4.ensures.value ∙ c.in_ok-owed.ensures) in
+    (c.as_slice-4.ensures.value ∙ c.in_ok-owed.ensures ∙ lists.owed) in
     on_ok_weaker c.add_mail.result
     (λ mail. one_more _ _ _ _ _ (one_more _ _ _ _ _ (one_more _ _ _ _ _ (one_more _ _ _ _ _ pending waiting) outgoing) owed) mail) c.add_mail.ensures

@@ -12,9 +12,9 @@ use Rattle.tw_process.proofs.taking.take_steps.Goals as goal
 
 pub returns-in-Err-clause-stop : goal.returns-in-Err-clause-stop
 returns-in-Err-clause-stop g c = λ e at.
-    let net = network_of g.M.Atomic.meaning c.args.network.now in
-    let way = c.args.cancel in
-    let k = c.args.component in
+    let net = network_of g.M.Atomic.meaning c.args.place.now.network.now in
+    let way = c.args.place.now.cancel in
+    let k = c.args.place.now.component in
     let i = c.loop-step.step-index in
     let count : length c.take_step.new.counts.items ≡ i = ap length c.in-Err.ensures.none ∙ c.loop-step.invariant.counted in
     let is : c.step-item.result ≡ e = c.step-item.is ∙ get_or_from_slice_get c.args.steps.now i e c.step-item.result (ap (slice_get c.args.steps.now) (sym count) ∙ at) in
@@ -24,9 +24,9 @@ returns-in-Err-clause-stop g c = λ e at.
 
 pub loop-step-preserved : goal.loop-step-preserved
 loop-step-preserved g c =
-    let net = network_of g.M.Atomic.meaning c.args.network.now in
-    let way = c.args.cancel in
-    let k = c.args.component in
+    let net = network_of g.M.Atomic.meaning c.args.place.now.network.now in
+    let way = c.args.place.now.cancel in
+    let k = c.args.place.now.component in
     let i = c.loop-step.step-index in
     let steps = c.args.steps.now in
     let e = c.step-item.result in

@@ -17,24 +17,24 @@ use Rattle.tw_workers.proofs.sweeping.post_one.Goals as goal
 pub note_posted-requires : goal.note_posted-requires
 note_posted-requires g c =
     let e = c.args.executive.now in
-    let p = c.contents-process.result.now.process in
+    let p = c.contents.result.now.process in
     let net = network_of g.M.Atomic.meaning e.network in
     let sound = c.facts.ensures.sound in
     let count = (marks_count c.args.queues.now e.world c.requires.kept.marks).1 in
-    subst (Each (λ (i : Item). i.message.to < length c.args.queues.now.delivering)) (sym (c.as_slice.ensures.value ∙ c.in-Ok.ensures))
-    (each_weaker (λ (i : Item). Fits net i.message) (λ (i : Item). i.message.to < length c.args.queues.now.delivering) (λ i f. omega (arith, f.to, sound.mail, count)) p.outgoing (sound.each c.args.sender p c.contents-process.ensures.process).fit_outgoing)
+    subst (Each (λ (i : Item). i.message.to < length c.args.queues.now.delivering)) (sym (c.as_slice.ensures.value ∙ c.in-Ok.ensures ∙ c.lists-lists.ensures.outgoing))
+    (each_weaker (λ (i : Item). Fits net i.message) (λ (i : Item). i.message.to < length c.args.queues.now.delivering) (λ i f. omega (arith, f.to, sound.mail, count)) p.outgoing (sound.each c.args.sender p c.contents.ensures.process).fit_outgoing)
 
 pub note-requires-clause-but : goal.note-requires-clause-but
 note-requires-clause-but g c =
     let e = c.args.executive.now in
     let b = c.args.sender in
-    let p = c.contents-process.result.now.process in
+    let p = c.contents.result.now.process in
     let net = network_of g.M.Atomic.meaning e.network in
     let new = c.take.new.executive.world in
     let same = subst (IsSameBut b e.world.processes) (sym (ap (λ x. x.world.processes) c.in_ok-take.ensures.done)) (acts_on_one net e.until e.world (Post b) b refl) in
-    let none : p.owed ≡ [] = nil_from_length p.owed (omega (arith, c.if-owed_len-gt0.false, c.owed_len.ensures)) in
-    let out : (settle p).outgoing ≡ c.as_slice.result.now = nothing_owed p none ∙ sym (c.as_slice.ensures.value ∙ c.in-Ok.ensures) in
-    let mail : new.mail ≡ posted e.world.mail c.as_slice.result.now = ap (λ x. x.world.mail) c.in_ok-take.ensures.done ∙ ap (λ w. w.mail) (post_makes net e.until e.world b p c.contents-process.ensures.process) ∙ ap (posted e.world.mail) out in
+    let none : p.owed ≡ [] = nil_from_length p.owed (omega (arith, c.if-owed_len-gt0.false, c.owed_len.ensures, ap length c.lists-lists.ensures.owed)) in
+    let out : (settle p).outgoing ≡ c.as_slice.result.now = nothing_owed p none ∙ sym (c.as_slice.ensures.value ∙ c.in-Ok.ensures ∙ c.lists-lists.ensures.outgoing) in
+    let mail : new.mail ≡ posted e.world.mail c.as_slice.result.now = ap (λ x. x.world.mail) c.in_ok-take.ensures.done ∙ ap (λ w. w.mail) (post_makes net e.until e.world b p c.contents.ensures.process) ∙ ap (posted e.world.mail) out in
     record {
       free = subst (λ l. IsExactBut b l new.processes) (sym c.note_posted.ensures.free) (exact_but c.args.queues.now.free e.world.processes new.processes b c.requires.kept.free same);
       marks = posted_but c.args.queues.now c.note_posted.new.self e.world new b c.as_slice.result.now c.requires.kept.marks same mail c.note_posted.ensures.posting c.note_posted.ensures.delivering;

@@ -8,5 +8,5 @@ use Rattle.tw_lists.proofs.lists.EventLists.count_law.Goals as goal
 pub returns : goal.returns
 returns c =
     let f = c.self.inside in
-    let count = count_is f.pool.lists f.pool.room (spare_of f.pool.top f.heap (length (list_at f.pool.lists 1))) f.heap.entries c.lists_law.ensures.count c.self.invariant.count in
+    let count = count_is f.pool.lists f.pool.room (spare_of f.pool.top f.heap (length (list_at f.pool.lists 1))) f.heap.entries c.lists_law.ensures.count c.self.invariant.0.count in
     omega (arith, c.lists_law.ensures.limited, count, ap node_count c.self.view_is, ap (λ v. v.room) c.self.view_is)

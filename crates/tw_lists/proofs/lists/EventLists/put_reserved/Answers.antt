@@ -5,6 +5,7 @@ use Rattle.tw_lists.specs.Lists.{with_room, with_pending}
 use Rattle.tw_lists.specs.Nodes.{spare_of}
 use Rattle.tw_lists.specs.Lists.{event}
 use Rattle.tw_lists.proofs.Comings.{Put, put_kept, Pushed, pushed, Spare, spare_means}
+use Rattle.tw_lists.proofs.Found.{found_same}
 use Rattle.tw_lists.proofs.lists.EventLists.put_reserved.Goals.{After-lists_law-in-Ok, After-insert}
 use Rattle.tw_lists.proofs.lists.EventLists.put_reserved.Goals as goal
 
@@ -22,17 +23,20 @@ insert-requires c =
     record {
       room = omega (arith, spare.room);
       index = omega (arith, spare.below, c.in-Ok.ensures.below, c.in-Ok.ensures.had_top (omega (arith, c.requires.room, room)));
-      vacant = c.self.invariant.same c.in-Ok.index ∙ ap (event c.in-Ok.index) (push at).vacant;
+      vacant = c.self.invariant.0.same c.in-Ok.index ∙ ap (event c.in-Ok.index) (push at).vacant;
     }
 
 all : (c : After-insert) → Pushed c.self.inside.pool.lists c.push_back.new.self.lists c.in-Ok.index (positive c.args.message.now) → Spare c.self.inside.pool.top c.self.inside.heap (length (list_at c.self.inside.pool.lists 1))
     → Put c.self.inside.pool.lists c.push_back.new.self.lists c.push_back.new.self.room (spare_of c.push_back.new.self.top c.insert.new.self (length (list_at c.push_back.new.self.lists 1))) c.self.inside.pool.room (spare_of c.self.inside.pool.top c.self.inside.heap (length (list_at c.self.inside.pool.lists 1))) c.self.inside.heap c.insert.new.self c.args.message.now
 all c at spare =
     put_kept c.self.inside.pool.lists c.push_back.new.self.lists c.push_back.new.self.room (spare_of c.push_back.new.self.top c.insert.new.self (length (list_at c.push_back.new.self.lists 1))) c.self.inside.pool.room (spare_of c.self.inside.pool.top c.self.inside.heap (length (list_at c.self.inside.pool.lists 1))) c.self.inside.heap c.insert.new.self c.in-Ok.index (positive c.args.message.now)
-    c.self.invariant refl at c.insert.ensures.entries c.insert.ensures.there c.insert.ensures.others (omega (arith, spare.room, c.insert.ensures.room)) c.insert.ensures.top c.entries_law.ensures.sorted
+    c.self.invariant.0 refl at c.insert.ensures.entries c.insert.ensures.there c.insert.ensures.others (omega (arith, spare.room, c.insert.ensures.room)) c.insert.ensures.top c.entries_law.ensures.sorted
 
 pub invariant_of-self : goal.invariant_of-self
-invariant_of-self c = let at = (goal.at.invariant_of-self c).After-lists_law-in-Ok in (all c (push at) (means at)).kept
+invariant_of-self c =
+    let at = (goal.at.invariant_of-self c).After-lists_law-in-Ok in
+    let done = all c (push at) (means at) in
+    (done.kept, found_same c.self.inside.waiting c.self.inside.owed c.self.inside.pool.lists c.push_back.new.self.lists done.untouched c.self.invariant.1)
 
 pub returns-in-Ok : goal.returns-in-Ok
 returns-in-Ok c =

@@ -8,5 +8,5 @@ use Rattle.tw_lists.proofs.lists.EventLists.reserve.Goals as goal
 pub returns-clause-limit : goal.returns-clause-limit
 returns-clause-limit c =
     let f = c.self.inside in
-    let count = sym (count_is f.pool.lists f.pool.room (spare_of f.pool.top f.heap (length (list_at f.pool.lists 1))) f.heap.entries c.lists_law.ensures.count c.self.invariant.count) ∙ ap node_count c.self.view_is in
+    let count = sym (count_is f.pool.lists f.pool.room (spare_of f.pool.top f.heap (length (list_at f.pool.lists 1))) f.heap.entries c.lists_law.ensures.count c.self.invariant.0.count) ∙ ap node_count c.self.view_is in
     rw count at c.reserve.ensures.limit

@@ -43,9 +43,9 @@ all g c =
     c.in_ok-step.ensures.step c.in_ok-step.ensures.linked
     (c.in_ok-sent.ensures ∙ (λ i. routed (network_of g.M.Atomic.meaning (c.deref-network.ensures i)) inside.component (at i) step.done.bag))
     (omega (arith, c.len.ensures, c.in_ok-sent.sent.ok.0))
-    (c.send_all.ensures ∙ (λ i. with_room c.send_all.new.self.room c.send_all.new.self.spare (with_all_sent inside.cancel (c.deref-2.ensures.value i) (c.reserve.ensures.contents i))))
+    (c.send_all.ensures ∙ (λ i. with_room c.send_all.new.self.room c.send_all.new.self.spare (with_all_sent inside.cancel (c.deref-2.ensures.value i) (c.reserve_to_send.ensures.contents i))))
     c.after_output.ensures
-    (rw c.reserve-2.ensures.items at c.push_back_reserved.ensures.items)
+    (rw c.reserve.ensures.items at c.push_back_reserved.ensures.items)
 
 pub invariant_of-self-2 : goal.invariant_of-self-2
 invariant_of-self-2 g c = (all g c).kept
@@ -59,21 +59,21 @@ pub invariant_of-self : goal.invariant_of-self
 invariant_of-self g c =
     let inside = c.self.inside in
     let now = inside.moment in
-    let new = c.reserve.new.self in
-    kept_with g.M.Atomic.valid g.M.Atomic.meaning g.M.Atomic.undone (arc_value inside.network) inside.component now inside.floor inside.history.items inside.lists new (with_room new.room new.spare inside.lists) c.self.invariant c.reserve.ensures.contents
+    let new = c.reserve_to_send.new.self in
+    kept_with g.M.Atomic.valid g.M.Atomic.meaning g.M.Atomic.undone (arc_value inside.network) inside.component now inside.floor inside.history.items inside.lists new (with_room new.room new.spare inside.lists) c.self.invariant c.reserve_to_send.ensures.contents
     (λ x kept. others_kept (g.M.Atomic.valid x) (g.M.Atomic.meaning x) (g.M.Atomic.undone x) inside.component now inside.floor inside.history.items inside.lists kept inside.lists.waiting inside.lists.outgoing inside.lists.owed new.room new.spare)
 
-pub returns-in_err-reserve-clause-stays : goal.returns-in_err-reserve-clause-stays
-returns-in_err-reserve-clause-stays g c =
+pub returns-in_err-reserve_to_send-clause-stays : goal.returns-in_err-reserve_to_send-clause-stays
+returns-in_err-reserve_to_send-clause-stays g c =
     let inside = c.self.inside in
     let now = inside.moment in
-    let lists = c.reserve.new.self in
-    on_err_always _ c.from_residual-in_err-reserve.result
-    ((λ i. seen (arc_value inside.network) inside.component now inside.line inside.cancel inside.floor inside.history.items (c.reserve.ensures.contents i))
+    let lists = c.reserve_to_send.new.self in
+    on_err_always _ c.from_residual-in_err-reserve_to_send.result
+    ((λ i. seen (arc_value inside.network) inside.component now inside.line inside.cancel inside.floor inside.history.items (c.reserve_to_send.ensures.contents i))
     ∙ ap (with_spare (min lists.room lists.spare)) c.self.view_is)
 
-pub returns-in_err-reserve-clause-stop : goal.returns-in_err-reserve-clause-stop
-returns-in_err-reserve-clause-stop g c =
+pub returns-in_err-reserve_to_send-clause-stop : goal.returns-in_err-reserve_to_send-clause-stop
+returns-in_err-reserve_to_send-clause-stop g c =
     let inside = c.self.inside in
     let network = arc_value inside.network in
     let model = c.model-model.result.now in
@@ -81,33 +81,32 @@ returns-in_err-reserve-clause-stop g c =
     let there = ap (λ n. slice_get n.models inside.component) (sym c.deref-network.ensures) ∙ c.model-model.ensures in
     let kept = kept_at g.M.Atomic.valid g.M.Atomic.meaning g.M.Atomic.undone network inside.component now inside.floor inside.history.items inside.lists c.self.invariant model there in
     let at : c.transition.result ≡ c.args.stamp + 1 = omega (arith, c.transition.ensures, c.requires.is_output) in
-    let fresh : c.fresh_count-fresh.result ≡ length (sent_out inside.cancel inside.lists.owed c.in_ok-sent.sent.items) = c.fresh_count-fresh.ensures.count ∙ ap (λ l. length (sent_out inside.cancel inside.lists.owed l)) c.deref.ensures.value in
-    stop_for_pool g.M.Atomic.meaning c.args.self.now c.from_residual-in_err-reserve.result c.in_err-reserve.field-0.0 c.from_residual-in_err-reserve.ensures.1
+    stop_for_pool g.M.Atomic.meaning c.args.self.now c.from_residual-in_err-reserve_to_send.result c.in_err-reserve_to_send.field-0.0 c.from_residual-in_err-reserve_to_send.ensures.1
     (λ full.
-    let limit = c.reserve.ensures.limit.1 (c.in_err-reserve.was ∙ ap Err full) in
+    let limit = rw c.deref.ensures.value at (c.reserve_to_send.ensures.limit.1 (c.in_err-reserve_to_send.was ∙ ap Err full)) in
     subst (λ old. IsFullFor (network_of g.M.Atomic.meaning old.network) old.component old.process) c.self.view_is
     (too_large g.M.Atomic.valid g.M.Atomic.meaning g.M.Atomic.undone network inside.component model there now inside.line inside.cancel inside.floor inside.history.items inside.lists c.args.stamp c.in_ok-step.step c.in_ok-sent.sent.items
     kept (c.requires.is_next ∙ ap (λ p. next p.process) (sym c.self.view_is)) c.requires.is_due c.requires.is_output c.in_ok-step.ensures.step
     (c.in_ok-sent.ensures ∙ (λ i. routed (network_of g.M.Atomic.meaning (c.deref-network.ensures i)) inside.component (at i) c.in_ok-step.step.done.bag))
-    (omega (arith, limit, fresh))))
+    limit))
 
-pub invariant_of-self-in_err-reserve-2 : goal.invariant_of-self-in_err-reserve-2
-invariant_of-self-in_err-reserve-2 g c =
+pub invariant_of-self-in_err-reserve : goal.invariant_of-self-in_err-reserve
+invariant_of-self-in_err-reserve g c =
     let inside = c.self.inside in
     let now = inside.moment in
-    let new = c.reserve.new.self in
-    subst (λ h. IsKept g.M.Atomic.valid g.M.Atomic.meaning g.M.Atomic.undone (arc_value inside.network) inside.component now inside.floor h new) (sym c.reserve-2.ensures.items)
-    (kept_with g.M.Atomic.valid g.M.Atomic.meaning g.M.Atomic.undone (arc_value inside.network) inside.component now inside.floor inside.history.items inside.lists new (with_room new.room new.spare inside.lists) c.self.invariant c.reserve.ensures.contents
+    let new = c.reserve_to_send.new.self in
+    subst (λ h. IsKept g.M.Atomic.valid g.M.Atomic.meaning g.M.Atomic.undone (arc_value inside.network) inside.component now inside.floor h new) (sym c.reserve.ensures.items)
+    (kept_with g.M.Atomic.valid g.M.Atomic.meaning g.M.Atomic.undone (arc_value inside.network) inside.component now inside.floor inside.history.items inside.lists new (with_room new.room new.spare inside.lists) c.self.invariant c.reserve_to_send.ensures.contents
     (λ x kept. others_kept (g.M.Atomic.valid x) (g.M.Atomic.meaning x) (g.M.Atomic.undone x) inside.component now inside.floor inside.history.items inside.lists kept inside.lists.waiting inside.lists.outgoing inside.lists.owed new.room new.spare))
 
-pub returns-in_err-reserve-2-clause-stays : goal.returns-in_err-reserve-2-clause-stays
-returns-in_err-reserve-2-clause-stays g c =
+pub returns-in_err-reserve-clause-stays : goal.returns-in_err-reserve-clause-stays
+returns-in_err-reserve-clause-stays g c =
     let inside = c.self.inside in
     let now = inside.moment in
-    let lists = c.reserve.new.self in
-    on_err_always _ c.from_residual-in_err-reserve-2.result
-    ((λ i. seen (arc_value inside.network) inside.component now inside.line inside.cancel inside.floor (c.reserve-2.ensures.items i) (c.reserve.ensures.contents i))
+    let lists = c.reserve_to_send.new.self in
+    on_err_always _ c.from_residual-in_err-reserve.result
+    ((λ i. seen (arc_value inside.network) inside.component now inside.line inside.cancel inside.floor (c.reserve.ensures.items i) (c.reserve_to_send.ensures.contents i))
     ∙ ap (with_spare (min lists.room lists.spare)) c.self.view_is)
 
-pub returns-in_err-reserve-clause-due : goal.returns-in_err-reserve-clause-due
-returns-in_err-reserve-clause-due g c = due_for_pool c.from_residual-in_err-reserve.result c.in_err-reserve.field-0.0 c.from_residual-in_err-reserve.ensures.1
+pub returns-in_err-reserve_to_send-clause-due : goal.returns-in_err-reserve_to_send-clause-due
+returns-in_err-reserve_to_send-clause-due g c = due_for_pool c.from_residual-in_err-reserve_to_send.result c.in_err-reserve_to_send.field-0.0 c.from_residual-in_err-reserve_to_send.ensures.1

@@ -4,7 +4,7 @@ ghost use Rattle.std.specs.Prelude.{◌≡◌, IfOk};
 ghost use Rattle.tw_engine.specs.Runs.{IsDemo, demo_network, demo_text, run_text};
 
 use crate::failed::Failed;
-use crate::workers::run_network;
+use crate::workers::{Plan, run_network};
 use std::alloc::{AllocError, Global};
 use std::io::Write;
 use std::sync::Wait;
@@ -17,15 +17,16 @@ use tw_models::Model;
 use tw_network::Network;
 use tw_process::Cancel;
 
-// The tick at which the demonstration ends.
-const UNTIL: u64 = 5;
-
-// Its workers, and how far they work ahead. They tell nothing of it.
-const SETTING: RunOptions = RunOptions {
-    workers: Workers::Count(2),
-    burst: 16,
-    window: 1000,
-    progress: false,
+// How it is run: up to tick 5, by two workers, who tell nothing of it.
+const PLAN: Plan = Plan {
+    until: 5,
+    cancel: Cancel::Aggressive,
+    options: RunOptions {
+        workers: Workers::Count(2),
+        burst: 16,
+        window: 1000,
+        progress: false,
+    },
 };
 
 /// Runs the demonstration and writes its text.
@@ -37,7 +38,7 @@ pub(crate) fn demo<R: Threads + Wait + Clock + Eprint + Sync, W: Write>(
     ensures { IsDemo result (W.contents out.old) (W.contents out.new) }
 {
     let network = gen_tally(alloc)?;
-    run_network(rt, alloc, network, UNTIL, Cancel::Aggressive, SETTING, out)
+    run_network(rt, alloc, network, PLAN, out)
 }
 
 /// The network of the demonstration: a generator of period 2 and value 5, and a tally that it feeds.

@@ -19,7 +19,7 @@ use crate::names::NetworkNames;
 use crate::plays::{play_by_script, play_by_seed};
 use crate::told::{seq_told, stats_told, table_told};
 use crate::views::{sum_up, tabulate};
-use crate::workers::run_by_workers;
+use crate::workers::{Plan, run_by_workers};
 use crate::writing::write_streamed;
 use std::alloc::{AllocError, Global};
 use std::io::{ErrorKind, Read, Write};
@@ -28,7 +28,7 @@ use std::thread::Threads;
 use std::time::Clock;
 use tw_actions::Fault;
 use tw_any_model::AnyModel;
-use tw_line::{Driver, Job, Picture, Rows, RunOptions};
+use tw_line::{Driver, Job, Picture, Rows};
 use tw_netfile::network_of_any_file;
 use tw_network::Network;
 use tw_process::Cancel;
@@ -102,7 +102,14 @@ pub fn engine<R: Threads + Wait + Clock + Eprint + Sync, N: Read, S: Read, W: Wr
             cancel,
             setting,
             ..
-        } => Exit::of_run(run(rt, alloc, net, *until, *cancel, *setting, out)),
+        } => {
+            let plan = Plan {
+                until: *until,
+                cancel: *cancel,
+                options: *setting,
+            };
+            Exit::of_run(run(rt, alloc, net, plan, out))
+        }
         Job::Play {
             until,
             cancel,
@@ -117,16 +124,14 @@ fn run<R: Threads + Wait + Clock + Eprint + Sync, N: Read, W: Write>(
     rt: &R,
     alloc: Global,
     net: &mut N,
-    until: u64,
-    cancel: Cancel,
-    setting: RunOptions,
+    plan: Plan,
     out: &mut W,
 ) -> Result<Option<Fault>, Failed>
     ensures { OfFile (N.remaining net.old) result (W.contents out.old) (W.contents out.new)
-        (λ bytes. IsRunByWorkers bytes until result (W.contents out.old) (W.contents out.new)) }
+        (λ bytes. IsRunByWorkers bytes plan.until result (W.contents out.old) (W.contents out.new)) }
 {
     let bytes = read_all(alloc, net)?;
-    run_by_workers(rt, alloc, bytes.as_slice(), until, cancel, setting, out)
+    run_by_workers(rt, alloc, bytes.as_slice(), plan, out)
 }
 
 /// Does the job `check` of [`engine`]; [`Failed`] where the file is at fault too. It takes no handle, and so it returns.

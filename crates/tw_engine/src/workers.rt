@@ -33,41 +33,50 @@ use tw_tell::Nobody;
 use tw_vtime::{MAX_TICK, Refusal};
 use tw_workers::{Effort, Open, Outcome, Setting, run_counted};
 
-/// Runs the network that a file's bytes mean as its workers are set, and writes its text.
+/// A run to be made: up to which end tick, how steps that are taken back are cancelled, and how its workers are set.
+#[derive(Clone, Copy)]
+pub(crate) struct Plan {
+    pub(crate) until: u64,
+    pub(crate) cancel: Cancel,
+    pub(crate) options: RunOptions,
+}
+
+/// Runs the network that a file's bytes mean as it is planned, and writes its text.
 pub(crate) fn run_by_workers<R: Threads + Wait + Clock + Eprint + Sync, W: Write>(
     rt: &R,
     alloc: Global,
     bytes: &[u8],
-    until: u64,
-    cancel: Cancel,
-    setting: RunOptions,
+    plan: Plan,
     out: &mut W,
 ) -> Result<Option<Fault>, Failed>
-    ensures { IsRunByWorkers bytes.now until result (W.contents out.old) (W.contents out.new) }
+    ensures { IsRunByWorkers bytes.now plan.until result (W.contents out.old) (W.contents out.new) }
 {
     let network = network(alloc, bytes)?;
-    run_network(rt, alloc, network, until, cancel, setting, out)
+    run_network(rt, alloc, network, plan, out)
 }
 
-/// Runs a network as its workers are set, and writes its text.
+/// Runs a network as it is planned, and writes its text.
 pub(crate) fn run_network<R: Threads + Wait + Clock + Eprint + Sync, W: Write>(
     rt: &R,
     alloc: Global,
     network: Network<AnyModel>,
-    until: u64,
-    cancel: Cancel,
-    setting: RunOptions,
+    plan: Plan,
     out: &mut W,
 ) -> Result<Option<Fault>, Failed>
-    ensures { IsWorked network until result (W.contents out.old) (W.contents out.new) }
+    ensures { IsWorked network plan.until result (W.contents out.old) (W.contents out.new) }
 {
-    match workers_of(rt, alloc, &network, until, setting) {
+    let Plan {
+        until,
+        cancel,
+        options,
+    } = plan;
+    match workers_of(rt, alloc, &network, until, options) {
         Some(workers) => {
             let executive = started(alloc, network, until, cancel)?;
-            let set = in_range(setting, workers);
-            run_executive(rt, alloc, executive, set, setting.progress, out)
+            let set = in_range(options, workers);
+            run_executive(rt, alloc, executive, set, options.progress, out)
         }
-        None => run_in_order(rt, alloc, &network, until, setting.progress, out),
+        None => run_in_order(rt, alloc, &network, until, options.progress, out),
     }
 }
 
@@ -223,12 +232,12 @@ fn tell_effort<R: Eprint>(rt: &R, ended: &Result<Outcome, Refusal>, effort: Effo
 }
 
 /// The setting of a run by so many workers, each number brought within its range.
-fn in_range(setting: RunOptions, workers: u64) -> Setting
+fn in_range(options: RunOptions, workers: u64) -> Setting
     ensures { IsSet result }
 {
     Setting {
         workers: workers.clamp(1, 64),
-        burst: setting.burst.clamp(1, 256) as usize,
-        window: setting.window.min(MAX_TICK),
+        burst: options.burst.clamp(1, 256) as usize,
+        window: options.window.min(MAX_TICK),
     }
 }

@@ -169,8 +169,9 @@ impl<M: Atomic> Executive<M> {
     }
 }
 
-/// What a post moves: the outgoing items, and the anti-messages of what is owed from before the next step.
-fn to_post<M: Atomic>(process: &Process<M>) -> Result<Vec<Item>, AllocError>
+/// What a post of a process moves: the outgoing items, and behind them the anti-messages of what is owed from before
+/// its next step. It is refused for want of memory alone (4).
+pub fn to_post<M: Atomic>(process: &Process<M>) -> Result<Vec<Item>, AllocError>
     ensures { IfOk result (λ items. items.items ≡ (settle process.now.process).outgoing) }
 {
     let mut items = process.lists().outgoing()?;
@@ -189,7 +190,7 @@ fn push_overdue(items: &mut Vec<Item>, owed: &[Message], next: Stamp) -> Result<
     ensures { OnOk result (items.new.items ≡ items.old.items ++ antis (overdue next owed.now)) }
 {
     for message in owed {
-        if message.stamp.pack().saturating_sub(1) < next.pack() {
+        if message.stamp.is_overdue(next) {
             items.push(Item {
                 sign: Sign::Anti,
                 message: *message,

@@ -10,7 +10,7 @@
 //! | File | Calls |
 //! |---|---|
 //! | `executive` | making one, and what is read of it |
-//! | `acting` | `act`: an action, its answer ([`Done`]) or why it is refused ([`Refused`]) |
+//! | `acting` | `act`: an action, its answer ([`Done`]) or why it is refused ([`Refused`]); `to_post`: what a post moves |
 //! | `marking` | `mark` and `rewind` ([`Mark`]); `replay`: a list of actions |
 //! | `chains` | `start`: what a chain is worked out from; `install`: the steps of a chain made here |
 //! | `traces` | `trace`, `into_trace`: what all components have committed, merged |
@@ -25,6 +25,7 @@ mod marking;
 mod refused;
 mod traces;
 
+pub use acting::to_post;
 pub use executive::Executive;
 pub use marking::Mark;
 pub use refused::{Refused, StartRefused};

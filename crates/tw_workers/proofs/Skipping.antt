@@ -69,14 +69,6 @@ module _ {S : Type 0} where
       go Aggressive is = ap (λ (ms : List Message). is_empty (overdue (next p) ms)) (h.nothing_owed (sym is))
       go Lazy is = none_left (next p) p.owed
 
-  -- of one that owes nothing, what is outgoing
-  pub nothing_owed : (p : Process S) → p.owed ≡ [] → (settle p).outgoing ≡ p.outgoing
-  nothing_owed p none = go p.cancel
-    where
-      go : (k : Cancel) → (settled_as k p).outgoing ≡ p.outgoing
-      go Aggressive = refl
-      go Lazy = ap (λ (ms : List Message). p.outgoing ++ antis (overdue (next p) ms)) none ∙ append-nil p.outgoing
-
   module _ (net : Network S) (until : ℕ) where
     idle_post : (w : World S) (c : ℕ) → ((p : Process S) → slice_get w.processes c ≡ Some p → is_idle p ≡ true) → (act net until w (Post c)).1 ≡ w
     unfolding act

@@ -21,7 +21,7 @@ use crate::queues::Queues;
 use crate::refused::SweepRefused;
 use tw_actions::Received;
 use tw_atomic::Atomic;
-use tw_exec::{Action, Done, Executive, Refused};
+use tw_exec::{Action, Done, Executive, Refused, to_post};
 use tw_process::Process;
 use tw_vtime::Stamp;
 
@@ -149,7 +149,7 @@ pub(crate) fn is_idle<M: Atomic>(process: &Process<M>) -> bool
     if lists.owed_len() == 0 {
         return true;
     }
-    lists.least_owed().pack().saturating_sub(1) >= process.next().pack()
+    !lists.least_owed().is_overdue(process.next())
 }
 
 /// A post of each component, and a delivery of each item that lies in a mailbox then.
@@ -199,37 +199,12 @@ fn post_one<M: Atomic>(
     ensures busy { busy_in queues.new.free ≡ busy_in queues.old.free }
 {
     executive.facts();
-    let lists = executive.contents(sender).lists();
-    if lists.owed_len() > 0 {
-        return post_owing(executive, queues, sender);
-    }
-    let Ok(items) = lists.outgoing() else {
+    let Ok(items) = to_post(executive.contents(sender)) else {
         return Err(SweepRefused::OutOfMemory);
     };
     take(executive, Action::Post(sender))?;
     queues.note_posted(items.as_slice());
     queues.note(executive, sender);
-    Ok(())
-}
-
-/// A post of a component that owes messages. Whose anti-messages it makes is not known before, so each mailbox is looked at again.
-fn post_owing<M: Atomic>(
-    executive: &mut Executive<M>,
-    queues: &mut Queues,
-    sender: usize,
-) -> Result<(), SweepRefused>
-    requires { IsKept queues.old executive.old.world }
-    ensures done { OnOk result (executive.new ≡ after M.meaning (Post sender) executive.old) }
-    ensures wanting { IfErr result (IsWanting M.meaning executive.old (Post sender)) }
-    ensures stays { OnErr result (executive.new ≡ executive.old) }
-    ensures kept { IsKept queues.new executive.new.world }
-    ensures busy { busy_in queues.new.free ≡ busy_in queues.old.free }
-{
-    executive.facts();
-    take(executive, Action::Post(sender))?;
-    refresh(&mut queues.free, executive, sender);
-    executive.facts();
-    queues.note_all(executive);
     Ok(())
 }
 

@@ -19,7 +19,7 @@ use std::io::Write;
 use std::sync::{Arc, Wait};
 use std::thread::Threads;
 use std::time::Clock;
-use tw_actions::Fault;
+use tw_actions::{Fault, MAX_BURST, MAX_WORKERS};
 use tw_any_model::{AnyModel, AnyState};
 use tw_board::{Board, Publisher};
 use tw_exec::Executive;
@@ -236,8 +236,8 @@ fn in_range(options: RunOptions, workers: u64) -> Setting
     ensures { IsSet result }
 {
     Setting {
-        workers: workers.clamp(1, 64),
-        burst: options.burst.clamp(1, 256) as usize,
+        workers: workers.clamp(1, MAX_WORKERS),
+        burst: options.burst.clamp(1, MAX_BURST) as usize,
         window: options.window.min(MAX_TICK),
     }
 }

@@ -6,13 +6,8 @@ use crate::parameters::check_range;
 use serde_json::Value;
 use std::alloc::Global;
 use tw_machine_faults::{Stop, items_at, machines_of, name_of, quoted};
+use tw_network::{MAX_NAME, MAX_PORT};
 use tw_vtime::MAX_TICK;
-
-/// The greatest port.
-const MAX_PORT: u64 = 15;
-
-/// The longest name, in bytes.
-const MAX_NAME: usize = 32;
 
 /// A coupling as it is written.
 #[derive(Clone, Copy, PartialEq)]
@@ -154,17 +149,18 @@ fn has_atom(outline: &Outline<'_>, name: &str) -> bool {
 
 /// Looks for a port that is too great.
 pub(crate) fn bad_ports(alloc: Global, value: &Value, outline: &Outline<'_>) -> Result<(), Stop> {
+    let most = u64::from(MAX_PORT);
     for level in &outline.levels {
         for (i, item) in items_at(level.value, "couplings").iter().enumerate() {
             if let Some(coupling) = coupling_of(item) {
-                let port = if coupling.source_port > MAX_PORT {
+                let port = if coupling.source_port > most {
                     coupling.source_port
                 } else {
                     coupling.destination_port
                 };
-                if port > MAX_PORT {
+                if port > most {
                     let line = format!(in alloc;
-                        "{}couplings[{i}]: port is {port}, at most {MAX_PORT}",
+                        "{}couplings[{i}]: port is {port}, at most {most}",
                         level.path
                     )?;
                     return Err(Stop::Fault(line));
@@ -174,7 +170,7 @@ pub(crate) fn bad_ports(alloc: Global, value: &Value, outline: &Outline<'_>) -> 
     }
     for (i, input) in items_at(value, "inputs").iter().enumerate() {
         let place = format!(in alloc; "inputs[{i}]")?;
-        check_range(alloc, place.as_str(), input, "port", 0, MAX_PORT)?;
+        check_range(alloc, place.as_str(), input, "port", 0, most)?;
     }
     Ok(())
 }

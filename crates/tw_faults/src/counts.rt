@@ -5,18 +5,8 @@ use crate::parameters::check_range;
 use serde_json::Value;
 use std::alloc::Global;
 use tw_machine_faults::{Stop, items_at};
-
-const MAX_LEVELS: usize = 16;
-
-const MAX_COMPONENTS: usize = 1_024;
-
-const MAX_MODELS: usize = 1_024;
-
-const MAX_COUPLINGS: usize = 8_192;
-
-const MAX_INPUTS: usize = 65_536;
-
-const MAX_MICROSTEP: u64 = 8_388_607;
+use tw_network::{MAX_COMPONENTS, MAX_COUPLED, MAX_COUPLINGS, MAX_INPUTS, MAX_LEVELS};
+use tw_vtime::MAX_MICROSTEP;
 
 /// Looks for a count above the most that is taken.
 pub(crate) fn too_many(alloc: Global, value: &Value, outline: &Outline<'_>) -> Result<(), Stop> {
@@ -31,7 +21,7 @@ pub(crate) fn too_many(alloc: Global, value: &Value, outline: &Outline<'_>) -> R
     let models = outline.levels.len().saturating_sub(1);
     check_count(alloc, depth, "levels of components", MAX_LEVELS)?;
     check_count(alloc, outline.atoms.len(), "components", MAX_COMPONENTS)?;
-    check_count(alloc, models, "coupled models", MAX_MODELS)?;
+    check_count(alloc, models, "coupled models", MAX_COUPLED)?;
     check_count(alloc, couplings, "couplings", MAX_COUPLINGS)?;
     check_count(alloc, items_at(value, "inputs").len(), "inputs", MAX_INPUTS)?;
     let line = format!(in alloc;
@@ -51,5 +41,12 @@ fn check_count(alloc: Global, count: usize, of: &str, most: usize) -> Result<(),
 
 /// Looks at the greatest microstep.
 pub(crate) fn bad_limit(alloc: Global, value: &Value) -> Result<(), Stop> {
-    check_range(alloc, "the file", value, "micro_limit", 1, MAX_MICROSTEP)
+    check_range(
+        alloc,
+        "the file",
+        value,
+        "micro_limit",
+        1,
+        u64::from(MAX_MICROSTEP),
+    )
 }

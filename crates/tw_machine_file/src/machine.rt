@@ -18,6 +18,7 @@ use serde_json::Value;
 use std::alloc::Global;
 use tw_declared::{Constant, Declaration, OutputText, Value as Said};
 use tw_program_text::{Block, Declared};
+use tw_vtime::MAX_TICK;
 
 /// A machine of a file.
 #[derive(Drop)]
@@ -62,9 +63,6 @@ const MEMBERS: [&[u8]; 12] = [
     b"output",
     b"words",
 ];
-
-/// The last tick.
-const MAX_TICK: u64 = 1_099_511_627_774;
 
 /// Looks at the name of a machine: whether it may be one, and has not come before.
 fn new_name(before: &[String], name: &str) -> Result<(), MachineFault>

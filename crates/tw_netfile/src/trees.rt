@@ -22,13 +22,7 @@ use crate::tree_shape::{
 };
 use std::alloc::{AllocError, Global};
 use tw_any_model::AnyModel;
-use tw_network::{Input, Nested, Network, NetworkRefused};
-
-/// As many atoms as a network may have.
-const MAX_ATOMS: usize = 1_024;
-
-/// As many inputs as a network may have.
-const MAX_INPUTS: usize = 65_536;
+use tw_network::{Input, MAX_COMPONENTS, MAX_INPUTS, Nested, Network, NetworkRefused};
 
 /// The network that a file's bytes mean, a JSON text of format `tw-1`, `tw-2` or `tw-3`.
 ///
@@ -92,7 +86,7 @@ fn network_of_tree(alloc: Global, tree: &TreeDraft) -> Result<Network<AnyModel>,
     ensures ok { IfOk result (IsTreeMeaning (tree_view tree.now)) }
     ensures err { IfErr result (λ e. e ≢ FileRefused.OutOfMemory → IsTreeFileFault (tree_view tree.now) e) }
 {
-    if atoms(&tree.root) > MAX_ATOMS {
+    if atoms(&tree.root) > MAX_COMPONENTS {
         return Err(fault_of_many(tree));
     }
     let root = tree_made(alloc, &tree.root)?;

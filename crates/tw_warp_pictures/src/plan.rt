@@ -125,7 +125,7 @@ impl Plan {
             tick: stamp.tick(),
             micro: stamp.micro(),
         };
-        let lift = if stamp.phase() == 0 {
+        let lift = if stamp.is_output() {
             Points::ZERO
         } else {
             self.lift

@@ -61,7 +61,7 @@ pub struct Stepped {
 impl Stepped {
     /// Whether it is an output.
     pub fn is_output(&self) -> bool {
-        !self.stamp.is_end() && self.stamp.phase() == 0
+        !self.stamp.is_end() && self.stamp.is_output()
     }
 }
 

@@ -44,7 +44,7 @@ fn find_state<M: Atomic>(executive: &mut Executive<M>) -> Result<RunState, Alloc
     if gvt >= end {
         return Ok(RunState::Going);
     }
-    if gvt.phase() == 0 {
+    if gvt.is_output() {
         return Ok(RunState::Going);
     }
     if !all_quiet(executive) {

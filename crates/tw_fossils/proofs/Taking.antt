@@ -200,9 +200,6 @@ none_taken line columns all = record { ordered = tt; parts = λ c. refl; own = �
 pub merging_from : (line : ℕ) (columns left : List (List Record)) (taken : List Record) → left ≡ columns → taken ≡ [] → AreColumns 0 columns → IsMerging line columns left taken
 merging_from line columns left taken all none h = subst₂ (IsMerging line columns) (sym all) (sym none) (none_taken line columns h)
 
-pub at_most_never : (s : ℕ) → IsStamp s → s ≤ never
-at_most_never s h = ⊎_elim (λ l. omega (arith, l)) (λ e. omega (arith, e)) h
-
 late : (line : ℕ) (left : List (List Record)) → NoneFirst (map (head_before line) left) → (c : ℕ) → never ≤ head_before line (column_of left c)
 late line [] none c = omega arith
 late line (l ∷ left) none zero = none 0 (head_before line l) refl
@@ -215,7 +212,8 @@ none_left line (r ∷ rs) bound rising head =
     none_before line (r ∷ rs) (after, each_weaker (λ y. r.stamp < y.stamp) (λ y. line ≤ y.stamp) (λ y l. omega (arith, after, l)) rs rising.0)
 
 -- where no head is left, all that is before the line was taken
-pub all_taken : (line : ℕ) (columns left : List (List Record)) (taken : List Record) (heads : List ℕ) → line ≤ never → heads ≡ map (head_before line) left → NoneFirst heads → IsMerging line columns left taken
+pub all_taken : (line : ℕ) (columns left : List (List Record)) (taken : List Record) (heads : List ℕ) → IsStamp line → heads ≡ map (head_before line) left → NoneFirst heads → IsMerging line columns left taken
     → IsTrace taken × ((c : ℕ) → of_component c taken ≡ before line (column_of columns c))
-all_taken line columns left taken heads bound are none m =
+all_taken line columns left taken heads stamp are none m =
+    let bound : line ≤ never = ⊎_elim (λ l. omega (arith, l)) (λ e. omega (arith, e)) stamp in
     (m.ordered, λ c. sym (append-nil (of_component c taken)) ∙ ap (λ l. of_component c taken ++ l) (sym (none_left line (column_of left c) bound (m.own c).rising (late line left (subst NoneFirst are none) c))) ∙ m.parts c)

@@ -1,6 +1,6 @@
 //! Fossil collection, by the calls of a process alone.
 
-ghost use Rattle.std.specs.Prelude.{◌≡◌, ◌≤◌, ◌++◌, IfOk, IsOk, OnOk, OnErr, length, take};
+ghost use Rattle.std.specs.Prelude.{◌≡◌, ◌≤◌, ◌+◌, ◌++◌, IfOk, IsOk, OnOk, OnErr, length, take, vec_len, vec_capacity};
 ghost use Rattle.tw_process.specs.Process.{with_harvested, with_spare, without_first};
 ghost use Rattle.tw_theory.specs.Contents.{steps_before, records_of};
 
@@ -10,6 +10,13 @@ use tw_atomic::Atomic;
 use tw_msgs::Record;
 use tw_process::Process;
 use tw_vtime::Stamp;
+
+// From so many records on a column takes room for so many at once. What is as large as that is a mapping of its own to the usual
+// allocators: it is not copied as it grows, what is not used of it takes no memory, and it goes back to the system as the trace takes
+// its records; smaller pieces stay with the allocator.
+const LONG: usize = 64;
+
+const ROOM_OF_LONG: usize = 2_048;
 
 /// Moves the records of the steps strictly before a stamp from a process to the end of its column, frees their nodes, makes the
 /// stamp the commit line, and answers how many records they are.
@@ -34,6 +41,21 @@ pub fn harvest<M: Atomic>(
     Ok(count as u64)
 }
 
+/// Makes room for so many more records: for a long column much at once, if there is as much.
+fn make_room(records: &mut Vec<Record>, count: usize) -> Result<(), AllocError>
+    ensures items { records.new.items ≡ records.old.items }
+    ensures len { vec_len records.new ≡ vec_len records.old }
+    ensures room { OnOk result (vec_len records.old + count ≤ vec_capacity records.new) }
+    ensures succeeds { count ≡ 0 → IsOk result }
+{
+    if records.len() >= LONG && records.capacity() < ROOM_OF_LONG {
+        let more = ROOM_OF_LONG.saturating_sub(records.len());
+        // Where there is not as much, what is wanted now may still be there.
+        let _ = records.reserve_exact(more);
+    }
+    records.reserve(count)
+}
+
 /// The records of the oldest steps, so many, move to the end of a vector; all room is made first.
 fn move_oldest<M: Atomic>(
     process: &mut Process<M>,
@@ -47,7 +69,7 @@ fn move_oldest<M: Atomic>(
     ensures records_stay { OnErr result (records.new.items ≡ records.old.items) }
     ensures succeeds { count ≡ 0 → IsOk result }
 {
-    records.reserve(count)?;
+    make_room(records, count)?;
     for _ in 0..count {
         if let Some(done) = process.commit_oldest() {
             records.push_reserved(done);

@@ -116,14 +116,16 @@ fn as_slices(alloc: Global, columns: &[Column]) -> Result<Vec<&[Record]>, AllocE
     Ok(slices)
 }
 
-/// Each column as a queue, in places that are there. No record moves.
+/// Each column as a queue with no more room than it needs, in places that are there. It takes no memory.
 fn as_queues(columns: Vec<Column>, mut queues: Vec<VecDeque<Record>>) -> Vec<VecDeque<Record>>
     requires none { queues.items ≡ [] }
     requires places { length columns.items ≤ vec_capacity queues }
     ensures { map (λ rs. rs.items) result.items ≡ columns.items }
 {
     for column in columns {
-        queues.push_reserved(VecDeque::from_vec(column.into_records()));
+        let mut records = column.into_records();
+        records.shrink_to_fit();
+        queues.push_reserved(VecDeque::from_vec(records));
     }
     queues
 }
@@ -174,7 +176,8 @@ fn move_first(
     }
 }
 
-/// Once half of a column's room is free it is given back, so that the trace and what is left of the columns need less than two traces.
+/// Once half of a column's room is free it is given back, so that the trace and what is left of the columns need at most one and a
+/// half times what the trace needs.
 fn give_back(column: &mut VecDeque<Record>)
     ensures { column.new.items ≡ column.old.items }
 {

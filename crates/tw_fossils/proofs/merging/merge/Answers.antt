@@ -1,5 +1,5 @@
 use Rattle.std.proofs.Common.{vec_len, vec_capacity, refl, sym, subst, arith}
-use Rattle.tw_fossils.proofs.Taking.{all_taken, at_most_never, merging_from}
+use Rattle.tw_fossils.proofs.Taking.{all_taken, merging_from}
 use Rattle.tw_fossils.specs.Merging.{IsReady}
 use Rattle.tw_fossils.proofs.merging.merge.Goals as goal
 
@@ -21,4 +21,4 @@ loop-next-preserved c = record {
 
 pub returns-clause-records : goal.returns-clause-records
 returns-clause-records c =
-    (all_taken c.args.line c.args.columns.now _ c.loop-next.trace.items c.loop-next.heads.times (at_most_never c.args.line c.facts.ensures) c.loop-next.invariant.ready.heads_are (c.in_default.ensures.none refl) c.loop-next.invariant.merging).1
+    (all_taken c.args.line c.args.columns.now _ c.loop-next.trace.items c.loop-next.heads.times c.facts.ensures c.loop-next.invariant.ready.heads_are (c.in_default.ensures.none refl) c.loop-next.invariant.merging).1

@@ -16,7 +16,6 @@ pub mod Installs
 -- the start
 pub mod Starts
 -- what a post moves
-pub mod Overdue
 pub mod Comparing
 pub mod LeastLines
 -- an executive may go to another thread

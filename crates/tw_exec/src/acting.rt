@@ -4,7 +4,7 @@ ghost use Rattle.std.specs.Prelude.{◌≡◌, ◌≢◌, ◌↔◌, ◌++◌, N
 ghost use Rattle.tw_exec.specs.Actions.{reason};
 ghost use Rattle.tw_exec.specs.Running.{answer, after, AreExact, IsDelivery, IsReason, IsWanting, WantsRoom};
 ghost use Rattle.tw_exec.specs.declared.refused.Refused.TheVariants as refused;
-ghost use Rattle.tw_theory.specs.Bundles.{antis, overdue};
+ghost use Rattle.tw_theory.specs.Bundles.{antis};
 ghost use Rattle.tw_theory.specs.Contents.{settle};
 ghost use Rattle.tw_theory.specs.Executive.{Back, Deliver, Harvest, Post, Raise, Step};
 ghost use Rattle.tw_theory.specs.Memory.{TakesMemory};
@@ -178,24 +178,22 @@ pub fn to_post<M: Atomic>(process: &Process<M>) -> Result<Vec<Item>, AllocError>
     match process.cancel() {
         Cancel::Aggressive => Ok(items),
         Cancel::Lazy => {
-            let owed = process.owed()?;
-            push_overdue(&mut items, owed.as_slice(), process.next())?;
+            let overdue = process.lists().overdue(process.next())?;
+            push_antis(&mut items, overdue.as_slice())?;
             Ok(items)
         }
     }
 }
 
-/// The anti-messages of those messages that were sent before a stamp go to the end of a list.
-fn push_overdue(items: &mut Vec<Item>, owed: &[Message], next: Stamp) -> Result<(), AllocError>
-    ensures { OnOk result (items.new.items ≡ items.old.items ++ antis (overdue next owed.now)) }
+/// The anti-messages of messages go to the end of a list.
+fn push_antis(items: &mut Vec<Item>, messages: &[Message]) -> Result<(), AllocError>
+    ensures { OnOk result (items.new.items ≡ items.old.items ++ antis messages.now) }
 {
-    for message in owed {
-        if message.stamp.is_overdue(next) {
-            items.push(Item {
-                sign: Sign::Anti,
-                message: *message,
-            })?;
-        }
+    for message in messages {
+        items.push(Item {
+            sign: Sign::Anti,
+            message: *message,
+        })?;
     }
     Ok(())
 }

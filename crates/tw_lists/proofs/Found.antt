@@ -8,6 +8,7 @@ use Rattle.tw_vtime.specs.Stamps.{is_overdue}
 use Rattle.tw_lists.specs.declared.finder.Key.{Key}
 use Rattle.tw_lists.specs.declared.finder.Equals.{Equals}
 use Rattle.tw_lists.specs.declared.finder.Finder.{Finder}
+use Rattle.tw_lists.specs.Falling.{FallIf}
 use Rattle.tw_lists.specs.Finders.{Finds, Knows, AreFound}
 use Rattle.tw_lists.specs.Lists.{Nodes}
 use Rattle.tw_lists.specs.Nodes.{not_overdue_nodes}
@@ -35,6 +36,9 @@ module _ {S : Type 0} (known : HashMap Key Equals S) where
         late_is = omega (arith, length-append finds.back more, finds.late_is, grown);
         knows = subst (λ k. Knows k finds.front) (sym same) finds.knows;
       }
+
+pub fall_at : (b : Bool) (l now : Nodes) → now ≡ l → FallIf b l → FallIf b now
+fall_at b l now same fall = subst (FallIf b) (sym same) fall
 
 pub found_same : (waiting owed : Finder) (lists now : List Nodes) → Untouched lists now → AreFound waiting owed lists → AreFound waiting owed now
 found_same waiting owed lists now same found = (
@@ -73,6 +77,7 @@ last_moved_other lists now from n to k not_from not_to is =
 pub record Owing (lists now : List Nodes) (n : ℕ) : Type 0 where
   pub waiting : list_at now 4 ≡ list_at lists 4
   pub more : Nodes
+  pub more_is : more ≡ drop (length (list_at lists 2) - n) (list_at lists 2)
   pub owed : list_at now 5 ≡ list_at lists 5 ++ more
   pub count : length more ≡ n
 
@@ -84,6 +89,7 @@ owing lists now n six within is =
     record {
       waiting = last_moved_other lists now 2 n 5 4 (λ e. omega (arith, e)) (λ e. omega (arith, e)) is;
       more = more;
+      more_is = refl;
       owed = ap (λ ls. list_at ls 5) is
           ∙ get_or-set_same left 5 (list_at left 5 ++ more) [] (omega (arith, six, length-set lists 2 (take (length l - n) l)))
           ∙ ap (λ x. x ++ more) (get_or-set_other lists 2 5 (take (length l - n) l) [] (λ e. omega (arith, e)));

@@ -13,3 +13,6 @@ pub mod Loops
 pub mod Parts
 pub mod Walks
 pub mod Lent
+pub mod Leaving
+pub mod Falling
+pub mod Overdue

@@ -1,8 +1,8 @@
 -- Owed nodes: sent again, counted, and posted.
-use Rattle.std.proofs.Common.{◌≡◌, ℕ, zero, suc, ◌+◌, ◌-◌, ◌<◌, ◌≤◌, nat_le, Bool, true, false, ◌||◌, List, [], ◌∷◌, ◌++◌, length, map, take, drop, Option, Some, None, cond, refl, sym, ap, ap₂, subst, ◌∙◌, arith, length-append, append-nil, append_assoc, add-one, drop-drop, take_all, length-drop, IfSome, IsSome}
-use Rattle.std.proofs.lemmas.List.{map-append, drop_all}
+use Rattle.std.proofs.Common.{◌≡◌, ℕ, zero, suc, ◌+◌, ◌-◌, ◌<◌, ◌≤◌, nat_le, Bool, true, false, ◌||◌, List, [], ◌∷◌, ◌++◌, length, map, set, take, drop, Option, Some, None, cond, refl, sym, ap, ap₂, subst, ◌∙◌, arith, length-append, append-nil, append_assoc, add-one, drop-drop, take_all, length-drop, IfSome, IsSome}
+use Rattle.std.proofs.lemmas.List.{map-append, drop_all, take-append-drop, length-set, get_or-set_same, get_or-set_other}
 use Rattle.std.proofs.lemmas.Bool.{cond-true, cond-false, le-leb, lt-leb}
-use Rattle.tw_pool.specs.Lists.{list_at, item_of, IsLive, first_of, next_of, without as without_node, with_item_last, AreDistinct}
+use Rattle.tw_pool.specs.Lists.{list_at, item_of, IsLive, first_of, next_of, without as without_node, with_item_last, with_last_moved, AreDistinct}
 use Rattle.tw_pool.proofs.ListsByIndex.{moved, item_is, next_is}
 use Rattle.tw_heap.specs.Entries.{Events, message_of}
 use Rattle.tw_msgs.specs.Counting.{total, one_at}
@@ -19,8 +19,10 @@ use Rattle.tw_theory.proofs.Elements.{head_same, tail_same}
 use Rattle.tw_theory.proofs.Owing.{anew-append, still-append, out-append, after-append}
 use Rattle.tw_lists.specs.Lists.{Lists, with_sent_again, with_overdue_posted, with_all_sent}
 use Rattle.tw_lists.specs.Nodes.{contents, spare_of, IsKept, AreOf, index_of, overdue_nodes, not_overdue_nodes, IsSettled, IsPosted}
+use Rattle.tw_lists.specs.Falling.{IsFalling, AreOverdue, IsLastTimely}
 use Rattle.tw_lists.specs.Lists.{Nodes, message_at, item_at}
 use Rattle.tw_lists.proofs.Finding.{found_at}
+use Rattle.tw_lists.proofs.Falling.{falling_without, overdue_split}
 use Rattle.tw_lists.proofs.Found.{pushed_other}
 use Rattle.tw_lists.proofs.Signs.{are_cons, are_push, are_out}
 use Rattle.tw_lists.proofs.Sends.{Changed, changed_kept, changed_contents}
@@ -41,6 +43,7 @@ pub record Resent (lists now : List Nodes) (room spare room0 spare0 : ℕ) (heap
   pub kept : IsKept now heap
   pub waiting_stays : list_at now 4 ≡ list_at lists 4
   pub owed_is : list_at now 5 ≡ list_at (without_node index lists) 5
+  pub falls : IsFalling (list_at lists 5) → IsFalling (list_at now 5)
   pub contents_is : contents now room spare heap.entries ≡ record (with_sent_again m (contents lists room0 spare0 heap.entries)) { room = room; spare = spare }
 
 pub resent_kept : (lists now : List Nodes) (room spare room0 spare0 : ℕ) (heap : Events) (index : ℕ) (m : Message) → IsKept lists heap → length lists ≡ 6 → AreDistinct lists → index_of m (list_at lists 5) ≡ Some index
@@ -64,6 +67,7 @@ resent_kept lists now room spare room0 spare0 heap index m kept six distinct is 
       kept = changed_kept lists now sent (list_at lists 3) owed heap kept change (are_push anti (list_at lists 2) (index, item) kept.signed.sent out.0) out.1;
       waiting_stays = move.others 4 (λ e. omega (arith, e)) (λ e. omega (arith, e));
       owed_is = pushed_other (without_node index lists) now 2 5 (index, item) (λ e. omega (arith, e)) now_is;
+      falls = λ falls. subst IsFalling (sym move.left) (falling_without at.before at.behind (index, item) (subst IsFalling at.split falls));
       contents_is =
           changed_contents lists now sent (list_at lists 3) owed room spare heap change
           ∙ (λ i. record {
@@ -195,7 +199,7 @@ take_more {A = A} k l x r is = go k l is
     go (suc k) [] is = absurd (cc)
     go (suc k) (y ∷ l) is = ap (λ n. take n (y ∷ l)) (add-one (suc k)) ∙ ap (λ z. y ∷ z) (ap (λ n. take n l) (sym (add-one k)) ∙ go k l is)
 
-overdue-append : (s : ℕ) (xs ys : Nodes) → (overdue_nodes s (xs ++ ys) ≡ overdue_nodes s xs ++ overdue_nodes s ys) × (not_overdue_nodes s (xs ++ ys) ≡ not_overdue_nodes s xs ++ not_overdue_nodes s ys)
+pub overdue-append : (s : ℕ) (xs ys : Nodes) → (overdue_nodes s (xs ++ ys) ≡ overdue_nodes s xs ++ overdue_nodes s ys) × (not_overdue_nodes s (xs ++ ys) ≡ not_overdue_nodes s xs ++ not_overdue_nodes s ys)
 overdue-append s [] ys = (refl, refl)
 overdue-append s (x ∷ xs) ys = go (is_overdue x.1.message.stamp s) (overdue-append s xs ys)
   where
@@ -306,7 +310,7 @@ pub live_at : (o : Option ℕ) (lists later : List Nodes) → ((each : ℕ) → 
 live_at None lists later same live = tt
 live_at (Some index) lists later same live = subst (λ o. IsSome o) (sym (same index)) live
 
-overdue_messages : (s : ℕ) (l : Nodes) → (map message_at (overdue_nodes s l) ≡ overdue s (map message_at l)) × (map message_at (not_overdue_nodes s l) ≡ not_overdue s (map message_at l))
+pub overdue_messages : (s : ℕ) (l : Nodes) → (map message_at (overdue_nodes s l) ≡ overdue s (map message_at l)) × (map message_at (not_overdue_nodes s l) ≡ not_overdue s (map message_at l))
 overdue_messages s [] = (refl, refl)
 overdue_messages s (x ∷ l) = go (is_overdue x.1.message.stamp s) (overdue_messages s l)
   where
@@ -315,6 +319,26 @@ overdue_messages s (x ∷ l) = go (is_overdue x.1.message.stamp s) (overdue_mess
         × (map message_at (cond b (not_overdue_nodes s l) (x ∷ not_overdue_nodes s l)) ≡ cond b (not_overdue s (map message_at l)) (x.1.message ∷ not_overdue s (map message_at l)))
     go true rest = (ap (λ z. x.1.message ∷ z) rest.0, rest.1)
     go false rest = (rest.0, ap (λ z. x.1.message ∷ z) rest.1)
+
+-- the overdue ones are the last, and have moved
+pub posted_last : (lists now : List Nodes) (s n : ℕ) → length lists ≡ 6 → IsFalling (list_at lists 5) → IsLastTimely s (take (length (list_at lists 5) - n) (list_at lists 5)) → AreOverdue s (drop (length (list_at lists 5) - n) (list_at lists 5))
+    → now ≡ with_last_moved lists 5 n 3 → IsSettled s (length (list_at lists 5)) lists now × (list_at now 5 ≡ take (length (list_at lists 5) - n) (list_at lists 5))
+posted_last lists now s n six falls timely overdue is =
+    let l = list_at lists 5 in
+    let k = length l - n in
+    let left = set lists 5 (take k l) in
+    let parts = overdue_split s (take k l) (drop k l) (subst IsFalling (sym (take-append-drop k l)) falls) timely overdue in
+    let whole : take (length l) l ≡ take k l ++ drop k l = take_all (length l) l (omega arith) ∙ sym (take-append-drop k l) in
+    let owed : list_at now 5 ≡ take k l = ap (λ ls. list_at ls 5) is ∙ get_or-set_other left 3 5 (list_at left 3 ++ drop k l) [] (λ e. omega (arith, e)) ∙ get_or-set_same lists 5 (take k l) [] (omega (arith, six)) in (
+      record {
+        count = ap length is ∙ length-set left 3 (list_at left 3 ++ drop k l) ∙ length-set lists 5 (take k l);
+        owed_is = owed ∙ sym (append-nil (take k l)) ∙ ap₂ (λ x y. x ++ y) (sym (ap (not_overdue_nodes s) whole ∙ parts.1)) (sym (drop_all (length l) l (omega arith)));
+        outgoing_is = ap (λ ls. list_at ls 3) is ∙ get_or-set_same left 3 (list_at left 3 ++ drop k l) [] (omega (arith, six, length-set lists 5 (take k l)))
+            ∙ ap₂ (λ x y. x ++ y) (get_or-set_other lists 5 3 (take k l) [] (λ e. omega (arith, e))) (sym (ap (overdue_nodes s) whole ∙ parts.0));
+        others = λ j three five. ap (λ ls. list_at ls j) is ∙ get_or-set_other left 3 j (list_at left 3 ++ drop k l) [] three ∙ get_or-set_other lists 5 j (take k l) [] five;
+      },
+      owed,
+    )
 
 pub record Settled (lists now : List Nodes) (s room top top' : ℕ) (heap : Events) : Type 0 where
   pub kept : IsKept now heap

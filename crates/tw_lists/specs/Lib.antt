@@ -1,3 +1,4 @@
 pub mod Lists
 pub mod Nodes
+pub mod Falling
 pub mod Finders

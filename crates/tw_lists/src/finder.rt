@@ -1,8 +1,9 @@
 //! Messages of a list found without a walk through it.
 
 ghost use Rattle.std.specs.HashMap.{get};
-ghost use Rattle.std.specs.Prelude.{◌≡◌, ◌+◌, ◌-◌, ◌<◌, ◌≤◌, ◌^◌, IfSome, IsTrue, Some, [], ◌∷◌, ◌++◌, drop, false, length};
+ghost use Rattle.std.specs.Prelude.{◌≡◌, ℕ, ◌+◌, ◌-◌, ◌<◌, ◌≤◌, ◌^◌, IfSome, IsTrue, Some, [], ◌∷◌, ◌++◌, drop, take, false, length};
 ghost use Rattle.tw_pool.specs.Lists.{IsLive, first_of, list_at, without};
+ghost use Rattle.tw_lists.specs.Falling.{AreOverdue, IsLastTimely};
 ghost use Rattle.tw_lists.specs.Finders.{Finds, Knows, behind, key_of, same_key};
 ghost use Rattle.tw_lists.specs.Lists.{Nodes};
 ghost use Rattle.tw_lists.specs.Nodes.{index_of};
@@ -12,6 +13,10 @@ use std::alloc::Global;
 use std::collections::HashMap;
 use tw_msgs::{Item, Message};
 use tw_pool::Pool;
+use tw_vtime::Stamp;
+
+// So many nodes are walked through sooner than their messages are hashed.
+const FEW: usize = 16;
 
 /// What a message is found by: its fields.
 #[derive(Clone, Copy, PartialEq, Eq, Hash, Drop)]
@@ -32,7 +37,7 @@ pub(crate) struct Equals {
 /// Finds the first node of a list that has a message.
 ///
 /// The last `late` nodes of the list are not known yet: a list grows without memory, and its nodes are learned where memory may
-/// be asked for.
+/// be asked for. Of a short list nothing is learned: it is walked through.
 #[derive(Drop)]
 pub(crate) struct Finder {
     pub(crate) known: HashMap<Key, Equals>,
@@ -85,7 +90,7 @@ impl Finder {
         self.late = n;
     }
 
-    /// Learns of the late nodes of the list as many as memory allows.
+    /// Learns of the late nodes of the list as many as memory allows, but nothing of a few.
     pub(crate) fn learn(&mut self, pool: &Pool<Item, 6>, list: usize)
         requires list { list < 6 }
         requires finds { Finds self.old.known self.old.late (list_at pool.now.lists list) }
@@ -93,6 +98,9 @@ impl Finder {
     {
         pool.lists_law();
         let late = self.late;
+        if late <= FEW && self.known.is_empty() {
+            return;
+        }
         let mut at = first_of_last(pool, list, late);
         for _ in 0..late {
             let Some(index) = at else {
@@ -133,6 +141,52 @@ impl Finder {
             let _ = self.known.insert(key_of(message), Equals { first, count });
         }
     }
+
+    /// The nodes at the end of the list that were sent before this stamp are about to leave it, as many as stand there one after
+    /// another. Answers how many.
+    pub(crate) fn leave_overdue(&mut self, pool: &Pool<Item, 6>, list: usize, next: Stamp) -> usize
+        requires list { list < 6 }
+        requires finds { Finds self.old.known self.old.late (list_at pool.now.lists list) }
+        ensures within { result ≤ length (list_at pool.now.lists list) }
+        ensures finds { Finds self.new.known self.new.late (take (length (list_at pool.now.lists list) - result) (list_at pool.now.lists list)) }
+        ensures overdue { AreOverdue next (drop (length (list_at pool.now.lists list) - result) (list_at pool.now.lists list)) }
+        ensures last { IsLastTimely next (take (length (list_at pool.now.lists list) - result) (list_at pool.now.lists list)) }
+    {
+        pool.lists_law();
+        let mut at = pool.last(list);
+        for count in 0..pool.len(list) {
+            let Some(index) = at else {
+                return count;
+            };
+            let message = &pool.get(index).message;
+            if !message.stamp.is_overdue(next) {
+                return count;
+            }
+            self.leave_last(message);
+            at = pool.prev(index);
+        }
+        pool.len(list)
+    }
+
+    /// The last node of the list, which has this message, is about to leave it.
+    fn leave_last(&mut self, message: &Message)
+        ensures { (nodes : Nodes) (node : ℕ × Item) → node.1.message ≡ message.now → Finds self.old.known self.old.late (nodes ++ node ∷ []) → Finds self.new.known self.new.late nodes }
+    {
+        if self.late > 0 {
+            self.late -= 1;
+            return;
+        }
+        let Some(equals) = look_up(&self.known, message) else {
+            return;
+        };
+        if equals.count < 2 {
+            let _ = self.known.remove(&key_of(message));
+            return;
+        }
+        let count = equals.count - 1;
+        let first = equals.first;
+        let _ = self.known.insert(key_of(message), Equals { first, count });
+    }
 }
 
 /// What a message is found by.
@@ -151,6 +205,9 @@ fn key_of(message: &Message) -> Key
 fn look_up(known: &HashMap<Key, Equals>, message: &Message) -> Option<Equals>
     ensures { result ≡ get same_key known.now (key_of message.now) }
 {
+    if known.is_empty() {
+        return None;
+    }
     known.get(&key_of(message)).copied()
 }
 

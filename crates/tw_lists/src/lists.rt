@@ -36,6 +36,9 @@ pub struct EventLists {
     // Where the waiting and the owed messages stand.
     pub(crate) waiting: Finder,
     pub(crate) owed: Finder,
+    // Whether the stamps of the owed messages are known to fall, or to stay, from each to the next: so they do where steps are taken
+    // back one after another, and then the least stamp is the last one's.
+    pub(crate) falling: bool,
 }
 
 impl Model for EventLists {
@@ -44,13 +47,14 @@ impl Model for EventLists {
     ghost use Rattle.tw_lists.specs.Lists.{Lists};
     ghost use Rattle.tw_lists.specs.Nodes.{contents, spare_of, IsKept};
     ghost use Rattle.tw_lists.specs.Finders.{AreFound};
+    ghost use Rattle.tw_lists.specs.Falling.{FallIf};
 
     ghost Value = { Lists };
 
     ghost view = { λ s. contents s.pool.lists s.pool.room
         (spare_of s.pool.top s.heap (length (list_at s.pool.lists 1))) s.heap.entries };
 
-    ghost invariant = { λ s. IsKept s.pool.lists s.heap × AreFound s.waiting s.owed s.pool.lists };
+    ghost invariant = { λ s. IsKept s.pool.lists s.heap × AreFound s.waiting s.owed s.pool.lists × FallIf s.falling (list_at s.pool.lists 5) };
 }
 
 impl EventLists {
@@ -69,6 +73,7 @@ impl EventLists {
             heap: EventHeap::new(alloc),
             waiting: Finder::new(alloc),
             owed: Finder::new(alloc),
+            falling: true,
         }
     }
 

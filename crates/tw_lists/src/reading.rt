@@ -4,7 +4,8 @@ ghost use Rattle.std.specs.Prelude.{◌≡◌, ◌<◌, IfOk, length, map, nat_l
 ghost use Rattle.std.specs.Map.{lookup};
 ghost use Rattle.tw_heap.specs.Entries.{message_of};
 ghost use Rattle.tw_pool.specs.Lists.{list_at};
-ghost use Rattle.tw_theory.specs.Bundles.{least_owed, least_stamp};
+ghost use Rattle.tw_theory.specs.Bundles.{least_owed, least_stamp, overdue};
+ghost use Rattle.tw_lists.specs.Falling.{IsFalling, NoneBefore};
 ghost use Rattle.tw_lists.specs.Lists.{item_at, message_at, AreSame, PoolHolds};
 
 use crate::lists::{EventLists, OUTGOING, OWED, PENDING, WAITING};
@@ -84,6 +85,19 @@ impl EventLists {
         messages_in(self.alloc, &self.pool, OWED)
     }
 
+    /// The owed messages that were sent before this stamp, in order. Where steps were taken back one after another it looks at no
+    /// others.
+    pub fn overdue(&self, next: Stamp) -> Result<Vec<Message>, AllocError>
+        ensures { IfOk result (λ messages. messages.items ≡ overdue next self.now.owed) }
+    {
+        let from = if self.falling {
+            first_overdue(&self.pool, next)
+        } else {
+            self.pool.first(OWED)
+        };
+        overdue_from(self.alloc, &self.pool, from, next)
+    }
+
     /// The least stamp of the outgoing items, or the end.
     pub fn least_outgoing(&self) -> Stamp
         ensures { result ≡ least_stamp self.now.outgoing }
@@ -95,7 +109,11 @@ impl EventLists {
     pub fn least_owed(&self) -> Stamp
         ensures { result ≡ least_owed self.now.owed }
     {
-        least_in(&self.pool, OWED)
+        if self.falling {
+            last_in(&self.pool, OWED)
+        } else {
+            least_in(&self.pool, OWED)
+        }
     }
 
     /// The pool: lists of pending (in any order), consumed, sent, outgoing, waiting and owed messages, numbered from 0.
@@ -163,6 +181,70 @@ fn messages_in(alloc: Global, pool: &Pool<Item, 6>, list: usize) -> Result<Vec<M
         }
     }
     Ok(messages)
+}
+
+/// The first owed node that was sent before a stamp, or none, where the stamps fall.
+fn first_overdue(pool: &Pool<Item, 6>, next: Stamp) -> Option<usize>
+    requires { IsFalling (list_at pool.now.lists 5) }
+    ensures { NoneBefore next result (list_at pool.now.lists 5) }
+{
+    pool.lists_law();
+    let mut first = None;
+    let mut before = pool.last(OWED);
+    for _ in 0..pool.len(OWED) {
+        let Some(index) = before else {
+            return first;
+        };
+        if !pool.get(index).message.stamp.is_overdue(next) {
+            return first;
+        }
+        first = before;
+        before = pool.prev(index);
+    }
+    first
+}
+
+/// The owed messages that were sent before a stamp, where none of those before a node was.
+fn overdue_from(
+    alloc: Global,
+    pool: &Pool<Item, 6>,
+    from: Option<usize>,
+    next: Stamp,
+) -> Result<Vec<Message>, AllocError>
+    requires { NoneBefore next from (list_at pool.now.lists 5) }
+    ensures { IfOk result (λ messages. messages.items ≡ overdue next (map message_at (list_at pool.now.lists 5))) }
+{
+    pool.lists_law();
+    let mut messages = Vec::new(alloc);
+    let mut at = from;
+    for _ in 0..pool.len(OWED) {
+        let Some(index) = at else {
+            return Ok(messages);
+        };
+        let message = pool.get(index).message;
+        if message.stamp.is_overdue(next) {
+            messages.push(message)?;
+        }
+        at = pool.next(index);
+    }
+    Ok(messages)
+}
+
+/// The stamp of the last node of a list, or the end. It is the least one where the stamps fall.
+fn last_in(pool: &Pool<Item, 6>, list: usize) -> Stamp
+    requires list { list < 6 }
+    requires falling { IsFalling (list_at pool.now.lists list) }
+    ensures { result ≡ least_stamp (map item_at (list_at pool.now.lists list)) }
+{
+    pool.lists_law();
+    match pool.last(list) {
+        Some(index) => {
+            let stamp = pool.get(index).message.stamp;
+            stamp.facts();
+            stamp
+        }
+        None => Stamp::END,
+    }
 }
 
 /// The least stamp of a list, or the end.

@@ -1,8 +1,9 @@
 //! Messages taken back: as anti-messages, or owed, and what is owed for too long.
 
-ghost use Rattle.std.specs.Prelude.{Some, ◌≡◌, ℕ, ◌≤◌, length};
+ghost use Rattle.std.specs.Prelude.{Some, ◌≡◌, ℕ, ◌-◌, ◌<◌, ◌≤◌, ◌++◌, IfSome, IsTrue, drop, length};
 ghost use Rattle.tw_pool.specs.Lists.{list_at, item_of, IsLive};
 ghost use Rattle.tw_theory.specs.Contents.{Aggressive, Lazy};
+ghost use Rattle.tw_lists.specs.Falling.{AreUpTo, IsFalling};
 ghost use Rattle.tw_lists.specs.Lists.{cancelled, with_overdue_posted};
 ghost use Rattle.tw_lists.specs.Nodes.{IsSettled, IsPosted};
 
@@ -39,6 +40,8 @@ impl EventLists {
         ensures { self.new ≡ cancelled Lazy n self.old }
     {
         self.pool.lists_law();
+        let falls = falls_behind(&self.pool, n);
+        self.falling = self.falling && falls;
         self.pool.relink_last(SENT, n, OWED);
         self.owed.grow(n);
     }
@@ -47,14 +50,67 @@ impl EventLists {
     pub fn settle(&mut self, next: Stamp)
         ensures { self.new ≡ with_overdue_posted next self.old }
     {
+        if !self.falling {
+            self.settle_all(next);
+            return;
+        }
+        // Those that are overdue are the last ones.
+        self.pool.lists_law();
+        let count = self.owed.leave_overdue(&self.pool, OWED, next);
+        self.pool.relink_last(OWED, count, OUTGOING);
+    }
+
+    /// As [`settle`](EventLists::settle) does, in whatever order the stamps are. It looks whether those that are left fall.
+    fn settle_all(&mut self, next: Stamp)
+        ensures { self.new ≡ with_overdue_posted next self.old }
+    {
         self.pool.lists_law();
         let before = self.pool.len(OWED);
         post_overdue(&mut self.pool, next);
         let left = self.pool.len(OWED);
+        self.falling = top_of_last(&self.pool, OWED, left).is_some();
         if left < before {
             self.owed.forget(left);
         }
     }
+}
+
+/// Whether the last `n` sent nodes, behind the owed ones, fall, as those do.
+fn falls_behind(pool: &Pool<Item, 6>, n: usize) -> bool
+    requires { n ≤ length (list_at pool.now.lists 2) }
+    ensures { IsTrue result → IsFalling (list_at pool.now.lists 5) → IsFalling (list_at pool.now.lists 5 ++ drop (length (list_at pool.now.lists 2) - n) (list_at pool.now.lists 2)) }
+{
+    pool.lists_law();
+    let Some(top) = top_of_last(pool, SENT, n) else {
+        return false;
+    };
+    match pool.last(OWED) {
+        Some(index) => top <= pool.get(index).message.stamp,
+        None => true,
+    }
+}
+
+/// The greatest stamp of the last `n` nodes of a list, where their stamps fall.
+fn top_of_last(pool: &Pool<Item, 6>, list: usize, n: usize) -> Option<Stamp>
+    requires list { list < 6 }
+    requires n { n ≤ length (list_at pool.now.lists list) }
+    ensures falling { IfSome result (λ top. IsFalling (drop (length (list_at pool.now.lists list) - n) (list_at pool.now.lists list))) }
+    ensures top { IfSome result (λ top. AreUpTo top (drop (length (list_at pool.now.lists list) - n) (list_at pool.now.lists list))) }
+{
+    pool.lists_law();
+    let mut top = Stamp::START;
+    let mut at = pool.last(list);
+    for _ in 0..n {
+        if let Some(index) = at {
+            let stamp = pool.get(index).message.stamp;
+            if stamp < top {
+                return None;
+            }
+            top = stamp;
+            at = pool.prev(index);
+        }
+    }
+    Some(top)
 }
 
 /// Each owed node that was sent before the next step goes to the outgoing list.

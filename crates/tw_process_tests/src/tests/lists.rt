@@ -275,6 +275,69 @@ static FORGOTTEN: Scene = Scene {
     owed: &[(7, 0, 3), (8, 0, 4)],
 };
 
+/// Messages that are taken back one after another, the last first: what is owed for too long is behind the others.
+static OWED_IN_TURN: Scene = Scene {
+    acts: &[
+        (
+            Act::Send(&[(5, 0, 1), (6, 0, 2), (7, 0, 3)], Cancel::Lazy, 3),
+            [0, 0, 3, 3, 0, 0],
+        ),
+        (Act::Post, [0, 0, 3, 0, 0, 0]),
+        (Act::TakeBack(1, Cancel::Lazy), [0, 0, 2, 0, 0, 1]),
+        (Act::TakeBack(1, Cancel::Lazy), [0, 0, 1, 0, 0, 2]),
+        (Act::TakeBack(1, Cancel::Lazy), [0, 0, 0, 0, 0, 3]),
+        (Act::Settle(5, 0), [0, 0, 0, 0, 0, 3]),
+        (Act::Settle(6, 0), [0, 0, 0, 1, 0, 2]),
+    ],
+    pending: &[],
+    outgoing: &[(Sign::Anti, 5, 1)],
+    waiting: &[],
+    owed: &[(7, 0, 3), (6, 0, 2)],
+};
+
+/// Messages that are owed in no order: what is owed for too long is among them.
+static OWED_IN_NO_ORDER: Scene = Scene {
+    acts: &[
+        (
+            Act::Send(&[(6, 0, 2), (7, 0, 3)], Cancel::Lazy, 2),
+            [0, 0, 2, 2, 0, 0],
+        ),
+        (Act::Post, [0, 0, 2, 0, 0, 0]),
+        (Act::TakeBack(1, Cancel::Lazy), [0, 0, 1, 0, 0, 1]),
+        (Act::TakeBack(1, Cancel::Lazy), [0, 0, 0, 0, 0, 2]),
+        (Act::SendOne((8, 0, 4)), [0, 0, 1, 1, 0, 2]),
+        (Act::SendOne((9, 0, 5)), [0, 0, 2, 2, 0, 2]),
+        (Act::TakeBack(2, Cancel::Lazy), [0, 0, 0, 2, 0, 4]),
+        (Act::Settle(7, 0), [0, 0, 0, 3, 0, 3]),
+    ],
+    pending: &[],
+    outgoing: &[
+        (Sign::Positive, 8, 4),
+        (Sign::Positive, 9, 5),
+        (Sign::Anti, 6, 2),
+    ],
+    waiting: &[],
+    owed: &[(7, 0, 3), (8, 0, 4), (9, 0, 5)],
+};
+
+/// Asserts which of the owed messages were sent before a tick's output.
+fn assert_overdue(rt: &impl Abort, lists: &EventLists, tick: u64, expected: &[Said]) {
+    let overdue = lists.overdue(stamp(rt, tick, 0, 0)).expect(rt, "memory");
+    assert_messages(rt, overdue.as_slice(), 0, expected);
+}
+
+#[test]
+fn what_is_owed_for_too_long_is_found(rt: HostRuntime) {
+    let lists = play(&rt, rt.alloc(), &OWED_IN_TURN);
+    assert!(rt; lists.least_owed() == stamp(&rt, 6, 0, 1));
+    assert_overdue(&rt, &lists, 6, &[]);
+    assert_overdue(&rt, &lists, 7, &[(6, 0, 2)]);
+    assert_overdue(&rt, &lists, 8, &[(7, 0, 3), (6, 0, 2)]);
+    let lists = play(&rt, rt.alloc(), &OWED_IN_NO_ORDER);
+    assert!(rt; lists.least_owed() == stamp(&rt, 7, 0, 1));
+    assert_overdue(&rt, &lists, 9, &[(7, 0, 3), (8, 0, 4)]);
+}
+
 #[test]
 fn messages_are_sent_owed_sent_again_and_forgotten(rt: HostRuntime) {
     let lists = play(&rt, rt.alloc(), &SENT);

@@ -5,7 +5,7 @@ use Rattle.tw_lists.specs.Lists.{with_room, without_orphan}
 use Rattle.tw_lists.specs.Nodes.{spare_of}
 use Rattle.tw_msgs.proofs.MessageLists.{without_absent}
 use Rattle.tw_lists.proofs.Finding.{has_is}
-use Rattle.tw_lists.proofs.Found.{finds_at}
+use Rattle.tw_lists.proofs.Found.{finds_at, fall_at}
 use Rattle.tw_lists.proofs.Comings.{Cleared, cleared_kept, found_live}
 use Rattle.tw_lists.proofs.lists.EventLists.clear_orphan.Goals.{After-take}
 use Rattle.tw_lists.proofs.lists.EventLists.clear_orphan.Goals as goal
@@ -25,6 +25,7 @@ invariant_of-self c = (
     finds_at c.leave.new.self.known c.leave.new.self.late (list_at (without c.in-Some.index c.self.inside.pool.lists) 4) (list_at c.take.new.self.lists 4) (ap (λ ls. list_at ls 4) c.take.ensures.lists) c.leave.ensures,
     finds_at c.self.inside.owed.known c.self.inside.owed.late (list_at c.self.inside.pool.lists 5) (list_at c.take.new.self.lists 5) (all c).owed_stays c.self.invariant.1.1,
   ),
+  fall_at c.self.inside.falling (list_at c.self.inside.pool.lists 5) (list_at c.take.new.self.lists 5) (all c).owed_stays c.self.invariant.2,
 )
 
 pub returns-clause-contents : goal.returns-clause-contents

@@ -5,7 +5,7 @@ use Rattle.tw_pool.specs.Lists.{list_at}
 use Rattle.tw_lists.specs.Lists.{first_consumed}
 use Rattle.tw_lists.specs.Nodes.{contents, spare_of}
 use Rattle.tw_lists.proofs.NodeMoves.{consumed_kept, first_live, Consumed}
-use Rattle.tw_lists.proofs.Found.{found_same}
+use Rattle.tw_lists.proofs.Found.{found_same, fall_at}
 use Rattle.tw_lists.proofs.lists.EventLists.consume_first.Goals.{After-relink}
 use Rattle.tw_lists.proofs.lists.EventLists.consume_first.Goals as goal
 
@@ -23,7 +23,7 @@ relink-requires c =
     (search rules, (first_live c.self.inside.pool.lists c.self.inside.heap c.in-Some.entry at.rest c.self.invariant.0 c.lists_law.ensures.count c.lists_law.ensures.distinct at.split, omega arith))
 
 pub invariant_of-self : goal.invariant_of-self
-invariant_of-self c = let all = consumed (goal.at.invariant_of-self c).After-relink in (all.kept, found_same c.self.inside.waiting c.self.inside.owed c.self.inside.pool.lists c.relink.new.self.lists all.untouched c.self.invariant.1)
+invariant_of-self c = let all = consumed (goal.at.invariant_of-self c).After-relink in (all.kept, found_same c.self.inside.waiting c.self.inside.owed c.self.inside.pool.lists c.relink.new.self.lists all.untouched c.self.invariant.1, fall_at c.self.inside.falling (list_at c.self.inside.pool.lists 5) (list_at c.relink.new.self.lists 5) all.untouched.owed c.self.invariant.2)
 
 pub returns-in-Some : goal.returns-in-Some
 returns-in-Some c =

@@ -5,7 +5,7 @@ use Rattle.tw_lists.specs.Lists.{with_room, forgotten}
 use Rattle.tw_lists.specs.Nodes.{spare_of}
 use Rattle.tw_lists.specs.Lists.{message_at}
 use Rattle.tw_lists.proofs.Comings.{Forgotten, forgotten_kept, sent_there}
-use Rattle.tw_lists.proofs.Found.{found_same}
+use Rattle.tw_lists.proofs.Found.{found_same, fall_at}
 use Rattle.tw_lists.proofs.lists.EventLists.forget.Goals.{After-cut_front-2}
 use Rattle.tw_lists.proofs.lists.EventLists.forget.Goals as goal
 
@@ -14,7 +14,7 @@ all c = forgotten_kept c.self.inside.pool.lists c.cut_front-2.new.self.lists c.a
     c.self.invariant.0 c.lists_law.ensures.count (c.cut_front-2.ensures.lists ∙ ap (λ ls. without_first ls 2 c.args.sent) c.cut_front.ensures.lists)
 
 pub invariant_of-self : goal.invariant_of-self
-invariant_of-self c = let done = all c in (done.kept, found_same c.self.inside.waiting c.self.inside.owed c.self.inside.pool.lists c.cut_front-2.new.self.lists done.untouched c.self.invariant.1)
+invariant_of-self c = let done = all c in (done.kept, found_same c.self.inside.waiting c.self.inside.owed c.self.inside.pool.lists c.cut_front-2.new.self.lists done.untouched c.self.invariant.1, fall_at c.self.inside.falling (list_at c.self.inside.pool.lists 5) (list_at c.cut_front-2.new.self.lists 5) done.untouched.owed c.self.invariant.2)
 
 pub returns : goal.returns
 returns c = (all c).contents_is ∙ ap (λ v. with_room c.cut_front-2.new.self.room (spare_of c.cut_front-2.new.self.top c.self.inside.heap (length (list_at c.cut_front-2.new.self.lists 1))) (forgotten c.args.consumed c.args.sent v)) c.self.view_is

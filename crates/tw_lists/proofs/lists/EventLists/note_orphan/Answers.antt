@@ -6,7 +6,7 @@ use Rattle.tw_theory.specs.Bundles.{anti}
 use Rattle.tw_lists.specs.Lists.{node_count}
 use Rattle.tw_lists.specs.Nodes.{spare_of}
 use Rattle.tw_lists.proofs.Counts.{count_is}
-use Rattle.tw_lists.proofs.Found.{pushed_there, pushed_other, within_limit, late_within, finds_at, finds_more}
+use Rattle.tw_lists.proofs.Found.{pushed_there, pushed_other, within_limit, late_within, finds_at, fall_at, finds_more}
 use Rattle.tw_lists.proofs.Comings.{orphan_kept}
 use Rattle.tw_lists.proofs.lists.EventLists.note_orphan.Goals.{After-push_back, In-Ok}
 use Rattle.tw_lists.proofs.lists.EventLists.note_orphan.Goals as goal
@@ -29,14 +29,11 @@ learn-requires-clause-finds c =
 
 pub invariant_of-self : goal.invariant_of-self
 invariant_of-self c =
-    let is = added (goal.at.invariant_of-self c).In-Ok in (
+    let is = added (goal.at.invariant_of-self c).In-Ok in
+    let stays = pushed_other c.self.inside.pool.lists c.push_back.new.self.lists 4 5 (c.in-Ok._index, anti c.args.message) (λ e. omega (arith, e)) is in (
       orphan_kept c.self.inside.pool.lists c.push_back.new.self.lists c.self.inside.heap c.in-Ok._index c.args.message c.self.invariant.0 c.lists_law.ensures.count is,
-      (
-        c.learn.ensures,
-        finds_at c.self.inside.owed.known c.self.inside.owed.late (list_at c.self.inside.pool.lists 5) (list_at c.push_back.new.self.lists 5)
-            (pushed_other c.self.inside.pool.lists c.push_back.new.self.lists 4 5 (c.in-Ok._index, anti c.args.message) (λ e. omega (arith, e)) is)
-            c.self.invariant.1.1,
-      ),
+      (c.learn.ensures, finds_at c.self.inside.owed.known c.self.inside.owed.late (list_at c.self.inside.pool.lists 5) (list_at c.push_back.new.self.lists 5) stays c.self.invariant.1.1),
+      fall_at c.self.inside.falling (list_at c.self.inside.pool.lists 5) (list_at c.push_back.new.self.lists 5) stays c.self.invariant.2,
     )
 
 count : (c : After-push_back) → live_count c.self.inside.pool.lists ≡ node_count c.args.self.now

@@ -1,12 +1,13 @@
-use Rattle.std.proofs.Common.{◌≤◌, ap, ◌∙◌, arith, length}
+use Rattle.std.proofs.Common.{◌≤◌, ◌++◌, ap, sym, subst, ◌∙◌, arith, length}
 use Rattle.std.proofs.lemmas.List.{length-map}
 use Rattle.tw_pool.specs.Lists.{list_at}
 use Rattle.tw_theory.specs.Contents.{Lazy}
+use Rattle.tw_lists.specs.Falling.{IsFalling}
 use Rattle.tw_lists.specs.Lists.{cancelled, message_at}
 use Rattle.tw_lists.specs.Nodes.{contents, spare_of}
 use Rattle.tw_lists.proofs.Found.{Owing, owing, within_limit, late_within, finds_at, finds_more}
 use Rattle.tw_lists.proofs.Sends.{owed_kept}
-use Rattle.tw_lists.proofs.lists.EventLists.owe.Goals.{After-relink_last}
+use Rattle.tw_lists.proofs.lists.EventLists.owe.Goals.{After-relink_last, then-self, else-self}
 use Rattle.tw_lists.proofs.lists.EventLists.owe.Goals as goal
 
 within : (c : After-relink_last) → c.args.n ≤ length (list_at c.self.inside.pool.lists 2)
@@ -30,6 +31,12 @@ invariant_of-self c =
         finds_more c.self.inside.owed.known c.grow.new.self.known c.self.inside.owed.late c.grow.new.self.late (list_at c.self.inside.pool.lists 5) more.more (list_at c.relink_last.new.self.lists 5)
             c.grow.ensures.known (omega (arith, c.grow.ensures.late, more.count)) more.owed c.self.invariant.1.1,
       ),
+      λ falling. subst IsFalling (sym (more.owed ∙ ap (λ l. list_at c.self.inside.pool.lists 5 ++ l) more.more_is)) (
+          elim c.if-self.branch [
+            | then-self w ↦ c.falls_behind-falls.ensures (sym w.self-is ∙ falling) (c.self.invariant.2 w.if-self.true)
+            | else-self w ↦ absurd (let no = sym w.self-is ∙ falling in cc no)
+          ]
+          ),
     )
 
 pub returns : goal.returns

@@ -5,7 +5,7 @@ use Rattle.tw_lists.specs.Lists.{with_room, with_pending}
 use Rattle.tw_lists.specs.Nodes.{spare_of}
 use Rattle.tw_lists.specs.Lists.{event}
 use Rattle.tw_lists.proofs.Comings.{Put, put_kept, Pushed, pushed, Spare, spare_means}
-use Rattle.tw_lists.proofs.Found.{found_same}
+use Rattle.tw_lists.proofs.Found.{found_same, fall_at}
 use Rattle.tw_lists.proofs.lists.EventLists.put_reserved.Goals.{After-lists_law-in-Ok, After-insert}
 use Rattle.tw_lists.proofs.lists.EventLists.put_reserved.Goals as goal
 
@@ -36,7 +36,7 @@ pub invariant_of-self : goal.invariant_of-self
 invariant_of-self c =
     let at = (goal.at.invariant_of-self c).After-lists_law-in-Ok in
     let done = all c (push at) (means at) in
-    (done.kept, found_same c.self.inside.waiting c.self.inside.owed c.self.inside.pool.lists c.push_back.new.self.lists done.untouched c.self.invariant.1)
+    (done.kept, found_same c.self.inside.waiting c.self.inside.owed c.self.inside.pool.lists c.push_back.new.self.lists done.untouched c.self.invariant.1, fall_at c.self.inside.falling (list_at c.self.inside.pool.lists 5) (list_at c.push_back.new.self.lists 5) done.untouched.owed c.self.invariant.2)
 
 pub returns-in-Ok : goal.returns-in-Ok
 returns-in-Ok c =

@@ -6,7 +6,7 @@ use Rattle.tw_lists.specs.Lists.{restored}
 use Rattle.tw_lists.specs.Nodes.{contents, spare_of}
 use Rattle.tw_lists.specs.Lists.{message_at}
 use Rattle.tw_lists.proofs.NodeMoves.{restoring, restored_kept, Restoring, Restored}
-use Rattle.tw_lists.proofs.Found.{found_same}
+use Rattle.tw_lists.proofs.Found.{found_same, fall_at}
 use Rattle.tw_lists.proofs.lists.EventLists.restore_last.Goals.{After-get, After-insert}
 use Rattle.tw_lists.proofs.lists.EventLists.restore_last.Goals as goal
 
@@ -27,7 +27,7 @@ pub insert-requires-clause-vacant : goal.insert-requires-clause-vacant
 insert-requires-clause-vacant c = (at_last (goal.at.insert-requires-clause-vacant c).After-get).vacant
 
 pub invariant_of-self : goal.invariant_of-self
-invariant_of-self c = let done = all (goal.at.invariant_of-self c).After-insert (at_last (goal.at.invariant_of-self c).After-get) in (done.kept, found_same c.self.inside.waiting c.self.inside.owed c.self.inside.pool.lists c.relink.new.self.lists done.untouched c.self.invariant.1)
+invariant_of-self c = let done = all (goal.at.invariant_of-self c).After-insert (at_last (goal.at.invariant_of-self c).After-get) in (done.kept, found_same c.self.inside.waiting c.self.inside.owed c.self.inside.pool.lists c.relink.new.self.lists done.untouched c.self.invariant.1, fall_at c.self.inside.falling (list_at c.self.inside.pool.lists 5) (list_at c.relink.new.self.lists 5) done.untouched.owed c.self.invariant.2)
 
 pub returns-in-Some : goal.returns-in-Some
 returns-in-Some c =

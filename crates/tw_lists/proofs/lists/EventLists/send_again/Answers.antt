@@ -25,6 +25,7 @@ invariant_of-self c = (
     finds_at c.self.inside.waiting.known c.self.inside.waiting.late (list_at c.self.inside.pool.lists 4) (list_at c.relink.new.self.lists 4) (all c).waiting_stays c.self.invariant.1.0,
     finds_at c.leave.new.self.known c.leave.new.self.late (list_at (without c.in-Some.index c.self.inside.pool.lists) 5) (list_at c.relink.new.self.lists 5) (all c).owed_is c.leave.ensures,
   ),
+  λ falling. (all c).falls (c.self.invariant.2 falling),
 )
 
 pub returns-clause-yes : goal.returns-clause-yes

@@ -1,40 +1,42 @@
-use Rattle.std.proofs.Common.{◌≡◌, ap, sym, ◌∙◌, arith, length}
+use Rattle.std.proofs.Common.{◌≡◌, ◌-◌, ap, sym, subst, ◌∙◌, length, take}
 use Rattle.tw_pool.specs.Lists.{list_at}
-use Rattle.tw_lists.specs.Finders.{Finds}
+use Rattle.tw_lists.specs.Falling.{IsFalling}
 use Rattle.tw_lists.specs.Lists.{with_overdue_posted}
-use Rattle.tw_lists.specs.Nodes.{contents, spare_of}
-use Rattle.tw_lists.proofs.Found.{none_overdue, finds_at}
-use Rattle.tw_lists.proofs.Owing.{Settled, settled_kept}
-use Rattle.tw_lists.proofs.lists.EventLists.settle.Goals.{After-post_overdue}
+use Rattle.tw_lists.specs.Nodes.{contents, spare_of, IsSettled}
+use Rattle.tw_lists.proofs.Falling.{falling_take}
+use Rattle.tw_lists.proofs.Found.{finds_at}
+use Rattle.tw_lists.proofs.Owing.{Settled, posted_last, settled_kept}
+use Rattle.tw_lists.proofs.lists.EventLists.settle.Goals.{After-relink_last}
 use Rattle.tw_lists.proofs.lists.EventLists.settle.Goals as goal
 
-all : (c : After-post_overdue) → Settled c.self.inside.pool.lists c.post_overdue.new.pool.lists c.args.next c.post_overdue.new.pool.room c.self.inside.pool.top c.post_overdue.new.pool.top c.self.inside.heap
-all c = settled_kept c.self.inside.pool.lists c.post_overdue.new.pool.lists c.args.next c.post_overdue.new.pool.room c.self.inside.pool.top c.post_overdue.new.pool.top c.self.inside.heap c.self.invariant.0 c.post_overdue.ensures.lists c.post_overdue.ensures.top
+falls : (c : After-relink_last) → IsFalling (list_at c.self.inside.pool.lists 5)
+falls c = c.self.invariant.2 c.if-not-self.false
 
-still_waiting : (c : After-post_overdue) → Finds c.self.inside.waiting.known c.self.inside.waiting.late (list_at c.post_overdue.new.pool.lists 4)
-still_waiting c = finds_at c.self.inside.waiting.known c.self.inside.waiting.late (list_at c.self.inside.pool.lists 4) (list_at c.post_overdue.new.pool.lists 4) (all c).waiting_stays c.self.invariant.1.0
+posted : (c : After-relink_last) → IsSettled c.args.next (length (list_at c.self.inside.pool.lists 5)) c.self.inside.pool.lists c.relink_last.new.self.lists
+    × (list_at c.relink_last.new.self.lists 5 ≡ take (length (list_at c.self.inside.pool.lists 5) - c.leave_overdue-count.result) (list_at c.self.inside.pool.lists 5))
+posted c =
+    posted_last c.self.inside.pool.lists c.relink_last.new.self.lists c.args.next c.leave_overdue-count.result c.lists_law.ensures.count (falls c)
+    c.leave_overdue-count.ensures.last c.leave_overdue-count.ensures.overdue c.relink_last.ensures.lists
+
+all : (c : After-relink_last) → Settled c.self.inside.pool.lists c.relink_last.new.self.lists c.args.next c.relink_last.new.self.room c.self.inside.pool.top c.relink_last.new.self.top c.self.inside.heap
+all c = settled_kept c.self.inside.pool.lists c.relink_last.new.self.lists c.args.next c.relink_last.new.self.room c.self.inside.pool.top c.relink_last.new.self.top c.self.inside.heap c.self.invariant.0 (posted c).0 c.relink_last.ensures.top
 
 pub invariant_of-self : goal.invariant_of-self
 invariant_of-self c =
-    let at = (goal.at.invariant_of-self c).After-post_overdue in
-    ((all at).kept, (still_waiting at, c.forget.ensures (list_at c.post_overdue.new.pool.lists 5) (sym c.len-left.ensures.value)))
-
-pub invariant_of-self-else-left-before : goal.invariant_of-self-else-left-before
-invariant_of-self-else-left-before c =
-    let at = (goal.at.invariant_of-self-else-left-before c).After-post_overdue in
-    let done = all at in
+    let at = (goal.at.invariant_of-self c).After-relink_last in
     let l = list_at c.self.inside.pool.lists 5 in
-    let same = none_overdue c.args.next l (omega (arith, c.len-before.ensures.value, c.len-left.ensures.value, ap length done.owed_is, c.if-left-before.false)) in
-    (done.kept, (still_waiting at, finds_at c.self.inside.owed.known c.self.inside.owed.late l (list_at c.post_overdue.new.pool.lists 5) (done.owed_is ∙ same) c.self.invariant.1.1))
+    let kept = take (length l - c.leave_overdue-count.result) l in
+    let left = (posted at).1 in (
+      (all at).kept,
+      (
+        finds_at c.self.inside.waiting.known c.self.inside.waiting.late (list_at c.self.inside.pool.lists 4) (list_at c.relink_last.new.self.lists 4) (all at).waiting_stays c.self.invariant.1.0,
+        finds_at c.leave_overdue-count.new.self.known c.leave_overdue-count.new.self.late kept (list_at c.relink_last.new.self.lists 5) left c.leave_overdue-count.ensures.finds,
+      ),
+      λ _. subst IsFalling (sym left) (falling_take (length l - c.leave_overdue-count.result) l (falls at)),
+    )
 
-contents_are : (c : After-post_overdue) → contents c.post_overdue.new.pool.lists c.post_overdue.new.pool.room (spare_of c.post_overdue.new.pool.top c.self.inside.heap (length (list_at c.post_overdue.new.pool.lists 1))) c.self.inside.heap.entries ≡ with_overdue_posted c.args.next c.args.self.now
-contents_are c =
+pub returns : goal.returns
+returns c =
     (all c).contents_is
-    ∙ ap (λ r. with_overdue_posted c.args.next (contents c.self.inside.pool.lists r (spare_of c.self.inside.pool.top c.self.inside.heap (length (list_at c.self.inside.pool.lists 1))) c.self.inside.heap.entries)) c.post_overdue.ensures.room
+    ∙ ap (λ r. with_overdue_posted c.args.next (contents c.self.inside.pool.lists r (spare_of c.self.inside.pool.top c.self.inside.heap (length (list_at c.self.inside.pool.lists 1))) c.self.inside.heap.entries)) c.relink_last.ensures.room
     ∙ ap (with_overdue_posted c.args.next) c.self.view_is
-
-pub returns-then-left-before : goal.returns-then-left-before
-returns-then-left-before c = contents_are (goal.at.returns-then-left-before c).After-post_overdue
-
-pub returns-else-left-before : goal.returns-else-left-before
-returns-else-left-before c = contents_are (goal.at.returns-else-left-before c).After-post_overdue

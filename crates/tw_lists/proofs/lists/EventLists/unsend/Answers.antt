@@ -3,7 +3,7 @@ use Rattle.tw_pool.specs.Lists.{list_at}
 use Rattle.tw_theory.specs.Contents.{Aggressive}
 use Rattle.tw_lists.specs.Lists.{cancelled}
 use Rattle.tw_lists.specs.Nodes.{contents, spare_of}
-use Rattle.tw_lists.proofs.Found.{found_same, last_moved_other}
+use Rattle.tw_lists.proofs.Found.{found_same, fall_at, last_moved_other}
 use Rattle.tw_lists.proofs.Sends.{cancelled_kept}
 use Rattle.tw_lists.proofs.lists.EventLists.unsend.Goals as goal
 
@@ -16,6 +16,9 @@ invariant_of-self c = (
         owed = last_moved_other c.self.inside.pool.lists c.relink_last.new.self.lists 2 c.args.n 3 5 (λ e. omega (arith, e)) (λ e. omega (arith, e)) c.relink_last.ensures.lists;
       })
       c.self.invariant.1,
+  fall_at c.self.inside.falling (list_at c.self.inside.pool.lists 5) (list_at c.relink_last.new.self.lists 5)
+      (last_moved_other c.self.inside.pool.lists c.relink_last.new.self.lists 2 c.args.n 3 5 (λ e. omega (arith, e)) (λ e. omega (arith, e)) c.relink_last.ensures.lists)
+      c.self.invariant.2,
 )
 
 pub returns : goal.returns

@@ -5,7 +5,7 @@ use Rattle.tw_lists.specs.Lists.{with_room, without_pending}
 use Rattle.tw_lists.specs.Nodes.{spare_of}
 use Rattle.tw_msgs.proofs.MessageLists.{without_absent}
 use Rattle.tw_lists.proofs.Comings.{Withdrawn, withdrawn_kept, pending_live}
-use Rattle.tw_lists.proofs.Found.{found_same}
+use Rattle.tw_lists.proofs.Found.{found_same, fall_at}
 use Rattle.tw_lists.proofs.lists.EventLists.withdraw.Goals.{After-take}
 use Rattle.tw_lists.proofs.lists.EventLists.withdraw.Goals as goal
 
@@ -21,7 +21,7 @@ all c =
     c.self.invariant.0 c.lists_law.ensures.count c.lists_law.ensures.distinct c.entries_law.ensures.sorted c.in-Some.ensures.there c.take.ensures.lists c.remove.ensures.entries c.remove.ensures.gone c.remove.ensures.others c.remove.ensures.room c.remove.ensures.top
 
 pub invariant_of-self : goal.invariant_of-self
-invariant_of-self c = let done = all c in (done.kept, found_same c.self.inside.waiting c.self.inside.owed c.self.inside.pool.lists c.take.new.self.lists done.untouched c.self.invariant.1)
+invariant_of-self c = let done = all c in (done.kept, found_same c.self.inside.waiting c.self.inside.owed c.self.inside.pool.lists c.take.new.self.lists done.untouched c.self.invariant.1, fall_at c.self.inside.falling (list_at c.self.inside.pool.lists 5) (list_at c.take.new.self.lists 5) done.untouched.owed c.self.invariant.2)
 
 pub returns-clause-contents : goal.returns-clause-contents
 returns-clause-contents c = (all c).contents_is ∙ ap (λ v. with_room c.take.new.self.room (spare_of c.take.new.self.top c.remove.new.self (length (list_at c.take.new.self.lists 1))) (without_pending c.args.message.now v)) c.self.view_is

@@ -1,8 +1,8 @@
 //! A tree taken apart: each part by its number, depth first.
 
 ghost use Rattle.std.specs.Prelude.{◌≡◌, ◌<◌, ◌+◌, ◌++◌, ◌∷◌, [], map, string_bytes, IfErr, IfOk, OnOk};
-ghost use Rattle.tw_nested.specs.Tree.{parts_of, size, flat_names, models_in, atoms_from, coupled_from, model_at};
-ghost use Rattle.tw_nested.specs.Taken.{model_of};
+ghost use Rattle.tw_nested.specs.Tree.{parts_of, part_view, no_parts, size, flat_names, models_in, atoms_from, coupled_from, model_at};
+ghost use Rattle.tw_nested.specs.Taken.{Taken, model_of};
 
 use crate::collect::FlatRefused;
 use crate::tree::{Link, Nested, Part};
@@ -45,6 +45,7 @@ fn prefix_within(alloc: Global, prefix: &str, name: &str) -> Result<String, Allo
 }
 
 // Adds a coupled model and all in it, each atom's name after this prefix.
+#[cycle(take)]
 pub fn take<M: Drop>(
     alloc: Global,
     nested: Nested<M>,
@@ -63,21 +64,8 @@ pub fn take<M: Drop>(
     let mut parts = Vec::new(alloc);
     let links = nested.couplings;
     for (name, part) in nested.parts {
-        let next = tables.count;
-        tables.count = next + 1;
-        parts.push(next)?;
-        match part {
-            Part::Atom(model) => {
-                let name = joined(alloc, prefix, name.as_str())?;
-                tables.names.push(name)?;
-                tables.models.push(model)?;
-                tables.atoms.push(next)?;
-            }
-            Part::Coupled(inner) => {
-                let prefix = prefix_within(alloc, prefix, name.as_str())?;
-                take(alloc, inner, next, prefix.as_str(), tables)?;
-            }
-        }
+        parts.push(tables.count)?;
+        take_part(alloc, name.as_str(), part, prefix, tables)?;
     }
     tables.coupled.push(Coupled {
         number,
@@ -85,4 +73,34 @@ pub fn take<M: Drop>(
         links,
     })?;
     Ok(())
+}
+
+// Adds a part of this name, which gets the next number, and all in it.
+#[cycle(take)]
+fn take_part<M: Drop>(
+    alloc: Global,
+    name: &str,
+    part: Part<M>,
+    prefix: &str,
+    tables: &mut Tables<M>,
+) -> Result<(), FlatRefused>
+    requires fits { tables.old.count + size (part_view part name.now no_parts) < 4096 }
+    ensures taken { OnOk result (Taken prefix.now (part_view part name.now no_parts) tables.old tables.new) }
+    ensures memory { IfErr result (λ e. e ≡ FlatRefused.OutOfMemory) }
+{
+    let number = tables.count;
+    tables.count = number + 1;
+    match part {
+        Part::Atom(model) => {
+            let name = joined(alloc, prefix, name)?;
+            tables.names.push(name)?;
+            tables.models.push(model)?;
+            tables.atoms.push(number)?;
+            Ok(())
+        }
+        Part::Coupled(inner) => {
+            let prefix = prefix_within(alloc, prefix, name)?;
+            take(alloc, inner, number, prefix.as_str(), tables)
+        }
+    }
 }

@@ -13,7 +13,7 @@ use Rattle.tw_nested.specs.Tree.{Parts, Link, Model, levels, numbers, part_count
 use Rattle.tw_nested.specs.Paths.{IsPart, Crosses, Outwards, at_once, leaving, Path, across, entering}
 use Rattle.tw_nested.specs.Whole.{all_models, AreCouplings, AreTooMany, IsCoupling as IsPathCoupling, link_between}
 use Rattle.tw_nested.proofs.EdgesMade.{Contains-cons_cases, Contains-map, Contains-map_source}
-use Rattle.tw_network.specs.Contents.{Input, IsCoupling, handed_in, models_of, names_of}
+use Rattle.tw_network.specs.Contents.{Contents, Input, IsCoupling, handed_in, models_of, names_of}
 use Rattle.tw_network.specs.Faults.{unless, first_of, count_fault, limit_fault, components_fault, component_fault, couplings_fault, coupling_fault, inputs_fault, first_fault, has_coupling, has_name, name_fault, same_coupling, starts_in_time}
 use Rattle.tw_network.specs.TreeFaults.{IsTreeFault, in_tree, in_couplings, in_inputs, inner_fault, models_fault, link_end_fault, parts_fault, has_link, link_fault, links_fault, tree_count_fault, tree_fault}
 use Rattle.tw_network.specs.declared.refused.NetworkRefused.{NetworkRefused}
@@ -21,7 +21,7 @@ use Rattle.tw_network.specs.declared.refused.NetworkRefused.TheVariants.{OutOfMe
 use Rattle.tw_network.proofs.NoFaults.{all_couplings, distinct_couplings, holds, neither}
 use Rattle.std.proofs.Common.{Result, Ok, Err}
 use Rattle.std.specs.Result.{IfErr}
-use Rattle.tw_network.specs.FlatTrees.{IsFlatTree, IsSameNetwork}
+use Rattle.tw_network.specs.FlatTrees.{IsFlatTree, IsFlattened, IsSameNetwork}
 use Rattle.std.proofs.lemmas.Bool.Decides.{nat_tests}
 use Rattle.tw_theory.specs.Network.{Coupling}
 
@@ -331,14 +331,13 @@ module _ {M S : Type 0} (meaning : M → Meaning S) (parts : Parts M) (links : L
       same_no_fault meaning cs ks inputs limit (as_flat (λ p l. tree_fault meaning p l inputs limit ≡ None) cs ks flat e)
       (as_flat (λ p l. inputs_fault (length (models_in p)) inputs ≡ None) cs ks flat f)
 
-  pub made_as_new : (names : List (List ℕ)) (models : List M) (made : List Coupling) → names ≡ flat_names [] parts → models ≡ models_in parts → AreCouplings parts links made → tree_fault meaning parts links inputs limit ≡ None
-      → (cs : List (List ℕ × M)) (ks : List Coupling) → IsFlatTree parts links cs ks → IsSameNetwork (record { names = names; models = models; couplings = made; inputs = inputs; micro_limit = limit }) (handed_in cs ks inputs limit)
-  made_as_new names models made is_names is_models are e cs ks flat =
+  pub made_as_new : (n : Contents M) → IsFlattened parts links inputs limit n → tree_fault meaning parts links inputs limit ≡ None → (cs : List (List ℕ × M)) (ks : List Coupling) → IsFlatTree parts links cs ks → IsSameNetwork n (handed_in cs ks inputs limit)
+  made_as_new n made e cs ks flat =
       let sound = sound_couplings meaning cs ks inputs limit (as_flat (λ p l. tree_fault meaning p l inputs limit ≡ None) cs ks flat e) in
       record {
-        names = is_names ∙ ap (flat_names []) flat.atoms ∙ names_are cs;
-        models = is_models ∙ ap models_in flat.atoms ∙ models_are cs;
-        couplings = same_couplings cs ks made (distinct_couplings (length cs) ks sound) (all_couplings (length cs) ks sound) (as_flat (λ p l. AreCouplings p l made) cs ks flat are);
-        inputs = refl;
-        micro_limit = refl;
+        names = made.names ∙ ap (flat_names []) flat.atoms ∙ names_are cs;
+        models = made.models ∙ ap models_in flat.atoms ∙ models_are cs;
+        couplings = same_couplings cs ks n.couplings (distinct_couplings (length cs) ks sound) (all_couplings (length cs) ks sound) (as_flat (λ p l. AreCouplings p l n.couplings) cs ks flat made.couplings);
+        inputs = made.inputs;
+        micro_limit = made.micro_limit;
       }

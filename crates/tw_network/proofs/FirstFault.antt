@@ -44,19 +44,16 @@ module _ {M S : Type 0} (meaning : M → Meaning S) (components : List (List ℕ
       fault_of_components f e = after_none _ _ counts ∙ after_none _ _ limits ∙ at_some _ _ f e
 
       module _ (sound : components_fault meaning components ≡ None) where
-        pub fault_of_couplings : (f : NetworkRefused) → couplings_fault (length components) couplings ≡ Some f → first_fault meaning components couplings inputs limit ≡ Some f
-        fault_of_couplings f e = after_none _ _ counts ∙ after_none _ _ limits ∙ after_none _ _ (sym sound) ∙ at_some _ _ f e
-
-        pub fault_of_inputs : couplings_fault (length components) couplings ≡ None → (o : Option NetworkRefused) → inputs_fault (length components) inputs ≡ o → first_fault meaning components couplings inputs limit ≡ o
-        fault_of_inputs coupled o e = after_none _ _ counts ∙ after_none _ _ limits ∙ after_none _ _ (sym sound) ∙ after_none _ _ (sym coupled) ∙ e
+        pub fault_of_rest : (o : Option NetworkRefused) → option_or (couplings_fault (length components) couplings) (inputs_fault (length components) inputs) ≡ o → first_fault meaning components couplings inputs limit ≡ o
+        fault_of_rest o e = after_none _ _ counts ∙ after_none _ _ limits ∙ after_none _ _ (sym sound) ∙ e
 
 -- ---- what the checks are handed, in the place of what it is
 
 pub count_fault_of : (a b n : ℕ) (o : Option NetworkRefused) {x y z : ℕ} → a ≡ x → b ≡ y → n ≡ z → o ≡ count_fault a b n → o ≡ count_fault x y z
 count_fault_of a b n o p q r e = e ∙ (λ i. count_fault (p i) (q i) (r i))
 
-pub couplings_fault_of : (n : ℕ) (slice : List Coupling) (o : Option NetworkRefused) {count : ℕ} {couplings : List Coupling} → n ≡ count → slice ≡ couplings → couplings_fault n slice ≡ o → couplings_fault count couplings ≡ o
-couplings_fault_of n slice o p q e = sym (λ i. couplings_fault (p i) (q i)) ∙ e
+pub rest_fault_of : (n : ℕ) (slice : List Coupling) (ins : List Input) (o : Option NetworkRefused) {count : ℕ} {couplings : List Coupling} {inputs : List Input} → n ≡ count → slice ≡ couplings → ins ≡ inputs → option_or (couplings_fault n slice) (inputs_fault n ins) ≡ o → option_or (couplings_fault count couplings) (inputs_fault count inputs) ≡ o
+rest_fault_of n slice ins o p q r e = sym (λ i. option_or (couplings_fault (p i) (q i)) (inputs_fault (p i) (r i))) ∙ e
 
 pub inputs_fault_of : (n : ℕ) (slice : List Input) (o : Option NetworkRefused) {count : ℕ} {inputs : List Input} → n ≡ count → slice ≡ inputs → o ≡ inputs_fault n slice → inputs_fault count inputs ≡ o
 inputs_fault_of n slice o p q e = sym (e ∙ (λ i. inputs_fault (p i) (q i)))

@@ -4,6 +4,7 @@ pub mod RouteOrder
 pub mod RouteParts
 pub mod FirstFault
 pub mod Places
+pub mod Taking
 pub mod FirstPart
 pub mod TreeCounting
 pub mod TreeFaulting

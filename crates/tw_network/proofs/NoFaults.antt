@@ -205,3 +205,9 @@ whole_from_checks meaning components names models couplings inputs limit is_name
 
 pub all_couplings : (count : ℕ) (ks : List Coupling) → couplings_fault count ks ≡ None → All (IsCoupling count) ks
 all_couplings count ks e i d lt = (sound_coupling count ks e i d lt).0
+
+pub few_components : (components couplings inputs : ℕ) → None ≡ count_fault components couplings inputs → components ≤ 1024
+few_components components couplings inputs e =
+    let counts = and_parts _ _ (holds _ _ (sym e)) in
+    let less = and_parts _ _ counts.0 in
+    leb-true components 1024 less.0

@@ -1,7 +1,7 @@
 -- Counting the parts of a model one by one.
-use Rattle.std.proofs.Common.{◌≡◌, ℕ, ◌+◌, ◌<◌, ◌≤◌, List, [], length, sym, ap, ◌∙◌, arith, length-append, drop, slice_index_or, String, max, Option, Some, None, IfNone}
+use Rattle.std.proofs.Common.{◌≡◌, ℕ, ◌+◌, ◌<◌, ◌≤◌, List, [], length, sym, ap, ◌∙◌, arith, length-append, drop, slice_index_or, subst, String, max, Option, Some, None, IfNone}
 use Rattle.std.specs.declared.alloc.Global.{Global}
-use Rattle.std.proofs.lemmas.List.{append-nil}
+use Rattle.std.proofs.lemmas.List.{append-nil, at_drop_all}
 use Rattle.tw_nested.specs.declared.tree.Part.{Part}
 use Rattle.tw_nested.specs.Tree.{Parts, Link, no_parts, coupled, levels, coupled_count, link_count, models_in, parts_of, part_view}
 use Rattle.tw_network.specs.declared.counts.Counts.{Counts}
@@ -68,3 +68,20 @@ module _ {M : Type 0} where
         let ga = f.atoms in let gc = f.coupled in let gl = f.couplings in let gd = f.levels in
         let nd = s.no_deeper in
         not (record { levels = omega (arith, nd, gd, fd); atoms = omega (arith, x, fa, ga); coupled = omega (arith, y, fc, gc); couplings = omega (arith, z, fl, gl) })
+
+  -- ---- where no part is left
+
+  module _ (room : ℕ) (before now : Counts) (whole : Parts M) (links : ℕ) (ps qs : List (String Global × Part M)) (i : ℕ) (same : qs ≡ ps) (le : length qs ≤ i) (s : StillCounts room before now whole links (parts_of {M = M} (drop i ps))) where
+    counts_last : StillCounts room before now whole links no_parts
+    counts_last = subst (λ (rest : Parts M). StillCounts room before now whole links rest) (at_drop_all (λ (xs : List (String Global × Part M)). parts_of {M = M} xs) ps i (subst (λ (xs : List (String Global × Part M)). length xs ≤ i) same le)) s
+
+    pub counted_all : IsCounted before now whole links
+    counted_all =
+        let x = counts_last.atoms in let y = counts_last.coupled in let z = counts_last.couplings in
+        record { atoms = omega (arith, x); coupled = omega (arith, y); couplings = omega (arith, z) }
+
+    pub fits_all : FitsAfter room before whole links
+    fits_all =
+        let x = counts_last.atoms in let y = counts_last.coupled in let z = counts_last.couplings in
+        let fa = counts_last.few.atoms in let fc = counts_last.few.coupled in let fl = counts_last.few.couplings in
+        record { levels = counts_last.levels (omega arith); atoms = omega (arith, x, fa); coupled = omega (arith, y, fc); couplings = omega (arith, z, fl) }

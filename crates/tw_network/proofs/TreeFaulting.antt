@@ -1,6 +1,7 @@
 -- The first fault of a tree, part by part.
-use Rattle.std.proofs.Common.{◌≡◌, ◌≢◌, ℕ, ◌+◌, ◌<◌, List, ◌∷◌, [], ◌++◌, length, refl, sym, ap, ◌∙◌, arith, subst, suc, drop, drop-cons, slice_index_or, String, string_bytes, Option, None, Some, Result, Ok, Err}
+use Rattle.std.proofs.Common.{◌≡◌, ◌≢◌, ℕ, ◌+◌, ◌<◌, ◌≤◌, List, ◌∷◌, [], ◌++◌, length, refl, sym, ap, ◌∙◌, arith, subst, suc, drop, drop-cons, slice_index_or, String, string_bytes, Option, None, Some, Result, Ok, Err}
 use Rattle.std.specs.Option.{option_or}
+use Rattle.std.proofs.lemmas.List.{at_drop_all}
 use Rattle.std.specs.Result.{IfErr, OnOk}
 use Rattle.std.specs.declared.alloc.Global.{Global}
 use Rattle.tw_atomic.specs.Atomic.{Meaning}
@@ -8,7 +9,7 @@ use Rattle.tw_nested.specs.declared.tree.Nested.{Nested}
 use Rattle.tw_nested.specs.declared.tree.Part.{Part, Atom, Coupled, roll-Part, out-Part, fold-roll-Part, roll-out-Part}
 use Rattle.tw_nested.specs.declared.tree.Part.TheOpen.{Part-F}
 use Rattle.tw_nested.specs.Tree.{Parts, Link, no_parts, part_count, parts_of, part_view, part_step, nested_step}
-use Rattle.tw_nested.proofs.TreeViews.{parts_of-atom, parts_of-coupled}
+use Rattle.tw_nested.proofs.TreeViews.{part_view-atom, part_view-coupled}
 use Rattle.tw_network.specs.TreeFaults.{inner_fault, part_name_fault, parts_fault, start_fault}
 use Rattle.tw_network.specs.declared.refused.NetworkRefused.{NetworkRefused}
 use Rattle.tw_network.specs.declared.refused.NetworkRefused.TheVariants.{OutOfMemory}
@@ -27,35 +28,53 @@ drop_at xs i x lt is =
 
 module _ {M S : Type 0} (meaning : M → Meaning S) (names : List (List ℕ)) where
   -- a part is at fault by its name, or else by what it is
-  abbrev ByName : Parts M → List ℕ → Type 0
-  ByName parts name = (o : Option NetworkRefused) × (rest : Option NetworkRefused) × (parts_fault meaning names parts ≡ option_or (option_or (part_name_fault names name) o) rest)
-
-  by_name_open : (d : Part-F M (Part M) (Nested M)) (name : List ℕ) (rest : Parts M) → ByName (part_view {M = M} (roll-Part M d) name rest) name
-  by_name_open (Part-F.Atom m) name rest =
+  by_name_open : (d : Part-F M (Part M) (Nested M)) (name : List ℕ) (f : NetworkRefused) → part_name_fault names name ≡ Some f → parts_fault meaning names (part_view {M = M} (roll-Part M d) name no_parts) ≡ Some f
+  by_name_open (Part-F.Atom m) name f at =
       let e = fold-roll-Part M (List ℕ → Parts M → Parts M) (Parts M × List Link) part_step nested_step (Part-F.Atom m) in
-      (start_fault (meaning m), parts_fault meaning (names ++ name ∷ []) rest, ap (λ (f : List ℕ → Parts M → Parts M). parts_fault meaning names (f name rest)) e)
-  by_name_open (Part-F.Coupled n) name rest =
+      ap (λ (v : List ℕ → Parts M → Parts M). parts_fault meaning names (v name no_parts)) e ∙ ap (λ o. option_or (option_or o (start_fault (meaning m))) None) at
+  by_name_open (Part-F.Coupled n) name f at =
       let e = fold-roll-Part M (List ℕ → Parts M → Parts M) (Parts M × List Link) part_step nested_step (Part-F.Coupled n) in
-      (None, parts_fault meaning (names ++ name ∷ []) rest, ap (λ (f : List ℕ → Parts M → Parts M). parts_fault meaning names (f name rest)) e ∙ ap (λ o. option_or o (parts_fault meaning (names ++ name ∷ []) rest)) (sym (or_none (part_name_fault names name))))
+      ap (λ (v : List ℕ → Parts M → Parts M). parts_fault meaning names (v name no_parts)) e ∙ ap (λ o. option_or o None) at
 
-  by_name : (p : String Global × Part M) (ps : List (String Global × Part M)) → ByName (parts_of {M = M} (p ∷ ps)) (string_bytes p.0)
-  by_name p ps = subst (λ (q : Part M). ByName (part_view {M = M} q (string_bytes p.0) (parts_of {M = M} ps)) (string_bytes p.0)) (roll-out-Part M p.1) (by_name_open (out-Part M p.1) (string_bytes p.0) (parts_of {M = M} ps))
+  pub named_alone : (part : Part M) (name : List ℕ) (f : NetworkRefused) → part_name_fault names name ≡ Some f → parts_fault meaning names (part_view {M = M} part name no_parts) ≡ Some f
+  named_alone part name f at = subst (λ (q : Part M). parts_fault meaning names (part_view {M = M} q name no_parts) ≡ Some f) (roll-out-Part M part) (by_name_open (out-Part M part) name f at)
 
-  module _ (ps : List (String Global × Part M)) (i : ℕ) (p : String Global × Part M) (lt : i < length ps) (is : p ≡ slice_index_or ps i p) where
-    pub name_at : (f : NetworkRefused) → part_name_fault names (string_bytes p.0) ≡ Some f → parts_fault meaning names (parts_of {M = M} (drop i ps)) ≡ Some f
-    name_at f at =
-        let b = by_name p (drop (i + 1) ps) in
-        ap (λ (xs : List (String Global × Part M)). parts_fault meaning names (parts_of {M = M} xs)) (drop_at ps i p lt is) ∙ b.2 ∙ ap (λ o. option_or (option_or o b.0) b.1) at
+  pub atom_alone : (part : Part M) (name : List ℕ) (m : M) → part ≡ Atom m → part_name_fault names name ≡ None → parts_fault meaning names (part_view {M = M} part name no_parts) ≡ start_fault (meaning m)
+  atom_alone part name m is none =
+      ap (λ (q : Part M). parts_fault meaning names (part_view {M = M} q name no_parts)) is
+      ∙ ap (λ (v : List ℕ → Parts M → Parts M). parts_fault meaning names (v name no_parts)) (part_view-atom {M = M} m)
+      ∙ or_none (option_or (part_name_fault names name) (start_fault (meaning m))) ∙ ap (λ o. option_or o (start_fault (meaning m))) none
 
-    pub atom_at : (m : M) → p.1 ≡ Atom m → parts_fault meaning names (parts_of {M = M} (drop i ps)) ≡ option_or (option_or (part_name_fault names (string_bytes p.0)) (start_fault (meaning m))) (parts_fault meaning (names ++ string_bytes p.0 ∷ []) (parts_of {M = M} (drop (i + 1) ps)))
-    atom_at m e =
-        ap (λ (xs : List (String Global × Part M)). parts_fault meaning names (parts_of {M = M} xs)) (drop_at ps i p lt is ∙ (λ j. (p.0, e j) ∷ drop (i + 1) ps))
-        ∙ ap (parts_fault meaning names) (parts_of-atom {M = M} p.0 m (drop (i + 1) ps))
+  pub coupled_alone : (part : Part M) (name : List ℕ) (n : Nested M) → part ≡ Coupled n → part_name_fault names name ≡ None → parts_fault meaning names (part_view {M = M} part name no_parts) ≡ None
+  coupled_alone part name n is none =
+      ap (λ (q : Part M). parts_fault meaning names (part_view {M = M} q name no_parts)) is
+      ∙ ap (λ (v : List ℕ → Parts M → Parts M). parts_fault meaning names (v name no_parts)) (part_view-coupled {M = M} n)
+      ∙ ap (λ o. option_or o None) none
 
-    pub coupled_at : (n : Nested M) → p.1 ≡ Coupled n → parts_fault meaning names (parts_of {M = M} (drop i ps)) ≡ option_or (part_name_fault names (string_bytes p.0)) (parts_fault meaning (names ++ string_bytes p.0 ∷ []) (parts_of {M = M} (drop (i + 1) ps)))
-    coupled_at n e =
-        ap (λ (xs : List (String Global × Part M)). parts_fault meaning names (parts_of {M = M} xs)) (drop_at ps i p lt is ∙ (λ j. (p.0, e j) ∷ drop (i + 1) ps))
-        ∙ ap (parts_fault meaning names) (parts_of-coupled {M = M} p.0 n (drop (i + 1) ps))
+  -- the first part, and the rest after it
+  first_open : (d : Part-F M (Part M) (Nested M)) (name : List ℕ) (rest : Parts M) → parts_fault meaning names (part_view {M = M} (roll-Part M d) name rest) ≡ option_or (parts_fault meaning names (part_view {M = M} (roll-Part M d) name no_parts)) (parts_fault meaning (names ++ name ∷ []) rest)
+  first_open (Part-F.Atom m) name rest =
+      let e = fold-roll-Part M (List ℕ → Parts M → Parts M) (Parts M × List Link) part_step nested_step (Part-F.Atom m) in
+      ap (λ (v : List ℕ → Parts M → Parts M). parts_fault meaning names (v name rest)) e
+      ∙ ap (λ o. option_or o (parts_fault meaning (names ++ name ∷ []) rest)) (sym (or_none (option_or (part_name_fault names name) (start_fault (meaning m)))))
+      ∙ sym (ap (λ (v : List ℕ → Parts M → Parts M). option_or (parts_fault meaning names (v name no_parts)) (parts_fault meaning (names ++ name ∷ []) rest)) e)
+  first_open (Part-F.Coupled n) name rest =
+      let e = fold-roll-Part M (List ℕ → Parts M → Parts M) (Parts M × List Link) part_step nested_step (Part-F.Coupled n) in
+      ap (λ (v : List ℕ → Parts M → Parts M). parts_fault meaning names (v name rest)) e
+      ∙ ap (λ o. option_or o (parts_fault meaning (names ++ name ∷ []) rest)) (sym (or_none (part_name_fault names name)))
+      ∙ sym (ap (λ (v : List ℕ → Parts M → Parts M). option_or (parts_fault meaning names (v name no_parts)) (parts_fault meaning (names ++ name ∷ []) rest)) e)
+
+  pub first_part : (ps : List (String Global × Part M)) (i : ℕ) (p : String Global × Part M) → i < length ps → p ≡ slice_index_or ps i p → (text : List ℕ) → text ≡ string_bytes p.0
+      → (o : Option NetworkRefused) → parts_fault meaning names (part_view {M = M} p.1 text no_parts) ≡ o → parts_fault meaning names (parts_of {M = M} (drop i ps)) ≡ option_or o (parts_fault meaning (names ++ text ∷ []) (parts_of {M = M} (drop (i + 1) ps)))
+  first_part ps i p lt is text same o at =
+      ap (λ (xs : List (String Global × Part M)). parts_fault meaning names (parts_of {M = M} xs)) (drop_at ps i p lt is)
+      ∙ ap (λ (t : List ℕ). parts_fault meaning names (part_view {M = M} p.1 t (parts_of {M = M} (drop (i + 1) ps)))) (sym same)
+      ∙ subst (λ (q : Part M). parts_fault meaning names (part_view {M = M} q text (parts_of {M = M} (drop (i + 1) ps))) ≡ option_or (parts_fault meaning names (part_view {M = M} q text no_parts)) (parts_fault meaning (names ++ text ∷ []) (parts_of {M = M} (drop (i + 1) ps))))
+      (roll-out-Part M p.1) (first_open (out-Part M p.1) text (parts_of {M = M} (drop (i + 1) ps)))
+      ∙ ap (λ p. option_or p (parts_fault meaning (names ++ text ∷ []) (parts_of {M = M} (drop (i + 1) ps)))) at
+
+  pub no_part : (ps : List (String Global × Part M)) (i : ℕ) → length ps ≤ i → parts_fault meaning names (parts_of {M = M} (drop i ps)) ≡ None
+  no_part ps i le = at_drop_all (λ (xs : List (String Global × Part M)). parts_fault meaning names (parts_of {M = M} xs)) ps i le
 
 -- ---- the models in them
 

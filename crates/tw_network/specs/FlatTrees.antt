@@ -1,16 +1,24 @@
 -- Trees whose parts are all atoms, and the network that is made of one.
 --     IsFlatTree parts links components couplings      these parts and links are these components and their couplings
+--     IsFlattened parts links ins limit n      the contents that are made of any tree of these parts and links
 --     IsSameNetwork n m      the same contents, but for the order of the couplings
-use Rattle.std.specs.Prelude.{ℕ, ◌≡◌, List, map}
+use Rattle.std.specs.Prelude.{ℕ, ◌≡◌, List, [], map}
 use Rattle.std.specs.List.Sorted.{IsPermutation}
-use Rattle.tw_nested.specs.Tree.{Parts, Link, all_atoms}
-use Rattle.tw_nested.specs.Whole.{link_between}
-use Rattle.tw_network.specs.Contents.{Contents}
+use Rattle.tw_nested.specs.Tree.{Parts, Link, all_atoms, flat_names, models_in}
+use Rattle.tw_nested.specs.Whole.{AreCouplings, link_between}
+use Rattle.tw_network.specs.Contents.{Contents, Input}
 use Rattle.tw_theory.specs.Network.{Coupling}
 
 pub record IsFlatTree {M : Type 0} (parts : Parts M) (links : List Link) (components : List (List ℕ × M)) (couplings : List Coupling) : Type 0 where
   pub atoms : parts ≡ all_atoms components
   pub between : links ≡ map link_between couplings
+
+pub record IsFlattened {M : Type 0} (parts : Parts M) (links : List Link) (ins : List Input) (limit : ℕ) (n : Contents M) : Type 0 where
+  pub names : n.names ≡ flat_names [] parts
+  pub models : n.models ≡ models_in parts
+  pub couplings : AreCouplings parts links n.couplings
+  pub inputs : n.inputs ≡ ins
+  pub micro_limit : n.micro_limit ≡ limit
 
 pub record IsSameNetwork {M : Type 0} (n m : Contents M) : Type 0 where
   pub names : n.names ≡ m.names

@@ -5,6 +5,7 @@ ghost use Rattle.std.specs.Prelude.{
   ◌≢◌,
   ◌++◌,
   ◌∷◌,
+  ◌≤◌,
   [],
   IfOk,
   IfErr,
@@ -15,6 +16,7 @@ ghost use Rattle.std.specs.Prelude.{
   string_bytes,
 };
 ghost use Rattle.std.specs.List.{list_all};
+ghost use Rattle.std.specs.Option.{option_or};
 ghost use Rattle.std.specs.Result.{result_err};
 ghost use Rattle.tw_network.specs.Contents.{is_name_byte, named, names_of, models_of};
 ghost use Rattle.tw_network.specs.Faults.{
@@ -30,10 +32,12 @@ ghost use Rattle.tw_network.specs.Faults.{
   input_fault,
   inputs_fault,
 };
+ghost use Rattle.tw_network.specs.RouteIndex.{IsRouteIndex};
 
 use crate::limits::{MAX_COMPONENTS, MAX_INPUTS, MAX_NAME, MAX_PORT};
 use crate::network::{Coupling, Input};
 use crate::refused::NetworkRefused;
+use crate::routes::Routes;
 use indexmap::IndexSet;
 use std::alloc::{AllocError, Global};
 use tw_atomic::Atomic;
@@ -131,13 +135,30 @@ pub fn take_components<M: Atomic>(
     ensures ok { OnOk result (components_fault M.meaning (named components.items) ≡ None) }
     ensures err { IfErr result (λ e. e ≢ NetworkRefused.OutOfMemory → components_fault M.meaning (named components.items) ≡ Some e) }
 {
-    let mut names = IndexSet::new(alloc);
     let mut models = Vec::with_capacity(alloc, components.len())?;
-    for (name, model) in components {
-        take_name(alloc, &mut names, name, &model)?;
-        models.push(model)?;
+    let mut names = IndexSet::new(alloc);
+    for component in components {
+        take_component(alloc, &mut names, &mut models, component)?;
     }
     Ok((names, models))
+}
+
+/// Adds the name and the model of a component that is not at fault.
+fn take_component<M: Atomic>(
+    alloc: Global,
+    names: &mut IndexSet<String>,
+    models: &mut Vec<M>,
+    component: (String, M),
+) -> Result<(), NetworkRefused>
+    ensures names { OnOk result (names.new.keys ≡ names.old.keys ++ component.0 ∷ []) }
+    ensures models { OnOk result (models.new.items ≡ models.old.items ++ component.1 ∷ []) }
+    ensures ok { OnOk result (component_fault M.meaning (map string_bytes names.old.keys) (string_bytes component.0, component.1) ≡ None) }
+    ensures err { IfErr result (λ e. e ≢ NetworkRefused.OutOfMemory → component_fault M.meaning (map string_bytes names.old.keys) (string_bytes component.0, component.1) ≡ Some e) }
+{
+    let (name, model) = component;
+    take_name(alloc, names, name, &model)?;
+    models.push(model)?;
+    Ok(())
 }
 
 /// Refuses a coupling that is at fault alone.
@@ -175,8 +196,8 @@ fn take_coupling(
     Ok(())
 }
 
-// Refuses couplings of which one is at fault, alone or beside those before it.
-pub fn check_couplings(
+/// Refuses couplings of which one is at fault, alone or beside those before it.
+fn check_couplings(
     alloc: Global,
     count: usize,
     couplings: &[Coupling],
@@ -216,4 +237,22 @@ pub fn check_inputs(count: usize, inputs: &[Input]) -> Result<(), NetworkRefused
         check_input(count, *input)?;
     }
     Ok(())
+}
+
+// Where each output of `count` components goes, where no coupling and no input is at fault.
+pub fn checked_routes(
+    alloc: Global,
+    count: usize,
+    couplings: &[Coupling],
+    inputs: &[Input],
+) -> Result<Routes, NetworkRefused>
+    requires few { count ≤ 1024 }
+    ensures routes { IfOk result (λ r. IsRouteIndex couplings.now count r.places.items r.starts.items) }
+    ensures couplings { OnOk result (couplings_fault count couplings.now ≡ None) }
+    ensures inputs { OnOk result (inputs_fault count inputs.now ≡ None) }
+    ensures err { IfErr result (λ e. e ≢ NetworkRefused.OutOfMemory → option_or (couplings_fault count couplings.now) (inputs_fault count inputs.now) ≡ Some e) }
+{
+    check_couplings(alloc, count, couplings)?;
+    check_inputs(count, inputs)?;
+    Ok(Routes::new(alloc, count, couplings)?)
 }

@@ -4,19 +4,18 @@ ghost use Rattle.std.specs.Prelude.{ℕ, List, ◌≡◌, ◌≢◌, ◌↔◌, 
 ghost use Rattle.std.specs.List.{AllByRecursion as Each};
 ghost use Rattle.tw_network.specs.Contents.{handed_in, made_of, network_of, IsPlace, IsWhole};
 ghost use Rattle.tw_network.specs.Faults.{counts_fault, fault_of, first_fault, inputs_fault, limit_fault};
-ghost use Rattle.tw_network.specs.FlatTrees.{IsFlatTree, IsSameNetwork};
+ghost use Rattle.tw_network.specs.FlatTrees.{IsFlatTree, IsFlattened, IsSameNetwork};
 ghost use Rattle.tw_network.specs.TreeFaults.{IsTreeFault, tree_count_fault, tree_fault};
 ghost use Rattle.tw_nested.specs.Tree.{flat_names, models_in, parts_of};
 ghost use Rattle.tw_nested.specs.Whole.{AreCouplings};
 ghost use Rattle.tw_network.specs.declared.refused.NetworkRefused.TheVariants.{OutOfMemory, TooMany, BadLimit};
 ghost use Rattle.tw_theory.specs.Network.{routes};
 
-use crate::checks::{check_counts, check_couplings, check_inputs, checked_limit, take_components};
-use crate::counts::check_tree_counts;
+use crate::checks::{check_counts, check_inputs, checked_limit, checked_routes, take_components};
 use crate::naming::name_set;
 use crate::refused::NetworkRefused;
 use crate::routes::Routes;
-use crate::tree_checks::check_models;
+use crate::tree_checks::checked_tree;
 use indexmap::IndexSet;
 use std::alloc::Global;
 use std::marker::Model;
@@ -87,10 +86,7 @@ impl<M: Atomic> Network<M> {
         check_counts(components.len(), couplings.len(), inputs.len())?;
         let micro_limit = checked_limit(micro_limit)?;
         let (names, models) = take_components(alloc, components)?;
-        let count = models.len();
-        check_couplings(alloc, count, couplings.as_slice())?;
-        check_inputs(count, inputs.as_slice())?;
-        let routes = Routes::new(alloc, count, couplings.as_slice())?;
+        let routes = checked_routes(alloc, models.len(), couplings.as_slice(), inputs.as_slice())?;
         Ok(Network {
             names,
             models,
@@ -141,12 +137,27 @@ impl<M: Atomic> Network<M> {
             → IfErr result (λ e. e ≢ OutOfMemory → first_fault M.meaning components couplings inputs.items micro_limit ≡ Some e) }
         ensures limit { tree_count_fault (parts_of root.parts.items) root.couplings.items (length inputs.items) ≡ None → limit_fault micro_limit ≡ Some BadLimit → IsErrOf result BadLimit }
     {
-        if let Err(refused) = check_tree_counts(&root, inputs.len()) {
-            dismantle(root);
-            return Err(refused);
+        match checked_tree(alloc, &root, inputs.as_slice(), micro_limit) {
+            Ok(micro_limit) => Network::of_sound_tree(alloc, root, inputs, micro_limit),
+            Err(refused) => {
+                dismantle(root);
+                Err(refused)
+            }
         }
-        let micro_limit = checked_limit(micro_limit)?;
-        check_models(alloc, &root)?;
+    }
+
+    /// The flat network of a tree that is not at fault, with these inputs.
+    fn of_sound_tree(
+        alloc: Global,
+        root: Nested<M>,
+        inputs: Vec<Input>,
+        micro_limit: u32,
+    ) -> Result<Network<M>, NetworkRefused>
+        requires sound { tree_fault M.meaning (parts_of root.parts.items) root.couplings.items inputs.items micro_limit ≡ None }
+        ensures flattened { IfOk result (IsFlattened (parts_of root.parts.items) root.couplings.items inputs.items micro_limit) }
+        ensures inputs_sound { OnOk result (inputs_fault (length (models_in (parts_of root.parts.items))) inputs.items ≡ None) }
+        ensures first_fault { IfErr result (λ e. e ≢ OutOfMemory → IsTreeFault M.meaning (parts_of root.parts.items) root.couplings.items inputs.items micro_limit e) }
+    {
         let Flat {
             names,
             models,

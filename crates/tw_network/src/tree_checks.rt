@@ -1,8 +1,9 @@
 //! The faults of a tree of coupled models: its parts' and its couplings', a model before the models in it.
 
-ghost use Rattle.std.specs.Prelude.{◌≡◌, ◌≢◌, ◌++◌, ◌∷◌, [], true, IfErr, IfOk, OnOk, None, Some, map, string_bytes};
+ghost use Rattle.std.specs.Prelude.{◌≡◌, ◌≢◌, ◌++◌, ◌∷◌, [], true, IfErr, IfOk, IsErrOf, OnOk, None, Some, length, map, string_bytes};
 ghost use Rattle.std.specs.Result.{result_err};
 ghost use Rattle.tw_nested.specs.Tree.{no_parts, part_count, part_view, parts_of};
+ghost use Rattle.tw_network.specs.Faults.{limit_fault};
 ghost use Rattle.tw_network.specs.TreeFaults.{
   inner_fault,
   is_end,
@@ -15,18 +16,41 @@ ghost use Rattle.tw_network.specs.TreeFaults.{
   parts_fault,
   same_end,
   start_fault,
+  tree_count_fault,
+  tree_fault,
 };
 
-use crate::checks::{check_name, has_start_in_time};
+use crate::checks::{check_name, checked_limit, has_start_in_time};
+use crate::counts::check_tree_counts;
 use crate::limits::MAX_PORT;
+use crate::network::Input;
 use crate::refused::NetworkRefused;
 use indexmap::IndexSet;
 use std::alloc::Global;
 use tw_atomic::Atomic;
 use tw_nested::{End, Link, Nested, Part};
 
-// Refuses a tree in which a model is at fault.
-pub fn check_models<M: Atomic>(alloc: Global, root: &Nested<M>) -> Result<(), NetworkRefused>
+// The greatest microstep, where it is one and nothing of the tree is at fault, nor are its inputs too many.
+pub fn checked_tree<M: Atomic>(
+    alloc: Global,
+    root: &Nested<M>,
+    inputs: &[Input],
+    micro_limit: u64,
+) -> Result<u32, NetworkRefused>
+    ensures same { IfOk result (λ limit. limit ≡ micro_limit) }
+    ensures ok { OnOk result (tree_fault M.meaning (parts_of root.now.parts.items) root.now.couplings.items inputs.now micro_limit ≡ None) }
+    ensures err { IfErr result (λ e. e ≢ NetworkRefused.OutOfMemory → tree_fault M.meaning (parts_of root.now.parts.items) root.now.couplings.items inputs.now micro_limit ≡ Some e) }
+    ensures counts { tree_count_fault (parts_of root.now.parts.items) root.now.couplings.items (length inputs.now) ≡ Some NetworkRefused.TooMany → IsErrOf result NetworkRefused.TooMany }
+    ensures limit { tree_count_fault (parts_of root.now.parts.items) root.now.couplings.items (length inputs.now) ≡ None → limit_fault micro_limit ≡ Some NetworkRefused.BadLimit → IsErrOf result NetworkRefused.BadLimit }
+{
+    check_tree_counts(root, inputs.len())?;
+    let micro_limit = checked_limit(micro_limit)?;
+    check_models(alloc, root)?;
+    Ok(micro_limit)
+}
+
+/// Refuses a tree in which a model is at fault.
+fn check_models<M: Atomic>(alloc: Global, root: &Nested<M>) -> Result<(), NetworkRefused>
     ensures ok { OnOk result (models_fault M.meaning (parts_of root.now.parts.items) root.now.couplings.items ≡ None) }
     ensures err { IfErr result (λ e. e ≢ NetworkRefused.OutOfMemory → models_fault M.meaning (parts_of root.now.parts.items) root.now.couplings.items ≡ Some e) }
 {
@@ -86,13 +110,27 @@ fn check_parts<M: Atomic>(alloc: Global, parts: &[(String, Part<M>)]) -> Result<
 {
     let mut names = IndexSet::new(alloc);
     for (name, part) in parts {
-        take_part_name(&mut names, String::from_str(alloc, name.as_str())?)?;
-        match part {
-            Part::Atom(model) => check_start(alloc, model)?,
-            Part::Coupled(_) => {}
-        }
+        take_part(alloc, &mut names, name.as_str(), part)?;
     }
     Ok(())
+}
+
+/// Adds the name of a part that is not at fault.
+fn take_part<M: Atomic>(
+    alloc: Global,
+    names: &mut IndexSet<String>,
+    name: &str,
+    part: &Part<M>,
+) -> Result<(), NetworkRefused>
+    ensures names { OnOk result (map string_bytes names.new.keys ≡ map string_bytes names.old.keys ++ name.now ∷ []) }
+    ensures ok { OnOk result (parts_fault M.meaning (map string_bytes names.old.keys) (part_view part.now name.now no_parts) ≡ None) }
+    ensures err { IfErr result (λ e. e ≢ NetworkRefused.OutOfMemory → parts_fault M.meaning (map string_bytes names.old.keys) (part_view part.now name.now no_parts) ≡ Some e) }
+{
+    take_part_name(names, String::from_str(alloc, name)?)?;
+    match part {
+        Part::Atom(model) => check_start(alloc, model),
+        Part::Coupled(_) => Ok(()),
+    }
 }
 
 /// Adds the name of a part that is not at fault.

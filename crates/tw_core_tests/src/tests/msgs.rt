@@ -66,26 +66,50 @@ fn assert_sorted(rt: &impl Abort, bag: &mut Bag) {
     assert!(rt; bag.is_empty());
 }
 
-/// Records are compared by each part, and a copy is no part of its record.
+/// A record of this kind and these words is another one.
+fn assert_other(
+    rt: &impl Abort,
+    alloc: Global,
+    record: &Record,
+    kind: RecordKind,
+    words: &[i128],
+) -> Result<(), AllocError> {
+    let other = record_of(alloc, kind, words)?;
+    assert!(rt; *record != other);
+    Ok(())
+}
+
+/// A copy is no part of its record.
+fn assert_copied(rt: &impl Abort, record: &Record) -> Result<(), AllocError> {
+    let mut copy = record.clone()?;
+    assert!(rt; copy == *record);
+    copy.bag.sort();
+    assert!(rt;
+        copy != *record && copy.words == record.words && record.bag.as_slice() == TEN.as_slice()
+    );
+    assert_sorted(rt, &mut copy.bag);
+    Ok(())
+}
+
+/// Asserts that words are 0, -1 and the greatest number of 128 bits, by each of their readers.
+fn assert_words(rt: &impl Abort, alloc: Global, words: &Words) -> Result<(), AllocError> {
+    assert!(rt; words.len() == 3 && !words.is_empty());
+    assert!(rt; words.get(2) == Some(i128::MAX) && words.get(3).is_none());
+    let mut numbers = Vec::from_slice(alloc, &[7])?;
+    words.append_to(&mut numbers)?;
+    assert!(rt; numbers.as_slice() == [7, 0, -1, i128::MAX].as_slice());
+    Ok(())
+}
+
+/// Records are compared by each part.
 fn records(rt: &impl Abort, alloc: Global) -> Result<(), AllocError> {
     equality_law();
     let record = record_of(alloc, RecordKind::Con, &[0, -1, i128::MAX])?;
-    assert!(rt; record != record_of(alloc, RecordKind::Ext, &[0, -1, i128::MAX])?);
-    assert!(rt; record != record_of(alloc, RecordKind::Con, &[0, -1])?);
-    assert!(rt; record != record_of(alloc, RecordKind::Con, &[0, -1, 2])?);
-    let mut copy = record.clone()?;
-    assert!(rt; copy == record);
-    copy.bag.sort();
-    assert!(rt;
-        copy != record && copy.words == record.words && record.bag.as_slice() == TEN.as_slice()
-    );
-    assert_sorted(rt, &mut copy.bag);
-    assert!(rt; copy.words.len() == 3 && !copy.words.is_empty());
-    assert!(rt; copy.words.get(2) == Some(i128::MAX) && copy.words.get(3).is_none());
-    let mut numbers = Vec::from_slice(alloc, &[7])?;
-    copy.words.append_to(&mut numbers)?;
-    assert!(rt; numbers.as_slice() == [7, 0, -1, i128::MAX].as_slice());
-    Ok(())
+    assert_other(rt, alloc, &record, RecordKind::Ext, &[0, -1, i128::MAX])?;
+    assert_other(rt, alloc, &record, RecordKind::Con, &[0, -1])?;
+    assert_other(rt, alloc, &record, RecordKind::Con, &[0, -1, 2])?;
+    assert_copied(rt, &record)?;
+    assert_words(rt, alloc, &record.words)
 }
 
 /// The second try is made where memory is refused in the first.

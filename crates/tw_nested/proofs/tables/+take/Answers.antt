@@ -1,27 +1,43 @@
-use Rattle.std.proofs.Common.{◌++◌, ◌∷◌, [], map, ap, ◌∙◌, sym, append_assoc}
+use Rattle.std.proofs.Common.{◌++◌, ◌∷◌, [], map, ap, ◌∙◌, refl, sym, append_assoc, string_bytes}
 use Rattle.std.specs.Vec.Iter.{into_iter_items}
-use Rattle.tw_nested.specs.Tree.{parts_of}
-use Rattle.tw_nested.specs.Taken.{model_of}
-use Rattle.tw_nested.proofs.Taking.{after_atom, after_coupled}
-use Rattle.tw_nested.proofs.TreeViews.{parts_of-atom, parts_of-coupled}
-use Rattle.tw_nested.proofs.tables.+take.Goals as goal
-use Rattle.tw_nested.proofs.tables.+take.Goals.{in-Atom+in_ok-name-in-Atom+in_ok-push-in-Atom+in_ok-push-in-Atom-2+in_ok-push-in-Atom-3, in-Coupled+in_ok-prefix-in-Coupled+in_ok-take-in-Coupled}
-use Rattle.std.proofs.Common.{string_bytes}
 use Rattle.std.proofs.lemmas.List.{map-append}
+use Rattle.tw_nested.specs.Tree.{parts_of}
+use Rattle.tw_nested.proofs.Taking.{after_part, all_coupled, all_taken, taken_atom, taken_coupled}
+use Rattle.tw_nested.proofs.tables.+take.Goals as goal
 
-pub loop-name-preserved : goal.loop-name-preserved
-loop-name-preserved g t c = (
+pub take-loop-name-preserved : goal.take-loop-name-preserved
+take-loop-name-preserved g t c = (
   tt,
   tt,
   c.loop-name.invariant.2 ∙ ap (λ r. c.loop-name.yielded ++ r) c.in-Some.ensures.steps.0 ∙ sym (append_assoc c.loop-name.yielded ((c.in-Some.name, c.in-Some.part) ∷ []) (into_iter_items c.next.new.self)),
-  elim c.match-part-2.branch [
-    | in-Atom+in_ok-name-in-Atom+in_ok-push-in-Atom+in_ok-push-in-Atom-2+in_ok-push-in-Atom-3 w ↦ rw (w.tables-is, w.in_ok-push-in-Atom-3.ensures.items, w.in_ok-push-in-Atom-2.ensures.items, w.in_ok-push-in-Atom.ensures.items, c.in_ok-push.ensures.items, map-append string_bytes c.loop-name.tables.names.items (w.in_ok-name-in-Atom.name ∷ []), w.in_ok-name-in-Atom.ensures, w.as_str.ensures.value)
-        (after_atom (parts_of c.args.nested.parts.items) c.args.prefix.now (map string_bytes c.args.tables.now.names.items) _ _ _ _ (map string_bytes c.loop-name.tables.names.items) c.loop-name.tables.count c.loop-name.tables.models.items c.loop-name.tables.atoms.items (map model_of c.loop-name.tables.coupled.items) c.loop-name.parts.items _ w.in-Atom.model (parts_of (into_iter_items c.next.new.self))
-        (rw (c.in-Some.ensures.steps.0, w.in-Atom.is, parts_of-atom c.in-Some.name w.in-Atom.model (into_iter_items c.next.new.self)) at c.loop-name.invariant.3))
-    | in-Coupled+in_ok-prefix-in-Coupled+in_ok-take-in-Coupled w ↦ rw (w.tables-is, c.in_ok-push.ensures.items)
-        (after_coupled (parts_of c.args.nested.parts.items) c.args.prefix.now (map string_bytes c.args.tables.now.names.items) _ _ _ _ (map string_bytes c.loop-name.tables.names.items) c.loop-name.tables.count c.loop-name.tables.models.items c.loop-name.tables.atoms.items (map model_of c.loop-name.tables.coupled.items) c.loop-name.parts.items (string_bytes c.in-Some.name) (parts_of w.in-Coupled.inner.parts.items) w.in-Coupled.inner.couplings.items (parts_of (into_iter_items c.next.new.self))
-        (map string_bytes w.take.new.tables.names.items) w.take.new.tables.count w.take.new.tables.models.items w.take.new.tables.atoms.items (map model_of w.take.new.tables.coupled.items)
-        (rw (w.as_str-in-Coupled-2.ensures.value, w.in_ok-prefix-in-Coupled.ensures, w.as_str-in-Coupled.ensures.value) at w.in_ok-take-in-Coupled.ensures.names) w.in_ok-take-in-Coupled.ensures.count w.in_ok-take-in-Coupled.ensures.models w.in_ok-take-in-Coupled.ensures.atoms w.in_ok-take-in-Coupled.ensures.coupled
-        (rw (c.in-Some.ensures.steps.0, w.in-Coupled.is, parts_of-coupled c.in-Some.name w.in-Coupled.inner (into_iter_items c.next.new.self)) at c.loop-name.invariant.3))
-  ],
+  rw c.in_ok-push.ensures.items
+      (after_part (parts_of c.args.nested.parts.items) c.args.prefix.now c.args.tables.now c.loop-name.tables c.loop-name.parts.items c.in-Some.part (string_bytes c.in-Some.name) (parts_of (into_iter_items c.next.new.self))
+      (rw c.in-Some.ensures.steps.0 at c.loop-name.invariant.3)
+      c.take_part.new.tables (rw c.as_str.ensures.value at c.in_ok-take_part.ensures.taken)),
 )
+
+pub take-returns : goal.take-returns
+take-returns g t c =
+    let all = all_taken (parts_of c.args.nested.parts.items) c.args.prefix.now c.args.tables.now c.loop-name.tables c.loop-name.parts.items (into_iter_items c.loop-name.name-iterator) (sym c.loop-name.name-iterator.rest.ok.0 ∙ c.in-None.ensures.steps.0) c.loop-name.invariant.3 in
+    record {
+      count = all.count;
+      names = all.names;
+      models = all.models;
+      atoms = all.atoms;
+      coupled = rw c.in_ok-push-2.ensures.items
+          (all_coupled (parts_of c.args.nested.parts.items) c.args.prefix.now c.args.tables.now c.loop-name.tables c.loop-name.parts.items (into_iter_items c.loop-name.name-iterator) (sym c.loop-name.name-iterator.rest.ok.0 ∙ c.in-None.ensures.steps.0) c.loop-name.invariant.3
+          (record { number = c.args.number; parts = c.loop-name.parts; links = c.args.nested.couplings }) refl);
+      memory = tt;
+    }
+
+pub take_part-returns-in_ok-push-in-Atom-3-clause-taken : goal.take_part-returns-in_ok-push-in-Atom-3-clause-taken
+take_part-returns-in_ok-push-in-Atom-3-clause-taken g t c =
+    taken_atom c.args.prefix.now c.args.name.now c.args.part c.args.tables.now _ c.in-Atom.model c.in-Atom.is refl
+    (ap (map string_bytes) c.in_ok-push-in-Atom.ensures.items ∙ map-append string_bytes c.args.tables.now.names.items (c.in_ok-name-in-Atom.name ∷ [])
+    ∙ ap (λ n. map string_bytes c.args.tables.now.names.items ++ n ∷ []) c.in_ok-name-in-Atom.ensures)
+    c.in_ok-push-in-Atom-2.ensures.items c.in_ok-push-in-Atom-3.ensures.items refl
+
+pub take_part-returns-in_ok-prefix-in-Coupled-clause-taken : goal.take_part-returns-in_ok-prefix-in-Coupled-clause-taken
+take_part-returns-in_ok-prefix-in-Coupled-clause-taken g t c =
+    taken_coupled c.args.prefix.now c.args.name.now c.args.part c.args.tables.now c.take.new.tables c.in-Coupled.inner c.in-Coupled.is c.take.result
+    (rw (c.as_str.ensures.value, c.in_ok-prefix-in-Coupled.ensures) at c.take.ensures.names) c.take.ensures.count c.take.ensures.models c.take.ensures.atoms c.take.ensures.coupled

@@ -1,9 +1,10 @@
-use Rattle.std.proofs.Common.{◌≡◌, ◌+◌, ◌≤◌, length, Some, Err, ap, sym, subst, ◌∙◌, arith, min}
+use Rattle.std.proofs.Common.{◌≡◌, ◌+◌, ◌<◌, ◌≤◌, length, Some, Err, ap, sym, subst, ◌∙◌, arith, min}
 use Rattle.std.specs.Arc.{arc_value}
 use Rattle.std.specs.Prelude.{slice_get}
+use Rattle.std.proofs.lemmas.Option.{slice_get_within}
 use Rattle.tw_msgs.specs.declared.record_kind.RecordKind.TheVariants.{Out}
 use Rattle.tw_network.specs.Contents.{network_of}
-use Rattle.tw_theory.specs.Contents.{next, sent_out}
+use Rattle.tw_theory.specs.Contents.{next}
 use Rattle.tw_theory.specs.Installing.{IsFullFor}
 use Rattle.tw_theory.specs.Network.{routed}
 use Rattle.tw_vtime.specs.Stamps.{max_microstep}
@@ -18,6 +19,18 @@ use Rattle.tw_process.proofs.Stepped.{Stepped, output_stepped}
 use Rattle.tw_process.proofs.process.Process.make_output.Given.{Over}
 use Rattle.tw_process.proofs.process.Process.make_output.Goals.{After-drop-sent-2}
 use Rattle.tw_process.proofs.process.Process.make_output.Goals as goal
+
+pub model-model-requires : goal.model-model-requires
+model-model-requires g c = subst (λ n. c.self.inside.component < length n.models) (sym c.deref-network.ensures) (slice_get_within (arc_value c.self.inside.network).models c.self.inside.component c.self.invariant.model c.self.invariant.there)
+
+pub output_step-requires : goal.output_step-requires
+output_step-requires g c =
+    let inside = c.self.inside in
+    let there = ap (λ n. slice_get n.models inside.component) (sym c.deref-network.ensures) ∙ c.model-model.ensures in
+    record { valid = (kept_at g.M.Atomic.valid g.M.Atomic.meaning g.M.Atomic.undone (arc_value inside.network) inside.component inside.moment inside.floor inside.history.items inside.lists c.self.invariant c.model-model.result.now there).standing.valid }
+
+pub routed-requires : goal.routed-requires
+routed-requires g c = subst (λ n. c.self.inside.component < length n.models) (sym c.deref-network.ensures) (slice_get_within (arc_value c.self.inside.network).models c.self.inside.component c.self.invariant.model c.self.invariant.there)
 
 there : (g : Over) (c : After-drop-sent-2 g) → slice_get (arc_value c.self.inside.network).models c.self.inside.component ≡ Some c.model-model.result.now
 there g c = ap (λ n. slice_get n.models c.self.inside.component) (sym c.deref-network.ensures) ∙ c.model-model.ensures

@@ -1,22 +1,56 @@
-use Rattle.std.proofs.Common.{◌≡◌, ◌-◌, ◌≤◌, ◌++◌, length, drop, Some, ap, sym, subst, ◌∙◌}
+use Rattle.std.proofs.Common.{◌≡◌, ◌-◌, ◌<◌, ◌≤◌, ◌++◌, length, drop, min, Some, ap, sym, subst, ◌∙◌}
 use Rattle.std.specs.Arc.{arc_value}
 use Rattle.std.specs.Prelude.{slice_get}
+use Rattle.std.proofs.lemmas.Option.{slice_get_within}
 use Rattle.tw_msgs.specs.Messages.{Sorted}
 use Rattle.tw_theory.specs.Bundles.{front}
 use Rattle.tw_theory.specs.Contents.{next}
 use Rattle.tw_vtime.specs.Stamps.{max_microstep}
-use Rattle.tw_process.specs.History.{seen, IsKeptBy}
+use Rattle.tw_theory.specs.Transitions.{Moment}
+use Rattle.tw_process.specs.History.{seen, IsKept, IsKeptBy}
 use Rattle.tw_lists.specs.Lists.{restored}
 use Rattle.tw_process.specs.Process.{Held, with_spare, IsStepped, IsStop}
 use Rattle.tw_process.specs.Refusals.{of_turn}
 use Rattle.tw_process.proofs.Histories.{kept_at}
 use Rattle.tw_theory.proofs.MessageOrder.{sorted_right}
 use Rattle.tw_lists.proofs.Loops.{BagBack, bag_back, items_length}
+use Rattle.tw_process.proofs.Outcomes.{on_err_always}
 use Rattle.tw_process.proofs.Made.{move_possible, stops}
 use Rattle.tw_process.proofs.Stepped.{Stepped, transition_stepped}
 use Rattle.tw_process.proofs.process.Process.make_transition.Given.{Over}
 use Rattle.tw_process.proofs.process.Process.make_transition.Goals.{After-micro_limit, After-push_back_reserved}
 use Rattle.tw_process.proofs.process.Process.make_transition.Goals as goal
+
+pub model-model-requires : goal.model-model-requires
+model-model-requires g c = subst (λ n. c.self.inside.component < length n.models) (sym c.deref-network.ensures) (slice_get_within (arc_value c.self.inside.network).models c.self.inside.component c.self.invariant.model c.self.invariant.there)
+
+same_spare : {M S : Type 0} (p q : Held M S) → p ≡ q → p ≡ with_spare p.spare q
+same_spare p q e = e ∙ ap (λ k. with_spare k q) (sym (ap (λ (x : Held _ _). x.spare) e))
+
+pub invariant_of-self : goal.invariant_of-self
+invariant_of-self g c =
+    let inside = c.self.inside in
+    let now : Moment g.row.M-State.Denot = inside.moment in
+    subst (λ h. IsKept g.M.Atomic.valid g.M.Atomic.meaning g.M.Atomic.undone (arc_value inside.network) inside.component now inside.floor h inside.lists) (sym c.reserve.ensures.items) c.self.invariant
+
+pub returns-in_err-reserve-clause-stays : goal.returns-in_err-reserve-clause-stays
+returns-in_err-reserve-clause-stays g c =
+    let inside = c.self.inside in
+    on_err_always _ c.from_residual.result
+    ((λ i. seen (arc_value inside.network) inside.component inside.moment inside.line inside.cancel inside.floor (c.reserve.ensures.items i) inside.lists)
+    ∙ ap (with_spare (min inside.lists.room inside.lists.spare)) c.self.view_is)
+
+pub invariant_of-self-in_err-bag : goal.invariant_of-self-in_err-bag
+invariant_of-self-in_err-bag g c =
+    let inside = c.self.inside in
+    let now : Moment g.row.M-State.Denot = inside.moment in
+    subst (λ (x : Type 0). x) (λ i. IsKept g.M.Atomic.valid g.M.Atomic.meaning g.M.Atomic.undone (arc_value inside.network) inside.component now inside.floor (sym c.reserve.ensures.items i) (sym c.in_err-bag.ensures.err i)) c.self.invariant
+
+pub returns-in_err-bag-clause-stays : goal.returns-in_err-bag-clause-stays
+returns-in_err-bag-clause-stays g c =
+    let inside = c.self.inside in
+    on_err_always _ c.from_residual-in_err-bag.result
+    (same_spare _ _ ((λ i. seen (arc_value inside.network) inside.component inside.moment inside.line inside.cancel inside.floor (c.reserve.ensures.items i) (c.in_err-bag.ensures.err i)) ∙ c.self.view_is))
 
 pub transition_step-requires-clause-last : goal.transition_step-requires-clause-last
 transition_step-requires-clause-last g c = c.self.invariant.by.standing.last_is
@@ -62,9 +96,6 @@ pub invariant_of-self-in-Err : goal.invariant_of-self-in-Err
 invariant_of-self-in-Err g c =
     let lists = c.restore.ensures ∙ ap (restored c.len-consumed.result) c.in_ok-bag.ensures.ok ∙ (back g (goal.at.invariant_of-self-in-Err g c).After-micro_limit).same in
     rw (c.in-Err.ensures.stays, c.reserve.ensures.items, lists) c.self.invariant
-
-same_spare : {M S : Type 0} (p q : Held M S) → p ≡ q → p ≡ with_spare p.spare q
-same_spare p q e = e ∙ ap (λ k. with_spare k q) (sym (ap (λ (x : Held _ _). x.spare) e))
 
 pub returns-in-Err-clause-stays : goal.returns-in-Err-clause-stays
 returns-in-Err-clause-stays g c =

@@ -1,7 +1,10 @@
-use Rattle.std.proofs.Common.{◌≡◌, ◌++◌, ◌∷◌, [], ap, sym, ◌∙◌}
+use Rattle.std.proofs.Common.{◌≡◌, ◌++◌, ◌∷◌, [], ap, sym, ◌∙◌, min}
 use Rattle.std.specs.Arc.{arc_value}
 use Rattle.tw_theory.specs.Transitions.{Moment}
 use Rattle.tw_lists.specs.Lists.{node_count as lists_count, with_room, with_orphan}
+use Rattle.tw_process.specs.History.{seen}
+use Rattle.tw_process.specs.Process.{with_noted, with_spare}
+use Rattle.std.proofs.lemmas.Result.{on_ok_weaker, on_err_weaker}
 use Rattle.tw_process.proofs.Outcomes.{either_way}
 use Rattle.tw_process.proofs.Receipts.{kept_with, others_kept}
 use Rattle.tw_theory.specs.Memory.{live}
@@ -31,3 +34,21 @@ invariant_of-self g c =
     (λ x kept. others_kept (g.M.Atomic.valid x) (g.M.Atomic.meaning x) (g.M.Atomic.undone x) inside.component now inside.floor inside.history.items inside.lists kept (inside.lists.waiting ++ m ∷ []) inside.lists.outgoing inside.lists.owed new.room new.spare))
     (λ stays. kept_with g.M.Atomic.valid g.M.Atomic.meaning g.M.Atomic.undone (arc_value inside.network) inside.component now inside.floor inside.history.items inside.lists new (with_room new.room new.spare inside.lists) c.self.invariant stays
     (λ x kept. others_kept (g.M.Atomic.valid x) (g.M.Atomic.meaning x) (g.M.Atomic.undone x) inside.component now inside.floor inside.history.items inside.lists kept inside.lists.waiting inside.lists.outgoing inside.lists.owed new.room new.spare))
+
+pub returns-clause-noted : goal.returns-clause-noted
+returns-clause-noted g c =
+    let inside = c.self.inside in
+    let new = c.note_orphan.new.self in
+    on_ok_weaker c.note_orphan.result
+    (λ is. (λ i. seen (arc_value inside.network) inside.component inside.moment inside.line inside.cancel inside.floor inside.history.items (is i))
+    ∙ ap (λ p. with_spare (min new.room new.spare) (with_noted c.args.message p)) c.self.view_is)
+    c.note_orphan.ensures.noted
+
+pub returns-clause-stays : goal.returns-clause-stays
+returns-clause-stays g c =
+    let inside = c.self.inside in
+    let new = c.note_orphan.new.self in
+    on_err_weaker c.note_orphan.result
+    (λ is. (λ i. seen (arc_value inside.network) inside.component inside.moment inside.line inside.cancel inside.floor inside.history.items (is i))
+    ∙ ap (with_spare (min new.room new.spare)) c.self.view_is)
+    c.note_orphan.ensures.stays

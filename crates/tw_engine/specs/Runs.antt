@@ -19,7 +19,6 @@ use Rattle.tw_netfile.specs.TreeMeaning.{IsFault, IsMeaning}
 use Rattle.tw_netfile.specs.declared.refused.FileRefused.{FileRefused}
 use Rattle.tw_texts.specs.Texts.{trace_text, fault_line}
 use Rattle.tw_texts.specs.Traces.{AppendsBeginning}
-use Rattle.tw_workers.specs.declared.outcome.Setting.{Setting}
 use Rattle.tw_engine.specs.Ends.{Fails, Fault, RunEnd}
 use Rattle.tw_engine.specs.declared.failed.Failed.{Failed}
 use Rattle.tw_engine.specs.declared.failed.Failed.TheVariants.{Bad, Want, NoWrite}
@@ -111,11 +110,6 @@ IsMadeInOrder n until end old new =
 -- how one by workers ends, who may also want nodes (12)
 abbrev pub IsWorked : Contents AnyModel → ℕ → RunEnd → Option (List ℕ) → Option (List ℕ) → Type 0
 IsWorked n until end old new = IsMadeInOrder n until end old new ⊎ (Fails end (λ why. why ≡ Want refusal.Full) × Keeps old new)
-
--- what workers are set to is in its range
-abbrev pub IsSet : Setting → Type 0
-IsSet setting =
-    ((1 ≤ setting.workers) × (setting.workers ≤ 64)) × ((1 ≤ setting.burst) × (setting.burst ≤ 256)) × (setting.window ≤ max_tick)
 
 -- ---- the jobs
 

@@ -1,11 +1,11 @@
 //! Counts and the greatest microstep that are out of range.
 
-use crate::outline::Outline;
 use crate::parameters::check_range;
 use serde_json::Value;
 use std::alloc::Global;
 use tw_machine_faults::{Stop, items_at};
 use tw_network::{MAX_COMPONENTS, MAX_COUPLED, MAX_COUPLINGS, MAX_INPUTS, MAX_LEVELS};
+use tw_outline::Outline;
 use tw_vtime::MAX_MICROSTEP;
 
 /// Looks for a count above the most that is taken.

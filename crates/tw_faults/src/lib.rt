@@ -5,7 +5,7 @@
 //! fault's first place is looked for. Of the words nothing is proved but that they are made safely and that the
 //! search ends: they are shown by tests, one for each kind of fault.
 //!
-//! - `outline`: the models and components of a file, each with its place and its name.
+//! - `tw_outline` has the models and components of a file, each with its place and its name.
 //! - `shape`, `parameters`, `connections`, `counts`: the first place of a fault of each kind.
 //! - `given`: components of machines. The machines themselves, the first fault of `models`, are left to
 //!   `tw_machine_faults`, which has the words too that lines are made of.
@@ -16,7 +16,6 @@ mod connections;
 mod counts;
 mod given;
 mod lines;
-mod outline;
 mod parameters;
 mod shape;
 mod syntax;

@@ -4,7 +4,6 @@ use crate::connections::{
     bad_names, bad_ports, bad_ticks, repeated_names, repeated_routes, self_couplings, unknown_names,
 };
 use crate::counts::{bad_limit, too_many};
-use crate::outline::Outline;
 use crate::parameters::bad_parameters;
 use crate::shape::bad_shape;
 use crate::syntax::not_json;
@@ -13,6 +12,7 @@ use std::alloc::{AllocError, Global};
 use tw_machine_faults::Stop;
 use tw_netfile::FileRefused;
 use tw_network::NetworkRefused;
+use tw_outline::Outline;
 
 /// The place and the reason of a fault that the reader has found in a file's bytes, in words, with no line's end:
 ///

@@ -1,9 +1,9 @@
 //! Parameters of models that are out of range.
 
-use crate::outline::Outline;
 use serde_json::Value;
 use std::alloc::Global;
 use tw_machine_faults::Stop;
+use tw_outline::Outline;
 use tw_vtime::MAX_TICK;
 
 /// The most output ports of a hop.

@@ -1,12 +1,12 @@
 //! Members that are missing, unknown or of another type.
 
 use crate::given::{check_given, check_tables, machine_named};
-use crate::outline::{Outline, place_of};
 use serde_json::Value;
 use std::alloc::Global;
 use tw_machine_faults::{
     MODELS, Machine, Nearest, Stop, described, items_at, listed, machines_of, quoted,
 };
+use tw_outline::{Outline, place_of};
 
 /// The members of a network file.
 const MEMBERS: [&str; 5] = ["format", "micro_limit", "components", "couplings", "inputs"];

@@ -1,8 +1,8 @@
 //! Runs by workers, each of which ends whatever was refused: one that is given up is run again.
 
 ghost use Rattle.std.specs.Prelude.{◌≡◌, ◌≤◌, IfOk};
+ghost use Rattle.tw_exchange.specs.Exchanged.{IsNotAhead};
 ghost use Rattle.tw_theory.specs.Board.{nothing_posted};
-ghost use Rattle.tw_workers.specs.Exchanged.{IsNotAhead};
 
 use crate::telling::{name_in, tell_fault, tell_lines, tell_seen};
 use std::alloc::{AllocError, Global};

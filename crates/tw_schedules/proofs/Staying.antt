@@ -10,12 +10,12 @@ use Rattle.tw_theory.specs.Chains.{Chain, Start}
 use Rattle.tw_theory.specs.Executive.{Action}
 use Rattle.tw_theory.specs.Standing.{IsReady}
 use Rattle.tw_vtime.specs.Stamps.{max_microstep}
-use Rattle.tw_workers.proofs.Due.{drawn_due}
-use Rattle.tw_workers.proofs.UnderWay.{done_of}
-use Rattle.tw_workers.specs.Ends.{IsDue}
-use Rattle.tw_workers.specs.Exchanged.{Exchanged, IsNearOrder, IsOrder, bound_at, with_busy, with_executive}
-use Rattle.tw_workers.specs.Sweeping.{IsCutShort, replayed}
-use Rattle.tw_workers.specs.declared.refused.SweepRefused.{SweepRefused}
+use Rattle.tw_exchange.proofs.Due.{drawn_due}
+use Rattle.tw_exchange.proofs.UnderWay.{done_of}
+use Rattle.tw_exchange.specs.Ends.{IsDue}
+use Rattle.tw_exchange.specs.Exchanged.{Exchanged, IsNearOrder, IsOrder, bound_at, with_busy, with_executive}
+use Rattle.tw_exchange.specs.Sweeping.{IsCutShort, replayed}
+use Rattle.tw_exchange.specs.declared.refused.SweepRefused.{SweepRefused}
 
 -- of this network, until this tick
 abbrev pub IsOf : {M S : Type 0} → Contents M → ℕ → Exchanged M S → Type 0

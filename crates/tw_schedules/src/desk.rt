@@ -1,7 +1,7 @@
 //! An exchange of one network, and the chains that were worked out for it.
 
 ghost use Rattle.std.specs.Prelude.{◌≡◌, IfOk, IfSome};
-ghost use Rattle.tw_workers.specs.Ends.{IsDue, IsMadeFor};
+ghost use Rattle.tw_exchange.specs.Ends.{IsDue, IsMadeFor};
 
 use std::alloc::AllocError;
 use std::marker::{Brand, Model, PhantomData};
@@ -41,7 +41,7 @@ pub(crate) struct Desk<M: Atomic, H: Given<M>> {
 
 impl<M: Atomic, H: Given<M>> Model for Desk<M, H> {
     ghost use Rattle.std.specs.Prelude.{◌≡◌};
-    ghost use Rattle.tw_workers.specs.Exchanged.{Exchanged};
+    ghost use Rattle.tw_exchange.specs.Exchanged.{Exchanged};
 
     ghost Value = { Exchanged M M.State };
 
@@ -60,8 +60,8 @@ pub(crate) struct Kept<M: Atomic, H: Given<M>> {
 }
 
 impl<M: Atomic, H: Given<M>> Model for Kept<M, H> {
+    ghost use Rattle.tw_exchange.specs.Ends.{IsMadeFor};
     ghost use Rattle.tw_theory.specs.Chains.{Chain};
-    ghost use Rattle.tw_workers.specs.Ends.{IsMadeFor};
 
     ghost Value = { Chain M M.State };
 

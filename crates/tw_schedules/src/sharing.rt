@@ -1,7 +1,7 @@
 //! What a turn does with an exchange.
 
 ghost use Rattle.std.specs.Prelude.{◌<◌, IfOk, IfSome};
-ghost use Rattle.tw_workers.specs.Ends.{IsDue};
+ghost use Rattle.tw_exchange.specs.Ends.{IsDue};
 
 use crate::desk::{Desk, Given, Kept};
 use rand_core::SeedableRng;

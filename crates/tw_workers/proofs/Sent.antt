@@ -4,44 +4,20 @@ use denote.Param.Send.{IsSend, IsSync, sendable}
 use denote.Param.SendFields.{declared_send, declared_sync}
 use Rattle.std.proofs.Crossing.{Arc-sync, send, crosses}
 use Rattle.tw_atomic.specs.declared.Atomic.{Ghosts}
-use Rattle.tw_board.proofs.board.Publisher.TheSendSync as publisher_sent
-use Rattle.tw_exec.proofs.Sent.{executive_send}
+use Rattle.tw_exchange.proofs.Sent.{exchange_send}
 use Rattle.tw_network.proofs.network.Network.TheSendSync as network_sent
 use Rattle.tw_network.specs.contracts.network.Network as network
-use Rattle.tw_tournament.proofs.tournament.Tournament.TheSendSync as tournament_sent
 use Rattle.tw_vtime.proofs.stamps.Stamp.TheSendSync as stamp_sent
-use Rattle.tw_workers.specs.contracts.agenda.Agenda as agenda
-use Rattle.tw_workers.specs.contracts.agenda.Agenda.TheInside as agenda_inside
 use Rattle.tw_workers.specs.contracts.desk.Desk as desk
 use Rattle.tw_workers.specs.contracts.desk.Desk.TheInside as desk_inside
-use Rattle.tw_workers.specs.contracts.queues.Queues as queues
 use Rattle.tw_workers.specs.contracts.running.Shared as shared
 use Rattle.tw_workers.specs.declared.desk.Given as given
 use Rattle.tw_actions.proofs.run_state.RunState.TheSendSync as state_sent
 use Rattle.tw_workers.proofs.crew.Crew.TheSendSync as crew_sent
 use Rattle.tw_workers.proofs.effort.Effort.TheSendSync as effort_sent
-use Rattle.tw_workers.proofs.effort.Undone.TheSendSync as undone_sent
-use Rattle.tw_workers.proofs.outcome.Setting.TheSendSync as setting_sent
+use Rattle.tw_workers.proofs.setting.Setting.TheSendSync as setting_sent
 use Rattle.tw_workers.proofs.steering.Pace.TheSendSync as pace_sent
 use Rattle.tw_workers.proofs.steering.Window.TheSendSync as window_sent
-use Rattle.tw_workers.specs.contracts.exchange.Exchange as exchange
-use Rattle.tw_workers.specs.contracts.exchange.Exchange.TheInside as exchange_inside
-
-agenda_send : IsSend agenda.the_row
-agenda_send =
-    let times = tournament_sent.the_send in
-    let stamp = stamp_sent.the_send in
-    let inside : IsSend agenda_inside.the_row = declared_send agenda_inside.the_type (search (sendable, crosses) depth 20, (times, tt)) in
-    search sendable
-
-queues_send : IsSend queues.the_row
-queues_send = let agenda = agenda_send in declared_send queues.the_type (agenda, (agenda, (agenda, (agenda, (undone_sent.the_send, tt)))))
-
-pub exchange_send : (M S R : RattleType) (g : Ghosts M.Denot S.Denot R.Denot) → IsSend M → IsSync M → IsSend S → IsSend R → IsSend (exchange.the_row M S R g)
-exchange_send M S R g m y s r =
-    let executive = executive_send M S R g m y s r in
-    let inside : IsSend (exchange_inside.the_row M S R g) = declared_send (exchange_inside.the_type M S R g) (send, (executive, (queues_send, (publisher_sent.the_send, tt)))) in
-    search sendable
 
 pub desk_send : (M H S R : RattleType) (g : Ghosts M.Denot S.Denot R.Denot) (given : given.Ghosts H.Denot M.Denot) → IsSend M → IsSync M → IsSend H → IsSend S → IsSend R
     → IsSend (desk.the_row M H S R g given)

@@ -2,22 +2,20 @@
 
 ghost use Rattle.std.specs.Prelude.{◌≡◌, ℕ, IfErr, IfOk, IfSome};
 ghost use Rattle.atomic_table.specs.Seated.{TableId};
+ghost use Rattle.tw_exchange.specs.Ends.{IsDue, IsOver, IsMadeFor};
+ghost use Rattle.tw_exchange.specs.Further.{reached, IsSince};
 ghost use Rattle.tw_network.specs.Contents.{Contents};
-ghost use Rattle.tw_workers.specs.Ends.{IsDue, IsOver, IsMadeFor};
-ghost use Rattle.tw_workers.specs.Further.{reached, IsSince};
 
 use crate::crew::{Crew, Seen};
 use crate::effort::Effort;
-use crate::exchange::Exchange;
-use crate::orders::{Order, Prepareds};
-use crate::outcome::{Setting, find_end};
-use crate::refused::SweepRefused;
+use crate::setting::Setting;
 use crate::steering::{Ending, Pace, Window, tick_of};
 use std::alloc::Global;
 use std::marker::{Brand, Model, PhantomData};
 use tw_actions::RunState;
 use tw_atomic::Atomic;
 use tw_chain::Cause;
+use tw_exchange::{Exchange, Order, Prepareds, SweepRefused, find_end};
 use tw_exec::Executive;
 use tw_process::{Finished, Stop};
 
@@ -30,8 +28,8 @@ const CHAINS_BETWEEN_SWEEPS: u64 = 64;
 pub(crate) trait Given<M> {
     ghost use Rattle.std.specs.Prelude.{ℕ};
     ghost use Rattle.atomic_table.specs.Seated.{TableId};
+    ghost use Rattle.tw_exchange.specs.Further.{Reached};
     ghost use Rattle.tw_network.specs.Contents.{Contents};
-    ghost use Rattle.tw_workers.specs.Further.{Reached};
 
     ghost is_given: { Contents M → ℕ → TableId → Type 0 };
 
@@ -70,9 +68,9 @@ pub(crate) struct Desk<M: Atomic, H: Given<M>> {
 
 impl<M: Atomic, H: Given<M>> Model for Desk<M, H> {
     ghost use Rattle.std.specs.Prelude.{IfOk, IfSome};
-    ghost use Rattle.tw_workers.specs.Ends.{IsOver};
-    ghost use Rattle.tw_workers.specs.Exchanged.{Exchanged};
-    ghost use Rattle.tw_workers.specs.Further.{IsSince};
+    ghost use Rattle.tw_exchange.specs.Ends.{IsOver};
+    ghost use Rattle.tw_exchange.specs.Exchanged.{Exchanged};
+    ghost use Rattle.tw_exchange.specs.Further.{IsSince};
 
     ghost Value = { Exchanged M M.State };
 

@@ -1,5 +1,7 @@
 //! What a run spent beside its outcome.
 
+use tw_exchange::Undone;
+
 /// What a run spent, for those who look for a better setting. Nothing is promised of these numbers; each stays at the greatest of its
 /// type.
 #[derive(Clone, Copy, Debug, PartialEq, Eq)]
@@ -49,30 +51,5 @@ impl Effort {
     pub(crate) fn count_undone(&mut self, undone: Undone) {
         self.lost = self.lost.saturating_add(undone.steps);
         self.rollbacks = self.rollbacks.saturating_add(undone.rollbacks);
-    }
-}
-
-/// What deliveries have taken back: so many steps, and how many deliveries did.
-#[derive(Clone, Copy, Debug, PartialEq, Eq)]
-pub(crate) struct Undone {
-    pub(crate) steps: u64,
-    pub(crate) rollbacks: u64,
-}
-
-impl Undone {
-    /// Nothing.
-    pub(crate) fn nothing() -> Undone {
-        Undone {
-            steps: 0,
-            rollbacks: 0,
-        }
-    }
-
-    /// A delivery took so many steps back.
-    pub(crate) fn count(&mut self, steps: u64) {
-        if steps > 0 {
-            self.steps = self.steps.saturating_add(steps);
-            self.rollbacks = self.rollbacks.saturating_add(1);
-        }
     }
 }

@@ -2,21 +2,16 @@
 
 ghost use Rattle.std.specs.Arc.{arc_value};
 ghost use Rattle.std.specs.Prelude.{◌≡◌, ◌≤◌, IfErr, IfOk, IfSome, IsErrAnd, Ok, length};
+ghost use Rattle.tw_exchange.specs.Ends.{IsDue, IsEnd, IsEndOf, IsMadeFor, IsOnly, IsOver, trace_of};
+ghost use Rattle.tw_exchange.specs.Exchanged.{IsNotAhead};
+ghost use Rattle.tw_exchange.specs.Further.{reached, IsFurther, IsSince};
 ghost use Rattle.tw_theory.specs.Board.{numbers_of};
 ghost use Rattle.tw_vtime.specs.Stamps.{max_tick};
-ghost use Rattle.tw_workers.specs.Ends.{IsDue, IsEnd, IsEndOf, IsMadeFor, IsOnly, IsOver, trace_of};
-ghost use Rattle.tw_workers.specs.Exchanged.{IsNotAhead};
-ghost use Rattle.tw_workers.specs.Further.{reached, IsFurther, IsSince};
 
 use crate::crew::Looks;
 use crate::desk::{Desk, Given};
 use crate::effort::Effort;
-use crate::exchange::Exchange;
-use crate::gate::Gate;
-use crate::orders::{Order, Prepareds, compute};
-use crate::outcome::{Outcome, RunFault, Setting, outcome_of};
-use crate::posting::post;
-use crate::refused::SweepRefused;
+use crate::setting::{RunFault, Setting};
 use std::alloc::Global;
 use std::hint::spin_loop;
 use std::marker::Brand;
@@ -26,6 +21,9 @@ use std::thread::Threads;
 use tw_actions::RunState;
 use tw_atomic::Atomic;
 use tw_board::Publisher;
+use tw_exchange::{
+    Exchange, Gate, Order, Outcome, Prepareds, SweepRefused, compute, outcome_of, post,
+};
 use tw_exec::Executive;
 use tw_network::Network;
 

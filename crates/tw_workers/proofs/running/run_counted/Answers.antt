@@ -1,6 +1,6 @@
 use Rattle.std.proofs.Common.{subst, sym}
-use Rattle.tw_workers.proofs.Coming.{back_further, no_further}
-use Rattle.tw_workers.specs.Further.{IsFurther, reached}
+use Rattle.tw_exchange.proofs.Coming.{back_further, no_further}
+use Rattle.tw_exchange.specs.Further.{IsFurther, reached}
 use Rattle.tw_workers.proofs.running.run_counted.Goals as goal
 
 pub returns-in_default-clause-further : goal.returns-in_default-clause-further

@@ -1,5 +1,5 @@
 use Rattle.std.proofs.Common.{◌≡◌}
-use Rattle.tw_workers.specs.Further.{reached}
+use Rattle.tw_exchange.specs.Further.{reached}
 use Rattle.tw_workers.proofs.running.run_counted.Given as goal
 
 abbrev pub ghosts-run_given : goal.ghosts-run_given

@@ -1,6 +1,6 @@
 use Rattle.std.proofs.Common.{◌∙◌, ap, subst, sym}
-use Rattle.tw_workers.proofs.Coming.{since_here}
-use Rattle.tw_workers.specs.Further.{IsSince}
+use Rattle.tw_exchange.proofs.Coming.{since_here}
+use Rattle.tw_exchange.specs.Further.{IsSince}
 use Rattle.tw_workers.proofs.running.run_given.Goals as goal
 
 pub work_all-requires-after_bounds : goal.work_all-requires-after_bounds

@@ -1,5 +1,5 @@
 use Rattle.std.specs.Arc.{arc_value}
-use Rattle.tw_workers.specs.Ends.{IsDue}
+use Rattle.tw_exchange.specs.Ends.{IsDue}
 use Rattle.tw_workers.proofs.running.work.Given as goal
 
 abbrev pub invariant-loop : goal.invariant-loop

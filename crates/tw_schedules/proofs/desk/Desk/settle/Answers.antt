@@ -1,5 +1,5 @@
 use Rattle.tw_schedules.proofs.Staying.{passed}
-use Rattle.tw_workers.specs.Sweeping.{passes_of}
+use Rattle.tw_exchange.specs.Sweeping.{passes_of}
 use Rattle.tw_schedules.proofs.desk.Desk.settle.Goals as goal
 
 pub invariant_of-self : goal.invariant_of-self

@@ -1,5 +1,5 @@
 use Rattle.tw_schedules.proofs.Staying.{passed}
-use Rattle.tw_workers.specs.Sweeping.{sweep_of}
+use Rattle.tw_exchange.specs.Sweeping.{sweep_of}
 use Rattle.tw_schedules.proofs.desk.Desk.sweep.Goals as goal
 
 pub invariant_of-self : goal.invariant_of-self

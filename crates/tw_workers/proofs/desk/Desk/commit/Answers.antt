@@ -1,8 +1,8 @@
 use Rattle.std.proofs.Common.{◌≡◌, ◌∙◌, ap, refl, subst, sym}
 use Rattle.std.specs.Prelude.{Err, Ok, OnErr, OnOk, Result}
 use Rattle.tw_board.specs.Known.{Known}
-use Rattle.tw_workers.proofs.Staying.{IsGoing, none_ended, stays_going}
-use Rattle.tw_workers.specs.Sweeping.{sweep_of}
+use Rattle.tw_exchange.proofs.Staying.{IsGoing, none_ended, stays_going}
+use Rattle.tw_exchange.specs.Sweeping.{sweep_of}
 use Rattle.tw_workers.proofs.desk.Desk.commit.Given.{Over}
 use Rattle.tw_workers.proofs.desk.Desk.commit.Goals.{After-sweep}
 use Rattle.tw_workers.proofs.desk.Desk.commit.Goals as goal

@@ -1,11 +1,11 @@
 use Rattle.std.proofs.Common.{◌≡◌, subst}
-use Rattle.tw_workers.proofs.Due.{drawn_due}
+use Rattle.tw_exchange.proofs.Due.{drawn_due}
 use Rattle.tw_workers.proofs.desk.Desk.give_out.Goals as goal
 use Rattle.std.specs.Prelude.{IfSome, slice_get, length, Some, ◌<◌, ◌≤◌}
 use Rattle.tw_theory.specs.Standing.{IsReady}
 use Rattle.tw_vtime.specs.Stamps.{max_microstep}
-use Rattle.tw_workers.specs.Ends.{IsDue}
-use Rattle.tw_workers.specs.Exchanged.{IsNearOrder}
+use Rattle.tw_exchange.specs.Ends.{IsDue}
+use Rattle.tw_exchange.specs.Exchanged.{IsNearOrder}
 
 pub returns-in-Ok-Some-clause-due : goal.returns-in-Ok-Some-clause-due
 returns-in-Ok-Some-clause-due g c =

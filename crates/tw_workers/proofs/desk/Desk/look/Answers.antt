@@ -1,7 +1,7 @@
 use Rattle.std.proofs.Common.{◌∙◌, subst, sym}
 use Rattle.std.specs.Prelude.{IfSome}
-use Rattle.tw_workers.proofs.Staying.{IsGoing, none_ended}
-use Rattle.tw_workers.specs.Ends.{IsOver}
+use Rattle.tw_exchange.proofs.Staying.{IsGoing, none_ended}
+use Rattle.tw_exchange.specs.Ends.{IsOver}
 use Rattle.tw_workers.proofs.desk.Desk.look.Given.{Over}
 use Rattle.tw_workers.proofs.desk.Desk.look.Goals.{After-find_end}
 use Rattle.tw_workers.proofs.desk.Desk.look.Goals as goal

@@ -1,4 +1,4 @@
-use Rattle.tw_workers.proofs.Coming.{since_here}
+use Rattle.tw_exchange.proofs.Coming.{since_here}
 use Rattle.tw_workers.proofs.desk.Desk.new.Goals as goal
 
 pub invariant_of-result : goal.invariant_of-result

@@ -1,6 +1,6 @@
 use Rattle.std.proofs.Common.{◌∙◌, ap, sym}
-use Rattle.tw_workers.proofs.Staying.{IsGoing, none_ended, stays_going}
-use Rattle.tw_workers.specs.Sweeping.{passes_of}
+use Rattle.tw_exchange.proofs.Staying.{IsGoing, none_ended, stays_going}
+use Rattle.tw_exchange.specs.Sweeping.{passes_of}
 use Rattle.tw_workers.proofs.desk.Desk.pass_on.Given.{Over}
 use Rattle.tw_workers.proofs.desk.Desk.pass_on.Goals.{After-settle}
 use Rattle.tw_workers.proofs.desk.Desk.pass_on.Goals as goal

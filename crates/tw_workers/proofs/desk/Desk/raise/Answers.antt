@@ -1,6 +1,6 @@
 use Rattle.std.proofs.Common.{ap, subst, sym, ◌∙◌}
-use Rattle.tw_workers.proofs.Coming.{since_further}
-use Rattle.tw_workers.proofs.Staying.{none_ended}
+use Rattle.tw_exchange.proofs.Coming.{since_further}
+use Rattle.tw_exchange.proofs.Staying.{none_ended}
 use Rattle.tw_workers.proofs.desk.Desk.raise.Goals as goal
 
 pub invariant_of-self : goal.invariant_of-self

@@ -1,5 +1,5 @@
 use Rattle.std.proofs.Common.{◌∙◌, sym}
-use Rattle.tw_workers.proofs.Staying.{installed_going, none_ended}
+use Rattle.tw_exchange.proofs.Staying.{installed_going, none_ended}
 use Rattle.tw_workers.proofs.desk.Desk.take_in.Goals as goal
 
 pub invariant_of-self-2 : goal.invariant_of-self-2

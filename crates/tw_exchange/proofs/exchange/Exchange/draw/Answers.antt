@@ -1,0 +1,65 @@
+use Rattle.std.proofs.Common.{◌≡◌, ◌⊎◌, ◌<◌, ◌≤◌, ℕ, Some, false, sym, ap, subst, ◌∙◌, true}
+use Rattle.std.specs.Prelude.{slice_get, slice_set}
+use Rattle.tw_exec.specs.Chains.{start_at}
+use Rattle.tw_theory.specs.Contents as Contents
+use Rattle.tw_theory.specs.Contents.{Process}
+use Rattle.tw_theory.specs.Exchange.{MayDraw, bound_of}
+use Rattle.tw_exchange.specs.Exchanged.{IsExact, bound_at, busy_in}
+use Rattle.tw_exchange.proofs.Drawing.{if_there}
+use Rattle.tw_exchange.proofs.Following.{busy_out, exact_out}
+use Rattle.tw_exchange.proofs.exchange.Exchange.draw.Given.{Over}
+use Rattle.tw_exchange.proofs.exchange.Exchange.draw.Goals.{After-take_out}
+use Rattle.tw_exchange.proofs.exchange.Exchange.draw.Goals as goal
+
+-- the window ends where the bound is
+bound_is : (g : Over) (c : After-take_out g) → c.bound_of-bound.result ≡ bound_at c.args.window c.args.self.now
+bound_is g c = c.bound_of-bound.ensures ∙ (λ i. bound_of (c.until.ensures i) (c.gvt.ensures i) c.args.window) ∙ ap (bound_at c.args.window) c.self.view_is
+
+-- what the order is for
+started : (g : Over) (c : After-take_out g) → c.in-Ok.start ≡ start_at c.bound_of-bound.result c.args.burst c.in-Some.component c.self.inside.executive.network c.in-Some.ensures.next.process
+started g c =
+    let e = c.self.inside.executive in
+    if_there (λ p. c.in-Ok.start ≡ start_at c.bound_of-bound.result c.args.burst c.in-Some.component e.network p) (slice_get e.world.processes c.in-Some.component) c.in-Some.ensures.next.process
+    (ap (λ x. slice_get x.executive.world.processes c.in-Some.component) c.self.view_is ∙ c.in-Some.ensures.next.at) c.in-Ok.ensures.start
+
+same : (g : Over) (c : After-take_out g) → c.in-Ok.start.component ≡ c.in-Some.component
+same g c = ap (λ s. s.component) (started g c)
+
+pub returns-in_default-clause-none : goal.returns-in_default-clause-none
+returns-in_default-clause-none g c = λ _. c.next_before.ensures.none c.in_default.is
+
+pub invariant_of-self : goal.invariant_of-self
+invariant_of-self g c =
+    let kept = c.self.invariant.0 in
+    let ps = c.self.inside.executive.world.processes in (
+      record {
+        free = subst (λ a. IsExact a ps) (sym c.take_out.ensures) (exact_out c.self.inside.queues.free ps c.in-Some.component kept.free);
+        marks = record { posting = kept.marks.posting; delivering = kept.marks.delivering };
+      },
+      c.self.invariant.1,
+    )
+
+pub returns-clause-drawn : goal.returns-clause-drawn
+returns-clause-drawn g c =
+    let now = c.args.self.now in
+    let next = c.in-Some.ensures.next in
+    let k = same g c in
+    record {
+      next = record {
+        process = next.process;
+        at = ap (slice_get now.executive.world.processes) k ∙ next.at;
+        free = ap (slice_get now.busy) k ∙ next.free;
+        may = next.may;
+        least = subst (λ b. (d : ℕ) (q : Process _) → slice_get now.executive.world.processes d ≡ Some q → slice_get now.busy d ≡ Some false → MayDraw now.executive.until now.executive.world.gvt c.args.window q → (Contents.next next.process < Contents.next q) ⊎ ((Contents.next next.process ≡ Contents.next q) × (b ≤ d))) (sym k) next.least;
+      };
+      start = started g c ∙ (λ i. start_at (bound_is g c i) c.args.burst (sym k i) (c.self.view_is i).executive.network next.process);
+    }
+
+pub returns-clause-ready : goal.returns-clause-ready
+returns-clause-ready g c = λ m at.
+    c.in-Ok.ensures.ready m (ap (λ x. slice_get x.executive.network.models c.in-Some.component) c.self.view_is ∙ ap (slice_get c.args.self.now.executive.network.models) (sym (same g c)) ∙ at)
+
+pub returns-clause-busy : goal.returns-clause-busy
+returns-clause-busy g c =
+    let busy = ap busy_in c.take_out.ensures ∙ busy_out c.self.inside.queues.free c.in-Some.component ∙ (λ i. slice_set (c.self.view_is i).busy (sym (same g c) i) true) in
+    λ i. record { executive = (c.self.view_is i).executive; busy = busy i; publisher = (c.self.view_is i).publisher }

@@ -12,9 +12,9 @@ use Rattle.tw_engine.specs.Views.{IsLineOf, IsSummedOf, IsTabulatedOf, run_table
 use Rattle.tw_engine.specs.declared.failed.Failed.{Failed}
 use Rattle.tw_line.specs.declared.jobs.Rows.{Rows}
 use Rattle.tw_network.specs.Contents.{Contents}
-use Rattle.tw_seq.specs.Refusals.{seq_refusal}
-use Rattle.tw_seq.specs.declared.refused.SeqRefused.{SeqRefused}
-use Rattle.tw_seq.specs.declared.refused.SeqRefused.TheVariants as run
+use Rattle.tw_rounds.specs.Refusals.{seq_refusal}
+use Rattle.tw_rounds.specs.declared.refused.SeqRefused.{SeqRefused}
+use Rattle.tw_rounds.specs.declared.refused.SeqRefused.TheVariants as run
 use Rattle.tw_texts.specs.Refusals.{not_written_refusal}
 use Rattle.tw_texts.specs.Traces.{AppendsBeginning}
 use Rattle.tw_texts.specs.declared.traces.NotWritten.{NotWritten}

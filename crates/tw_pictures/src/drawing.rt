@@ -11,7 +11,7 @@ use std::alloc::Global;
 use std::io::Write;
 use tw_atomic::Atomic;
 use tw_network::Network;
-use tw_seq::Fault;
+use tw_rounds::Fault;
 use tw_staves::{View, drawn, lanes_of};
 use tw_texts::Names;
 use tw_views::Labels;

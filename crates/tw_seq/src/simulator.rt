@@ -5,15 +5,12 @@ ghost use Rattle.tw_network.specs.Contents.{network_of};
 ghost use Rattle.tw_theory.specs.Simulator.{sequential};
 ghost use Rattle.tw_vtime.specs.Stamps.{max_tick};
 
-use crate::beforehand::meets_no_limit;
-use crate::receiver::Silent;
-use crate::refused::SeqRefused;
-use crate::simulation::{Advanced, advance, begin};
+use crate::silent::Silent;
 use std::alloc::Global;
-use tw_actions::Fault;
 use tw_atomic::Atomic;
 use tw_msgs::Record;
 use tw_network::Network;
+use tw_rounds::{Advanced, Fault, SeqRefused, advance, begin, meets_no_limit};
 use tw_vtime::MAX_TICK;
 
 /// What a network does up to an end tick.

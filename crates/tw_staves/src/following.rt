@@ -2,14 +2,14 @@
 
 ghost use Rattle.std.specs.Prelude.{◌≡◌, ◌⊎◌, [], None, IfOk};
 ghost use Rattle.tw_network.specs.Contents.{network_of};
-ghost use Rattle.tw_seq.specs.Parts.{IsSimulating};
+ghost use Rattle.tw_rounds.specs.Parts.{IsSimulating};
 ghost use Rattle.tw_theory.specs.Simulator.{sequential};
 
 use crate::kept::Kept;
 use std::alloc::{AllocError, Global};
 use tw_atomic::Atomic;
 use tw_network::Network;
-use tw_seq::{Advanced, Fault, Simulation, advance, begin};
+use tw_rounds::{Advanced, Fault, Simulation, advance, begin};
 
 /// Makes the rounds of a run up to a tick and keeps what the picture shows, to the end of the run or of the picture. Answers the
 /// fault that ended the run, if it did. The only error is want of memory, where the tick is one that a run may end at.

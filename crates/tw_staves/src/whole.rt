@@ -15,7 +15,7 @@ use crate::view::View;
 use std::alloc::{AllocError, Global};
 use tw_atomic::Atomic;
 use tw_network::Network;
-use tw_seq::Fault;
+use tw_rounds::Fault;
 use tw_svg::Svg;
 use tw_texts::{Names, push_fault};
 

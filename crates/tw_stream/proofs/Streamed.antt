@@ -4,7 +4,7 @@ use Rattle.std.specs.Prelude.{Option}
 use Rattle.std.specs.Io.KnownBytes.{Appends}
 use Rattle.std.proofs.lemmas.Grind.{flat_map-append}
 use Rattle.tw_msgs.specs.declared.record.Record.{Record}
-use Rattle.tw_seq.specs.Receiving.{Receives}
+use Rattle.tw_rounds.specs.Receiving.{Receives}
 use Rattle.tw_texts.specs.Texts.{trace_text, record_line}
 use Rattle.tw_texts.specs.Traces.{AppendsBeginning, MovesBytes}
 use Rattle.tw_texts.proofs.Portions.{appends_both}

@@ -5,7 +5,7 @@ ghost use Rattle.tw_texts.specs.Texts.{record_line};
 
 use std::alloc::{AllocError, Global};
 use tw_msgs::{Bag, RecordKind};
-use tw_seq::Receiver;
+use tw_rounds::Receiver;
 use tw_tell::{Counting, Reached};
 use tw_texts::{Lines, Names};
 use tw_vtime::Stamp;

@@ -4,7 +4,7 @@ ghost use Rattle.std.specs.Prelude.{◌≡◌};
 ghost use Rattle.tw_tables.specs.Refusals.{table_refusal};
 
 use thiserror::Error;
-use tw_seq::SeqRefused;
+use tw_rounds::SeqRefused;
 use tw_texts::NotWritten;
 use tw_vtime::Refusal;
 

@@ -13,7 +13,7 @@ use std::alloc::{AllocError, Global};
 use std::io::Write;
 use tw_atomic::Atomic;
 use tw_network::Network;
-use tw_seq::{Advanced, begin};
+use tw_rounds::{Advanced, begin};
 use tw_tell::{Listener, advance_telling};
 use tw_texts::{Names, NotWritten, write_out, write_portion};
 

@@ -6,7 +6,7 @@ ghost use Rattle.tw_tables.specs.Tables.{cells_text, head_text, item_row, items_
 
 use std::alloc::AllocError;
 use tw_msgs::{Bag, RecordKind};
-use tw_seq::Receiver;
+use tw_rounds::Receiver;
 use tw_tell::{Counting, Reached};
 use tw_texts::{Names, kind_name, push_bag, push_words};
 use tw_vtime::Stamp;

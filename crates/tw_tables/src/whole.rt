@@ -17,7 +17,7 @@ use std::alloc::Global;
 use std::io::Write;
 use tw_atomic::Atomic;
 use tw_network::Network;
-use tw_seq::Fault;
+use tw_rounds::Fault;
 use tw_tell::{Listener, outcome_telling};
 use tw_texts::Names;
 

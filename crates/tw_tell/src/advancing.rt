@@ -2,8 +2,8 @@
 
 ghost use Rattle.std.specs.Prelude.{◌≡◌, ◌<◌, ◌-◌, List, IfOk};
 ghost use Rattle.tw_msgs.specs.declared.record.Record.{Record};
-ghost use Rattle.tw_seq.specs.Parts.{IsSimulating};
-ghost use Rattle.tw_seq.specs.Stepping.{IsAdvanced};
+ghost use Rattle.tw_rounds.specs.Parts.{IsSimulating};
+ghost use Rattle.tw_rounds.specs.Stepping.{IsAdvanced};
 ghost use Rattle.tw_theory.specs.Simulator.{round_time};
 ghost use Rattle.tw_vtime.specs.Stamps.{stamp};
 
@@ -12,7 +12,7 @@ use crate::reached::Reached;
 use std::alloc::{AllocError, Global};
 use tw_atomic::Atomic;
 use tw_network::Network;
-use tw_seq::{Advanced, Receiver, Simulation, advance};
+use tw_rounds::{Advanced, Receiver, Simulation, advance};
 
 /// Who knows how far a run is.
 pub trait Counting {
@@ -20,7 +20,7 @@ pub trait Counting {
     fn reached(&self) -> Reached;
 }
 
-/// Makes the next round of a run, as [`tw_seq::advance`] does. Then the listener hears how far the run is, by the records that the
+/// Makes the next round of a run, as [`tw_rounds::advance`] does. Then the listener hears how far the run is, by the records that the
 /// two receivers got.
 ///
 /// Refused for want of memory (4); then the run is of no more use.

@@ -10,11 +10,11 @@ use crate::reached::Reached;
 use std::alloc::Global;
 use tw_atomic::Atomic;
 use tw_network::Network;
-use tw_seq::{Advanced, Fault, SeqRefused, advance, begin, meets_no_limit};
+use tw_rounds::{Advanced, Fault, SeqRefused, advance, begin, meets_no_limit};
 use tw_vtime::MAX_TICK;
 
-/// The limit fault that ends the run of a network up to an end tick, or none, as [`tw_seq::outcome`] gives it: no record is kept, and
-/// where the models tell beforehand that no limit can be met, no round is made. After each round the listener hears how far this
+/// The limit fault that ends the run of a network up to an end tick, or none: no record is kept, and where the models tell
+/// beforehand that no limit can be met ([`meets_no_limit`]), no round is made. After each round the listener hears how far this
 /// first pass is; as nothing is written of it, with no record.
 ///
 /// Refused by [`SeqRefused::BadTick`] (10) exactly where `until` is above 1,099,511,627,774, and by

@@ -4,7 +4,7 @@ ghost use Rattle.std.specs.Prelude.{◌≡◌};
 
 use std::alloc::AllocError;
 use tw_msgs::{Bag, RecordKind};
-use tw_seq::Receiver;
+use tw_rounds::Receiver;
 use tw_vtime::Stamp;
 
 /// How far a run is.

@@ -7,7 +7,7 @@ use crate::reached::Reached;
 use std::alloc::Global;
 use tw_atomic::Atomic;
 use tw_network::Network;
-use tw_seq::{Advanced, SeqRefused, advance, begin};
+use tw_rounds::{Advanced, SeqRefused, advance, begin};
 
 /// Who looks at the first rounds of a run. What it does with that is no part of the run.
 pub trait Judge {

@@ -4,8 +4,8 @@ use Rattle.std.specs.List.{AllByRecursion as Each}
 use Rattle.tw_msgs.specs.declared.record.Record.{Record}
 use Rattle.tw_atomic.specs.Atomic.{Meaning}
 use Rattle.tw_network.specs.Contents.{Contents, network_of}
-use Rattle.tw_seq.specs.Parts.{IsSimulating, Stage}
-use Rattle.tw_seq.proofs.Parted.{part_begins}
+use Rattle.tw_rounds.specs.Parts.{IsSimulating, Stage}
+use Rattle.tw_rounds.proofs.Parted.{part_begins}
 use Rattle.tw_laws.proofs.Traces.{sequential_trace}
 use Rattle.tw_theory.specs.Network.{IsNetwork, Network}
 use Rattle.tw_theory.specs.Simulator.{sequential}

@@ -1,7 +1,7 @@
 -- The refusals of counts and figures in the table of all refusals.
 --     of_run why, of_writing why      what comes of a run or of writing that was refused
-use Rattle.tw_seq.specs.declared.refused.SeqRefused.{SeqRefused}
-use Rattle.tw_seq.specs.declared.refused.SeqRefused.TheVariants as run
+use Rattle.tw_rounds.specs.declared.refused.SeqRefused.{SeqRefused}
+use Rattle.tw_rounds.specs.declared.refused.SeqRefused.TheVariants as run
 use Rattle.tw_views.specs.declared.refused.StatsRefused.{StatsRefused}
 use Rattle.tw_views.specs.declared.refused.StatsRefused.TheVariants.{OutOfMemory, BadTick, WriteFailed}
 use Rattle.tw_texts.specs.declared.traces.NotWritten.{NotWritten}

@@ -4,8 +4,8 @@ ghost use Rattle.std.specs.Prelude.{◌≡◌, ◌≤◌, ◌<◌, ◌↔◌, �
 ghost use Rattle.std.specs.List.{All};
 ghost use Rattle.tw_figures.specs.Gathered.{IsGathered, measures_of};
 ghost use Rattle.tw_network.specs.Contents.{network_of};
-ghost use Rattle.tw_seq.specs.Parts.{IsSimulating};
-ghost use Rattle.tw_seq.specs.declared.refused.SeqRefused.TheVariants.{BadTick};
+ghost use Rattle.tw_rounds.specs.Parts.{IsSimulating};
+ghost use Rattle.tw_rounds.specs.declared.refused.SeqRefused.TheVariants.{BadTick};
 ghost use Rattle.tw_theory.specs.Simulator.{sequential};
 ghost use Rattle.tw_views.specs.Gathering.{BeforeEnd, measures_in, run_ticks, start_words};
 ghost use Rattle.tw_vtime.specs.Stamps.{max_tick};
@@ -15,7 +15,7 @@ use tw_atomic::Atomic;
 use tw_figures::{Figure, Gatherer};
 use tw_msgs::{Record, Words};
 use tw_network::Network;
-use tw_seq::{Advanced, Fault, SeqRefused, Simulation, advance, begin};
+use tw_rounds::{Advanced, Fault, SeqRefused, Simulation, advance, begin};
 use tw_tell::{Listener, Reached};
 use tw_vtime::Stamp;
 

@@ -5,7 +5,7 @@ ghost use Rattle.tw_views.specs.Refusals.{for_memory, stats_refusal};
 
 use std::alloc::AllocError;
 use thiserror::Error;
-use tw_seq::SeqRefused;
+use tw_rounds::SeqRefused;
 use tw_texts::NotWritten;
 use tw_vtime::Refusal;
 

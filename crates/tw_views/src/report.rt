@@ -4,7 +4,7 @@ ghost use Rattle.std.specs.Prelude.{◌≡◌, ◌≤◌, ◌<◌, ◌↔◌, If
 ghost use Rattle.std.specs.List.{All, AllZip};
 ghost use Rattle.tw_figures.specs.Gathered.{IsAboveMicrosteps};
 ghost use Rattle.tw_network.specs.Contents.{network_of};
-ghost use Rattle.tw_seq.specs.declared.refused.SeqRefused.TheVariants.{BadTick};
+ghost use Rattle.tw_rounds.specs.declared.refused.SeqRefused.TheVariants.{BadTick};
 ghost use Rattle.tw_theory.specs.Simulator.{sequential};
 ghost use Rattle.tw_views.specs.Gathering.{BeforeEnd, run_ticks, start_words};
 ghost use Rattle.tw_views.specs.Reports.{AreTold, TellsFigure, TellsPart};
@@ -15,7 +15,7 @@ use std::alloc::{AllocError, Global};
 use tw_atomic::Atomic;
 use tw_figures::{Counts, Course, Member, Told};
 use tw_network::Network;
-use tw_seq::{Fault, SeqRefused};
+use tw_rounds::{Fault, SeqRefused};
 use tw_tell::Listener;
 
 /// What is told of a component.

@@ -16,7 +16,7 @@ use std::alloc::{AllocError, Global};
 use std::io::Write;
 use tw_atomic::Atomic;
 use tw_network::Network;
-use tw_seq::Fault;
+use tw_rounds::Fault;
 use tw_tell::Listener;
 use tw_texts::{Names, write_out};
 

@@ -4,7 +4,8 @@ use super::helpers::{Line, Made, Net, assert_records, network_of, stamp};
 use std::alloc::{AllocError, Global};
 use std::process::Abort;
 use tw_msgs::RecordKind;
-use tw_seq::{Advanced, Fault, SeqRefused, advance, begin, outcome, simulate};
+use tw_rounds::{Advanced, Fault, SeqRefused, advance, begin};
+use tw_seq::{outcome, simulate};
 use tw_vtime::{Limit, MAX_TICK, Refusal};
 
 /// A generator of 5 each 2 ticks and its tally, which has 3=7 at tick 1.

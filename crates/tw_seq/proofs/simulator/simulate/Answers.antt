@@ -1,8 +1,8 @@
 -- Round after round until none is left, or a fault.
 use Rattle.std.proofs.Common.{◌≡◌, ◌∙◌, ◌++◌, ap, sym, subst, append_assoc}
-use Rattle.tw_seq.specs.Parts.{IsEnd, IsSimulating}
-use Rattle.tw_seq.specs.Stepping.{IsAdvanced}
-use Rattle.tw_seq.proofs.Received.{collected}
+use Rattle.tw_rounds.specs.Parts.{IsEnd, IsSimulating}
+use Rattle.tw_rounds.specs.Stepping.{IsAdvanced}
+use Rattle.tw_rounds.proofs.Received.{collected}
 use Rattle.tw_seq.proofs.simulator.simulate.Goals as goal
 use Rattle.tw_seq.proofs.simulator.simulate.Goals.{In-End}
 

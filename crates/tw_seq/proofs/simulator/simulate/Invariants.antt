@@ -1,6 +1,6 @@
 -- The records are those of the rounds so far; the rounds still to be made complete the run, and their times rise.
 use Rattle.std.proofs.Common.{◌-◌, ◌≡◌, []}
-use Rattle.tw_seq.specs.Parts.{IsSimulating}
+use Rattle.tw_rounds.specs.Parts.{IsSimulating}
 use Rattle.tw_theory.specs.Simulator.{round_time}
 use Rattle.tw_vtime.specs.Stamps.{stamp}
 use Rattle.tw_seq.proofs.simulator.simulate.Given as goal

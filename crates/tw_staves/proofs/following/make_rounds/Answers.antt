@@ -1,7 +1,7 @@
 -- Round by round, as for any receiver of the records.
 use Rattle.std.proofs.Common.{◌∙◌, ◌++◌, [], inr, refl, ap, subst}
 use Rattle.tw_network.specs.Contents.{network_of}
-use Rattle.tw_seq.specs.Stepping.{IsAdvanced}
+use Rattle.tw_rounds.specs.Stepping.{IsAdvanced}
 use Rattle.tw_theory.specs.Simulator.{sequential}
 use Rattle.tw_staves.proofs.following.make_rounds.Goals as goal
 

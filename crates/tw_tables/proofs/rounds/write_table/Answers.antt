@@ -3,8 +3,8 @@ use Rattle.std.proofs.Common.{◌≡◌, ◌++◌, ◌∙◌, List, [], sym, ap,
 use Rattle.std.proofs.lemmas.Result.{on_ok_weaker}
 use Rattle.tw_msgs.specs.declared.record.Record.{Record}
 use Rattle.tw_network.specs.Contents.{network_of}
-use Rattle.tw_seq.specs.Stepping.{IsAdvanced}
-use Rattle.tw_seq.proofs.Parted.{part_begins}
+use Rattle.tw_rounds.specs.Stepping.{IsAdvanced}
+use Rattle.tw_rounds.proofs.Parted.{part_begins}
 use Rattle.tw_tables.specs.Tables.{head_text, rows_text, table_text}
 use Rattle.tw_texts.proofs.Portions.{appends_nothing}
 use Rattle.tw_texts.specs.Traces.{AppendsBeginning, MovesBytes}

@@ -1,7 +1,7 @@
 -- The records so far were handed over; the writer and the lines that are gathered have the table of them.
 use Rattle.std.proofs.Common.{◌≡◌, ◌-◌, List, [], string_bytes}
 use Rattle.tw_msgs.specs.declared.record.Record.{Record}
-use Rattle.tw_seq.specs.Parts.{IsSimulating}
+use Rattle.tw_rounds.specs.Parts.{IsSimulating}
 use Rattle.tw_tables.specs.Tables.{table_text}
 use Rattle.tw_texts.specs.Traces.{MovesBytes}
 use Rattle.tw_theory.specs.Simulator.{round_time}

@@ -1,7 +1,7 @@
 -- Round after round until none is left, or a fault.
 use Rattle.std.proofs.Common.{◌∙◌, ◌++◌, [], ap, subst}
 use Rattle.tw_network.specs.Contents.{network_of}
-use Rattle.tw_seq.specs.Stepping.{IsAdvanced}
+use Rattle.tw_rounds.specs.Stepping.{IsAdvanced}
 use Rattle.tw_theory.specs.Simulator.{sequential}
 use Rattle.tw_tell.proofs.outcome.outcome_telling.Goals as goal
 

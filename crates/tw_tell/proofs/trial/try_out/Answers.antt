@@ -1,6 +1,6 @@
 -- Round after round until none is left, or none is wanted.
 use Rattle.std.proofs.Common.{◌∙◌, ◌++◌, [], subst}
-use Rattle.tw_seq.specs.Stepping.{IsAdvanced}
+use Rattle.tw_rounds.specs.Stepping.{IsAdvanced}
 use Rattle.tw_tell.proofs.trial.try_out.Goals as goal
 
 pub loop-simulation-init : goal.loop-simulation-init

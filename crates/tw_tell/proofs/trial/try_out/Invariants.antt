@@ -1,7 +1,7 @@
 -- The records of the rounds so far are not kept; the rounds still to be made complete the run, and their times rise.
 use Rattle.std.proofs.Common.{◌-◌, ◌≡◌, List}
 use Rattle.tw_msgs.specs.declared.record.Record.{Record}
-use Rattle.tw_seq.specs.Parts.{IsSimulating}
+use Rattle.tw_rounds.specs.Parts.{IsSimulating}
 use Rattle.tw_theory.specs.Simulator.{round_time}
 use Rattle.tw_vtime.specs.Stamps.{stamp}
 use Rattle.tw_tell.proofs.trial.try_out.Given as goal

@@ -2,9 +2,9 @@
 use Rattle.std.proofs.Common.{◌≡◌, ◌∙◌, ◌++◌, [], List, refl, ap, sym, subst}
 use Rattle.tw_msgs.specs.declared.record.Record.{Record}
 use Rattle.tw_network.specs.Contents.{network_of}
-use Rattle.tw_seq.specs.Parts.{IsSimulating}
-use Rattle.tw_seq.specs.Stepping.{IsAdvanced}
-use Rattle.tw_seq.proofs.Received.{collected}
+use Rattle.tw_rounds.specs.Parts.{IsSimulating}
+use Rattle.tw_rounds.specs.Stepping.{IsAdvanced}
+use Rattle.tw_rounds.proofs.Received.{collected}
 use Rattle.tw_theory.specs.Simulator.{sequential}
 use Rattle.tw_figures.specs.Figures.{IsSteady}
 use Rattle.tw_figures.specs.Gathered.{IsGathered}

@@ -2,7 +2,7 @@
 use Rattle.std.proofs.Common.{◌≡◌, ◌-◌, ℤ, List, []}
 use Rattle.tw_figures.specs.Gathered.{IsGathered, measures_of}
 use Rattle.tw_msgs.specs.declared.record.Record.{Record}
-use Rattle.tw_seq.specs.Parts.{IsSimulating}
+use Rattle.tw_rounds.specs.Parts.{IsSimulating}
 use Rattle.tw_theory.specs.Simulator.{round_time}
 use Rattle.tw_vtime.specs.Stamps.{stamp}
 use Rattle.tw_views.proofs.gathering.follow.Given as goal

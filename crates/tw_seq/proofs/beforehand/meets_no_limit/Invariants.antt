@@ -1,8 +1,0 @@
--- The first components end in time.
-use Rattle.std.proofs.Common.{take}
-use Rattle.std.specs.List.{AllByRecursion as Each}
-use Rattle.tw_seq.specs.InTime.{EndsInTime}
-use Rattle.tw_seq.proofs.beforehand.meets_no_limit.Given as goal
-
-abbrev pub invariant-loop-component : goal.invariant-loop-component
-invariant-loop-component g l = Each (λ m. EndsInTime l.until (g.M.Atomic.meaning m)) (take l.component l.network.models)

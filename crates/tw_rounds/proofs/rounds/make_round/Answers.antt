@@ -1,5 +1,5 @@
 -- The parts of the round are the definition's parts.
-use Rattle.std.proofs.Common.{◌≡◌, ◌+◌, ◌<◌, ◌≤◌, ◌∙◌, ◌++◌, ℕ, [], slice_get, refl, ap, sym, subst, arith, drop, length, ⊎_elim}
+use Rattle.std.proofs.Common.{◌≡◌, ◌+◌, ◌<◌, ◌≤◌, ◌∙◌, ◌++◌, ℕ, [], slice_get, refl, ap, sym, subst, arith, drop, length, replicate, ⊎_elim}
 use Rattle.std.specs.List.{All, Contains, AllByRecursion as Each}
 use Rattle.std.specs.List.Sorted.{IsStrictlyIncreasing}
 use Rattle.std.proofs.lemmas.List.Elements.{All-contains}
@@ -30,6 +30,9 @@ collect-requires-clause-first g c d s e =
     not_before g.M.Atomic.valid g.M.Atomic.meaning c.args.round.now.network.now.models c.args.round.now.time c.args.run.now.at.moments s d c.requires.underway.moments
     (due_at c.args.run.now.at.moments d s (ap (λ ts. slice_get ts d) (sym c.requires.agenda) ∙ e))
 
+pub collect-requires-clause-before_end : goal.collect-requires-clause-before_end
+collect-requires-clause-before_end g c = let small = c.requires.time in omega (arith, small)
+
 -- the components that are listed are those that are imminent
 listed : (g : _) (c : In_ok-collect g) → c.collect.new.numbers.items ≡ numbers_at c.args.round.now.time 0 (dues c.args.run.now.at.moments)
 listed g c = c.in_ok-collect.ensures ∙ (λ i. c.clear-2.ensures.items i ++ numbers_at c.args.round.now.time 0 (c.requires.agenda i))
@@ -39,6 +42,19 @@ taken_due g c = subst (All (λ d. IsDueAt c.args.run.now.at.moments d c.args.rou
 
 taken_all : (g : _) (c : In_ok-collect g) (d : ℕ) → IsDueAt c.args.run.now.at.moments d c.args.round.now.time → Contains c.collect.new.numbers.items d
 taken_all g c d at = subst (λ xs. Contains xs d) (sym (listed g c)) (imminent_all c.args.run.now.at.moments c.args.round.now.time d at)
+
+pub make_outputs-requires-clause-time : goal.make_outputs-requires-clause-time
+make_outputs-requires-clause-time g c = c.requires.time
+
+pub make_outputs-requires-clause-even : goal.make_outputs-requires-clause-even
+make_outputs-requires-clause-even g c = c.requires.underway.even
+
+pub make_outputs-requires-clause-moments : goal.make_outputs-requires-clause-moments
+make_outputs-requires-clause-moments g c =
+    subst (AllStand g.M.Atomic.valid g.M.Atomic.meaning c.args.round.now.network.now.models c.args.round.now.time) (sym (c.deref.ensures.value ∙ ap (λ r. r.at.moments) c.run.view_is)) c.requires.underway.moments
+
+pub make_outputs-requires-clause-bags : goal.make_outputs-requires-clause-bags
+make_outputs-requires-clause-bags g c = empty_size (length c.args.run.now.at.moments) c.args.bench.now.arrivals.bags.items c.requires.bags ∙ c.requires.underway.moments.size
 
 pub make_outputs-requires-clause-rising : goal.make_outputs-requires-clause-rising
 make_outputs-requires-clause-rising g c =
@@ -77,6 +93,12 @@ deliver_inputs-requires-clause-to g c =
     subst (Each (λ m. m.to < length c.make_outputs.new.arrivals.bags.items)) (sym (inputs_are g before))
     (each_weaker (IsToCome n c.args.round.now.time) (λ m. m.to < length c.make_outputs.new.arrivals.bags.items) (λ m h. let to = h.to in omega (arith, to, size)) c.args.run.now.at.inputs c.requires.underway.inputs)
 
+pub deliver_inputs-requires-clause-order : goal.deliver_inputs-requires-clause-order
+deliver_inputs-requires-clause-order g c = subst Ascending (sym (inputs_are g (goal.at.deliver_inputs-requires-clause-order g c).After-deref-3)) c.requires.underway.order
+
+pub deliver_inputs-requires-clause-awake : goal.deliver_inputs-requires-clause-awake
+deliver_inputs-requires-clause-awake g c = c.in_ok-make_outputs.ensures.awake
+
 pub deliver_inputs-requires-clause-from : goal.deliver_inputs-requires-clause-from
 deliver_inputs-requires-clause-from g c =
     let n = length c.args.round.now.network.now.models in
@@ -96,6 +118,19 @@ wake-requires-clause-imminent g c =
     let whole = c.requires.underway.moments.size in
     omega (arith, m, size, whole) in
     subst (All (λ d. d < length c.deliver_inputs.new.self.bags.items)) (sym c.deref-4.ensures.value) within
+
+pub wake-requires-clause-awake : goal.wake-requires-clause-awake
+wake-requires-clause-awake g c = c.in_ok-given.ensures.awake
+
+pub make_turns-requires-clause-time : goal.make_turns-requires-clause-time
+make_turns-requires-clause-time g c = c.requires.time
+
+pub make_turns-requires-clause-even : goal.make_turns-requires-clause-even
+make_turns-requires-clause-even g c = c.requires.underway.even
+
+pub make_turns-requires-clause-moments : goal.make_turns-requires-clause-moments
+make_turns-requires-clause-moments g c =
+    subst (AllStand g.M.Atomic.valid g.M.Atomic.meaning c.args.round.now.network.now.models c.args.round.now.time) (sym (c.deref_mut.ensures.value ∙ ap (λ r. r.at.moments) c.run.view_is)) c.requires.underway.moments
 
 pub make_turns-requires-clause-bags : goal.make_turns-requires-clause-bags
 make_turns-requires-clause-bags g c = ap length c.in_ok-wake.ensures.bags ∙ second_size g (goal.at.make_turns-requires-clause-bags g c).After-deref-4
@@ -190,3 +225,9 @@ pub returns-clause-agenda : goal.returns-clause-agenda
 returns-clause-agenda g c none =
     let written = all_written c.run.inside.moments c.make_turns.new.moments (c.make_turns.auto.moments ∙ ap length c.deref_mut.ensures.value) in
     c.in_ok-stop.ensures.agenda none ∙ ap dues (sym written)
+
+pub returns-clause-bags : goal.returns-clause-bags
+returns-clause-bags g c none =
+    let written = all_written c.run.inside.moments c.make_turns.new.moments (c.make_turns.auto.moments ∙ ap length c.deref_mut.ensures.value) in
+    let stand = c.in_ok-stop.ensures.standing none in
+    c.in_ok-stop.ensures.bags none ∙ ap (λ n. replicate n []) (sym (ap length written ∙ stand.size))

@@ -1,5 +1,5 @@
 -- One component after another.
-use Rattle.std.proofs.Common.{◌≡◌, ◌+◌, ◌<◌, ◌∙◌, ◌++◌, ◌∷◌, [], refl, ap, sym, subst, arith, length, take, drop, slice_set, slice_index, slice_index_or, Some, append-nil, replicate}
+use Rattle.std.proofs.Common.{◌≡◌, ◌+◌, ◌<◌, ◌∙◌, ◌++◌, ◌∷◌, [], ℕ, refl, ap, sym, subst, arith, length, take, drop, slice_set, slice_index, slice_index_or, Some, append-nil, replicate}
 use Rattle.std.specs.List.{AllByRecursion as Each}
 use Rattle.std.proofs.lemmas.List.{take_all, drop_all, set-get_or}
 use Rattle.std.proofs.lemmas.Option.{slice_get-get_or, slice_get_within}
@@ -10,17 +10,21 @@ use Rattle.tw_rounds.specs.Agenda.{dues}
 use Rattle.tw_rounds.specs.Receiving.{Receives}
 use Rattle.tw_rounds.specs.Turning.{Part, CanGoOn, part_of, turns_with}
 use Rattle.tw_theory.specs.Simulator.{turn_records, turned_moments, first_stop}
-use Rattle.tw_rounds.proofs.Dues.{dues_set}
+use Rattle.tw_rounds.proofs.Dues.{dues_set, dues_size}
 use Rattle.tw_rounds.proofs.Places.{each_at, all_written}
 use Rattle.tw_rounds.proofs.Received.{received_more}
 use Rattle.tw_rounds.proofs.RoundOutputs.{transition_of}
 use Rattle.tw_rounds.proofs.Sweeping.{onward, onward_more}
 use Rattle.tw_rounds.proofs.TurnsSwept.{entries, goes_on, idle_stays, swept_start, same_here, stop_found, Swept, swept_turn, at_turn, at_end, turn_within, listed_as, all_empty}
 use Rattle.tw_rounds.proofs.turns.make_turns.Goals as goal
-use Rattle.tw_rounds.proofs.turns.make_turns.Goals.{in-Stays, in-Moves+in_ok-take-in-Moves, After-loop-component, After-index-moments-component, In_ok-take_turn}
+use Rattle.tw_rounds.proofs.turns.make_turns.Goals.{in-Stays, in-Moves+in_ok-take-in-Moves, After-loop-component, In_ok-take_turn, In-loop-component}
+
+-- a place in a list is one in each that is as long
+as_long : (i n m : ℕ) → i < n → m ≡ n → i < m
+as_long i n m l e = subst (λ k. i < k) (sym e) l
 
 -- the component in turn, and where the sweep stands before it
-module _ (g : _) (c : After-index-moments-component g) where
+module _ (g : _) (c : In-loop-component g) where
   here_within : slice_index c.deref-component-items.result.now c.loop-component.component-index < length c.args.moments.now
   here_within =
       turn_within g.M.Atomic.valid g.M.Atomic.meaning c.args.round.now.network.now c.args.round.now.time c.args.moments.now c.as_mut_slice-bags.result.now [] c.loop-component.moments c.loop-component.bags c.loop-component.invariant.told c.deref-component-items.result.now
@@ -35,6 +39,16 @@ module _ (g : _) (c : After-index-moments-component g) where
       c.loop-component.auto.moments c.loop-component.auto.bags (ap length c.as_mut_slice-bags.ensures.value ∙ c.requires.bags ∙ sym c.requires.moments.size)
       c.requires.moments c.requires.even c.requires.time c.loop-component.component-index c.loop-component-test.true c.loop-component.invariant.swept
 
+  -- it has a bag, a place among the moments and a time on the agenda
+  bag_within : slice_index c.deref-component-items.result.now c.loop-component.component-index < length c.loop-component.bags
+  bag_within = as_long _ _ _ here_within (c.loop-component.auto.bags ∙ ap length c.as_mut_slice-bags.ensures.value ∙ c.requires.bags ∙ sym c.requires.moments.size)
+
+  moment_within : slice_index c.deref-component-items.result.now c.loop-component.component-index < length c.loop-component.moments
+  moment_within = as_long _ _ _ here_within c.loop-component.auto.moments
+
+  time_within : slice_index c.deref-component-items.result.now c.loop-component.component-index < length c.loop-component.agenda.times
+  time_within = as_long _ _ _ moment_within (ap length c.loop-component.invariant.agenda ∙ dues_size c.loop-component.moments)
+
 pub loop-component-init : goal.loop-component-init
 loop-component-init g c = record {
   told = [];
@@ -43,9 +57,21 @@ loop-component-init g c = record {
   agenda = c.requires.agenda;
 }
 
+pub bounds-bags-component : goal.bounds-bags-component
+bounds-bags-component g c = bag_within g (goal.at.bounds-bags-component g c).In-loop-component
+
+pub bounds-moments-component : goal.bounds-moments-component
+bounds-moments-component g c = moment_within g (goal.at.bounds-moments-component g c).In-loop-component
+
+pub take_turn-requires-clause-component : goal.take_turn-requires-clause-component
+take_turn-requires-clause-component g c = as_long _ _ _ (here_within g (goal.at.take_turn-requires-clause-component g c).In-loop-component) (sym c.requires.moments.size)
+
+pub set-requires : goal.set-requires
+set-requires g c = time_within g (goal.at.set-requires g c).In-loop-component
+
 pub take_turn-requires-clause-fits : goal.take_turn-requires-clause-fits
 take_turn-requires-clause-fits g c =
-    let before = (goal.at.take_turn-requires-clause-fits g c).After-index-moments-component in
+    let before = (goal.at.take_turn-requires-clause-fits g c).In-loop-component in
     let i = slice_index c.deref-component-items.result.now c.loop-component.component-index in
     let bags0 = c.as_mut_slice-bags.result.now in
     let bags = c.loop-component.bags in
@@ -59,7 +85,7 @@ take_turn-requires-clause-fits g c =
 
 pub take_turn-requires-clause-standing : goal.take_turn-requires-clause-standing
 take_turn-requires-clause-standing g c model found =
-    let before = (goal.at.take_turn-requires-clause-standing g c).After-index-moments-component in
+    let before = (goal.at.take_turn-requires-clause-standing g c).In-loop-component in
     let i = slice_index c.deref-component-items.result.now c.loop-component.component-index in
     let old = c.args.moments.now in
     let d = c.index-moments-component.result in
@@ -75,7 +101,7 @@ what_is g c = part_of (slice_index c.deref-component-items.result.now c.loop-com
 
 pub returns-in-Stops-clause-stop : goal.returns-in-Stops-clause-stop
 returns-in-Stops-clause-stop g c =
-    let before = (goal.at.returns-in-Stops-clause-stop g c).After-index-moments-component in
+    let before = (goal.at.returns-in-Stops-clause-stop g c).In-loop-component in
     let net = network_of g.M.Atomic.meaning c.args.round.now.network.now in
     let t = c.args.round.now.time in
     let i = slice_index c.deref-component-items.result.now c.loop-component.component-index in
@@ -98,7 +124,7 @@ returns-in-Stops-clause-stop g c =
 
 pub loop-component-preserved : goal.loop-component-preserved
 loop-component-preserved g c =
-    let before = (goal.at.loop-component-preserved g c).After-index-moments-component in
+    let before = (goal.at.loop-component-preserved g c).In-loop-component in
     let valid = g.M.Atomic.valid in
     let meaning = g.M.Atomic.meaning in
     let contents = c.args.round.now.network.now in

@@ -10,7 +10,7 @@ use Rattle.tw_engine.specs.Ends.{Fault, failed_of}
 use Rattle.tw_engine.specs.Runs.{HasNoRun, run_fault}
 use Rattle.tw_engine.specs.Views.{IsLineOf, IsSummedOf, IsTabulatedOf, run_table}
 use Rattle.tw_engine.specs.declared.failed.Failed.{Failed}
-use Rattle.tw_line.specs.declared.jobs.Rows.{Rows}
+use Rattle.tw_options.specs.declared.seeing.Rows.{Rows}
 use Rattle.tw_network.specs.Contents.{Contents}
 use Rattle.tw_rounds.specs.Refusals.{seq_refusal}
 use Rattle.tw_rounds.specs.declared.refused.SeqRefused.{SeqRefused}

@@ -1,4 +1,3 @@
 pub mod Adding
 pub mod Missing
-pub mod Reading
 pub mod Refusing

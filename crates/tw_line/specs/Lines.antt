@@ -2,31 +2,20 @@
 --     twarp_app      the command in clap's own words
 --     IsJob sub j      the job of a subcommand and its options
 --     IsReason words e      why there is no job
-use Rattle.std.specs.Prelude.{◌≡◌, ◌≢◌, ◌≤◌, ◌⊎◌, [], ◌∷◌, ℕ, Bool, List, Option, Some, None, codes, false, true, option_map}
-use Rattle.std.specs.Str.Parse.{IsNumeral, digits_value, without_leading_plus}
-use Rattle.clap.specs.Words.{App, IsAmong, Kinds, Row, Rule, Text, fault_of, first_of, kind_of, new_app, new_rule, one_of, subcommand_of, with_rule, with_subcommand}
+use Rattle.std.specs.Prelude.{◌≡◌, ◌≢◌, ◌⊎◌, [], ◌∷◌, ℕ, List, Option, Some, None, Result, Ok, codes, true}
+use Rattle.clap.specs.Words.{AddsSubcommand, App, IsAmong, Kinds, Row, Rule, Text, fault_of, first_of, kind_of, new_app, new_rule, subcommand_of, with_rule, with_subcommand}
 use Rattle.clap.specs.declared.builder.action.ArgAction.TheVariants.{SetTrue}
+use Rattle.clap.specs.declared.builder.command.Command.{Command}
 use Rattle.clap.specs.declared.builder.value_parser.ValueParser.TheVariants.{Unsigned}
 use Rattle.clap.specs.declared.error.kind.ErrorKind.{ErrorKind}
 use Rattle.clap.specs.declared.error.kind.ErrorKind.TheVariants as kind
 use Rattle.tw_vtime.specs.declared.refusal.Refusal.{Refusal}
 use Rattle.tw_vtime.specs.declared.refusal.Refusal.TheVariants as refusal
-use Rattle.tw_actions.specs.declared.cancel.Cancel.{Cancel}
-use Rattle.tw_actions.specs.declared.cancel.Cancel.TheVariants.{Aggressive, Lazy}
-use Rattle.tw_line.specs.declared.jobs.Driver.{Driver}
-use Rattle.tw_line.specs.declared.jobs.Driver.TheVariants.{Script, Seed}
+use Rattle.tw_options.specs.Options.{HasFlag, HasNumber, IsCancelIn, IsDriverIn, IsPictureIn, IsRowsIn, IsSettingIn}
 use Rattle.tw_line.specs.declared.jobs.Job.{Job}
 use Rattle.tw_line.specs.declared.jobs.Job.TheVariants.{Demo, Check, Seq, Stats, Table, Draw, Run, Play}
 use Rattle.tw_line.specs.declared.jobs.NoJob.{NoJob}
 use Rattle.tw_line.specs.declared.jobs.NoJob.TheVariants.{Help, Version, BadLine, OutOfMemory}
-use Rattle.tw_line.specs.declared.jobs.Picture.{Picture}
-use Rattle.tw_line.specs.declared.jobs.Picture.TheVariants as of
-use Rattle.tw_line.specs.declared.jobs.Rows.{Rows}
-use Rattle.tw_line.specs.declared.jobs.Rows.TheVariants.{Records, Items, Words}
-use Rattle.tw_line.specs.declared.jobs.RunOptions.{RunOptions}
-use Rattle.tw_line.specs.declared.jobs.View.{View}
-use Rattle.tw_line.specs.declared.jobs.Workers.{Workers}
-use Rattle.tw_line.specs.declared.jobs.Workers.TheVariants.{Count, Auto}
 
 -- ---- the command
 
@@ -131,77 +120,11 @@ alone_app = with_subcommand (with_subcommand (with_subcommand first_app seq_app.
 abbrev pub twarp_app : App
 twarp_app = with_subcommand (with_subcommand (with_subcommand alone_app draw_app.top) run_app.top) play_app.top
 
+-- a command with one more subcommand, that was made
+abbrev pub IsJoined : {E : Type 0} → Command → Result Command E → Command → Type 0
+IsJoined old made new = (sub : Command) × (made ≡ Ok sub) × AddsSubcommand old sub new
+
 -- ---- the job
-
--- the one text of an option is a numeral, after a plus or none, and its number n is in the range
-abbrev pub HasNumber : Text → ℕ → ℕ → List Row → ℕ → Type 0
-HasNumber id least most rows n =
-    (text : Text) × (one_of id rows ≡ Some text) × IsNumeral 10 (without_leading_plus text)
-    × (digits_value 10 (without_leading_plus text) ≡ n) × (least ≤ n) × (n ≤ most)
-
--- whether a flag is on: its text is `true`
-abbrev pub HasFlag : Text → List Row → Bool → Type 0
-HasFlag id rows true = first_of id rows ≡ Some (codes "true")
-HasFlag id rows false = first_of id rows ≢ Some (codes "true")
-
--- the way of cancelling: that of the option's word, and the aggressive one where no option stands
-abbrev pub IsCancelIn : List Row → Cancel → Type 0
-IsCancelIn rows Aggressive = (first_of (codes "cancel") rows ≡ None) ⊎ (first_of (codes "cancel") rows ≡ Some (codes "aggressive"))
-IsCancelIn rows Lazy = first_of (codes "cancel") rows ≡ Some (codes "lazy")
-
--- how many workers there are: a number in its range, or the word that leaves it to the program
-abbrev pub IsWorkersIn : List Row → Workers → Type 0
-IsWorkersIn rows (Count n) = HasNumber (codes "workers") 1 64 rows n
-IsWorkersIn rows Auto = first_of (codes "workers") rows ≡ Some (codes "auto")
-
--- what the workers are set to, each number in its range, and whether the run tells how far it is
-abbrev pub IsSettingIn : List Row → RunOptions → Type 0
-IsSettingIn rows s =
-    IsWorkersIn rows s.workers
-    × HasNumber (codes "burst") 1 256 rows s.burst
-    × HasNumber (codes "window") 0 1099511627774 rows s.window
-    × HasFlag (codes "progress") rows s.progress
-
--- what drives it: a script alone, or a seed and a number of steps with no script
-abbrev pub IsDriverIn : List Row → Driver → Type 0
-IsDriverIn rows (Script path) =
-    (first_of (codes "script") rows ≡ Some path.now)
-    × (first_of (codes "seed") rows ≡ None) × (first_of (codes "steps") rows ≡ None)
-IsDriverIn rows (Seed seed steps) =
-    (first_of (codes "script") rows ≡ None)
-    × HasNumber (codes "seed") 0 18446744073709551615 rows seed × HasNumber (codes "steps") 0 1000000 rows steps
-
--- what a line of a table is of: at most one of two flags is on
-abbrev pub IsRowsIn : List Row → Rows → Type 0
-IsRowsIn rows Records = HasFlag (codes "items") rows false × HasFlag (codes "words") rows false
-IsRowsIn rows Items = HasFlag (codes "items") rows true × HasFlag (codes "words") rows false
-IsRowsIn rows Words = HasFlag (codes "items") rows false × HasFlag (codes "words") rows true
-
--- from a tick on, or from the first one where no option stands
-abbrev pub IsFromIn : List Row → ℕ → Type 0
-IsFromIn rows from = ((first_of (codes "from") rows ≡ None) × (from ≡ 0)) ⊎ HasNumber (codes "from") 0 1099511627774 rows from
-
--- what is seen of a run
-abbrev pub IsViewIn : List Row → View → Type 0
-IsViewIn rows v =
-    IsFromIn rows v.from
-    × (option_map (λ s. s.now) v.only ≡ first_of (codes "only") rows)
-    × (option_map (λ s. s.now) v.figure ≡ first_of (codes "figure") rows)
-
--- no option stands that says what is seen
-abbrev pub IsUnseen : List Row → Type 0
-IsUnseen rows = (first_of (codes "from") rows ≡ None) × (first_of (codes "only") rows ≡ None) × (first_of (codes "figure") rows ≡ None)
-
--- no option stands that says what drives an executive, or how it cancels
-abbrev pub IsUndriven : List Row → Type 0
-IsUndriven rows =
-    (first_of (codes "script") rows ≡ None) × (first_of (codes "seed") rows ≡ None) × (first_of (codes "steps") rows ≡ None)
-    × (first_of (codes "cancel") rows ≡ None)
-
--- a picture of a run, of which something is seen; or one of Time Warp, that something drives. Options of both do not go together
-abbrev pub IsPictureIn : List Row → Picture → Type 0
-IsPictureIn rows (of.Run view) = IsUndriven rows × IsViewIn rows view
-IsPictureIn rows (of.Warp cancel driver) = IsUnseen rows × IsCancelIn rows cancel × IsDriverIn rows driver
 
 -- the job of a subcommand's name and its options
 abbrev pub IsJobOf : Text → List Row → Job → Type 0

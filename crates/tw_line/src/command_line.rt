@@ -1,119 +1,18 @@
 //! From the words of a line to a job.
 
-ghost use Rattle.std.specs.Prelude.{◌≡◌, ◌≢◌, [], Some, codes, false, IfOk, IfErr, IfSome, IfNone, IsTrue, IsFalse, is_some, map, option_map, string_bytes};
-ghost use Rattle.clap.specs.Words.{rows_of, found_of, first_of, fault_of, kind_of, subcommand_of, subcommand_rows_of};
-ghost use Rattle.tw_line.specs.Lines.{twarp_app, IsCancelIn, IsDriverIn, IsFromIn, IsPictureIn, IsRowsIn, IsSettingIn, IsUndriven, IsUnseen, IsWorkersIn, IsJob, IsJobOf, HasFlag, HasNumber, IsReason, IsMadeOf};
+ghost use Rattle.std.specs.Prelude.{◌≡◌, [], codes, IfOk, IfErr, IfSome, IfNone, map, string_bytes};
+ghost use Rattle.clap.specs.Words.{rows_of, found_of, fault_of, kind_of, subcommand_of, subcommand_rows_of};
+ghost use Rattle.tw_line.specs.Lines.{twarp_app, IsJob, IsJobOf, IsReason, IsMadeOf};
 
 use crate::commands::command;
-use crate::jobs::{Driver, Job, MAX_STEPS, NoJob, Picture, Rows, RunOptions, View, Workers};
+use crate::jobs::{Job, NoJob};
 use clap::error::ErrorKind;
 use clap::{ArgMatches, Error};
 use std::alloc::Global;
-use tw_actions::{Cancel, MAX_BURST, MAX_WORKERS};
+use tw_options::{
+    cancel_in, driver_in, flag_in, number_in, picture_in, rows_in, setting_in, text_in,
+};
 use tw_vtime::MAX_TICK;
-
-/// A number among the options, in a range.
-fn number_in(options: &ArgMatches<'_>, id: &str, least: u64, most: u64) -> Option<u64>
-    ensures some { IfSome result (HasNumber id.now least most (rows_of (found_of options.now))) }
-    ensures none { IfNone result ((n : _) → ¬ (HasNumber id.now least most (rows_of (found_of options.now)) n)) }
-{
-    let number = options.get_one::<u64>(id)?;
-    if number < least || number > most {
-        return None;
-    }
-    Some(number)
-}
-
-/// The text of an option, or none where it is left out.
-fn text_in<'a>(options: &ArgMatches<'a>, id: &str) -> Option<&'a str>
-    ensures { option_map (λ s. s.now) result ≡ first_of id.now (rows_of (found_of options.now)) }
-{
-    options.get_str(id)
-}
-
-/// Whether an option stands on the line.
-fn has(options: &ArgMatches<'_>, id: &str) -> bool
-    ensures { result ≡ is_some (first_of id.now (rows_of (found_of options.now))) }
-{
-    text_in(options, id).is_some()
-}
-
-/// Whether a flag is on among the options. Clap puts in `false` where it is left out.
-fn flag_in(options: &ArgMatches<'_>, id: &str) -> bool
-    ensures { HasFlag id.now (rows_of (found_of options.now)) result }
-{
-    text_in(options, id) == Some("true")
-}
-
-/// The way of cancelling among the options.
-fn cancel_in(options: &ArgMatches<'_>) -> Option<Cancel>
-    ensures some { IfSome result (IsCancelIn (rows_of (found_of options.now))) }
-    ensures none { IfNone result ((c : _) → ¬ (IsCancelIn (rows_of (found_of options.now)) c)) }
-{
-    let Some(way) = text_in(options, "cancel") else {
-        return Some(Cancel::Aggressive);
-    };
-    if way == "aggressive" {
-        return Some(Cancel::Aggressive);
-    }
-    if way == "lazy" {
-        return Some(Cancel::Lazy);
-    }
-    None
-}
-
-/// Whether the number of workers is left to the program.
-fn is_auto(options: &ArgMatches<'_>) -> bool
-    ensures yes { IsTrue result → first_of (codes "workers") (rows_of (found_of options.now)) ≡ Some (codes "auto") }
-    ensures no { result ≡ false → first_of (codes "workers") (rows_of (found_of options.now)) ≢ Some (codes "auto") }
-{
-    text_in(options, "workers") == Some("auto")
-}
-
-/// How many workers there are, among the options. Clap puts in what is left out.
-fn workers_in(options: &ArgMatches<'_>) -> Option<Workers>
-    ensures some { IfSome result (IsWorkersIn (rows_of (found_of options.now))) }
-    ensures none { IfNone result ((w : _) → ¬ (IsWorkersIn (rows_of (found_of options.now)) w)) }
-{
-    if is_auto(options) {
-        return Some(Workers::Auto);
-    }
-    let count = number_in(options, "workers", 1, MAX_WORKERS)?;
-    Some(Workers::Count(count))
-}
-
-/// What the workers are set to, among the options. Clap puts in what is left out.
-fn setting_in(options: &ArgMatches<'_>) -> Option<RunOptions>
-    ensures some { IfSome result (IsSettingIn (rows_of (found_of options.now))) }
-    ensures none { IfNone result ((s : _) → ¬ (IsSettingIn (rows_of (found_of options.now)) s)) }
-{
-    let workers = workers_in(options)?;
-    let burst = number_in(options, "burst", 1, MAX_BURST)?;
-    let window = number_in(options, "window", 0, MAX_TICK)?;
-    let progress = flag_in(options, "progress");
-    Some(RunOptions {
-        workers,
-        burst,
-        window,
-        progress,
-    })
-}
-
-/// What drives an executive, among the options.
-fn driver_in<'a>(options: &ArgMatches<'a>) -> Option<Driver<'a>>
-    ensures some { IfSome result (IsDriverIn (rows_of (found_of options.now))) }
-    ensures none { IfNone result ((d : _) → ¬ (IsDriverIn (rows_of (found_of options.now)) d)) }
-{
-    if let Some(script) = text_in(options, "script") {
-        if has(options, "seed") || has(options, "steps") {
-            return None;
-        }
-        return Some(Driver::Script(script));
-    }
-    let seed = number_in(options, "seed", 0, u64::MAX)?;
-    let steps = number_in(options, "steps", 0, MAX_STEPS)?;
-    Some(Driver::Seed { seed, steps })
-}
 
 /// The job of `check` and its options.
 fn check_in<'a>(options: &ArgMatches<'a>) -> Option<Job<'a>>
@@ -156,21 +55,6 @@ fn stats_in<'a>(options: &ArgMatches<'a>) -> Option<Job<'a>>
     })
 }
 
-/// What a line of a table is of, among the options.
-fn rows_in(options: &ArgMatches<'_>) -> Option<Rows>
-    ensures some { IfSome result (IsRowsIn (rows_of (found_of options.now))) }
-    ensures none { IfNone result ((r : _) → ¬ (IsRowsIn (rows_of (found_of options.now)) r)) }
-{
-    let items = flag_in(options, "items");
-    let words = flag_in(options, "words");
-    match (items, words) {
-        (false, false) => Some(Rows::Records),
-        (true, false) => Some(Rows::Items),
-        (false, true) => Some(Rows::Words),
-        (true, true) => None,
-    }
-}
-
 /// The job of `table` and its options.
 fn table_in<'a>(options: &ArgMatches<'a>) -> Option<Job<'a>>
     ensures some { IfSome result (IsJobOf (codes "table") (rows_of (found_of options.now))) }
@@ -186,55 +70,6 @@ fn table_in<'a>(options: &ArgMatches<'a>) -> Option<Job<'a>>
         rows,
         progress,
     })
-}
-
-/// Whether an option stands that says what drives an executive, or how it cancels.
-fn is_driven(options: &ArgMatches<'_>) -> bool
-    ensures yes { IsTrue result → ¬ (IsUndriven (rows_of (found_of options.now))) }
-    ensures no { IsFalse result → IsUndriven (rows_of (found_of options.now)) }
-{
-    has(options, "script")
-        || has(options, "seed")
-        || has(options, "steps")
-        || has(options, "cancel")
-}
-
-/// Whether an option stands that says what is seen of a run.
-fn is_seen(options: &ArgMatches<'_>) -> bool
-    ensures yes { IsTrue result → ¬ (IsUnseen (rows_of (found_of options.now))) }
-    ensures no { IsFalse result → IsUnseen (rows_of (found_of options.now)) }
-{
-    has(options, "from") || has(options, "only") || has(options, "figure")
-}
-
-/// The tick from which on a run is seen, among the options.
-fn from_in(options: &ArgMatches<'_>) -> Option<u64>
-    ensures some { IfSome result (IsFromIn (rows_of (found_of options.now))) }
-    ensures none { IfNone result ((n : _) → ¬ (IsFromIn (rows_of (found_of options.now)) n)) }
-{
-    if !has(options, "from") {
-        return Some(0);
-    }
-    number_in(options, "from", 0, MAX_TICK)
-}
-
-/// What a picture is of, among the options.
-fn picture_in<'a>(options: &ArgMatches<'a>) -> Option<Picture<'a>>
-    ensures some { IfSome result (IsPictureIn (rows_of (found_of options.now))) }
-    ensures none { IfNone result ((p : _) → ¬ (IsPictureIn (rows_of (found_of options.now)) p)) }
-{
-    if is_driven(options) {
-        if is_seen(options) {
-            return None;
-        }
-        let cancel = cancel_in(options)?;
-        let driver = driver_in(options)?;
-        return Some(Picture::Warp { cancel, driver });
-    }
-    let from = from_in(options)?;
-    let only = text_in(options, "only");
-    let figure = text_in(options, "figure");
-    Some(Picture::Run(View { from, only, figure }))
 }
 
 /// The job of `draw` and its options.
@@ -291,31 +126,17 @@ fn job_named<'a>(name: &str, options: &ArgMatches<'a>) -> Option<Job<'a>>
     ensures some { IfSome result (IsJobOf name.now (rows_of (found_of options.now))) }
     ensures none { IfNone result ((j : _) → ¬ (IsJobOf name.now (rows_of (found_of options.now)) j)) }
 {
-    if name == "demo" {
-        return Some(Job::Demo);
+    match name {
+        "demo" => Some(Job::Demo),
+        "check" => check_in(options),
+        "seq" => seq_in(options),
+        "stats" => stats_in(options),
+        "table" => table_in(options),
+        "draw" => draw_in(options),
+        "run" => run_in(options),
+        "play" => play_in(options),
+        _ => None,
     }
-    if name == "check" {
-        return check_in(options);
-    }
-    if name == "seq" {
-        return seq_in(options);
-    }
-    if name == "stats" {
-        return stats_in(options);
-    }
-    if name == "table" {
-        return table_in(options);
-    }
-    if name == "draw" {
-        return draw_in(options);
-    }
-    if name == "run" {
-        return run_in(options);
-    }
-    if name == "play" {
-        return play_in(options);
-    }
-    None
 }
 
 /// The job of a command line that has been read.

@@ -3,17 +3,17 @@
 ghost use Rattle.std.specs.Prelude.{◌≡◌, IfOk, codes, false};
 ghost use Rattle.clap.specs.Words.{app_of, rule_of};
 ghost use Rattle.clap.specs.declared.builder.command.Command.TheViews.{out-Command};
-ghost use Rattle.tw_line.specs.Lines.{flag_rule, net_rule, number_rule, text_rule, until_rule, alone_app, cancelled_app, check_app, demo_app, draw_app, driven_app, first_app, network_app, play_app, preset_rule, preset_text_rule, run_app, seen_app, seq_app, set_app, stats_app, table_app, told_app, twarp_app};
+ghost use Rattle.tw_line.specs.Lines.{flag_rule, net_rule, number_rule, text_rule, until_rule, alone_app, cancelled_app, check_app, demo_app, draw_app, driven_app, first_app, network_app, play_app, preset_rule, preset_text_rule, run_app, seen_app, seq_app, set_app, stats_app, table_app, told_app, twarp_app, IsJoined};
 
 use crate::help::{
     CHECK_END, DEMO_END, DRAW_END, PLAY_END, RUN_END, SEQ_END, STATS_END, TABLE_END, TWARP_END,
     VERSION,
 };
-use crate::jobs::MAX_STEPS;
 use clap::builder::ValueParser;
 use clap::{Arg, ArgAction, Command};
 use std::alloc::{AllocError, Global};
 use tw_actions::MAX_BURST;
+use tw_options::MAX_STEPS;
 use tw_vtime::MAX_TICK;
 
 /// The path of the network file, which stands on the line with no name of its own.
@@ -384,6 +384,16 @@ fn draw_command<'a>(alloc: Global) -> Result<Command<'a>, AllocError>
     cancelled_command(seen, alloc)
 }
 
+/// A command with a subcommand more, where memory sufficed for it.
+fn with_made<'a>(
+    command: Command<'a>,
+    made: Result<Command<'a>, AllocError>,
+) -> Result<Command<'a>, AllocError>
+    ensures { IfOk result (IsJoined command.entry made.entry) }
+{
+    command.subcommand(made?)
+}
+
 /// The program with the subcommands that simulate no network of a file.
 fn first_commands<'a>(alloc: Global) -> Result<Command<'a>, AllocError>
     ensures app { IfOk result (λ c. app_of c ≡ first_app) }
@@ -395,7 +405,7 @@ fn first_commands<'a>(alloc: Global) -> Result<Command<'a>, AllocError>
         .after_help(TWARP_END)
         .subcommand_required(true)
         .subcommand(demo_command(alloc))?;
-    first.subcommand(check_command(alloc)?)
+    with_made(first, check_command(alloc))
 }
 
 /// The program with the subcommands that tell of the sequential run.
@@ -404,9 +414,9 @@ fn alone_commands<'a>(alloc: Global) -> Result<Command<'a>, AllocError>
     ensures local { IfOk result (λ c. (out-Command c).has_globals ≡ false) }
 {
     let first = first_commands(alloc)?;
-    let second = first.subcommand(seq_command(alloc)?)?;
-    let third = second.subcommand(stats_command(alloc)?)?;
-    third.subcommand(table_command(alloc)?)
+    let second = with_made(first, seq_command(alloc))?;
+    let third = with_made(second, stats_command(alloc))?;
+    with_made(third, table_command(alloc))
 }
 
 /// The whole command.
@@ -414,7 +424,7 @@ pub(crate) fn command<'a>(alloc: Global) -> Result<Command<'a>, AllocError>
     ensures app { IfOk result (λ c. app_of c ≡ twarp_app) }
 {
     let first = alone_commands(alloc)?;
-    let second = first.subcommand(draw_command(alloc)?)?;
-    let third = second.subcommand(run_command(alloc)?)?;
-    third.subcommand(play_command(alloc)?)
+    let second = with_made(first, draw_command(alloc))?;
+    let third = with_made(second, run_command(alloc))?;
+    with_made(third, play_command(alloc))
 }

@@ -6,10 +6,8 @@ ghost use Rattle.tw_line.specs.Lines.{refusal_of, refused_for_memory};
 use std::alloc::AllocError;
 use thiserror::Error;
 use tw_actions::Cancel;
+use tw_options::{Driver, Picture, Rows, RunOptions};
 use tw_vtime::Refusal;
-
-/// The most actions that a seed may be asked for.
-pub(crate) const MAX_STEPS: u64 = 1_000_000;
 
 /// What the program is asked to do.
 #[derive(Debug, Drop)]
@@ -83,78 +81,6 @@ pub enum Job<'a> {
         cancel: Cancel,
         /// What drives it.
         driver: Driver<'a>,
-    },
-}
-
-/// How many workers a run has.
-#[derive(Clone, Copy, Debug, PartialEq, Eq)]
-pub enum Workers {
-    /// So many threads work, 1 to 64.
-    Count(u64),
-    /// The program chooses: it goes on in order where threads would cost more than they bring, else a thread works for each processor.
-    Auto,
-}
-
-/// How many workers a run has, how far they work ahead, and whether it tells how far it is. The trace is the same for all of them.
-#[derive(Clone, Copy, Debug, PartialEq, Eq)]
-pub struct RunOptions {
-    /// How many threads work.
-    pub workers: Workers,
-    /// The most steps of one component that a worker computes at a time, 1 to 256.
-    pub burst: u64,
-    /// How many ticks after gvt a component may still make a step, 0 to 1,099,511,627,774.
-    pub window: u64,
-    /// Whether a line on standard error tells once a second how far the run is.
-    pub progress: bool,
-}
-
-/// What a line of a table is of.
-#[derive(Clone, Copy, Debug, PartialEq, Eq)]
-pub enum Rows {
-    /// A record, with its items and its words.
-    Records,
-    /// An item of a record.
-    Items,
-    /// A word of a record of a transition.
-    Words,
-}
-
-/// What a picture is of.
-#[derive(Clone, Copy, Debug, PartialEq, Eq)]
-pub enum Picture<'a> {
-    /// The sequential run.
-    Run(View<'a>),
-    /// A run of Time Warp: an executive that is driven by hand.
-    Warp {
-        /// How steps that are taken back are cancelled.
-        cancel: Cancel,
-        /// What drives it.
-        driver: Driver<'a>,
-    },
-}
-
-/// What part of a run is seen.
-#[derive(Clone, Copy, Debug, PartialEq, Eq)]
-pub struct View<'a> {
-    /// The tick from which on it is seen, 0 to 1,099,511,627,774.
-    pub from: u64,
-    /// The names of the components that are seen, parted by commas; all of them where there is none.
-    pub only: Option<&'a str>,
-    /// The name of the figure whose course is seen; the one of each model's own where there is none.
-    pub figure: Option<&'a str>,
-}
-
-/// What drives an executive by hand.
-#[derive(Clone, Copy, Debug, PartialEq, Eq)]
-pub enum Driver<'a> {
-    /// The script in the file of this path.
-    Script(&'a str),
-    /// So many actions that a seed gives.
-    Seed {
-        /// The seed, any u64.
-        seed: u64,
-        /// The number of actions, 0 to 1,000,000.
-        steps: u64,
     },
 }
 

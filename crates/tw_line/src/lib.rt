@@ -3,7 +3,8 @@
 //! [`job`] reads the words with `clap`. Its contract is exact: the [`Job`] is the subcommand that the
 //! parse finds, with the text or the number of each argument, and each number in its range; a refused
 //! line (23) is one that the parse refuses, or one in which no job stands. Where help or the version is asked for it
-//! hands out clap's text. [`NoJob`] says which of these it is.
+//! hands out clap's text. [`NoJob`] says which of these it is. What options are read into, as a [`Driver`], is tw_options' and
+//! handed on.
 #![tactic(auto)]
 
 mod command_line;
@@ -12,4 +13,5 @@ mod help;
 mod jobs;
 
 pub use command_line::job;
-pub use jobs::{Driver, Job, NoJob, Picture, Rows, RunOptions, View, Workers};
+pub use jobs::{Job, NoJob};
+pub use tw_options::{Driver, Picture, Rows, RunOptions, View, Workers};

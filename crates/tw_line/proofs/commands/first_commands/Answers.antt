@@ -9,10 +9,10 @@ pub returns-clause-app : goal.returns-clause-app
 returns-clause-app c =
     let bare : app_of c.subcommand_required.result ≡ bare_app = search rules in
     let first = joined _ _ _ _ _ c.in_ok-first.ensures c.demo_command.ensures.local bare c.demo_command.ensures.app in
-    joins _ _ _ _ c.subcommand-2.result c.subcommand-2.ensures c.in_ok-check_command.ensures.local first c.in_ok-check_command.ensures.app
+    joins _ _ _ _ c.with_made.result c.with_made.ensures c.check_command.ensures.local first c.check_command.ensures.app
 
 pub returns-clause-local : goal.returns-clause-local
 returns-clause-local c =
     let bare : (out-Command c.subcommand_required.result).has_globals ≡ false = search rules in
     let first = joined_local _ _ _ c.in_ok-first.ensures c.demo_command.ensures.local bare in
-    joins_local _ _ c.subcommand-2.result c.subcommand-2.ensures c.in_ok-check_command.ensures.local first
+    joins_local _ _ c.with_made.result c.with_made.ensures c.check_command.ensures.local first

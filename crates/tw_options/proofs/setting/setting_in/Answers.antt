@@ -1,4 +1,4 @@
-use Rattle.tw_line.proofs.command_line.setting_in.Goals as goal
+use Rattle.tw_options.proofs.setting.setting_in.Goals as goal
 
 pub returns-in_err-workers-clause-none : goal.returns-in_err-workers-clause-none
 returns-in_err-workers-clause-none c = rw c.from_residual.ensures (λ s is. c.in_err-workers.ensures.none s.workers is.0)

@@ -5,7 +5,7 @@ use Rattle.std.specs.Str.Parse.{ParsesUnsigned, IsNumeral, digits_value, without
 use Rattle.clap.specs.Words.{Text, ReadsOne, one_of, one_text, rows_of}
 use Rattle.clap.specs.declared.parser.matches.Found.{Found}
 use Rattle.clap.proofs.WalkLemmas.{one_text-rows}
-use Rattle.tw_line.specs.Lines.{HasNumber}
+use Rattle.tw_options.specs.Options.{HasNumber}
 
 -- the number that `get_one` answers is the one that the row's text writes
 pub number_read : {E : Type 0} (G : List ℕ → Result ℕ E → Type 0) (f : Found) (id : Text) (r : Option ℕ) (n : ℕ)

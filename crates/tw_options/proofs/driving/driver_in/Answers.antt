@@ -1,7 +1,7 @@
 use Rattle.std.proofs.Common.{rules}
 use Rattle.clap.specs.Words.{found_of, rows_of}
-use Rattle.tw_line.proofs.Missing.{no_seeded}
-use Rattle.tw_line.proofs.command_line.driver_in.Goals as goal
+use Rattle.tw_options.proofs.Missing.{no_seeded}
+use Rattle.tw_options.proofs.driving.driver_in.Goals as goal
 
 pub returns-in_err-seed-clause-none : goal.returns-in_err-seed-clause-none
 returns-in_err-seed-clause-none c = rw c.from_residual.ensures (no_seeded (rows_of (found_of c.args.options.now)) (search rules)

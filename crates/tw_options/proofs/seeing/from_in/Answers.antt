@@ -1,9 +1,9 @@
 use Rattle.std.specs.Prelude.{Option, None, Some, IfNone}
 use Rattle.std.proofs.Common.{◌∙◌, ℕ, codes, sym}
 use Rattle.clap.specs.Words.{found_of, rows_of}
-use Rattle.tw_line.specs.Lines.{HasNumber, IsFromIn}
-use Rattle.tw_line.proofs.Missing.{no_from}
-use Rattle.tw_line.proofs.command_line.from_in.Goals as goal
+use Rattle.tw_options.specs.Options.{HasNumber, IsFromIn}
+use Rattle.tw_options.proofs.Missing.{no_from}
+use Rattle.tw_options.proofs.seeing.from_in.Goals as goal
 
 pub returns-clause-none : goal.returns-clause-none
 returns-clause-none c = go c.number_in.result c.number_in.ensures.none

@@ -1,6 +1,6 @@
 use Rattle.clap.specs.Words.{found_of, rows_of}
-use Rattle.tw_line.proofs.Missing.{no_workers}
-use Rattle.tw_line.proofs.command_line.workers_in.Goals as goal
+use Rattle.tw_options.proofs.Missing.{no_workers}
+use Rattle.tw_options.proofs.setting.workers_in.Goals as goal
 
 pub returns-in_err-count-clause-none : goal.returns-in_err-count-clause-none
 returns-in_err-count-clause-none c =

@@ -1,8 +1,8 @@
 use Rattle.std.proofs.Common.{arith, ⊎_elim}
 use Rattle.std.specs.Str.Parse.{ParsesUnsigned, ExplainsUnsignedError, HasUnsignedDigitsIfOk}
 use Rattle.clap.specs.Words.{found_of}
-use Rattle.tw_line.proofs.Reading.{number_read, number_missing, number_same}
-use Rattle.tw_line.proofs.command_line.number_in.Goals as goal
+use Rattle.tw_options.proofs.Reading.{number_read, number_missing, number_same}
+use Rattle.tw_options.proofs.values.number_in.Goals as goal
 
 pub returns-clause-some : goal.returns-clause-some
 returns-clause-some c =

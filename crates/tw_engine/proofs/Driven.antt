@@ -16,7 +16,7 @@ use Rattle.tw_netfile.specs.TreeMeaning.{IsMeaning}
 use Rattle.tw_network.specs.Contents.{Contents}
 use Rattle.tw_play.specs.Playing.{Played}
 use Rattle.tw_play.specs.Telling.{IsCutShort, IsDrawnShort, IsPlayed, IsWhollyDrawn}
-use Rattle.tw_script.specs.Schedules.{seeded}
+use Rattle.tw_drawn.specs.Schedules.{seeded}
 use Rattle.tw_script.specs.Scripts.{IsScript}
 use Rattle.tw_script.specs.declared.command.Command.{Command}
 use Rattle.tw_texts.specs.Refusals.{not_written_refusal}

@@ -4,10 +4,10 @@ use crate::columns::count_wrong;
 use crate::differing::Differing;
 use crate::networks::{Case, executive_of};
 use std::alloc::{AllocError, Global};
+use tw_drawn::Schedule;
 use tw_exec::{Executive, Refused};
 use tw_models::Model;
 use tw_process::Cancel;
-use tw_script::Schedule;
 use tw_seq::Seq;
 use tw_vtime::Refusal;
 

@@ -9,10 +9,10 @@ use rand_core::utils::NextWord;
 use rand_pcg::Pcg32;
 use std::alloc::{AllocError, Global};
 use tw_atomic::Atomic;
+use tw_drawn::Schedule;
 use tw_exec::{Executive, Refused};
 use tw_inspect::{describe, report};
 use tw_process::{Finished, Stop};
-use tw_script::Schedule;
 use tw_workers::{Order, State};
 
 // For how many turns a chain is kept back at most.

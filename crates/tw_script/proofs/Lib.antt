@@ -1,6 +1,5 @@
 pub mod Cuts
 pub mod Stamped
-pub mod Drawing
 pub mod Named
 pub mod Saying
 pub mod Reading

@@ -52,15 +52,29 @@ no_verb names verb operands f step post harvest show deliver back Rewind s = alo
 no_verb names verb operands f step post harvest show deliver back Show s = alone (codes "show") verb operands refl s.is_line
 no_verb names verb operands f step post harvest show deliver back (Describe p) s = show (first_is (codes "show") _ verb operands refl f s.is_line).0
 
+pub is_named : (names : List (List ℕ)) (q : ℕ) (name : List ℕ) → q < length names → name ≡ name_of names q → Contains names name
+is_named names q name l e = (q, l, get_or_from_slice_get names q (name_of names q) name (slice_get-get_or names q [] l) ∙ sym e)
+
+-- nor of a name that no component has, unless its first word is one of these two
+pub no_component : (names : List (List ℕ)) (verb operands : List ℕ) → IsFree 32 verb → (verb ≡ codes "deliver" → ⊥) → (verb ≡ codes "back" → ⊥)
+    → (Contains names operands → ⊥) → (command : Command) → Says names command (verb ++ 32 ∷ operands) → ⊥
+no_component names verb operands f deliver back missing (Act (Step p)) s = missing (is_named names p operands s.fits (first_is (codes "step") _ verb operands refl f s.is_line).1)
+no_component names verb operands f deliver back missing (Act (Post p)) s = missing (is_named names p operands s.fits (first_is (codes "post") _ verb operands refl f s.is_line).1)
+no_component names verb operands f deliver back missing (Act (Deliver q i)) s = deliver (first_is (codes "deliver") _ verb operands refl f s.is_line).0
+no_component names verb operands f deliver back missing (Act (Back p at)) s = back (first_is (codes "back") _ verb operands refl f s.is_line).0
+no_component names verb operands f deliver back missing (Act Raise) s = alone (codes "raise") verb operands refl s.is_line
+no_component names verb operands f deliver back missing (Act (Harvest p)) s = missing (is_named names p operands s.fits (first_is (codes "harvest") _ verb operands refl f s.is_line).1)
+no_component names verb operands f deliver back missing Mark s = alone (codes "mark") verb operands refl s.is_line
+no_component names verb operands f deliver back missing Rewind s = alone (codes "rewind") verb operands refl s.is_line
+no_component names verb operands f deliver back missing Show s = alone (codes "show") verb operands refl s.is_line
+no_component names verb operands f deliver back missing (Describe p) s = missing (is_named names p operands s.fits (first_is (codes "show") _ verb operands refl f s.is_line).1)
+
 -- the first of two operands, and the second
 pub operands_are : (names : List (List ℕ)) (q : ℕ) (first second last : List ℕ) → IsFree 32 first → IsFree 32 (name_of names q) → first ++ 32 ∷ second ≡ name_of names q ++ 32 ∷ last → (first ≡ name_of names q) × (second ≡ last)
 operands_are names q first second last f g e = cut_once 32 first second (name_of names q) last f g e
 
 pub named : (names : List (List ℕ)) (q : ℕ) (name : List ℕ) → slice_get names q ≡ Some name → (q < length names) × (name ≡ name_of names q)
 named names q name h = (slice_get_within names q name h, sym (get_or_from_slice_get names q name [] h))
-
-pub is_named : (names : List (List ℕ)) (q : ℕ) (name : List ℕ) → q < length names → name ≡ name_of names q → Contains names name
-is_named names q name l e = (q, l, get_or_from_slice_get names q (name_of names q) name (slice_get-get_or names q [] l) ∙ sym e)
 
 pub two_operands : (verb first second : List ℕ) → verb ++ (first ++ 32 ∷ second) ≡ verb ++ first ++ codes " " ++ second
 two_operands verb first second =

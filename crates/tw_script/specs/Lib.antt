@@ -1,5 +1,4 @@
 pub mod Refusals
 pub mod Words
 pub mod Scripts
-pub mod Schedules
 pub mod OneScript

@@ -1,6 +1,6 @@
 //! What a line of a script can say.
 
-use tw_exec::Action;
+use tw_actions::Action;
 
 /// What a line of a script says. Components are known by their numbers.
 #[derive(Clone, Copy, Debug, PartialEq, Eq)]

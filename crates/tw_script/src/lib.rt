@@ -1,8 +1,8 @@
-//! What drives an executive by hand: scripts that users write, and schedules that a seed gives.
+//! Scripts: what users write to drive an executive by hand.
 //!
 //! A script is a text of lines, each a [`Command`]: an action of the executive, a mark or a rewind to it, or something to be
 //! shown. [`commands_of_script`] reads a whole script against the names of a network, or tells the first line that says
-//! nothing. A [`Schedule`] draws one action after another from the numbers of a seed, whatever the executive has come to.
+//! nothing.
 //!
 //! Contracts say what a script means by what is written, and not by how it is read: a line says a command where it is the
 //! line of that command (`line_of`). It is the line of no other, so a text is the script of at most one list of
@@ -14,18 +14,15 @@
 //! | `script` | a script's bytes, its lines, and the commands that they say |
 //! | `line` | one line |
 //! | `words` | the numbers and stamps in it |
-//! | `schedule` | the actions that a seed gives |
 //! | `refused` | why a script says nothing ([`ScriptRefused`]) |
 #![tactic(auto)]
 
 mod command;
 mod line;
 mod refused;
-mod schedule;
 mod script;
 mod words;
 
 pub use command::Command;
 pub use refused::ScriptRefused;
-pub use schedule::Schedule;
 pub use script::{commands_of_script, script_law};

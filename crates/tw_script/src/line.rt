@@ -9,8 +9,8 @@ ghost use Rattle.tw_vtime.specs.Stamps.{IsStamp, stamp_text};
 
 use crate::command::Command;
 use crate::words::{number, stamp};
+use tw_actions::Action;
 use tw_atomic::Atomic;
-use tw_exec::Action;
 use tw_network::Network;
 
 /// Whether a line is empty or begins with #.

@@ -4,10 +4,11 @@ use crate::notes::{Before, Notes};
 use crate::seen::Seen;
 use std::alloc::{AllocError, Global};
 use tw_atomic::Atomic;
+use tw_drawn::Schedule;
 use tw_exec::Refused;
 use tw_inspect::Reply;
 use tw_play::{Player, Response};
-use tw_script::{Command, Schedule};
+use tw_script::Command;
 
 /// As many actions are watched.
 pub const MOST_ACTIONS: usize = 2_000;

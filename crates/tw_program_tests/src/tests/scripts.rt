@@ -5,9 +5,10 @@ use rand_core::utils::NextWord;
 use rand_pcg::Pcg32;
 use std::process::Abort;
 use tw_any_model::AnyModel;
+use tw_drawn::Schedule;
 use tw_exec::{Action, Executive};
 use tw_netfile::network_of_file;
-use tw_script::{Command, Schedule, commands_of_script};
+use tw_script::{Command, commands_of_script};
 use tw_vtime::Stamp;
 
 /// The generator of the row.

@@ -1,7 +1,7 @@
 use Rattle.std.proofs.Common.{rules, arith, ◌≡◌, sym, subst, string_bytes, ◌+◌}
 use Rattle.std.specs.Prelude.{None, Some}
 use Rattle.tw_play.proofs.OneMore.{IsDrawing, drawing_done, drawing_idle, drawing_more, drawing_short, failed_only, on_ok}
-use Rattle.tw_script.specs.Schedules.{action_drawn, drawn, seeded}
+use Rattle.tw_drawn.specs.Schedules.{action_drawn, drawn, seeded}
 use Rattle.tw_texts.specs.declared.traces.NotWritten.TheVariants.{OutOfMemory}
 use Rattle.tw_play.proofs.telling.play_seed.Goals as goal
 

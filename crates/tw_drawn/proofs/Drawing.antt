@@ -3,7 +3,7 @@ use Rattle.std.proofs.Common.{◌≡◌, ◌∙◌, ℕ, ◌%◌, length, ap, re
 use Rattle.std.specs.Prelude.{Some}
 use Rattle.std.proofs.lemmas.Bool.{ne_eqb}
 use Rattle.tw_exec.specs.Running.{Running}
-use Rattle.tw_script.specs.Schedules.{Words, action_drawn, chosen, drawn, place_drawn, stamp_drawn}
+use Rattle.tw_drawn.specs.Schedules.{Words, action_drawn, chosen, drawn, place_drawn, stamp_drawn}
 use Rattle.rand_pcg.specs.Lcg.{Lcg}
 use Rattle.rand_pcg.specs.Pcg.{pcg32}
 use Rattle.tw_theory.specs.Executive.{mail_of}

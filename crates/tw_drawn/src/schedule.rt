@@ -1,7 +1,7 @@
 //! The actions that a seed gives.
 
 ghost use Rattle.std.specs.Prelude.{◌≡◌};
-ghost use Rattle.tw_script.specs.Schedules.{action_drawn, after, chosen, drawn, place_drawn, seeded, stamp_drawn};
+ghost use Rattle.tw_drawn.specs.Schedules.{action_drawn, after, chosen, drawn, place_drawn, seeded, stamp_drawn};
 
 use rand_core::SeedableRng;
 use rand_core::utils::NextWord;

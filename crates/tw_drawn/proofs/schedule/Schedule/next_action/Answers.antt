@@ -1,9 +1,9 @@
 use Rattle.std.proofs.Common.{rules, ◌%◌, ◌≡◌, ap, ◌∙◌, length, refl}
 use Rattle.rand_pcg.specs.Pcg.{pcg32}
 use Rattle.std.specs.Prelude.{Some}
-use Rattle.tw_script.proofs.Drawing.{drawn_by, words_are}
-use Rattle.tw_script.specs.Schedules.{action_drawn}
-use Rattle.tw_script.proofs.schedule.Schedule.next_action.Goals as goal
+use Rattle.tw_drawn.proofs.Drawing.{drawn_by, words_are}
+use Rattle.tw_drawn.specs.Schedules.{action_drawn}
+use Rattle.tw_drawn.proofs.schedule.Schedule.next_action.Goals as goal
 
 pub returns-clause-action : goal.returns-clause-action
 returns-clause-action g c =

@@ -7,9 +7,10 @@ use Rattle.std.specs.Result.{result_ok}
 use Rattle.std.specs.Str.{bytes_eq}
 use Rattle.serde_json.specs.Data.{Data}
 use Rattle.tw_machine_file.specs.Seen.{Machine}
+use Rattle.tw_members.specs.Members.{has_members, text_at}
 use Rattle.tw_netfile.specs.Components.{after}
 use Rattle.tw_netfile.specs.Meaning.{json_of, meaning_of, network_of, shape_of}
-use Rattle.tw_netfile.specs.Shape.{file_of, has_members, is_format, text_at}
+use Rattle.tw_netfile.specs.Shape.{file_of, is_format}
 use Rattle.tw_netfile.specs.TreeMeaning.{tree_in}
 use Rattle.tw_netfile.specs.TreeShape.{TreeFile, is_machines_format, is_tree_format, machines_declared, machines_file_of, machines_file_with, tree_file_of, tree_of}
 use Rattle.tw_netfile.specs.declared.refused.FileRefused.{FileRefused}

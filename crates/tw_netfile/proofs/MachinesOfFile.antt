@@ -1,15 +1,15 @@
 -- What a file of format tw-3 means, by the machines that it declares.
-use Rattle.std.proofs.Common.{◌≡◌, ◌≢◌, ◌∙◌, ℕ, List, Bool, false, ap, sym, subst, cond}
+use Rattle.std.proofs.Common.{◌≡◌, ◌≢◌, ◌∙◌, ℕ, List, false, ap, sym, subst, cond}
 use Rattle.std.specs.Option.{ok_or}
 use Rattle.std.specs.Prelude.{codes, Option, None, Some, option_and_then, Result, Ok, Err}
 use Rattle.std.specs.Result.{IfErr, IfOk, result_ok}
 use Rattle.serde_json.specs.Data.{Data}
 use Rattle.tw_any_model.specs.declared.any_model.AnyModel.{AnyModel}
 use Rattle.tw_machine_file.specs.Seen.{Machine}
+use Rattle.tw_members.specs.Members.{text_at}
 use Rattle.tw_network.specs.Contents.{Contents}
 use Rattle.tw_netfile.specs.Components.{after}
 use Rattle.tw_netfile.specs.Meaning.{json_of, meaning_of, network_of, shape_of}
-use Rattle.tw_netfile.specs.Shape.{text_at}
 use Rattle.tw_netfile.specs.TreeMeaning.{IsFault, IsFaultBy, IsMeaning, IsMeaningBy, IsTreeFileFault, IsTreeMeaning, tree_in}
 use Rattle.tw_netfile.specs.TreeShape.{TreeFile, is_tree_format, machines_declared, machines_file_of, machines_file_with, tree_file_of, tree_of}
 use Rattle.tw_netfile.specs.declared.refused.FileRefused.{FileRefused}

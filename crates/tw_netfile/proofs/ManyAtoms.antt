@@ -1,5 +1,5 @@
 -- A tree of too many atoms: its first fault, told by its drafts, none of which is made.
-use Rattle.std.proofs.Common.{◌≡◌, ◌∙◌, ◌+◌, ◌<◌, ◌++◌, ℕ, suc, List, Bool, true, false, String, string_bytes, ◌≤◌, refl, sym, subst, ap, arith, length, drop, get_or, min}
+use Rattle.std.proofs.Common.{◌≡◌, ◌∙◌, ◌+◌, ◌<◌, ℕ, suc, List, Bool, true, false, String, string_bytes, ◌≤◌, refl, sym, subst, ap, arith, length, drop, get_or, min}
 use Rattle.std.proofs.lemmas.Bool.Decides.{nat_tests}
 use Rattle.std.proofs.lemmas.List.{length-append}
 use Rattle.std.specs.Option.{option_or}
@@ -12,7 +12,7 @@ use Rattle.tw_nested.specs.declared.tree.Part.{Part}
 use Rattle.tw_nested.specs.Tree.{Parts, Link, no_parts, atom, coupled, coupled_count, levels, link_count, models_in, part_view, parts_of}
 use Rattle.tw_network.specs.Contents.{Input}
 use Rattle.tw_network.specs.Faults.{unless}
-use Rattle.tw_network.specs.TreeFaults.{IsTreeFault, in_tree, is_few, tree_count_fault}
+use Rattle.tw_network.specs.TreeFaults.{IsTreeFault, in_tree, tree_count_fault}
 use Rattle.tw_network.specs.declared.refused.NetworkRefused.TheVariants.{TooMany}
 use Rattle.tw_netfile.specs.Components.{after, any_model_of}
 use Rattle.tw_netfile.specs.TreeMeaning.{IsTreeFileFault, in_network, in_parameter, inputs_named}

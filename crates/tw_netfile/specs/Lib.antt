@@ -6,7 +6,6 @@ pub mod Numbers
 pub mod OneMeaning
 pub mod Refused
 pub mod Shape
-pub mod Tables
 pub mod TreeDraft
 pub mod TreeExamples
 pub mod TreeMeaning

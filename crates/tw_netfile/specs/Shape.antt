@@ -1,15 +1,16 @@
 -- What a network file says, read off its JSON value: exactly these members, each of its type.
 --     component_of machines d      a component, where these machines may be named
 --     file_of d      what the value says, where it has the shape of a network file (format tw-1)
-use Rattle.std.specs.Prelude.{◌==◌, ◌∷◌, [], ℕ, ℤ, List, Bool, false, Option, Some, None, codes, option_and_then, option_map, if◌then◌else◌}
+use Rattle.std.specs.Prelude.{◌∷◌, [], ℕ, ℤ, List, Bool, false, Option, Some, None, codes, option_and_then, option_map, if◌then◌else◌}
 use Rattle.std.specs.Str.{bytes_eq}
 use Rattle.std.specs.Option.{option_map_or, option_or}
 use Rattle.std.specs.Result.{result_ok}
 use Rattle.serde_json.specs.Data.{Data, Items, no_items, item}
-use Rattle.serde_json.specs.Find.{get, as_number, as_u64, as_i64, as_str, as_array, as_object, at}
-use Rattle.serde_json.specs.Events.{members_len, items_len}
+use Rattle.serde_json.specs.Find.{get, as_str, as_array, at}
 use Rattle.tw_machine_file.specs.Machines.{program_in}
 use Rattle.tw_machine_file.specs.Seen as file
+use Rattle.tw_members.specs.Members.{count_at, count_of, has_items, has_members, text_at, value_at}
+use Rattle.tw_members.specs.Named.{machine_named}
 use Rattle.tw_netfile.specs.declared.draft.AnyDraft.{AnyDraft}
 use Rattle.tw_netfile.specs.declared.draft.AnyDraft.TheVariants.{BuiltIn, Machine}
 use Rattle.tw_netfile.specs.declared.draft.ModelDraft.{ModelDraft}
@@ -34,32 +35,6 @@ pub record File : Type 0 where
   pub inputs : List FileInput
 
 -- ---- parts of a value
-
--- an object with so many members; together with the members that are looked up: exactly these
-abbrev pub has_members : ℕ → Data → Bool
-has_members n d = option_map_or (λ ms. members_len ms == n) (as_object d) false
-
--- an array with so many items
-abbrev pub has_items : ℕ → Data → Bool
-has_items n d = option_map_or (λ ds. items_len ds == n) (as_array d) false
-
--- a number without a fraction, an exponent or a sign that fits 64 bits
-abbrev pub count_of : Data → Option ℕ
-count_of d = option_and_then as_u64 (as_number d)
-
--- a number without a fraction or an exponent that fits 64 bits with a sign
-abbrev pub value_of : Data → Option ℤ
-value_of d = option_and_then as_i64 (as_number d)
-
--- a member that is a text, a number
-abbrev pub text_at : List ℕ → Data → Option (List ℕ)
-text_at name d = option_and_then as_str (get name d)
-
-abbrev pub count_at : List ℕ → Data → Option ℕ
-count_at name d = option_and_then count_of (get name d)
-
-abbrev pub value_at : List ℕ → Data → Option ℤ
-value_at name d = option_and_then value_of (get name d)
 
 -- a function of parts that are all there
 abbrev pub of_two : {A B C : Type 0} → (A → B → C) → Option A → Option B → Option C
@@ -111,12 +86,7 @@ model_named name d =
     else if bytes_eq name (codes "hop") then hop_of d
     else None
 
--- the first machine of a name
-abbrev pub machine_named : List file.Machine → List ℕ → Option file.Machine
-machine_named [] name = None
-machine_named (m ∷ ms) name = if bytes_eq m.name name then Some m else machine_named ms name
-
--- its program, with what the component gives for its parameters
+-- the program of a machine, with what the component gives for its parameters
 abbrev pub machine_of : file.Machine → Data → Option AnyDraft
 machine_of m d = option_map Machine (result_ok (program_in m d))
 

@@ -11,13 +11,14 @@ use Rattle.serde_json.specs.Find.{get, as_array}
 use Rattle.tw_any_model.specs.declared.any_model.AnyModel.{AnyModel}
 use Rattle.tw_machine_file.specs.Machines.{machines_in}
 use Rattle.tw_machine_file.specs.Seen.{Machine}
+use Rattle.tw_members.specs.Members.{count_at, has_members, text_at}
+use Rattle.tw_members.specs.Tables.{has_few_numbers}
 use Rattle.tw_nested.specs.declared.tree.End.{End}
 use Rattle.tw_nested.specs.declared.tree.End.TheVariants.{Here, Part}
 use Rattle.tw_nested.specs.Tree.{Parts, Link, no_parts, atom, coupled}
 use Rattle.tw_netfile.specs.Components.{after, any_model_of}
 use Rattle.tw_netfile.specs.Numbers.{number_of, port_of}
-use Rattle.tw_netfile.specs.Shape.{FileCoupling, FileInput, array_at, component_of, count_at, coupling_of, has_members, input_of, of_three, of_two, text_at}
-use Rattle.tw_netfile.specs.Tables.{has_few_numbers}
+use Rattle.tw_netfile.specs.Shape.{FileCoupling, FileInput, array_at, component_of, coupling_of, input_of, of_three, of_two}
 use Rattle.tw_netfile.specs.declared.draft.AnyDraft.{AnyDraft}
 use Rattle.tw_netfile.specs.declared.refused.FileRefused.{FileRefused}
 

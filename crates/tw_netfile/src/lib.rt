@@ -23,7 +23,6 @@ mod numbers;
 mod programs;
 mod refused;
 mod shape;
-mod tables;
 mod tree_models;
 mod tree_shape;
 mod trees;

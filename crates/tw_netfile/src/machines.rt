@@ -1,10 +1,10 @@
 //! Components of a file that are one of the five models, or a machine that the file declares.
 
-ghost use Rattle.std.specs.Prelude.{◌≡◌, ◌≢◌, Some, None, IfOk, IfErr, map, option_map};
+ghost use Rattle.std.specs.Prelude.{◌≡◌, ◌≢◌, Some, None, IfOk, IfErr, map};
 ghost use Rattle.serde_json.specs.View.{view};
 ghost use Rattle.tw_machine_file.specs.Seen as file;
 ghost use Rattle.tw_machine_file.specs.Seen.{machine};
-ghost use Rattle.tw_netfile.specs.Shape.{machine_named, machine_of, model_in};
+ghost use Rattle.tw_netfile.specs.Shape.{machine_of, model_in};
 ghost use Rattle.tw_netfile.specs.TreeShape.{machines_at};
 
 use crate::draft::AnyDraft;
@@ -14,6 +14,7 @@ use crate::shape::model_named;
 use serde_json::Value;
 use std::alloc::Global;
 use tw_machine_file::{FileMachine, MachineFault, machines_in};
+use tw_members::machine_named;
 
 // The model that a component names, where these machines may be named.
 pub fn model_in<'m>(
@@ -48,18 +49,6 @@ fn machine_of<'m>(
         Err(MachineFault::OutOfMemory) => Err(FileRefused::OutOfMemory),
         Err(_) => Err(FileRefused::BadShape),
     }
-}
-
-// The first machine of a name.
-pub fn machine_named<'a>(machines: &'a [FileMachine], name: &str) -> Option<&'a FileMachine>
-    ensures { option_map (λ m. machine m.now) result ≡ machine_named (map machine machines.now) name.now }
-{
-    for machine in machines {
-        if machine.name.as_str() == name {
-            return Some(machine);
-        }
-    }
-    None
 }
 
 // The machines that a file declares.

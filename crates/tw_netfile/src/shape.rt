@@ -1,9 +1,9 @@
 //! What a network file's JSON value says: exactly its members, each of its type.
 
-ghost use Rattle.std.specs.Prelude.{◌≡◌, ◌≢◌, [], Some, None, Ok, Err, IfOk, IfErr, codes, map, option_and_then, option_map};
-ghost use Rattle.serde_json.specs.Find.{as_array, get};
+ghost use Rattle.std.specs.Prelude.{◌≡◌, ◌≢◌, [], Some, None, Ok, Err, IfOk, IfErr, codes, map, option_map};
 ghost use Rattle.serde_json.specs.View.{view, items_view};
 ghost use Rattle.tw_machine_file.specs.Seen.{machine};
+ghost use Rattle.tw_members.specs.Members.{text_at};
 ghost use Rattle.tw_netfile.specs.Draft.{
   component_view,
   components_view,
@@ -17,19 +17,14 @@ ghost use Rattle.tw_netfile.specs.Meaning.{shape_of};
 ghost use Rattle.tw_netfile.specs.Shape.{
   all_read,
   component_of,
-  count_at,
   coupling_of,
   gen_of,
-  has_items,
-  has_members,
   hop_of,
   input_of,
   is_format,
   model_named,
   queue_of,
   relay_of,
-  text_at,
-  value_at,
 };
 
 use crate::draft::{ComponentDraft, CouplingDraft, Draft, InputDraft, ModelDraft};
@@ -38,6 +33,7 @@ use crate::refused::FileRefused;
 use serde_json::Value;
 use std::alloc::Global;
 use tw_machine_file::FileMachine;
+use tw_members::{count_at, has_items, has_members, text_at, value_at};
 
 // What the file's value says, where it has the shape of a network file.
 pub fn draft_of<'a>(alloc: Global, value: &'a Value) -> Result<Draft<'a>, FileRefused>
@@ -245,47 +241,4 @@ fn is_format(value: &Value) -> bool
         Some(format) => format == "tw-1",
         None => false,
     }
-}
-
-pub fn has_members(value: &Value, count: usize) -> bool
-    ensures { result ≡ has_members count (view value.now) }
-{
-    match value.as_object() {
-        Some(members) => members.len() == count,
-        None => false,
-    }
-}
-
-fn has_items(value: &Value, count: usize) -> bool
-    ensures { result ≡ has_items count (view value.now) }
-{
-    match value.as_array() {
-        Some(items) => items.as_slice().len() == count,
-        None => false,
-    }
-}
-
-// The items of a member that is an array.
-pub fn items_at<'a>(value: &'a Value, name: &str) -> Option<&'a [Value]>
-    ensures { option_map (λ vs. items_view vs.now) result ≡ option_and_then as_array (get name.now (view value.now)) }
-{
-    Some(value.get(name)?.as_array()?.as_slice())
-}
-
-pub fn text_at<'a>(value: &'a Value, name: &str) -> Option<&'a str>
-    ensures { option_map (λ t. t.now) result ≡ text_at name.now (view value.now) }
-{
-    value.get(name)?.as_str()
-}
-
-pub fn count_at(value: &Value, name: &str) -> Option<u64>
-    ensures { result ≡ count_at name.now (view value.now) }
-{
-    value.get(name)?.as_u64()
-}
-
-fn value_at(value: &Value, name: &str) -> Option<i64>
-    ensures { result ≡ value_at name.now (view value.now) }
-{
-    value.get(name)?.as_i64()
 }

@@ -3,9 +3,9 @@
 ghost use Rattle.std.specs.Prelude.{◌≡◌, ◌≢◌, Some, None, Ok, Err, IfOk, IfErr, codes, map, string_bytes};
 ghost use Rattle.serde_json.specs.View.{view, items_view};
 ghost use Rattle.tw_machine_file.specs.Seen.{machine};
+ghost use Rattle.tw_members.specs.Members.{text_at};
 ghost use Rattle.tw_nested.specs.Tree.{part_view, parts_of};
 ghost use Rattle.tw_netfile.specs.Draft.{couplings_view};
-ghost use Rattle.tw_netfile.specs.Shape.{text_at};
 ghost use Rattle.tw_netfile.specs.TreeDraft.{tree_view};
 ghost use Rattle.tw_netfile.specs.TreeShape.{
   is_machines_format,
@@ -24,13 +24,11 @@ use crate::draft::{AnyDraft, CouplingDraft, TreeDraft};
 use crate::machines::machines_at;
 use crate::numbers::Numbers;
 use crate::refused::FileRefused;
-use crate::shape::{
-    component_of, count_at, couplings_of, has_members, inputs_of, items_at, text_at,
-};
-use crate::tables::has_few_numbers;
+use crate::shape::{component_of, couplings_of, inputs_of};
 use serde_json::Value;
 use std::alloc::{AllocError, Global};
 use tw_machine_file::FileMachine;
+use tw_members::{count_at, has_few_numbers, has_members, items_at, text_at};
 use tw_network::{Link, Nested, Part};
 
 /// More levels than a JSON text of 127 levels can have: a level of parts takes two, an object and an array.

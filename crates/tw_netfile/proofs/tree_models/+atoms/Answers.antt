@@ -1,4 +1,4 @@
-use Rattle.std.proofs.Common.{◌≡◌, ◌∙◌, ◌+◌, ◌≤◌, ℕ, arith, length, min}
+use Rattle.std.proofs.Common.{◌≡◌, ◌+◌, ◌≤◌, ℕ, arith, min}
 use Rattle.tw_netfile.proofs.ManyAtoms.{counted_here}
 use Rattle.tw_netfile.proofs.tree_models.+atoms.Goals as goal
 

@@ -1,6 +1,5 @@
-use Rattle.std.proofs.Common.{◌≡◌, ◌∙◌, ◌+◌, ap, drop, sym}
+use Rattle.std.proofs.Common.{◌∙◌, ◌+◌, ap, drop, sym}
 use Rattle.std.specs.Option.{option_or}
-use Rattle.std.specs.Prelude.{None, Some}
 use Rattle.std.specs.Result.{result_err}
 use Rattle.tw_nested.specs.Tree.{parts_of}
 use Rattle.tw_netfile.specs.TreeShape.{tree_made}

@@ -5,7 +5,7 @@ ghost use Rattle.serde_json.specs.Events.{items_len};
 ghost use Rattle.serde_json.specs.View.{view, items_view};
 ghost use Rattle.tw_costs.specs.Seen as plain;
 ghost use Rattle.tw_machine_file.specs.Seen.{machine};
-ghost use Rattle.tw_netfile.specs.Tables.{
+ghost use Rattle.tw_members.specs.Tables.{
   component_numbers,
   given_within,
   has_few_numbers,
@@ -15,8 +15,8 @@ ghost use Rattle.tw_netfile.specs.Tables.{
   own_numbers,
 };
 
-use crate::machines::machine_named;
-use crate::shape::{items_at, text_at};
+use crate::members::{items_at, text_at};
+use crate::named::machine_named;
 use serde_json::Value;
 use tw_costs::{Named, Thing};
 use tw_machine_file::FileMachine;
@@ -30,7 +30,7 @@ const ENOUGH: usize = 1_048_577;
 /// More levels than a JSON text of 127 levels can have.
 const ROOM: usize = 64;
 
-// Whether the tables of a file that declares these machines have no more numbers than they may have.
+/// Whether the tables of a file that declares these machines have no more numbers than they may have.
 pub fn has_few_numbers(machines: &[FileMachine], value: &Value) -> bool
     ensures { result ≡ has_few_numbers (map machine machines.now) (view value.now) }
 {

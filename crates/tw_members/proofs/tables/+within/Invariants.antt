@@ -1,8 +1,8 @@
 use Rattle.std.proofs.Common.{◌≡◌, ◌+◌, ◌*◌, ◌≤◌, min, drop, map}
 use Rattle.serde_json.specs.View.{items_view}
 use Rattle.tw_machine_file.specs.Seen.{machine}
-use Rattle.tw_netfile.specs.Tables.{component_numbers, given_within, items_sum}
-use Rattle.tw_netfile.proofs.tables.+within.Given as goal
+use Rattle.tw_members.specs.Tables.{component_numbers, given_within, items_sum}
+use Rattle.tw_members.proofs.tables.+within.Given as goal
 
 abbrev pub decreases-given_within : goal.decreases-given_within
 decreases-given_within l = 3 * l.room

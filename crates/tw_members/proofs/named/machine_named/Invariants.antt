@@ -1,7 +1,7 @@
 use Rattle.std.proofs.Common.{◌≡◌, drop, map}
 use Rattle.tw_machine_file.specs.Seen.{machine}
-use Rattle.tw_netfile.specs.Shape.{machine_named}
-use Rattle.tw_netfile.proofs.machines.machine_named.Given as goal
+use Rattle.tw_members.specs.Named.{machine_named}
+use Rattle.tw_members.proofs.named.machine_named.Given as goal
 
 -- none of those before has the name
 abbrev pub invariant-loop-machine : goal.invariant-loop-machine

@@ -1,14 +1,15 @@
 -- How many numbers the tables of a whole file have: those that its machines declare, of each machine once, and those that its components give for lists.
 --     numbers_in machines d      of the file of this value, which declares these machines
 --     has_few_numbers machines d      there are no more than a file may have
-use Rattle.std.specs.Prelude.{ℕ, zero, suc, ◌+◌, List, Bool, Option, codes, length, option_and_then, sum_by, nat_le, unwrap_or}
+use Rattle.std.specs.Prelude.{ℕ, zero, suc, ◌+◌, List, Bool, Option, codes, length, option_and_then, sum_by, nat_le}
 use Rattle.std.specs.Option.{option_map_or}
 use Rattle.serde_json.specs.Data.{Data, Items, no_items, item}
 use Rattle.serde_json.specs.Events.{items_len}
 use Rattle.serde_json.specs.Find.{as_array, get}
 use Rattle.tw_costs.specs.Seen.{Declares, table}
 use Rattle.tw_machine_file.specs.Seen.{Machine}
-use Rattle.tw_netfile.specs.Shape.{machine_named, text_at}
+use Rattle.tw_members.specs.Members.{text_at}
+use Rattle.tw_members.specs.Named.{machine_named}
 
 -- ---- of a machine
 

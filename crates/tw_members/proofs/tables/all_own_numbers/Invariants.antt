@@ -1,8 +1,8 @@
 use Rattle.std.proofs.Common.{◌≡◌, ◌+◌, ◌≤◌, min, drop, map}
 use Rattle.std.specs.Prelude.{sum_by}
 use Rattle.tw_machine_file.specs.Seen.{machine}
-use Rattle.tw_netfile.specs.Tables.{own_numbers}
-use Rattle.tw_netfile.proofs.tables.all_own_numbers.Given as goal
+use Rattle.tw_members.specs.Tables.{own_numbers}
+use Rattle.tw_members.proofs.tables.all_own_numbers.Given as goal
 
 -- what has come and what is to come
 abbrev pub invariant-loop-machine : goal.invariant-loop-machine

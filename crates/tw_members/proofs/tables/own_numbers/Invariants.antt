@@ -1,8 +1,8 @@
 use Rattle.std.proofs.Common.{◌≡◌, ◌+◌, ◌≤◌, min, drop, map}
 use Rattle.std.specs.Prelude.{sum_by}
 use Rattle.tw_costs.specs.Seen.{name}
-use Rattle.tw_netfile.specs.Tables.{own}
-use Rattle.tw_netfile.proofs.tables.own_numbers.Given as goal
+use Rattle.tw_members.specs.Tables.{own}
+use Rattle.tw_members.proofs.tables.own_numbers.Given as goal
 
 -- what has come and what is to come
 abbrev pub invariant-loop-named : goal.invariant-loop-named

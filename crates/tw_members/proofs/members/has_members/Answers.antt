@@ -3,7 +3,7 @@ use Rattle.std.specs.Prelude.{◌==◌, false}
 use Rattle.std.specs.Option.{option_map_or}
 use Rattle.serde_json.specs.Events.{members_len}
 use Rattle.serde_json.proofs.Views.{members_len-members_view}
-use Rattle.tw_netfile.proofs.shape.has_members.Goals as goal
+use Rattle.tw_members.proofs.members.has_members.Goals as goal
 
 pub returns-in-Some : goal.returns-in-Some
 returns-in-Some c =

@@ -1,8 +1,8 @@
 use Rattle.std.proofs.Common.{◌≡◌, ◌+◌, ◌≤◌, min, drop, map}
 use Rattle.std.specs.Prelude.{string_bytes, sum_by}
 use Rattle.serde_json.specs.View.{view}
-use Rattle.tw_netfile.specs.Tables.{length_at}
-use Rattle.tw_netfile.proofs.tables.lengths_at.Given as goal
+use Rattle.tw_members.specs.Tables.{length_at}
+use Rattle.tw_members.proofs.tables.lengths_at.Given as goal
 
 -- what has come and what is to come
 abbrev pub invariant-loop-name : goal.invariant-loop-name

@@ -1,0 +1,34 @@
+-- The members of an object of a network file, read off its JSON value, each of its type.
+--     has_members n d, has_items n d      an object has so many members, an array so many items
+--     text_at name d, count_at name d, value_at name d      a member that is a text, a number, a number that may have a sign
+use Rattle.std.specs.Prelude.{◌==◌, ℕ, ℤ, List, Bool, false, Option, option_and_then}
+use Rattle.std.specs.Option.{option_map_or}
+use Rattle.serde_json.specs.Data.{Data}
+use Rattle.serde_json.specs.Find.{get, as_number, as_u64, as_i64, as_str, as_array, as_object}
+use Rattle.serde_json.specs.Events.{members_len, items_len}
+
+-- an object with so many members; together with the members that are looked up: exactly these
+abbrev pub has_members : ℕ → Data → Bool
+has_members n d = option_map_or (λ ms. members_len ms == n) (as_object d) false
+
+-- an array with so many items
+abbrev pub has_items : ℕ → Data → Bool
+has_items n d = option_map_or (λ ds. items_len ds == n) (as_array d) false
+
+-- a number without a fraction, an exponent or a sign that fits 64 bits
+abbrev pub count_of : Data → Option ℕ
+count_of d = option_and_then as_u64 (as_number d)
+
+-- a number without a fraction or an exponent that fits 64 bits with a sign
+abbrev pub value_of : Data → Option ℤ
+value_of d = option_and_then as_i64 (as_number d)
+
+-- a member that is a text, a number
+abbrev pub text_at : List ℕ → Data → Option (List ℕ)
+text_at name d = option_and_then as_str (get name d)
+
+abbrev pub count_at : List ℕ → Data → Option ℕ
+count_at name d = option_and_then count_of (get name d)
+
+abbrev pub value_at : List ℕ → Data → Option ℤ
+value_at name d = option_and_then value_of (get name d)

@@ -1,7 +1,9 @@
 -- The members of an object of a network file, read off its JSON value, each of its type.
 --     has_members n d, has_items n d      an object has so many members, an array so many items
+--     has_format f d, is_file n f d      it says that it is a file of this format; and it has so many members
 --     text_at name d, count_at name d, value_at name d      a member that is a text, a number, a number that may have a sign
-use Rattle.std.specs.Prelude.{◌==◌, ℕ, ℤ, List, Bool, false, Option, option_and_then}
+use Rattle.std.specs.Prelude.{◌==◌, ◌&&◌, ℕ, ℤ, List, Bool, false, Option, codes, option_and_then}
+use Rattle.std.specs.Str.{bytes_eq}
 use Rattle.std.specs.Option.{option_map_or}
 use Rattle.serde_json.specs.Data.{Data}
 use Rattle.serde_json.specs.Find.{get, as_number, as_u64, as_i64, as_str, as_array, as_object}
@@ -32,3 +34,11 @@ count_at name d = option_and_then count_of (get name d)
 
 abbrev pub value_at : List ℕ → Data → Option ℤ
 value_at name d = option_and_then value_of (get name d)
+
+-- the member `format` is this text
+abbrev pub has_format : List ℕ → Data → Bool
+has_format format d = option_map_or (λ said. bytes_eq said format) (text_at (codes "format") d) false
+
+-- the head of a file of this format: so many members, and the format
+abbrev pub is_file : ℕ → List ℕ → Data → Bool
+is_file n format d = has_members n d && has_format format d

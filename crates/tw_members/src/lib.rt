@@ -3,6 +3,7 @@
 //!
 //! - [`has_members`], [`has_items`]: whether an object has so many members, an array so many items. An object of so many
 //!   members that has each that is looked up has no other.
+//! - [`has_format`], [`is_file`]: whether an object says that it is a file of this format, and has so many members.
 //! - [`text_at`], [`count_at`], [`value_at`], [`items_at`]: the member of a name, where it has the type that is asked for.
 //! - [`machine_named`]: the first machine of a name.
 //! - [`has_few_numbers`]: whether the tables of the whole file have at most 1,048,576 numbers: those that stand in the
@@ -13,6 +14,8 @@ mod members;
 mod named;
 mod tables;
 
-pub use members::{count_at, has_items, has_members, items_at, text_at, value_at};
+pub use members::{
+    count_at, has_format, has_items, has_members, is_file, items_at, text_at, value_at,
+};
 pub use named::machine_named;
 pub use tables::has_few_numbers;

@@ -3,7 +3,15 @@
 ghost use Rattle.std.specs.Prelude.{◌≡◌, option_and_then, option_map};
 ghost use Rattle.serde_json.specs.Find.{as_array, get};
 ghost use Rattle.serde_json.specs.View.{view, items_view};
-ghost use Rattle.tw_members.specs.Members.{count_at, has_items, has_members, text_at, value_at};
+ghost use Rattle.tw_members.specs.Members.{
+  count_at,
+  has_format,
+  has_items,
+  has_members,
+  is_file,
+  text_at,
+  value_at,
+};
 
 use serde_json::Value;
 
@@ -25,6 +33,23 @@ pub fn has_items(value: &Value, count: usize) -> bool
         Some(items) => items.as_slice().len() == count,
         None => false,
     }
+}
+
+/// Whether the value says that it is that of a file of this format.
+pub fn has_format(value: &Value, format: &str) -> bool
+    ensures { result ≡ has_format format.now (view value.now) }
+{
+    match text_at(value, "format") {
+        Some(said) => said == format,
+        None => false,
+    }
+}
+
+/// Whether the value has so many members, as a file of this format has, and says that it is one.
+pub fn is_file(value: &Value, count: usize, format: &str) -> bool
+    ensures { result ≡ is_file count format.now (view value.now) }
+{
+    has_members(value, count) && has_format(value, format)
 }
 
 /// The items of a member that is an array.

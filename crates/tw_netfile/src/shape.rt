@@ -3,7 +3,6 @@
 ghost use Rattle.std.specs.Prelude.{◌≡◌, ◌≢◌, [], Some, None, Ok, Err, IfOk, IfErr, codes, map, option_map};
 ghost use Rattle.serde_json.specs.View.{view, items_view};
 ghost use Rattle.tw_machine_file.specs.Seen.{machine};
-ghost use Rattle.tw_members.specs.Members.{text_at};
 ghost use Rattle.tw_netfile.specs.Draft.{
   component_view,
   components_view,
@@ -21,7 +20,6 @@ ghost use Rattle.tw_netfile.specs.Shape.{
   gen_of,
   hop_of,
   input_of,
-  is_format,
   model_named,
   queue_of,
   relay_of,
@@ -33,14 +31,14 @@ use crate::refused::FileRefused;
 use serde_json::Value;
 use std::alloc::Global;
 use tw_machine_file::FileMachine;
-use tw_members::{count_at, has_items, has_members, text_at, value_at};
+use tw_members::{count_at, has_items, has_members, is_file, text_at, value_at};
 
 // What the file's value says, where it has the shape of a network file.
 pub fn draft_of<'a>(alloc: Global, value: &'a Value) -> Result<Draft<'a>, FileRefused>
     ensures ok { IfOk result (λ d. shape_of (view value.now) ≡ Ok (draft_view d)) }
     ensures err { IfErr result (λ e. e ≢ FileRefused.OutOfMemory → shape_of (view value.now) ≡ Err e) }
 {
-    if !has_members(value, 5) || !is_format(value) {
+    if !is_file(value, 5, "tw-1") {
         return Err(FileRefused::BadShape);
     }
     let Some(micro_limit) = count_at(value, "micro_limit") else {
@@ -232,13 +230,4 @@ fn input_of<'a>(value: &'a Value) -> Option<InputDraft<'a>>
         port,
         value,
     })
-}
-
-fn is_format(value: &Value) -> bool
-    ensures { result ≡ is_format (text_at (codes "format") (view value.now)) }
-{
-    match text_at(value, "format") {
-        Some(format) => format == "tw-1",
-        None => false,
-    }
 }

@@ -28,7 +28,7 @@ use crate::shape::{component_of, couplings_of, inputs_of};
 use serde_json::Value;
 use std::alloc::{AllocError, Global};
 use tw_machine_file::FileMachine;
-use tw_members::{count_at, has_few_numbers, has_members, items_at, text_at};
+use tw_members::{count_at, has_few_numbers, has_format, has_members, is_file, items_at, text_at};
 use tw_network::{Link, Nested, Part};
 
 /// More levels than a JSON text of 127 levels can have: a level of parts takes two, an object and an array.
@@ -38,10 +38,7 @@ const ROOM: usize = 64;
 pub fn is_tree(value: &Value) -> bool
     ensures { result ≡ is_tree_format (text_at (codes "format") (view value.now)) }
 {
-    match text_at(value, "format") {
-        Some(format) => format == "tw-2",
-        None => false,
-    }
+    has_format(value, "tw-2")
 }
 
 // What the file's value says, where it has the shape of a file of this format.
@@ -49,7 +46,7 @@ pub fn tree_draft_of<'a>(alloc: Global, value: &'a Value) -> Result<TreeDraft<'a
     ensures ok { IfOk result (λ d. tree_file_of (view value.now) ≡ Some (tree_view d)) }
     ensures err { IfErr result (λ e. e ≢ FileRefused.OutOfMemory → (e ≡ FileRefused.BadShape) × (tree_file_of (view value.now) ≡ None)) }
 {
-    if !has_members(value, 5) || !is_tree(value) {
+    if !is_file(value, 5, "tw-2") {
         return Err(FileRefused::BadShape);
     }
     let Some(micro_limit) = count_at(value, "micro_limit") else {
@@ -71,10 +68,7 @@ pub fn tree_draft_of<'a>(alloc: Global, value: &'a Value) -> Result<TreeDraft<'a
 pub fn has_machines(value: &Value) -> bool
     ensures { result ≡ is_machines_format (text_at (codes "format") (view value.now)) }
 {
-    match text_at(value, "format") {
-        Some(format) => format == "tw-3",
-        None => false,
-    }
+    has_format(value, "tw-3")
 }
 
 // The machines of a file of format `tw-3`.
@@ -82,7 +76,7 @@ pub fn machines_declared(alloc: Global, value: &Value) -> Result<Vec<FileMachine
     ensures ok { IfOk result (λ ms. machines_declared (view value.now) ≡ Some (map machine ms.items)) }
     ensures err { IfErr result (λ e. e ≢ FileRefused.OutOfMemory → (e ≡ FileRefused.BadShape) × (machines_declared (view value.now) ≡ None)) }
 {
-    if !has_members(value, 6) || !has_machines(value) {
+    if !is_file(value, 6, "tw-3") {
         return Err(FileRefused::BadShape);
     }
     machines_at(alloc, value)

@@ -4,9 +4,10 @@ use crate::given::late_starts;
 use crate::parameters::check_range;
 use serde_json::Value;
 use std::alloc::Global;
-use tw_machine_faults::{Stop, items_at, machines_of, name_of, quoted};
+use tw_machine_faults::{Stop, items_at, machines_of, name_of};
 use tw_network::{MAX_NAME, MAX_PORT};
 use tw_outline::{Level, Outline, place_of};
+use tw_text_faults::quoted;
 use tw_vtime::MAX_TICK;
 
 /// A coupling as it is written.

@@ -4,9 +4,10 @@ use crate::shape::{check_members, check_value};
 use serde_json::Value;
 use std::alloc::Global;
 use tw_costs::constant;
-use tw_machine_faults::{Machine, Stop, WHOLE, described, quoted};
+use tw_machine_faults::{Machine, Stop, WHOLE};
 use tw_machine_file::{MachineFault, given_of};
 use tw_outline::Outline;
+use tw_text_faults::{described, quoted};
 use tw_vtime::MAX_TICK;
 
 /// The most numbers that a component gives for a list.

@@ -8,7 +8,7 @@
 //! - `tw_outline` has the models and components of a file, each with its place and its name.
 //! - `shape`, `parameters`, `connections`, `counts`: the first place of a fault of each kind.
 //! - `given`: components of machines. The machines themselves, the first fault of `models`, are left to
-//!   `tw_machine_faults`, which has the words too that lines are made of.
+//!   `tw_machine_faults`, the words that lines are made of to `tw_text_faults`.
 //! - `syntax`: what a text that is no JSON wants where it goes wrong.
 #![tactic(auto)]
 

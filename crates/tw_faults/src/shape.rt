@@ -3,10 +3,9 @@
 use crate::given::{check_given, check_tables, machine_named};
 use serde_json::Value;
 use std::alloc::Global;
-use tw_machine_faults::{
-    MODELS, Machine, Nearest, Stop, described, items_at, listed, machines_of, quoted,
-};
+use tw_machine_faults::{MODELS, Machine, Stop, items_at, machines_of};
 use tw_outline::{Outline, place_of};
+use tw_text_faults::{Nearest, described, listed, quoted};
 
 /// The members of a network file.
 const MEMBERS: [&str; 5] = ["format", "micro_limit", "components", "couplings", "inputs"];

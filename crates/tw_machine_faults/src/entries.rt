@@ -1,10 +1,9 @@
 //! What is wrong with the parameters, registers, queues and tables of a machine.
 
 use crate::names::{bad_name, bad_parameter, is_list, is_parameter, parameters_of};
-use crate::nearest::Nearest;
-use crate::words::{described, quoted};
 use serde_json::Value;
 use std::alloc::{AllocError, Global};
+use tw_text_faults::{Nearest, described, quoted};
 
 /// What a whole number with a sign is.
 pub const WHOLE: &str = "a whole number from -9223372036854775808 to 9223372036854775807";

@@ -4,16 +4,14 @@ use crate::entries::{not_constant, out_of_range, parameters_fault, section_fault
 use crate::limits::{limit_fault, own_numbers};
 use crate::members::{entry_fault, member_text, word_again};
 use crate::names::{MODELS, declared_in, is_list, parameter_names};
-use crate::nearest::Nearest;
 use crate::stop::Stop;
-use crate::texts::reason;
 use crate::values::{items_at, name_of};
-use crate::words::{described, listed, quoted};
 use serde_json::Value;
 use std::alloc::{AllocError, Global};
 use tw_declared::{BadMachine, Given, declared};
 use tw_machine_file::{FileMachine, MachineFault, Part, Why, machine_of};
 use tw_program_text::Place;
+use tw_text_faults::{Nearest, described, listed, quoted, reason};
 use tw_vtime::MAX_TICK;
 
 /// The most machines of a file.

@@ -2,11 +2,11 @@
 
 use crate::entries::WHOLE;
 use crate::values::items_at;
-use crate::words::{described, quoted};
 use serde_json::Value;
 use std::alloc::{AllocError, Global};
 use tw_machine_file::Part;
 use tw_program_text::Member;
+use tw_text_faults::{described, quoted};
 
 /// The members of an output.
 const MEMBERS: [&str; 4] = ["port", "value", "when", "each"];

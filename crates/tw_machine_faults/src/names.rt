@@ -1,10 +1,9 @@
 //! The names that a machine of a file declares.
 
-use crate::texts::is_reserved;
-use crate::words::quoted;
 use serde_json::Value;
 use std::alloc::{AllocError, Global};
 use tw_program_text::{Declared, Kind};
+use tw_text_faults::{is_reserved, quoted};
 
 /// The longest name, in bytes.
 const MAX_NAME: usize = 32;

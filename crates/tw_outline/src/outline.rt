@@ -2,7 +2,8 @@
 
 use serde_json::Value;
 use std::alloc::{AllocError, Global};
-use tw_machine_faults::{items_at, name_of, quoted};
+use tw_machine_faults::{items_at, name_of};
+use tw_text_faults::quoted;
 
 /// More levels than a JSON text can have: a level of components takes two of its 127.
 const ROOM: usize = 64;

@@ -42,7 +42,9 @@ const SIGNS: [&str; 23] = [
 ];
 
 /// Why a text goes wrong at a place: a program, or the text of such a member.
-pub(crate) fn reason(
+///
+/// Refused where a growth of memory is.
+pub fn reason(
     alloc: Global,
     declared: &[Declared],
     member: Option<Member>,
@@ -164,7 +166,7 @@ fn is_known(declared: &[Declared], word: &str) -> bool {
 }
 
 /// Whether a word is one of the language that no name may be.
-pub(crate) fn is_reserved(word: &str) -> bool {
+pub fn is_reserved(word: &str) -> bool {
     STATEMENTS.contains(&word) || KNOWN.contains(&word) || OTHERS.contains(&word)
 }
 

@@ -5,9 +5,11 @@ use tw_program_text::Place;
 
 /// A word of a text, as it is written.
 #[derive(Drop)]
-pub(crate) struct Spelled {
-    pub(crate) text: String,
-    pub(crate) place: Place,
+pub struct Spelled {
+    /// As it stands in the text.
+    pub text: String,
+    /// Where it begins.
+    pub place: Place,
 }
 
 /// What is being read.
@@ -30,7 +32,9 @@ struct Reader {
 }
 
 /// All words of a text, what is none of the language too.
-pub(crate) fn words_of(alloc: Global, text: &str) -> Result<Vec<Spelled>, AllocError> {
+///
+/// Refused where a growth of memory is.
+pub fn words_of(alloc: Global, text: &str) -> Result<Vec<Spelled>, AllocError> {
     let start = Place { line: 1, column: 1 };
     let mut reader = Reader {
         words: Vec::new(alloc),

@@ -333,17 +333,21 @@ fn what_is_owed_for_too_long_is_found(rt: HostRuntime) {
     assert_overdue(&rt, &lists, 6, &[]);
     assert_overdue(&rt, &lists, 7, &[(6, 0, 2)]);
     assert_overdue(&rt, &lists, 8, &[(7, 0, 3), (6, 0, 2)]);
+    drop(lists);
     let lists = play(&rt, rt.alloc(), &OWED_IN_NO_ORDER);
     assert!(rt; lists.least_owed() == stamp(&rt, 7, 0, 1));
     assert_overdue(&rt, &lists, 9, &[(7, 0, 3), (8, 0, 4)]);
+    drop(lists);
 }
 
 #[test]
 fn messages_are_sent_owed_sent_again_and_forgotten(rt: HostRuntime) {
     let lists = play(&rt, rt.alloc(), &SENT);
     assert!(rt; lists.least_outgoing() == stamp(&rt, 5, 0, 1) && lists.least_owed() == Stamp::END);
+    drop(lists);
     let lists = play(&rt, rt.alloc(), &FORGOTTEN);
     assert!(rt;
         lists.least_outgoing() == stamp(&rt, 7, 0, 1) && lists.least_owed() == stamp(&rt, 7, 0, 1)
     );
+    drop(lists);
 }

@@ -246,6 +246,7 @@ fn steps_are_read_and_messages_can_come_after_them(rt: HostRuntime) {
     for (tick, to, can) in COMING.iter() {
         assert!(rt; process.can_come(&message(&rt, *tick, *to, 0, 5)) == *can);
     }
+    drop(process);
 }
 
 /// The record of its oldest step.
@@ -263,6 +264,8 @@ fn the_oldest_step_is_committed(rt: HostRuntime) {
     process.set_line(stamp_at(&rt, Some((4, 0))));
     assert!(rt; process.line() == stamp_at(&rt, Some((4, 0))) && process.history_len() == 1);
     assert_records(&rt, column.records(), &COMMITTED);
+    drop(column);
+    drop(process);
 }
 
 /// One more message is pending, before a step is made; room is made first, or with it.
@@ -322,6 +325,8 @@ fn messages_are_put_and_lie_in_the_lists(rt: HostRuntime) {
     );
     assert!(rt; process.step() == Ok((stamp_at(&rt, Some((2, 1))), RecordKind::Ext)));
     assert_lists(&rt, &process);
+    drop(pending);
+    drop(process);
 }
 
 /// A chain of one step, before tick 10, worked out from where a process stands.
@@ -370,4 +375,5 @@ fn the_second_of_two_chains_is_stale(rt: HostRuntime) {
         }
     );
     assert!(rt; process.history_len() == 1 && process.due() == stamp_at(&rt, Some((4, 0))));
+    drop(process);
 }

@@ -5,9 +5,8 @@ ghost use Rattle.std.specs.List.{AllByRecursion as Each};
 ghost use Rattle.tw_fossils.specs.Columns.{AreColumns, IsColumn, IsRising};
 
 use crate::messages::tell_records;
-use crate::networks::row;
+use crate::processes::process_of;
 use std::alloc::Global;
-use std::sync::Arc;
 use tw_fossils::{Column, into_trace, merge};
 use tw_looks::{Sum, Told, add_records};
 use tw_models::Model;
@@ -61,19 +60,14 @@ fn are_columns(component: usize, columns: &[Column]) -> bool
     }
 }
 
-/// The process of a component of the row after so many steps, if there is memory for them.
-fn stepped(alloc: Global, component: usize, steps: usize) -> Result<Process<Model>, Refusal> {
-    let network = Arc::new(alloc, row(alloc)?)?;
-    if component >= network.len() {
-        return Err(Refusal::UnknownComponent);
-    }
-    let mut process = Process::new(alloc, network, component)?;
+/// Makes so many steps, if there is memory for them.
+fn make_steps(process: &mut Process<Model>, steps: usize) -> Result<(), Refusal> {
     for _ in 0..steps {
         if process.step().is_err() {
             return Err(Refusal::OutOfMemory);
         }
     }
-    Ok(process)
+    Ok(())
 }
 
 /// The sum over the records of a column.
@@ -96,23 +90,35 @@ fn push(told: &mut Told, column: &mut Column, record: Record) {
     }
 }
 
-/// The column of all steps of a process.
-fn column_of(told: &mut Told, alloc: Global, mut process: Process<Model>) -> Column {
-    let mut column = Column::new(alloc);
+/// Commits all steps of a process, and adds their records to a column.
+fn push_all(told: &mut Told, column: &mut Column, process: &mut Process<Model>) {
     for _ in 0..process.history_len() {
         if let Some(record) = process.commit_oldest() {
-            push(told, &mut column, record);
+            push(told, column, record);
         }
     }
-    column
+}
+
+/// The column of a component of the row, if there is memory for its process and its steps.
+fn column_of(told: &mut Told, alloc: Global, component: usize) -> Result<Column, Refusal>
+    requires { component < 3 }
+{
+    let mut process = process_of(alloc, component, None)?;
+    let mut column = Column::new(alloc);
+    let made = make_steps(&mut process, STEPS[component]);
+    if made.is_ok() {
+        push_all(told, &mut column, &mut process);
+    }
+    drop(process);
+    made?;
+    Ok(column)
 }
 
 /// The columns of the row, if there is memory for them.
 fn columns_once(told: &mut Told, alloc: Global) -> Result<Vec<Column>, Refusal> {
     let mut columns = Vec::new(alloc);
     for component in 0..3 {
-        let process = stepped(alloc, component, STEPS[component])?;
-        columns.push(column_of(told, alloc, process))?;
+        columns.push(column_of(told, alloc, component)?)?;
     }
     Ok(columns)
 }
@@ -167,12 +173,8 @@ fn trace_of(told: &mut Told, alloc: Global, columns: Vec<Column>) -> Option<Vec<
     }
 }
 
-/// Tells the trace of new columns.
-fn tell_trace(told: &mut Told, alloc: Global) {
-    let Some(columns) = columns_of(told, alloc) else {
-        told.give_up("columns");
-        return;
-    };
+/// Tells the trace of columns.
+fn tell_trace(told: &mut Told, alloc: Global, columns: Vec<Column>) {
     match trace_of(told, alloc, columns) {
         Some(trace) => tell_records(told, trace.as_slice()),
         None => told.give_up("into_trace"),
@@ -187,5 +189,8 @@ pub(crate) fn play(told: &mut Told, alloc: Global) {
         None => told.give_up("columns"),
     }
     told.begin("one trace");
-    tell_trace(told, alloc);
+    match columns_of(told, alloc) {
+        Some(columns) => tell_trace(told, alloc, columns),
+        None => told.give_up("columns"),
+    }
 }

@@ -1,5 +1,6 @@
 //! A heap of messages.
 
+use crate::messages::tell_number;
 use std::alloc::{AllocError, Global};
 use tw_heap::EventHeap;
 use tw_looks::Told;
@@ -43,45 +44,34 @@ fn grow(told: &mut Told, heap: &mut EventHeap, count: usize, top: usize) {
     }
 }
 
-/// Takes the first entry out, and answers its index.
-fn take_first(heap: &mut EventHeap) -> Option<usize> {
-    let index = heap.first()?.index;
-    heap.remove(index);
-    Some(index)
+/// Makes all that room.
+fn grow_all(told: &mut Told, heap: &mut EventHeap) {
+    for (count, top) in ROOM.iter() {
+        grow(told, heap, *count, *top);
+    }
 }
 
-/// Tells an index.
-fn tell_index(told: &mut Told, index: usize) {
-    if write!(told.text_mut(), " {index}").is_err() {
-        told.give_up("write");
+/// Tells the index of the first entry, and takes it out.
+fn tell_first(told: &mut Told, heap: &mut EventHeap) {
+    match heap.first() {
+        Some(first) => {
+            tell_number(told, " ", first.index);
+            heap.remove(first.index);
+        }
+        None => told.say(" none"),
     }
 }
 
 /// Tells the indices of three entries, in the order of their messages, and takes them out.
 fn tell(told: &mut Told, mut heap: EventHeap) {
     for _ in 0..4 {
-        match take_first(&mut heap) {
-            Some(index) => tell_index(told, index),
-            None => told.say(" none"),
-        }
+        tell_first(told, &mut heap);
     }
     told.say("\n");
 }
 
-/// Makes the heap, room in it, and a copy, and tells them.
-pub(crate) fn play(told: &mut Told, alloc: Global) {
-    told.begin("heap-order");
-    let made = match three_of_four(alloc) {
-        Err(_) => three_of_four(alloc),
-        made => made,
-    };
-    let Ok(mut heap) = made else {
-        told.give_up("reserve");
-        return;
-    };
-    for (count, top) in ROOM.iter() {
-        grow(told, &mut heap, *count, *top);
-    }
+/// Tells a copy of a heap, at the second try where the first finds no memory.
+fn tell_copy(told: &mut Told, heap: &EventHeap) {
     let copy = match heap.copy() {
         Err(_) => heap.copy(),
         made => made,
@@ -90,5 +80,24 @@ pub(crate) fn play(told: &mut Told, alloc: Global) {
         Ok(copy) => tell(told, copy),
         Err(_) => told.give_up("copy"),
     }
+}
+
+/// Makes room in a heap and a copy of it, and tells both.
+fn play_on(told: &mut Told, mut heap: EventHeap) {
+    grow_all(told, &mut heap);
+    tell_copy(told, &heap);
     tell(told, heap);
+}
+
+/// Makes the heap, and plays on it.
+pub(crate) fn play(told: &mut Told, alloc: Global) {
+    told.begin("heap-order");
+    let made = match three_of_four(alloc) {
+        Err(_) => three_of_four(alloc),
+        made => made,
+    };
+    match made {
+        Ok(heap) => play_on(told, heap),
+        Err(_) => told.give_up("reserve"),
+    }
 }

@@ -3,7 +3,7 @@
 ghost use Rattle.std.specs.Prelude.{◌≡◌, ◌<◌, length};
 ghost use Rattle.std.specs.List.{AllByRecursion as Each};
 
-use crate::messages::{item, tell_items};
+use crate::messages::{item, tell_items, tell_number};
 use std::alloc::Global;
 use tw_looks::{Sum, Told, add_items};
 use tw_mail::Mailboxes;
@@ -56,32 +56,45 @@ fn post_three(told: &mut Told, mail: &mut Mailboxes, tick: u64)
     post(told, mail, &[first, second, third]);
 }
 
-/// Posts often, and tells what the last of the items in each mailbox are.
-pub(crate) fn play(told: &mut Told, alloc: Global) {
-    told.begin("mailboxes");
-    let made = match Mailboxes::new(alloc, BOXES) {
-        Err(_) => Mailboxes::new(alloc, BOXES),
-        made => made,
-    };
-    let Ok(mut mail) = made else {
-        told.give_up("new");
-        return;
-    };
+/// Posts often.
+fn post_often(told: &mut Told, mail: &mut Mailboxes)
+    requires { length mail.old.boxes ≡ 3 }
+    ensures { length mail.new.boxes ≡ 3 }
+{
     for tick in 1..20 {
-        post_three(told, &mut mail, tick);
-    }
-    for to in 0..BOXES {
-        tell_last(told, mail.items(to));
+        post_three(told, mail, tick);
     }
 }
 
 /// Tells how many items there are, and the last two.
 fn tell_last(told: &mut Told, items: &[Item]) {
     let count = items.len();
-    if write!(told.text_mut(), "items {count}\n").is_err() {
-        told.give_up("write");
-    }
+    tell_number(told, "items ", count);
+    told.say("\n");
     if count >= 2 {
         tell_items(told, "mail ", &items[count - 2..]);
+    }
+}
+
+/// Posts often, and tells what the last of the items in each mailbox are.
+fn play_on(told: &mut Told, mut mail: Mailboxes)
+    requires { length mail.boxes ≡ 3 }
+{
+    post_often(told, &mut mail);
+    for to in 0..BOXES {
+        tell_last(told, mail.items(to));
+    }
+}
+
+/// Makes the mailboxes, and plays on them.
+pub(crate) fn play(told: &mut Told, alloc: Global) {
+    told.begin("mailboxes");
+    let made = match Mailboxes::new(alloc, BOXES) {
+        Err(_) => Mailboxes::new(alloc, BOXES),
+        made => made,
+    };
+    match made {
+        Ok(mail) => play_on(told, mail),
+        Err(_) => told.give_up("new"),
     }
 }

@@ -1,4 +1,4 @@
-//! Messages, and what is told of them.
+//! Messages, and what is told of them, of numbers and of stamps.
 
 ghost use Rattle.std.specs.Prelude.{◌≡◌, IfSome};
 
@@ -18,6 +18,22 @@ pub(crate) fn message(tick: u64, to: usize, value: i64) -> Option<Message>
         value,
         to,
     })
+}
+
+/// Tells a number after some words.
+pub(crate) fn tell_number(told: &mut Told, words: &str, number: usize) {
+    told.say(words);
+    if write!(told.text_mut(), "{number}").is_err() {
+        told.give_up("write");
+    }
+}
+
+/// Tells a stamp after some words.
+pub(crate) fn tell_stamp(told: &mut Told, words: &str, stamp: Stamp) {
+    told.say(words);
+    if write!(told.text_mut(), "{stamp}").is_err() {
+        told.give_up("write");
+    }
 }
 
 /// Tells a message after some words, on a line.

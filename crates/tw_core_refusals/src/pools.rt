@@ -3,9 +3,10 @@
 ghost use Rattle.std.specs.Prelude.{◌<◌, IfSome};
 ghost use Rattle.tw_pool.specs.Lists.{IsLive};
 
+use crate::messages::tell_number;
 use std::alloc::Global;
 use tw_looks::{Sum, Told};
-use tw_pool::{LIVE_LIMIT, Pool, PoolRefused};
+use tw_pool::{LIVE_LIMIT, Pool};
 
 /// A pool of two lists.
 type Lists = Pool<u32, 2>;
@@ -73,29 +74,20 @@ fn index_at(pool: &Lists, place: usize) -> Option<usize>
     at
 }
 
-/// The answer without what it hands back.
-fn without_item(answer: Result<usize, (u32, PoolRefused)>) -> Result<(), PoolRefused> {
-    match answer {
-        Ok(_) => Ok(()),
-        Err((_, refused)) => Err(refused),
-    }
-}
-
-/// Makes a change; one at a place where nothing is does nothing.
-fn make(pool: &mut Lists, change: &Change) -> Result<(), PoolRefused> {
+/// Makes a change, and answers whether it stands; one at a place where nothing is does nothing.
+fn make(pool: &mut Lists, change: &Change) -> bool {
     match *change {
-        Change::Push(0, item) => without_item(pool.push_back(0, item)),
-        Change::Push(_, item) => without_item(pool.push_back(1, item)),
-        Change::Reserve(count) => pool.reserve(count),
+        Change::Push(list, item) => pool.push_back(list.min(1), item).is_ok(),
+        Change::Reserve(count) => pool.reserve(count).is_ok(),
         Change::Insert(place, item) => match index_at(pool, place) {
-            Some(at) => without_item(pool.insert_before(at, item)),
-            None => Ok(()),
+            Some(at) => pool.insert_before(at, item).is_ok(),
+            None => true,
         },
         Change::Relink(place) => {
             if let Some(at) = index_at(pool, place) {
                 pool.relink(at, 1);
             }
-            Ok(())
+            true
         }
     }
 }
@@ -126,19 +118,26 @@ fn look(pool: &Lists) -> Sum {
 /// Makes a change, at the second try where memory is refused at the first.
 fn grow(told: &mut Told, pool: &mut Lists, change: &Change) {
     let before = look(pool);
-    if make(pool, change).is_err() {
+    if !make(pool, change) {
         let after = look(pool);
         told.compare("pool", before, after);
-        if make(pool, change).is_err() {
+        if !make(pool, change) {
             told.give_up("pool");
         }
     }
 }
 
-/// Tells an item of a list.
-fn tell_item(told: &mut Told, item: u32) {
-    if write!(told.text_mut(), " {item}").is_err() {
-        told.give_up("write");
+/// Makes a change so often.
+fn repeat(told: &mut Told, pool: &mut Lists, change: &Change, times: usize) {
+    for _ in 0..times {
+        grow(told, pool, change);
+    }
+}
+
+/// Makes the changes of a scene.
+fn follow(told: &mut Told, pool: &mut Lists, changes: &[(usize, Change)]) {
+    for (times, change) in changes {
+        repeat(told, pool, change, *times);
     }
 }
 
@@ -151,38 +150,34 @@ fn tell_list(told: &mut Told, pool: &Lists, list: usize)
         let Some(index) = at else {
             break;
         };
-        tell_item(told, *pool.get(index));
+        tell_number(told, " ", *pool.get(index) as usize);
         at = pool.next(index);
     }
     told.say("\n");
 }
 
-/// Tells how many items the lists have.
-fn tell_lengths(told: &mut Told, first: usize, second: usize) {
-    if write!(told.text_mut(), "lengths {first} {second}\n").is_err() {
-        told.give_up("write");
+/// Tells what the lists have, where that is told, and how many items.
+fn tell(told: &mut Told, pool: &Lists, is_told: bool) {
+    if is_told {
+        tell_list(told, pool, 0);
+        tell_list(told, pool, 1);
     }
+    tell_number(told, "lengths ", pool.len(0));
+    tell_number(told, " ", pool.len(1));
+    told.say("\n");
 }
 
-/// Makes the changes of a scene.
-fn follow(told: &mut Told, alloc: Global, scene: &Scene) {
+/// Plays a scene.
+fn play_scene(told: &mut Told, alloc: Global, scene: &Scene) {
     told.begin(scene.name);
     let mut pool = Pool::new(alloc);
-    for (times, change) in scene.changes {
-        for _ in 0..*times {
-            grow(told, &mut pool, change);
-        }
-    }
-    if scene.is_told {
-        tell_list(told, &pool, 0);
-        tell_list(told, &pool, 1);
-    }
-    tell_lengths(told, pool.len(0), pool.len(1));
+    follow(told, &mut pool, scene.changes);
+    tell(told, &pool, scene.is_told);
 }
 
 /// Plays the scenes.
 pub(crate) fn play(told: &mut Told, alloc: Global) {
     for scene in SCENES.iter() {
-        follow(told, alloc, scene);
+        play_scene(told, alloc, scene);
     }
 }

@@ -3,9 +3,9 @@
 ghost use Rattle.std.specs.Prelude.{◌≡◌, IfOk, IfSome};
 ghost use Rattle.tw_theory.specs.Standing.{CanTake};
 
-use crate::messages::{tell_items, tell_messages, tell_records};
+use crate::messages::{tell_items, tell_messages, tell_number, tell_records, tell_stamp};
 use crate::networks::row;
-use crate::scenes::{Act, Scene};
+use crate::scenes::{Act, How, Scene};
 use std::alloc::{AllocError, Global};
 use std::sync::Arc;
 use tw_actions::Finished;
@@ -13,8 +13,7 @@ use tw_fossils::{Column, harvest};
 use tw_looks::{Sum, Told, add_process};
 use tw_models::Model;
 use tw_msgs::{Item, Message, Sign};
-use tw_pool::PoolRefused;
-use tw_process::{Process, StepRefused};
+use tw_process::{Cancel, Process};
 use tw_rollback::{back_to, receive};
 use tw_vtime::{Refusal, Stamp};
 
@@ -34,29 +33,22 @@ fn look(told: &mut Told, alloc: Global, process: &Process<Model>) -> Sum {
     sum
 }
 
-/// The process of a component of the row, if there is memory for it.
-fn begin(alloc: Global, scene: &Scene) -> Result<Process<Model>, Refusal>
+/// The process of a component of the row, made with a way of cancelling or without one, if there is memory for it.
+pub(crate) fn process_of(
+    alloc: Global,
+    component: usize,
+    cancel: Option<Cancel>,
+) -> Result<Process<Model>, Refusal>
     ensures { IfOk result (λ process. process.floor ≡ 0) }
 {
     let network = Arc::new(alloc, row(alloc)?)?;
-    if scene.component >= network.len() {
+    if component >= network.len() {
+        drop(network);
         return Err(Refusal::UnknownComponent);
     }
-    Ok(Process::with_cancel(alloc, network, scene.component, scene.cancel)?)
-}
-
-/// Makes the next step, at the second try where memory is refused at the first.
-fn step(told: &mut Told, alloc: Global, process: &mut Process<Model>)
-    requires { process.old.floor ≡ 0 }
-    ensures { process.new.floor ≡ 0 }
-{
-    let before = look(told, alloc, process);
-    if process.step() == Err(StepRefused::OutOfMemory) {
-        let after = look(told, alloc, process);
-        told.compare("step", before, after);
-        if process.step().is_err() {
-            told.give_up("step");
-        }
+    match cancel {
+        None => Ok(Process::new(alloc, network, component)?),
+        Some(cancel) => Ok(Process::with_cancel(alloc, network, component, cancel)?),
     }
 }
 
@@ -77,85 +69,16 @@ fn item_to(component: usize, sign: Sign, tick: u64, value: i64) -> Option<Item>
     Some(Item { sign, message })
 }
 
-/// An item comes, if there is memory for it.
-fn come_once(
-    process: &mut Process<Model>,
-    sign: Sign,
-    tick: u64,
-    value: i64,
-) -> Result<(), PoolRefused>
-    requires { process.old.floor ≡ 0 }
+/// Hands an item to a process, and answers whether it was taken.
+fn hand(process: &mut Process<Model>, how: How, item: Item) -> bool
+    requires fits { CanTake process.old.component item.message }
+    requires floor { process.old.floor ≡ 0 }
     ensures { process.new.floor ≡ 0 }
 {
-    let Some(item) = item_to(process.component(), sign, tick, value) else {
-        return Ok(());
-    };
-    match receive(process, item) {
-        Ok(_) => Ok(()),
-        Err((_, refused)) => Err(refused),
-    }
-}
-
-/// An item comes, at the second try where memory is refused at the first.
-fn come(
-    told: &mut Told,
-    alloc: Global,
-    process: &mut Process<Model>,
-    sign: Sign,
-    tick: u64,
-    value: i64,
-)
-    requires { process.old.floor ≡ 0 }
-    ensures { process.new.floor ≡ 0 }
-{
-    let before = look(told, alloc, process);
-    if come_once(process, sign, tick, value).is_err() {
-        let after = look(told, alloc, process);
-        told.compare("receive", before, after);
-        if come_once(process, sign, tick, value).is_err() {
-            told.give_up("receive");
-        }
-    }
-}
-
-/// An anti-message waits, if there is memory for it.
-fn wait_once(process: &mut Process<Model>, tick: u64, value: i64) -> Result<(), PoolRefused>
-    requires { process.old.floor ≡ 0 }
-    ensures { process.new.floor ≡ 0 }
-{
-    match item_to(process.component(), Sign::Anti, tick, value) {
-        Some(item) => process.note_orphan(item.message),
-        None => Ok(()),
-    }
-}
-
-/// An anti-message waits, at the second try where memory is refused at the first.
-fn wait(told: &mut Told, alloc: Global, process: &mut Process<Model>, tick: u64, value: i64)
-    requires { process.old.floor ≡ 0 }
-    ensures { process.new.floor ≡ 0 }
-{
-    let before = look(told, alloc, process);
-    if wait_once(process, tick, value).is_err() {
-        let after = look(told, alloc, process);
-        told.compare("note_orphan", before, after);
-        if wait_once(process, tick, value).is_err() {
-            told.give_up("note_orphan");
-        }
-    }
-}
-
-/// Room is made, at the second try where memory is refused at the first.
-fn reserve(told: &mut Told, alloc: Global, process: &mut Process<Model>)
-    requires { process.old.floor ≡ 0 }
-    ensures { process.new.floor ≡ 0 }
-{
-    let before = look(told, alloc, process);
-    if process.reserve().is_err() {
-        let after = look(told, alloc, process);
-        told.compare("reserve", before, after);
-        if process.reserve().is_err() {
-            told.give_up("reserve");
-        }
+    match how {
+        How::Come => receive(process, item).is_ok(),
+        How::Wait => process.note_orphan(item.message).is_ok(),
+        How::Put => !process.can_come(&item.message) || process.put(item.message).is_ok(),
     }
 }
 
@@ -203,86 +126,62 @@ fn chain_once(told: &mut Told, alloc: Global, process: &mut Process<Model>, burs
     }
 }
 
-/// Does something with a process that takes no memory.
-fn go_back(process: &mut Process<Model>, act: Act)
+/// Does something with a process, so many ticks later than it says, and answers whether it was done.
+fn act_once(process: &mut Process<Model>, act: Act, later: u64) -> bool
     requires { process.old.floor ≡ 0 }
     ensures { process.new.floor ≡ 0 }
 {
     match act {
+        Act::Step => process.step().is_ok(),
+        Act::Reserve => process.reserve().is_ok(),
+        Act::Hand(how, sign, tick, value) => {
+            match item_to(process.component(), sign, tick.saturating_add(later), value) {
+                Some(item) => hand(process, how, item),
+                None => true,
+            }
+        }
         Act::Undo => {
             process.undo_last();
+            true
         }
         Act::Back(tick, phase) => {
             back_to(process, Stamp::new(tick, 0, phase).unwrap_or(Stamp::END));
+            true
         }
-        Act::Settle => process.settle(),
-        _ => process.clear_outgoing(),
+        Act::Settle => {
+            process.settle();
+            true
+        }
+        _ => {
+            process.clear_outgoing();
+            true
+        }
     }
 }
 
-/// Does something with a process, so many ticks later than it says.
+/// What an act is called where memory may be refused for it.
+fn name_of(act: Act) -> &'static str {
+    match act {
+        Act::Step => "step",
+        Act::Hand(How::Come, _, _, _) => "receive",
+        Act::Hand(How::Wait, _, _, _) => "note_orphan",
+        Act::Hand(How::Put, _, _, _) => "put",
+        _ => "reserve",
+    }
+}
+
+/// Does something with a process, at the second try where memory is refused at the first.
 fn act_on(told: &mut Told, alloc: Global, process: &mut Process<Model>, act: Act, later: u64)
     requires { process.old.floor ≡ 0 }
     ensures { process.new.floor ≡ 0 }
 {
-    match act {
-        Act::Step => step(told, alloc, process),
-        Act::Come(sign, tick, value) => {
-            come(
-                told,
-                alloc,
-                process,
-                sign,
-                tick.saturating_add(later),
-                value,
-            );
-        }
-        Act::Wait(tick, value) => wait(told, alloc, process, tick.saturating_add(later), value),
-        Act::Reserve => reserve(told, alloc, process),
-        Act::Chain(burst) => chain(told, alloc, process, burst),
-        _ => go_back(process, act),
-    }
-}
-
-/// A message at a tick is pending, if there is memory for it.
-fn put_once(process: &mut Process<Model>, tick: u64) -> Result<(), PoolRefused>
-    requires { process.old.floor ≡ 0 }
-    ensures { process.new.floor ≡ 0 }
-{
-    let Some(item) = item_to(process.component(), Sign::Positive, tick, 4) else {
-        return Ok(());
-    };
-    if !process.can_come(&item.message) {
-        return Ok(());
-    }
-    match process.put(item.message) {
-        Ok(()) => Ok(()),
-        Err((_, refused)) => Err(refused),
-    }
-}
-
-/// A message at a tick is put, at the second try where memory is refused at the first.
-fn put(told: &mut Told, alloc: Global, process: &mut Process<Model>, tick: u64)
-    requires { process.old.floor ≡ 0 }
-    ensures { process.new.floor ≡ 0 }
-{
     let before = look(told, alloc, process);
-    if put_once(process, tick).is_err() {
+    if !act_once(process, act, later) {
         let after = look(told, alloc, process);
-        told.compare("put", before, after);
-        if put_once(process, tick).is_err() {
-            told.give_up("put");
+        told.compare(name_of(act), before, after);
+        if !act_once(process, act, later) {
+            told.give_up(name_of(act));
         }
-    }
-}
-
-/// Messages are put at the ticks from 1 on.
-fn put_all(told: &mut Told, alloc: Global, process: &mut Process<Model>, count: u64)
-    requires { process.old.floor ≡ 0 }
-    ensures { process.new.floor ≡ 0 }
-{
-    for before in 0..count {
-        put(told, alloc, process, before.saturating_add(1));
     }
 }
 
@@ -292,42 +191,39 @@ fn repeat(told: &mut Told, alloc: Global, process: &mut Process<Model>, act: Act
     ensures { process.new.floor ≡ 0 }
 {
     for later in 0..times {
-        act_on(told, alloc, process, act, later);
+        match act {
+            Act::Chain(burst) => chain(told, alloc, process, burst),
+            _ => act_on(told, alloc, process, act, later),
+        }
     }
 }
 
 /// Does what a scene says.
-fn follow(told: &mut Told, alloc: Global, process: &mut Process<Model>, scene: &Scene)
+fn follow(told: &mut Told, alloc: Global, process: &mut Process<Model>, acts: &[(u64, Act)])
     requires { process.old.floor ≡ 0 }
 {
-    put_all(told, alloc, process, scene.put);
-    for (times, act) in scene.acts {
+    for (times, act) in acts {
         repeat(told, alloc, process, *act, *times);
     }
 }
 
 /// Tells where a process stands.
 fn tell_times(told: &mut Told, process: &Process<Model>) {
-    let (next, due, last) = (process.next(), process.due(), process.last());
-    if write!(told.text_mut(), "next {next} due {due} last {last}\n").is_err() {
-        told.give_up("write");
-    }
+    tell_stamp(told, "next ", process.next());
+    tell_stamp(told, " due ", process.due());
+    tell_stamp(told, " last ", process.last());
+    told.say("\n");
 }
 
 /// Tells how many steps and messages there are.
 fn tell_lengths(told: &mut Told, process: &Process<Model>) {
     let lists = process.lists();
-    let (steps, pending) = (process.history_len(), lists.pending_len());
-    let (waiting, outgoing) = (lists.waiting_len(), lists.outgoing_len());
-    let owed = lists.owed_len();
-    if write!(
-        told.text_mut(),
-        "steps {steps} pending {pending} waiting {waiting} outgoing {outgoing} owed {owed}\n"
-    )
-    .is_err()
-    {
-        told.give_up("write");
-    }
+    tell_number(told, "steps ", process.history_len());
+    tell_number(told, " pending ", lists.pending_len());
+    tell_number(told, " waiting ", lists.waiting_len());
+    tell_number(told, " outgoing ", lists.outgoing_len());
+    tell_number(told, " owed ", lists.owed_len());
+    told.say("\n");
 }
 
 /// The first few.
@@ -335,32 +231,33 @@ fn few<T>(all: &[T]) -> &[T] {
     &all[..all.len().min(SHOWN)]
 }
 
-/// Tells copies of messages.
-fn tell_copies(told: &mut Told, words: &str, copies: Result<Vec<Message>, AllocError>) {
-    match copies {
-        Ok(messages) => tell_messages(told, words, few(messages.as_slice())),
-        Err(_) => told.give_up(words),
+/// A list of messages of a process.
+#[derive(Clone, Copy)]
+enum List {
+    Pending,
+    Waiting,
+    Owed,
+}
+
+/// A copy of a list, if there is memory for it.
+fn copy_of(process: &Process<Model>, list: List) -> Result<Vec<Message>, AllocError> {
+    match list {
+        List::Pending => process.lists().pending(),
+        List::Waiting => process.lists().waiting(),
+        List::Owed => process.owed(),
     }
 }
 
-/// Tells the messages of a process, each list by a copy, at the second try where the first finds no memory.
-fn tell_lists(told: &mut Told, process: &Process<Model>) {
-    let lists = process.lists();
-    let pending = match lists.pending() {
-        Err(_) => lists.pending(),
+/// Tells the first few messages of a list, by a copy, at the second try where the first finds no memory.
+fn tell_list(told: &mut Told, process: &Process<Model>, words: &str, list: List) {
+    let copy = match copy_of(process, list) {
+        Err(_) => copy_of(process, list),
         made => made,
     };
-    tell_copies(told, "pending ", pending);
-    let waiting = match lists.waiting() {
-        Err(_) => lists.waiting(),
-        made => made,
-    };
-    tell_copies(told, "waiting ", waiting);
-    let owed = match process.owed() {
-        Err(_) => process.owed(),
-        made => made,
-    };
-    tell_copies(told, "owed ", owed);
+    match copy {
+        Ok(messages) => tell_messages(told, words, few(messages.as_slice())),
+        Err(_) => told.give_up(words),
+    }
 }
 
 /// Tells the outgoing items of a process.
@@ -375,38 +272,58 @@ fn tell_outgoing(told: &mut Told, process: &Process<Model>) {
     }
 }
 
-/// Commits the steps before a tick, at the second try where the first finds no memory, and tells the first few.
-fn commit(told: &mut Told, alloc: Global, process: &mut Process<Model>, tick: u64) {
-    let line = Stamp::new(tick, 0, 0).unwrap_or(Stamp::START);
-    let mut column = Column::new(alloc);
+/// Commits the steps before a stamp, at the second try where the first finds no memory.
+fn commit(
+    told: &mut Told,
+    alloc: Global,
+    process: &mut Process<Model>,
+    column: &mut Column,
+    line: Stamp,
+) {
     let before = look(told, alloc, process);
-    if harvest(process, &mut column, line).is_err() {
+    if harvest(process, column, line).is_err() {
         let after = look(told, alloc, process);
         told.compare("harvest", before, after);
         told.expect("harvest", column.is_empty());
-        if harvest(process, &mut column, line).is_err() {
+        if harvest(process, column, line).is_err() {
             told.give_up("harvest");
         }
     }
+}
+
+/// Commits the steps before a tick, and tells the first few.
+fn tell_committed(told: &mut Told, alloc: Global, process: &mut Process<Model>, tick: u64) {
+    let line = Stamp::new(tick, 0, 0).unwrap_or(Stamp::START);
+    let mut column = Column::new(alloc);
+    commit(told, alloc, process, &mut column, line);
     tell_records(told, few(column.records()));
+}
+
+/// Does what a scene says, and tells what comes of it, and what is left when some steps are committed.
+fn play_on(told: &mut Told, alloc: Global, mut process: Process<Model>, scene: &Scene)
+    requires { process.floor ≡ 0 }
+{
+    follow(told, alloc, &mut process, scene.acts);
+    tell_times(told, &process);
+    tell_lengths(told, &process);
+    tell_list(told, &process, "pending ", List::Pending);
+    tell_list(told, &process, "waiting ", List::Waiting);
+    tell_list(told, &process, "owed ", List::Owed);
+    tell_outgoing(told, &process);
+    tell_committed(told, alloc, &mut process, scene.line);
+    tell_lengths(told, &process);
+    drop(process);
 }
 
 /// Plays a scene.
 pub(crate) fn play(told: &mut Told, alloc: Global, scene: &Scene) {
     told.begin(scene.name);
-    let made = match begin(alloc, scene) {
-        Err(Refusal::OutOfMemory) => begin(alloc, scene),
+    let made = match process_of(alloc, scene.component, Some(scene.cancel)) {
+        Err(Refusal::OutOfMemory) => process_of(alloc, scene.component, Some(scene.cancel)),
         made => made,
     };
-    let Ok(mut process) = made else {
-        told.give_up("new");
-        return;
-    };
-    follow(told, alloc, &mut process, scene);
-    tell_times(told, &process);
-    tell_lengths(told, &process);
-    tell_lists(told, &process);
-    tell_outgoing(told, &process);
-    commit(told, alloc, &mut process, scene.line);
-    tell_lengths(told, &process);
+    match made {
+        Ok(process) => play_on(told, alloc, process, scene),
+        Err(_) => told.give_up("new"),
+    }
 }

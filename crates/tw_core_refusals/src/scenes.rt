@@ -3,6 +3,17 @@
 use tw_msgs::Sign;
 use tw_process::Cancel;
 
+/// How an item is handed to a process.
+#[derive(Clone, Copy)]
+pub(crate) enum How {
+    /// It comes.
+    Come,
+    /// It is an anti-message, and waits for its message.
+    Wait,
+    /// It is a message, and is put among those that are pending.
+    Put,
+}
+
 /// What is done with a process.
 #[derive(Clone, Copy)]
 pub(crate) enum Act {
@@ -12,10 +23,8 @@ pub(crate) enum Act {
     Undo,
     /// The steps from a tick and phase on are taken back.
     Back(u64, u8),
-    /// An item comes, a value for port 0 at a tick.
-    Come(Sign, u64, i64),
-    /// An anti-message waits for a message at a tick.
-    Wait(u64, i64),
+    /// An item is handed to it, a value for port 0 at a tick.
+    Hand(How, Sign, u64, i64),
     /// Room is made for one more pending message.
     Reserve,
     /// So many steps are made by chains.
@@ -32,8 +41,6 @@ pub(crate) struct Scene {
     pub(crate) name: &'static str,
     pub(crate) component: usize,
     pub(crate) cancel: Cancel,
-    /// How many messages are put before the first act, at the ticks from 1 on.
-    pub(crate) put: u64,
     pub(crate) acts: &'static [(u64, Act)],
     /// The tick before which steps are committed at the end.
     pub(crate) line: u64,
@@ -50,18 +57,19 @@ pub(crate) static SCENES: [Scene; 7] = [
         name: "one-process-straggler",
         component: R,
         cancel: Cancel::Aggressive,
-        put: 0,
-        acts: &[(3, Act::Step), (1, Act::Come(Sign::Positive, 2, 5))],
+        acts: &[
+            (3, Act::Step),
+            (1, Act::Hand(How::Come, Sign::Positive, 2, 5)),
+        ],
         line: 0,
     },
     Scene {
         name: "one-process-straggler, lazily",
         component: R,
         cancel: Cancel::Lazy,
-        put: 0,
         acts: &[
             (3, Act::Step),
-            (1, Act::Come(Sign::Positive, 2, 5)),
+            (1, Act::Hand(How::Come, Sign::Positive, 2, 5)),
             (1, Act::Settle),
             (2, Act::Step),
         ],
@@ -71,17 +79,20 @@ pub(crate) static SCENES: [Scene; 7] = [
         name: "messages that were put",
         component: R,
         cancel: Cancel::Aggressive,
-        put: 30,
-        acts: &[(4, Act::Step), (1, Act::Reserve), (2, Act::Undo)],
+        acts: &[
+            (30, Act::Hand(How::Put, Sign::Positive, 1, 4)),
+            (4, Act::Step),
+            (1, Act::Reserve),
+            (2, Act::Undo),
+        ],
         line: 3,
     },
     Scene {
         name: "many steps",
         component: R,
         cancel: Cancel::Aggressive,
-        put: 0,
         acts: &[
-            (30, Act::Come(Sign::Positive, 10, 5)),
+            (30, Act::Hand(How::Come, Sign::Positive, 10, 5)),
             (1, Act::Reserve),
             (40, Act::Step),
             (1, Act::Reserve),
@@ -94,12 +105,11 @@ pub(crate) static SCENES: [Scene; 7] = [
         name: "many steps, lazily",
         component: R,
         cancel: Cancel::Lazy,
-        put: 0,
         acts: &[
-            (30, Act::Come(Sign::Positive, 10, 5)),
+            (30, Act::Hand(How::Come, Sign::Positive, 10, 5)),
             (40, Act::Step),
             (1, Act::Back(20, 0)),
-            (1, Act::Come(Sign::Positive, 20, 7)),
+            (1, Act::Hand(How::Come, Sign::Positive, 20, 7)),
             (30, Act::Step),
         ],
         line: 15,
@@ -108,11 +118,10 @@ pub(crate) static SCENES: [Scene; 7] = [
         name: "anti-messages first",
         component: R,
         cancel: Cancel::Aggressive,
-        put: 0,
         acts: &[
-            (20, Act::Come(Sign::Anti, 10, 5)),
-            (20, Act::Wait(40, 6)),
-            (20, Act::Come(Sign::Positive, 10, 5)),
+            (20, Act::Hand(How::Come, Sign::Anti, 10, 5)),
+            (20, Act::Hand(How::Wait, Sign::Anti, 40, 6)),
+            (20, Act::Hand(How::Come, Sign::Positive, 10, 5)),
         ],
         line: 0,
     },
@@ -120,7 +129,6 @@ pub(crate) static SCENES: [Scene; 7] = [
         name: "chains",
         component: G,
         cancel: Cancel::Aggressive,
-        put: 0,
         acts: &[
             (1, Act::Chain(1)),
             (1, Act::Chain(7)),

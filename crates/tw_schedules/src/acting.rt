@@ -1,7 +1,7 @@
 //! Executives that obey the actions of seeds.
 
 use crate::columns::count_wrong;
-use crate::differing::Differing;
+use crate::differing::{Differing, begin_line};
 use crate::networks::{Case, executive_of};
 use std::alloc::{AllocError, Global};
 use tw_drawn::Schedule;
@@ -25,6 +25,26 @@ struct Counts {
     committed: u64,
 }
 
+impl Counts {
+    /// Nothing was done.
+    fn new() -> Counts {
+        Counts {
+            turns: 0,
+            refused: 0,
+            over_limit: 0,
+            committed: 0,
+        }
+    }
+
+    /// Counts an action that was refused.
+    fn count(&mut self, refused: Refused) {
+        self.refused = self.refused.saturating_add(1);
+        if let Refused::OverLimit(_) = refused {
+            self.over_limit = self.over_limit.saturating_add(1);
+        }
+    }
+}
+
 /// Takes the next action of a schedule. It may be refused, for want of memory only where the program is to give up.
 fn take_turn(
     executive: &mut Executive<Model>,
@@ -39,10 +59,7 @@ fn take_turn(
         Ok(_) => Ok(()),
         Err(Refused::OutOfMemory) => Err(AllocError),
         Err(refused) => {
-            counts.refused = counts.refused.saturating_add(1);
-            if let Refused::OverLimit(_) = refused {
-                counts.over_limit = counts.over_limit.saturating_add(1);
-            }
+            counts.count(refused);
             Ok(())
         }
     }
@@ -62,6 +79,23 @@ fn play(
     Ok(())
 }
 
+/// Whether each column is right when an executive has taken the turns of a seed.
+fn is_right(
+    alloc: Global,
+    case: &Case,
+    cancel: Cancel,
+    seed: u64,
+    seq: &Seq,
+    counts: &mut Counts,
+) -> Result<bool, Refusal> {
+    let mut executive = executive_of(alloc, case, cancel)?;
+    let played = play(&mut executive, seed, counts);
+    let wrong = count_wrong(&executive, seq);
+    drop(executive);
+    played?;
+    Ok(wrong == 0)
+}
+
 /// Adds the line of a network and a way of cancelling.
 pub(crate) fn add_line(
     alloc: Global,
@@ -71,16 +105,10 @@ pub(crate) fn add_line(
     seq: &Seq,
 ) -> Result<(), Refusal> {
     let mut differing = Differing::new();
-    let mut counts = Counts {
-        turns: 0,
-        refused: 0,
-        over_limit: 0,
-        committed: 0,
-    };
+    let mut counts = Counts::new();
     for seed in 0..SEEDS {
-        let mut executive = executive_of(alloc, case, cancel)?;
-        play(&mut executive, seed, &mut counts)?;
-        differing.expect(seed, "a column", count_wrong(&executive, seq) == 0);
+        let right = is_right(alloc, case, cancel, seed, seq, &mut counts)?;
+        differing.expect(seed, "a column", right);
     }
     Ok(tell(text, case.name, cancel, &counts, differing)?)
 }
@@ -93,18 +121,19 @@ fn tell(
     counts: &Counts,
     differing: Differing,
 ) -> Result<(), AllocError> {
-    let (turns, refused) = (counts.turns, counts.refused);
-    let (over_limit, committed) = (counts.over_limit, counts.committed);
-    let way = way_of(cancel);
-    write!(
-        text,
-        "{name} {way}: {SEEDS} seeds, {turns} turns, {refused} refused, {over_limit} over a limit, {committed} records"
-    )?;
+    let counts = [
+        (SEEDS, " seeds"),
+        (counts.turns, " turns"),
+        (counts.refused, " refused"),
+        (counts.over_limit, " over a limit"),
+        (counts.committed, " records"),
+    ];
+    begin_line(text, name, way_of(cancel), &counts)?;
     differing.end_line(text, "columns right")
 }
 
 /// What a way of cancelling is called.
-pub(crate) fn way_of(cancel: Cancel) -> &'static str {
+fn way_of(cancel: Cancel) -> &'static str {
     match cancel {
         Cancel::Aggressive => "aggressive",
         Cancel::Lazy => "lazy",

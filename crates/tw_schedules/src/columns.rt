@@ -1,5 +1,7 @@
 //! Columns and traces, compared with the records of the sequential simulator.
 
+ghost use Rattle.std.specs.Prelude.{◌<◌, length};
+
 use tw_atomic::Atomic;
 use tw_exec::Executive;
 use tw_msgs::Record;
@@ -33,14 +35,20 @@ fn is_before_fault(line: Stamp, seq: &Seq) -> bool {
     }
 }
 
+/// Whether a component of an executive has the simulator's column, and no commit line past its fault.
+fn is_right<M: Atomic>(executive: &Executive<M>, seq: &Seq, component: usize) -> bool
+    requires { component < length executive.now.network.models }
+{
+    let line = executive.line(component);
+    let column = executive.committed(component);
+    is_column(column, seq.records.as_slice(), component, line) && is_before_fault(line, seq)
+}
+
 /// How many components of an executive have a column that is not the simulator's, or a commit line past its fault.
 pub(crate) fn count_wrong<M: Atomic>(executive: &Executive<M>, seq: &Seq) -> u64 {
     let mut wrong: u64 = 0;
     for component in 0..executive.network().len() {
-        let line = executive.line(component);
-        let column = executive.committed(component);
-        let right = is_column(column, seq.records.as_slice(), component, line);
-        if !right || !is_before_fault(line, seq) {
+        if !is_right(executive, seq, component) {
             wrong = wrong.saturating_add(1);
         }
     }

@@ -1,4 +1,4 @@
-//! What differs from what it should be.
+//! The lines: how much was done, and what differs from what it should be.
 
 use std::alloc::AllocError;
 
@@ -42,4 +42,27 @@ impl Differing {
             }
         }
     }
+}
+
+/// Begins a line: a network, in which way, and how much was done of each kind.
+pub(crate) fn begin_line(
+    text: &mut String,
+    name: &str,
+    way: &str,
+    counts: &[(u64, &str)],
+) -> Result<(), AllocError> {
+    write!(text, "{name} {way}")?;
+    let mut before = ": ";
+    for (count, of) in counts {
+        add_count(text, before, *count, *of)?;
+        before = ", ";
+    }
+    Ok(())
+}
+
+/// Adds how much was done of a kind, behind what stands before it.
+fn add_count(text: &mut String, before: &str, count: u64, of: &str) -> Result<(), AllocError> {
+    text.push_str(before)?;
+    write!(text, "{count}")?;
+    text.push_str(of)
 }

@@ -13,7 +13,7 @@
 //! |---|---|
 //! | `networks` | the table, and the networks that it means |
 //! | `columns` | columns and traces compared with the simulator's records |
-//! | `differing` | what differs, and the seed of which it was seen first |
+//! | `differing` | the lines: how much was done, and what differs, with the seed of which it was seen first |
 //! | `acting` | executives by the actions of a seed |
 //! | `desk` | an exchange of one network, and the chains that were worked out for it |
 //! | `sharing` | what a turn does with an exchange |
@@ -32,21 +32,38 @@ use networks::{CASES, Case};
 use std::alloc::Global;
 use std::io;
 use tw_process::Cancel;
-use tw_seq::simulate;
+use tw_seq::{Seq, simulate};
 use tw_vtime::Refusal;
 
-/// Adds the two lines of a network and a way of cancelling.
-fn add_lines(alloc: Global, text: &mut String, case: &Case, cancel: Cancel) -> Result<(), Refusal> {
+/// The simulator's run of a network.
+fn seq_of(alloc: Global, case: &Case) -> Result<Seq, Refusal> {
     let network = networks::network_of(alloc, case)?;
-    let seq = simulate(alloc, &network, case.until)?;
-    acting::add_line(alloc, text, case, cancel, &seq)?;
-    turning::add_line(alloc, text, case, cancel, &seq)
+    let seq = simulate(alloc, &network, case.until);
+    drop(network);
+    Ok(seq?)
+}
+
+/// Adds the two lines of a network and a way of cancelling.
+fn add_lines(
+    alloc: Global,
+    text: &mut String,
+    case: &Case,
+    cancel: Cancel,
+    seq: &Seq,
+) -> Result<(), Refusal> {
+    acting::add_line(alloc, text, case, cancel, seq)?;
+    turning::add_line(alloc, text, case, cancel, seq)
 }
 
 /// Adds the lines of a network.
 fn add_case(alloc: Global, text: &mut String, case: &Case) -> Result<(), Refusal> {
-    add_lines(alloc, text, case, Cancel::Aggressive)?;
-    add_lines(alloc, text, case, Cancel::Lazy)
+    let seq = seq_of(alloc, case)?;
+    let added = match add_lines(alloc, text, case, Cancel::Aggressive, &seq) {
+        Ok(()) => add_lines(alloc, text, case, Cancel::Lazy, &seq),
+        refused => refused,
+    };
+    drop(seq);
+    added
 }
 
 /// The lines of all networks.

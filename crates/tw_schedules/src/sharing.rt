@@ -1,6 +1,6 @@
 //! What a turn does with an exchange.
 
-ghost use Rattle.std.specs.Prelude.{◌<◌, IfOk, IfSome};
+ghost use Rattle.std.specs.Prelude.{◌<◌, IfOk, IfSome, length};
 ghost use Rattle.tw_exchange.specs.Ends.{IsDue};
 
 use crate::desk::{Desk, Given, Kept};
@@ -184,13 +184,20 @@ impl<M: Atomic, H: Given<M>> Sharing<M, H> {
     /// Gives out the component that comes next, and gives its order back: all must be seen as it was.
     fn look_twice(&mut self, counts: &mut Counts) -> Result<(), AllocError> {
         let before = self.seen()?;
+        let looked = self.look_again(before.as_str(), counts);
+        drop(before);
+        looked
+    }
+
+    /// Gives out the component that comes next, and gives its order back: this text must be seen again.
+    fn look_again(&mut self, before: &str, counts: &mut Counts) -> Result<(), AllocError> {
         let Some(order) = self.draw()? else {
             return Ok(());
         };
         self.desk.give_back(order);
         let after = self.seen()?;
         counts.given_back = counts.given_back.saturating_add(1);
-        if before != after {
+        if before != after.as_str() {
             self.changed = self.changed.saturating_add(1);
         }
         Ok(())
@@ -199,11 +206,17 @@ impl<M: Atomic, H: Given<M>> Sharing<M, H> {
     /// All that is seen of the executive, and which components come next.
     fn seen(&self) -> Result<String, AllocError> {
         let mut text = seen(self.alloc, self.desk.executive())?;
+        self.add_next(&mut text)?;
+        Ok(text)
+    }
+
+    /// Adds which components come next.
+    fn add_next(&self, text: &mut String) -> Result<(), AllocError> {
         for window in WINDOWS {
             let next = self.desk.next(window).unwrap_or(NONE);
-            write!(&mut text, "next {next}\n")?;
+            write!(text, "next {next}\n")?;
         }
-        Ok(text)
+        Ok(())
     }
 
     /// Hands in any of the chains that are kept back.
@@ -287,8 +300,20 @@ fn give_back_all<M: Atomic, H: Given<M>>(desk: &mut Desk<M, H>, mut held: Vec<Or
 fn seen<M: Atomic>(alloc: Global, executive: &Executive<M>) -> Result<String, AllocError> {
     let mut text = report(alloc, executive)?;
     for component in 0..executive.network().len() {
-        let own = describe(alloc, executive, component)?;
-        text.push_str(own.as_str())?;
+        add_component(alloc, &mut text, executive, component)?;
     }
     Ok(text)
+}
+
+/// Adds what a user sees of a component.
+fn add_component<M: Atomic>(
+    alloc: Global,
+    text: &mut String,
+    executive: &Executive<M>,
+    component: usize,
+) -> Result<(), AllocError>
+    requires { component < length executive.now.network.models }
+{
+    let own = describe(alloc, executive, component)?;
+    text.push_str(own.as_str())
 }

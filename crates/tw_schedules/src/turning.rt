@@ -2,10 +2,9 @@
 
 ghost use Rattle.std.specs.Prelude.{◌≡◌};
 
-use crate::acting::way_of;
 use crate::columns::{count_wrong, is_trace};
 use crate::desk::{Desk, Given};
-use crate::differing::Differing;
+use crate::differing::{Differing, begin_line};
 use crate::networks::{Case, executive_of};
 use crate::sharing::{Counts, Sharing};
 use std::alloc::{AllocError, Global};
@@ -93,10 +92,11 @@ fn compare(
     seq: &Seq,
     differing: &mut Differing,
 ) -> Result<(), AllocError> {
+    let state = ended.state?;
     let executive = &ended.executive;
     let trace = executive.trace(alloc)?;
     differing.expect(seed, "a draw that was given back", ended.changed == 0);
-    differing.expect(seed, "its end", is_end(ended.state?, seq));
+    differing.expect(seed, "its end", is_end(state, seq));
     differing.expect(seed, "a column", count_wrong(executive, seq) == 0);
     differing.expect(
         seed,
@@ -119,7 +119,9 @@ fn try_seed(
     let executive = executive_of(alloc, case, cancel)?;
     let exchange = exchange_of(alloc, executive)?;
     let ended = share::<Model, Brand>(alloc, exchange, seed, counts);
-    Ok(compare(alloc, seed, &ended, seq, differing)?)
+    let compared = compare(alloc, seed, &ended, seq, differing);
+    drop(ended);
+    Ok(compared?)
 }
 
 /// Adds the line of a network and a way of cancelling.
@@ -138,6 +140,14 @@ pub(crate) fn add_line(
     Ok(tell(text, case.name, cancel, counts, differing)?)
 }
 
+/// What a run that is shared is called by its way of cancelling.
+fn shared_way_of(cancel: Cancel) -> &'static str {
+    match cancel {
+        Cancel::Aggressive => "aggressive shared",
+        Cancel::Lazy => "lazy shared",
+    }
+}
+
 /// Tells what was done.
 fn tell(
     text: &mut String,
@@ -146,12 +156,14 @@ fn tell(
     counts: Counts,
     differing: Differing,
 ) -> Result<(), AllocError> {
-    let way = way_of(cancel);
-    let (turns, orders, given_back) = (counts.turns, counts.orders, counts.given_back);
-    let (steps, stale) = (counts.steps, counts.stale);
-    write!(
-        text,
-        "{name} {way} shared: {SEEDS} seeds, {turns} turns, {orders} orders, {given_back} given back, {stale} stale, {steps} steps"
-    )?;
+    let counts = [
+        (SEEDS, " seeds"),
+        (counts.turns, " turns"),
+        (counts.orders, " orders"),
+        (counts.given_back, " given back"),
+        (counts.stale, " stale"),
+        (counts.steps, " steps"),
+    ];
+    begin_line(text, name, shared_way_of(cancel), &counts)?;
     differing.end_line(text, "traces right")
 }

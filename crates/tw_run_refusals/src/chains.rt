@@ -40,9 +40,29 @@ fn install(
     let chain = start.prepare(executive.network().model(component));
     let limit = executive.network().micro_limit();
     if chain.component() != component || chain.micro_limit() != limit || chain.before() > end {
+        drop(chain);
         return Err(Refused::NoSuch);
     }
     executive.install(component, chain)
+}
+
+/// A chain of so many steps: how many of them were made, and whether it went no further for want of memory.
+fn chain_once(
+    told: &mut Told,
+    alloc: Global,
+    executive: &mut Executive<Model>,
+    component: usize,
+    burst: usize,
+) -> (usize, bool) {
+    let before = look(told, alloc, executive);
+    match install(executive, component, burst) {
+        Ok(finished) => (finished.installed, is_refused(finished)),
+        Err(_) => {
+            let after = look(told, alloc, executive);
+            told.compare("start", before, after);
+            (0, true)
+        }
+    }
 }
 
 /// So many steps of a component by chains, as many as are needed, and how many were made.
@@ -55,18 +75,11 @@ pub(crate) fn chain(
 ) {
     let mut made: usize = 0;
     for _ in 0..TRIES {
-        let before = look(told, alloc, executive);
-        match install(executive, component, burst.saturating_sub(made)) {
-            Ok(finished) => {
-                made = made.saturating_add(finished.installed);
-                if !is_refused(finished) {
-                    break;
-                }
-            }
-            Err(_) => {
-                let after = look(told, alloc, executive);
-                told.compare("start", before, after);
-            }
+        let left = burst.saturating_sub(made);
+        let (more, is_refused) = chain_once(told, alloc, executive, component, left);
+        made = made.saturating_add(more);
+        if !is_refused {
+            break;
         }
     }
     tell_number(told, "installed", made);

@@ -8,8 +8,7 @@ use crate::made::{exchange_of, executive_of};
 use crate::playing::commands_of;
 use crate::scenes::{Share, Turn};
 use crate::telling::{
-    name_of, tell_component, tell_fault, tell_number, tell_records, tell_report, tell_seen,
-    trace_of,
+    name_of, tell_component, tell_fault, tell_number, tell_report, tell_seen, tell_trace,
 };
 use std::alloc::{AllocError, Global};
 use tw_board::Reader;
@@ -92,23 +91,34 @@ fn hand_in(exchange: &mut Exchange<Model>, burst: usize) -> Result<Option<Finish
     Ok(exchange.finish(prepareds).ok())
 }
 
+/// A chain of the component that comes next, of so many steps: how many of them were made, and whether it went no further for want
+/// of memory.
+fn chain_once(
+    told: &mut Told,
+    alloc: Global,
+    exchange: &mut Exchange<Model>,
+    burst: usize,
+) -> (usize, bool) {
+    let before = look_at(told, alloc, exchange);
+    match hand_in(exchange, burst) {
+        Ok(Some(finished)) => (finished.installed, is_refused(finished)),
+        Ok(None) => (0, false),
+        Err(_) => {
+            let after = look_at(told, alloc, exchange);
+            told.compare("draw", before, after);
+            (0, true)
+        }
+    }
+}
+
 /// So many steps of the component that comes next by chains, as many as are needed, and how many were made.
 fn chain(told: &mut Told, alloc: Global, exchange: &mut Exchange<Model>, burst: usize) -> usize {
     let mut made: usize = 0;
     for _ in 0..TRIES {
-        let before = look_at(told, alloc, exchange);
-        match hand_in(exchange, burst.saturating_sub(made)) {
-            Ok(Some(finished)) => {
-                made = made.saturating_add(finished.installed);
-                if !is_refused(finished) {
-                    break;
-                }
-            }
-            Ok(None) => break,
-            Err(_) => {
-                let after = look_at(told, alloc, exchange);
-                told.compare("draw", before, after);
-            }
+        let (more, is_refused) = chain_once(told, alloc, exchange, burst.saturating_sub(made));
+        made = made.saturating_add(more);
+        if !is_refused {
+            break;
         }
     }
     made
@@ -253,10 +263,7 @@ fn tell(
         Turn::Describe(component) => tell_component(told, alloc, exchange.executive(), component),
         Turn::State => tell_state(told, alloc, exchange),
         Turn::Seen => tell_seen(told, reader.see()),
-        Turn::Trace => match trace_of(alloc, exchange.executive()) {
-            Some(trace) => tell_records(told, exchange.executive().network(), trace.as_slice()),
-            None => told.give_up("trace"),
-        },
+        Turn::Trace => tell_trace(told, alloc, exchange.executive()),
         _ => tell_report(told, alloc, exchange.executive()),
     }
 }

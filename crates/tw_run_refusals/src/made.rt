@@ -1,7 +1,10 @@
 //! Networks, and executives and exchanges of them. What could not be made leaves nothing, and is made again.
 
-use std::alloc::Global;
-use tw_board::{Board, Reader};
+ghost use Rattle.std.specs.Prelude.{◌≡◌, IfOk};
+ghost use Rattle.tw_theory.specs.Board.{nothing_posted};
+
+use std::alloc::{AllocError, Global};
+use tw_board::{Board, Publisher, Reader};
 use tw_exec::Executive;
 use tw_models::{BadModel, Model};
 use tw_network::{Coupling, Input, Network};
@@ -75,15 +78,21 @@ pub(crate) fn executive_of(alloc: Global, run: &Run) -> Option<Executive<Model>>
     }
 }
 
+/// A board's publisher and a reader of it, if there is memory for them.
+pub(crate) fn ends_of_board(alloc: Global) -> Result<(Publisher, Reader), AllocError>
+    ensures { IfOk result (λ ends. ends.0.numbers ≡ nothing_posted) }
+{
+    let (mut board, publisher) = Board::new(alloc)?;
+    let reader = board.reader()?;
+    Ok((publisher, reader))
+}
+
 /// An exchange of an executive, and a reader of its board; where there is no memory for them the executive comes back.
 fn share(
     alloc: Global,
     executive: Executive<Model>,
 ) -> Result<(Exchange<Model>, Reader), Executive<Model>> {
-    let Ok((mut board, publisher)) = Board::new(alloc) else {
-        return Err(executive);
-    };
-    let Ok(reader) = board.reader() else {
+    let Ok((publisher, reader)) = ends_of_board(alloc) else {
         return Err(executive);
     };
     match Exchange::new(alloc, executive, publisher) {

@@ -4,7 +4,7 @@ use crate::acting::obey;
 use crate::chains::{chain, replay};
 use crate::made::executive_of;
 use crate::scenes::{Part, Scene};
-use crate::telling::{tell_component, tell_records, tell_reply, tell_report, trace_of};
+use crate::telling::{tell_component, tell_reply, tell_report, tell_trace};
 use std::alloc::Global;
 use tw_exec::{Executive, Mark};
 use tw_looks::Told;
@@ -59,23 +59,32 @@ fn repeat(
     }
 }
 
+/// Obeys a script: each line once, and tells what came of it; or so often, and tells nothing.
+fn play_script(
+    told: &mut Told,
+    alloc: Global,
+    executive: &mut Executive<Model>,
+    script: &str,
+    times: Option<usize>,
+) {
+    let Some(commands) = commands_of(alloc, executive, script) else {
+        told.give_up("commands_of_script");
+        return;
+    };
+    match times {
+        None => follow(told, alloc, executive, commands.as_slice()),
+        Some(times) => repeat(told, alloc, executive, commands.as_slice(), times),
+    }
+}
+
 /// Plays a part of a scene.
 fn play_part(told: &mut Told, alloc: Global, executive: &mut Executive<Model>, part: &Part) {
     match *part {
         Part::Chain(component, burst) => chain(told, alloc, executive, component, burst),
         Part::Replay(component) => replay(told, executive, component),
-        Part::Lines(script) => match commands_of(alloc, executive, script) {
-            Some(commands) => follow(told, alloc, executive, commands.as_slice()),
-            None => told.give_up("commands_of_script"),
-        },
-        Part::Often(times, line) => match commands_of(alloc, executive, line) {
-            Some(commands) => repeat(told, alloc, executive, commands.as_slice(), times),
-            None => told.give_up("commands_of_script"),
-        },
-        Part::Trace => match trace_of(alloc, executive) {
-            Some(trace) => tell_records(told, executive.network(), trace.as_slice()),
-            None => told.give_up("trace"),
-        },
+        Part::Lines(script) => play_script(told, alloc, executive, script, None),
+        Part::Often(times, line) => play_script(told, alloc, executive, line, Some(times)),
+        Part::Trace => tell_trace(told, alloc, executive),
     }
 }
 

@@ -4,12 +4,13 @@ ghost use Rattle.std.specs.Prelude.{◌≡◌, ◌≤◌, IfOk};
 ghost use Rattle.tw_exchange.specs.Exchanged.{IsNotAhead};
 ghost use Rattle.tw_theory.specs.Board.{nothing_posted};
 
+use crate::made::ends_of_board;
 use crate::telling::{name_in, tell_fault, tell_lines, tell_seen};
 use std::alloc::{AllocError, Global};
 use std::sync::Wait;
 use std::thread::Threads;
 use tw_any_model::AnyModel;
-use tw_board::{Board, Publisher, Reader};
+use tw_board::{Publisher, Reader};
 use tw_exec::Executive;
 use tw_looks::Told;
 use tw_netfile::network_of_any_file;
@@ -63,16 +64,7 @@ fn begin(alloc: Global, it: &Race) -> Result<Executive<AnyModel>, Refusal> {
     Ok(Executive::with_cancel(alloc, network, it.until, it.cancel)?)
 }
 
-/// A board's publisher and a reader of it, if there is memory for them.
-fn ends_of_board(alloc: Global) -> Result<(Publisher, Reader), AllocError>
-    ensures { IfOk result (λ ends. ends.0.numbers ≡ nothing_posted) }
-{
-    let (mut board, publisher) = Board::new(alloc)?;
-    let reader = board.reader()?;
-    Ok((publisher, reader))
-}
-
-/// The same, at the second try where the first finds no memory.
+/// A board's publisher and a reader of it, at the second try where the first finds no memory.
 fn board_of(alloc: Global) -> Result<(Publisher, Reader), AllocError>
     ensures { IfOk result (λ ends. ends.0.numbers ≡ nothing_posted) }
 {
@@ -140,6 +132,7 @@ fn play_race<R: Threads + Wait + Sync>(
         return;
     };
     let Ok((publisher, mut reader)) = board_of(alloc) else {
+        drop(executive);
         told.give_up("Board::new");
         return;
     };

@@ -57,14 +57,6 @@ pub(crate) fn tell_component(
     say(told, "describe", text);
 }
 
-/// The trace of an executive, at the second try where the first finds no memory.
-pub(crate) fn trace_of(alloc: Global, executive: &Executive<Model>) -> Option<Vec<Record>> {
-    match executive.trace(alloc) {
-        Err(_) => executive.trace(alloc).ok(),
-        made => made.ok(),
-    }
-}
-
 /// The name of a component; nothing, where there is none such.
 pub(crate) fn name_of(network: &Network<Model>, component: usize) -> &str {
     if component < network.len() {
@@ -87,9 +79,21 @@ fn tell_record(told: &mut Told, name: &str, record: &Record) {
 }
 
 /// Tells the lines of records of a network.
-pub(crate) fn tell_records(told: &mut Told, network: &Network<Model>, records: &[Record]) {
+fn tell_records(told: &mut Told, network: &Network<Model>, records: &[Record]) {
     for record in records {
         tell_record(told, name_of(network, record.component), record);
+    }
+}
+
+/// Tells the trace of an executive, at the second try where the first finds no memory.
+pub(crate) fn tell_trace(told: &mut Told, alloc: Global, executive: &Executive<Model>) {
+    let trace = match executive.trace(alloc) {
+        Err(_) => executive.trace(alloc),
+        made => made,
+    };
+    match trace {
+        Ok(records) => tell_records(told, executive.network(), records.as_slice()),
+        Err(_) => told.give_up("trace"),
     }
 }
 

@@ -2,25 +2,17 @@
 
 ghost use Rattle.std.specs.Prelude.{◌≡◌};
 
-use super::helpers::{G, R, T, assert_relay, in_a_row, stamp};
+use super::helpers::{
+    G, R, T, assert_relay, chain_of, exchange_of, in_a_row, order_of, stamp, text_of,
+};
 use std::alloc::Global;
 use std::process::Abort;
-use tw_board::Board;
 use tw_chain::Cause;
 use tw_exec::Action;
-use tw_inspect::report;
 use tw_models::Model;
 use tw_process::{Cancel, Finished, Stop};
 use tw_vtime::Stamp;
-use tw_workers::{Exchange, Open, State, compute};
-
-/// An exchange of the row, with a board on which nothing is posted.
-fn exchange_of(rt: &impl Abort, alloc: Global, cancel: Cancel) -> Exchange<Model> {
-    let (_, publisher) = Board::new(alloc).expect(rt, "memory");
-    Exchange::new(alloc, in_a_row(rt, alloc, cancel), publisher)
-        .ok()
-        .expect(rt, "memory")
-}
+use tw_workers::{Exchange, State};
 
 /// Takes these actions in turn.
 fn act_all(rt: &impl Abort, exchange: &mut Exchange<Model>, actions: &[Action])
@@ -64,19 +56,14 @@ outgoing + t 0=8 at 4.0.1
 /// Asserts what is made of a chain of three steps of the relay before which these actions come, and what is seen of the relay then.
 /// The chain was drawn after an order of the generator, which is given back.
 fn assert_made(rt: &impl Abort, alloc: Global, before: &[Action], made: Finished, seen: &str) {
-    let mut exchange = exchange_of(rt, alloc, Cancel::Aggressive);
-    let first = exchange.draw(16, 1000).expect(rt, "memory");
-    let second = exchange.draw(16, 1000).expect(rt, "memory");
-    let (generator, relay) = (first.expect(rt, "an order"), second.expect(rt, "an order"));
-    assert!(rt; generator.component() == G);
-    assert!(rt; relay.component() == R);
+    let mut exchange = exchange_of(rt, alloc, in_a_row(rt, alloc, Cancel::Aggressive));
+    let generator = order_of(rt, &mut exchange, G);
+    let chain = chain_of(rt, &mut exchange, R);
     exchange.give_back(generator);
-    let network = exchange.executive().network();
-    assert!(rt; R < network.len());
-    let prepareds = compute(relay, network.model(R), &Open);
     act_all(rt, &mut exchange, before);
-    assert!(rt; exchange.finish(prepareds) == Ok(made));
+    assert!(rt; exchange.finish(chain) == Ok(made));
     assert_relay(rt, alloc, exchange.executive(), seen);
+    drop(exchange);
 }
 
 /// The generator's message comes; or a step of the relay's own; or that step and its way back.
@@ -118,28 +105,38 @@ r line 2.0.1 next 2.0.1 due end last 0.0 steps 0 pending 2 waiting 0 outgoing 0 
 t line 2.0.1 next 4.0.1 due end last 0.0 steps 0 pending 1 waiting 0 outgoing 0 owed 0 mail 0 | 0 0 0
 ";
 
+/// Of how many of these actions, by which way of cancelling, and what a sweep leaves then.
+static SWEEPS: [(Cancel, usize, &str); 7] = [
+    (Cancel::Aggressive, 4, SWEPT),
+    (Cancel::Aggressive, 5, SWEPT),
+    (Cancel::Aggressive, 6, SWEPT),
+    (Cancel::Aggressive, 8, SWEPT),
+    (Cancel::Lazy, 4, SWEPT_LAZILY),
+    (Cancel::Lazy, 5, SWEPT_LAZILY),
+    (Cancel::Lazy, 6, SWEPT_LAZILY),
+];
+
+/// Sweeps the row, and asserts what is seen of it.
+fn assert_sweep(rt: &impl Abort, alloc: Global, exchange: &mut Exchange<Model>, seen: &str) {
+    assert!(rt; exchange.sweep() == Ok(stamp(rt, 2, 0, 1)));
+    assert!(rt; exchange.state() == Ok(State::Going));
+    assert!(rt; text_of(rt, alloc, exchange.executive()).as_str() == seen);
+}
+
 /// Settles the row after so many of these actions, and raises global virtual time, which commits nothing; then sweeps it, and again.
 fn assert_swept(rt: &impl Abort, alloc: Global, cancel: Cancel, count: usize, seen: &str) {
-    let mut exchange = exchange_of(rt, alloc, cancel);
+    let mut exchange = exchange_of(rt, alloc, in_a_row(rt, alloc, cancel));
     act_all(rt, &mut exchange, &STRAGGLER[..count.min(8)]);
-    assert!(rt; exchange.settle().is_ok());
-    assert!(rt; exchange.raise() == stamp(rt, 2, 0, 1));
+    assert!(rt; exchange.settle().is_ok() && exchange.raise() == stamp(rt, 2, 0, 1));
     assert!(rt; exchange.executive().committed_len() == 0);
-    for _ in 0..2 {
-        assert!(rt; exchange.sweep() == Ok(stamp(rt, 2, 0, 1)));
-        assert!(rt; exchange.state() == Ok(State::Going));
-        let text = report(alloc, exchange.executive()).expect(rt, "memory");
-        assert!(rt; text.as_str() == seen);
-    }
+    assert_sweep(rt, alloc, &mut exchange, seen);
+    assert_sweep(rt, alloc, &mut exchange, seen);
     assert!(rt; exchange.into_parts().0.committed_len() == 1);
 }
 
 #[test]
 fn a_sweep_delivers_stragglers_and_anti_messages(rt: HostRuntime) {
-    for count in [4, 5, 6, 8] {
-        assert_swept(&rt, rt.alloc(), Cancel::Aggressive, count, SWEPT);
-    }
-    for count in [4, 5, 6] {
-        assert_swept(&rt, rt.alloc(), Cancel::Lazy, count, SWEPT_LAZILY);
+    for (cancel, count, seen) in SWEEPS.iter() {
+        assert_swept(&rt, rt.alloc(), *cancel, *count, seen);
     }
 }

@@ -1,15 +1,19 @@
 //! Runs by workers: they work at the same time, and what comes out is the sequential run.
 
-use super::helpers::{assert_trace, network_of, stamp};
+ghost use Rattle.std.specs.Prelude.{◌≡◌, ◌≤◌};
+ghost use Rattle.tw_exchange.specs.Exchanged.{IsNotAhead};
+ghost use Rattle.tw_vtime.specs.Stamps.{max_tick};
+
+use super::helpers::{apart, assert_trace, stamp};
 use std::alloc::{AllocError, Global};
 use std::process::Abort;
+use std::sync::Wait;
 use std::sync::atomic::AtomicU64;
 use std::sync::atomic::Ordering::SeqCst;
-use std::sync::{Arc, Wait};
 use std::thread;
 use std::thread::Threads;
 use tw_atomic::{Atomic, Outbox, Turn};
-use tw_board::Board;
+use tw_board::{Board, Publisher, Reader};
 use tw_exec::Executive;
 use tw_models::{Gen, GenState};
 use tw_workers::{Gate, Open, Outcome, Setting, SweepRefused, run};
@@ -17,61 +21,68 @@ use tw_workers::{Gate, Open, Outcome, Setting, SweepRefused, run};
 /// How many turns one waits for the other at most.
 const TURNS: u64 = 10_000_000;
 
-/// Two numbers of calls, and whether one waited in vain for the other.
+/// How often the first and the second of a pair was called, and how often one waited in vain for the other.
 #[derive(Drop)]
 struct Meeting {
-    calls: [AtomicU64; 2],
+    first: AtomicU64,
+    second: AtomicU64,
     late: AtomicU64,
 }
 
 impl Meeting {
     fn new() -> Meeting {
         Meeting {
-            calls: [AtomicU64::new(0), AtomicU64::new(0)],
+            first: AtomicU64::new(0),
+            second: AtomicU64::new(0),
             late: AtomicU64::new(0),
         }
     }
 
-    /// How often each was called; both are 0 where one waited in vain.
-    fn calls(&self) -> (u64, u64) {
-        if self.late.load(SeqCst) > 0 {
-            return (0, 0);
-        }
-        (self.calls[0].load(SeqCst), self.calls[1].load(SeqCst))
+    /// How often each was called, and how often one waited in vain.
+    fn calls(&self) -> (u64, u64, u64) {
+        (
+            self.first.load(SeqCst),
+            self.second.load(SeqCst),
+            self.late.load(SeqCst),
+        )
     }
 
-    /// Waits until the first or second was called more than so often.
-    fn wait(&self, first: bool, often: u64) {
-        let calls = &self.calls[usize::from(!first)];
+    /// The number of calls of the one that comes, and that of the other.
+    fn sides(&self, is_first: bool) -> (&AtomicU64, &AtomicU64) {
+        if is_first {
+            (&self.first, &self.second)
+        } else {
+            (&self.second, &self.first)
+        }
+    }
+
+    /// Waits until the other was called more than so often.
+    fn wait(&self, other: &AtomicU64, often: u64) {
         for _ in 0..TURNS {
-            if calls.load(SeqCst) > often {
+            if other.load(SeqCst) > often {
                 return;
             }
             thread::yield_now();
         }
-        self.late.store(1, SeqCst);
+        self.late.fetch_add(1, SeqCst);
+    }
+
+    /// The nth call of the one waits until the other was called n times.
+    fn meet(&self, is_first: bool) {
+        let (own, other) = self.sides(is_first);
+        let before = own.fetch_add(1, SeqCst);
+        self.wait(other, before);
     }
 }
 
 // Holds the first order of each of two components until the other's came.
 impl Gate for Meeting {
     fn enter(&self, component: usize) {
-        if component >= 2 {
-            return;
-        }
-        if self.calls[component].fetch_add(1, SeqCst) == 0 {
-            self.wait(component == 1, 0);
+        let (own, other) = self.sides(component == 0);
+        if own.fetch_add(1, SeqCst) == 0 {
+            self.wait(other, 0);
         }
     }
-}
-
-/// The executive of two models, not coupled, until tick 5.
-fn apart<M: Atomic>(rt: &impl Abort, alloc: Global, models: [M; 2]) -> Executive<M> {
-    let models = Vec::from_array(alloc, models).ok().expect(rt, "memory");
-    let network = network_of(rt, alloc, &["x", "y"], models, &[], &[]);
-    Executive::new(alloc, network, 5)
-        .ok()
-        .expect(rt, "an executive")
 }
 
 /// The sequential trace of two generators of period 2 and value 1.
@@ -93,11 +104,45 @@ const TWO: Setting = Setting {
     window: 1000,
 };
 
-/// Asserts that a run of two generators by two workers, in which they meet, has the sequential trace, and that each was called so often.
-fn assert_met<M: Atomic + Send + Sync, G: Gate + Sync, R: Abort + Threads + Wait + Sync>(
+/// One worker, which hands in every step, and no component runs ahead.
+const ONE: Setting = Setting {
+    workers: 1,
+    burst: 1,
+    window: 0,
+};
+
+/// Asserts that a run of two generators has the sequential trace, and that a reader of its board is told so.
+fn assert_whole<M: Atomic + Send + Sync, G: Gate + Sync, R: Abort + Threads + Wait + Sync>(
     rt: &R,
     alloc: Global,
-    models: [M; 2],
+    executive: Executive<M>,
+    setting: Setting,
+    gate: &G,
+    publisher: Publisher,
+    reader: &mut Reader,
+)
+where
+    M::State: Send,
+    M::Residue: Send,
+    requires workers { (1 ≤ setting.workers) × (setting.workers ≤ 64) }
+    requires burst { (1 ≤ setting.burst) × (setting.burst ≤ 256) }
+    requires window { setting.window ≤ max_tick }
+    requires not_ahead { IsNotAhead publisher executive }
+    requires board { reader.old.board ≡ publisher.board }
+{
+    let (outcome, mut publisher) = run(rt, alloc, executive, setting, gate, publisher);
+    let Ok(Outcome::Complete(trace)) = outcome else {
+        panic!(rt; "no whole run");
+    };
+    assert_trace(rt, alloc, trace.as_slice(), &["x", "y"], APART);
+    assert!(rt; reader.meet(&mut publisher) == (stamp(rt, 6, 0, 0), 8));
+}
+
+/// Asserts that a run of two generators by two workers, in which they meet, has the sequential trace.
+fn assert_met<M: Atomic + Copy + Send + Sync, G: Gate + Sync, R: Abort + Threads + Wait + Sync>(
+    rt: &R,
+    alloc: Global,
+    named: &[(&str, M)],
     gate: &G,
 )
 where
@@ -106,41 +151,46 @@ where
 {
     let (mut board, publisher) = Board::new(alloc).expect(rt, "memory");
     let mut reader = board.reader().expect(rt, "memory");
-    let executive = apart(rt, alloc, models);
-    let (outcome, mut publisher) = run(rt, alloc, executive, TWO, gate, publisher);
-    let Ok(Outcome::Complete(trace)) = outcome else {
-        panic!(rt; "no whole run");
-    };
-    assert_trace(rt, alloc, trace.as_slice(), &["x", "y"], APART);
-    assert!(rt; reader.meet(&mut publisher) == (stamp(rt, 6, 0, 0), 8));
+    let executive = apart(rt, alloc, named);
+    assert_whole(rt, alloc, executive, TWO, gate, publisher, &mut reader);
 }
 
 #[test]
 fn gate_of_two(rt: HostRuntime) {
     let meeting = Meeting::new();
     let generator = Gen::new(2, 1).expect(&rt, "a model");
-    assert_met(&rt, rt.alloc(), [generator, generator], &meeting);
-    assert!(rt; meeting.calls() == (4, 4));
+    let named = [("x", generator), ("y", generator)];
+    assert_met(&rt, rt.alloc(), &named, &meeting);
+    assert!(rt; meeting.calls() == (4, 4, 0));
 }
 
 /// What a model does before each transition forward.
-#[derive(Drop)]
-enum Before {
-    /// The nth, of the first or second of a pair, waits until the other's was called n times.
-    Meet(usize, Arc<Meeting>),
+#[derive(Clone, Copy)]
+enum Before<'a> {
+    /// The nth, of the first of a pair or of the second, waits until the other's was called n times.
+    Meet(bool, &'a Meeting),
     /// Of the calls, which are counted, the two from the first number on find no memory.
-    Refuse(u64, AtomicU64),
+    Refuse(u64, &'a AtomicU64),
+}
+
+/// Counts a call, and refuses it where it is one of the two from the first number on.
+fn refuse(first: u64, calls: &AtomicU64) -> Result<(), AllocError> {
+    let before = calls.fetch_add(1, SeqCst);
+    if before >= first && before - first < 2 {
+        return Err(AllocError);
+    }
+    Ok(())
 }
 
 /// A generator of period 2 and value 1 that does something before each transition forward.
-#[derive(Drop)]
-struct Watched {
+#[derive(Clone, Copy)]
+struct Watched<'a> {
     model: Gen,
-    before: Before,
+    before: Before<'a>,
 }
 
-impl Watched {
-    fn new(rt: &impl Abort, before: Before) -> Watched {
+impl<'a> Watched<'a> {
+    fn new(rt: &impl Abort, before: Before<'a>) -> Watched<'a> {
         Watched {
             model: Gen::new(2, 1).expect(rt, "a model"),
             before,
@@ -149,26 +199,17 @@ impl Watched {
 
     /// Does what is to be done before a transition forward.
     fn prepare(&self) -> Result<(), AllocError> {
-        match &self.before {
-            Before::Meet(place, meeting) => {
-                if *place < 2 {
-                    let before = meeting.calls[*place].fetch_add(1, SeqCst);
-                    meeting.wait(*place == 1, before);
-                }
+        match self.before {
+            Before::Meet(is_first, meeting) => {
+                meeting.meet(is_first);
                 Ok(())
             }
-            Before::Refuse(first, calls) => {
-                let before = calls.fetch_add(1, SeqCst);
-                if before >= *first && before - *first < 2 {
-                    return Err(AllocError);
-                }
-                Ok(())
-            }
+            Before::Refuse(first, calls) => refuse(first, calls),
         }
     }
 }
 
-impl Atomic for Watched {
+impl Atomic for Watched<'_> {
     ghost use Rattle.std.specs.Prelude.{refl};
     ghost use Rattle.tw_models.specs.Gen.{IsGen, gen_meaning, gen_undone};
     ghost use Rattle.tw_models.specs.GenLaws.{gen_stays_valid, gen_output_fits, gen_reverses};
@@ -239,48 +280,66 @@ impl Atomic for Watched {
 
 #[test]
 fn forwards_meet(rt: HostRuntime) {
-    let meeting = Arc::new(rt.alloc(), Meeting::new())
-        .ok()
-        .expect(&rt, "memory");
-    let first = Arc::try_clone(&meeting).ok().expect(&rt, "a count");
-    let second = Arc::try_clone(&meeting).ok().expect(&rt, "a count");
-    let models = [
-        Watched::new(&rt, Before::Meet(0, first)),
-        Watched::new(&rt, Before::Meet(1, second)),
+    let meeting = Meeting::new();
+    let named = [
+        ("x", Watched::new(&rt, Before::Meet(true, &meeting))),
+        ("y", Watched::new(&rt, Before::Meet(false, &meeting))),
     ];
-    assert_met(&rt, rt.alloc(), models, &Open);
-    assert!(rt; meeting.calls() == (2, 2));
+    assert_met(&rt, rt.alloc(), &named, &Open);
+    assert!(rt; meeting.calls() == (2, 2, 0));
+}
+
+/// Asserts that a run finds no memory, and that a reader of its board is told how far it came. What comes back can be run again.
+fn give_up<M: Atomic + Send + Sync, R: Abort + Threads + Wait + Sync>(
+    rt: &R,
+    alloc: Global,
+    executive: Executive<M>,
+    publisher: Publisher,
+    reader: &mut Reader,
+) -> (Executive<M>, Publisher)
+where
+    M::State: Send,
+    M::Residue: Send,
+    requires not_ahead { IsNotAhead publisher executive }
+    ensures not_ahead { IsNotAhead result.1 result.0 }
+    ensures board { result.1.board ≡ publisher.board }
+    ensures reader { reader.new.board ≡ reader.old.board }
+{
+    let (outcome, publisher) = run(rt, alloc, executive, ONE, &Open, publisher);
+    let Err(fault) = outcome else {
+        panic!(rt; "the run found memory");
+    };
+    assert!(rt; fault.why == SweepRefused::OutOfMemory);
+    assert!(rt; reader.see() == (fault.executive.gvt(), fault.executive.committed_len()));
+    (fault.executive, publisher)
+}
+
+/// Asserts that a run of two generators that twice finds no memory has the sequential trace in the end.
+fn assert_resumed<M: Atomic + Copy + Send + Sync, R: Abort + Threads + Wait + Sync>(
+    rt: &R,
+    alloc: Global,
+    named: &[(&str, M)],
+)
+where
+    M::State: Send,
+    M::Residue: Send,
+{
+    let (mut board, publisher) = Board::new(alloc).expect(rt, "memory");
+    let mut reader = board.reader().expect(rt, "memory");
+    let executive = apart(rt, alloc, named);
+    let (executive, publisher) = give_up(rt, alloc, executive, publisher, &mut reader);
+    let (executive, publisher) = give_up(rt, alloc, executive, publisher, &mut reader);
+    assert_whole(rt, alloc, executive, ONE, &Open, publisher, &mut reader);
 }
 
 /// At the first refusal a sweep brings global virtual time further, and the run goes on; at the second it does not.
 #[test]
 fn a_run_that_was_given_up_goes_on(rt: HostRuntime) {
-    let models = [
-        Watched::new(&rt, Before::Refuse(1, AtomicU64::new(0))),
-        Watched::new(&rt, Before::Refuse(0, AtomicU64::new(0))),
+    let calls = [AtomicU64::new(0), AtomicU64::new(0)];
+    let calls = &calls;
+    let named = [
+        ("x", Watched::new(&rt, Before::Refuse(1, &calls[0]))),
+        ("y", Watched::new(&rt, Before::Refuse(0, &calls[1]))),
     ];
-    let setting = Setting {
-        workers: 1,
-        burst: 1,
-        window: 0,
-    };
-    let (mut board, publisher) = Board::new(rt.alloc()).expect(&rt, "memory");
-    let mut reader = board.reader().expect(&rt, "memory");
-    let executive = apart(&rt, rt.alloc(), models);
-    let (first, publisher) = run(&rt, rt.alloc(), executive, setting, &Open, publisher);
-    let Err(fault) = first else {
-        panic!(rt; "the first run found memory");
-    };
-    assert!(rt; fault.why == SweepRefused::OutOfMemory);
-    assert!(rt; reader.see() == (fault.executive.gvt(), fault.executive.committed_len()));
-    let (second, publisher) = run(&rt, rt.alloc(), fault.executive, setting, &Open, publisher);
-    let Err(fault) = second else {
-        panic!(rt; "the second run found memory");
-    };
-    let (third, mut publisher) = run(&rt, rt.alloc(), fault.executive, setting, &Open, publisher);
-    let Ok(Outcome::Complete(trace)) = third else {
-        panic!(rt; "no whole run");
-    };
-    assert_trace(&rt, rt.alloc(), trace.as_slice(), &["x", "y"], APART);
-    assert!(rt; reader.meet(&mut publisher) == (stamp(&rt, 6, 0, 0), 8));
+    assert_resumed(&rt, rt.alloc(), &named);
 }

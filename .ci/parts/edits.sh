@@ -1,4 +1,5 @@
-# The wrong bodies that the gate leaves out: what each takes away stands once in its file, and each was refused on the crate as it is.
+# The wrong bodies that the gate leaves out: what each takes away stands once in its file, and each was refused on the crate as it is,
+# over the contracts below it as they are.
 
 for edit in tests/wrong-bodies/*/*.edit; do
     crate=${edit#tests/wrong-bodies/}
@@ -30,6 +31,7 @@ done
 
 . tests/wrong-bodies/sum.sh
 for name in $(crates_with_more); do
-    grep -qx "$name $(sum_of "$name")" tests/wrong-bodies/tried.txt
-    count "the wrong bodies of $name, tried on the crate as it is: bench/wrong-bodies $name" 0 0 $?
+    find_sum "$name"
+    grep -qx "$name $sum" tests/wrong-bodies/tried.txt
+    count "the wrong bodies of $name, tried on the crate and the contracts below it as they are: bench/wrong-bodies $name" 0 0 $?
 done

@@ -21,12 +21,23 @@ use tw_vtime::Stamp;
 /// than global virtual time and how many records are committed.
 ///
 /// Contracts see the executive, a flag for each component and the publisher.
-#[derive(Drop)]
 pub struct Exchange<M: Atomic> {
     pub(crate) alloc: Global,
     pub(crate) executive: Executive<M>,
     pub(crate) queues: Queues,
     pub(crate) publisher: Publisher,
+}
+
+// Written out, since a derived one is spelt field by field, and proved, wherever one is let go.
+impl<M: Atomic> Drop for Exchange<M> {
+    fn drop(self) {
+        let Exchange {
+            alloc: _,
+            executive: _,
+            queues: _,
+            publisher: _,
+        } = self;
+    }
 }
 
 impl<M: Atomic> Model for Exchange<M> {

@@ -8,15 +8,17 @@ ghost use Rattle.tw_msgs.specs.Counting.{total};
 ghost use Rattle.tw_network.specs.Contents.{network_of};
 ghost use Rattle.tw_theory.specs.Contents.{Aggressive};
 ghost use Rattle.tw_theory.specs.Executive.{column_of, mail_of};
-ghost use Rattle.tw_theory.specs.Simulator.{records_before};
+ghost use Rattle.tw_theory.specs.Simulator.{records_before, sequential};
+ghost use Rattle.tw_theory.specs.Traces.{IsMerged, before, least_line};
 ghost use Rattle.tw_vtime.specs.Stamps.{max_tick};
 
 use crate::refused::StartRefused;
-use std::alloc::{AllocError, Global};
+use crate::traces::least_line;
+use std::alloc::{AllocError, AllocFailed, Global};
 use std::marker::Model;
 use std::sync::Arc;
 use tw_atomic::Atomic;
-use tw_fossils::Column;
+use tw_fossils::{Column, into_trace};
 use tw_mail::Mailboxes;
 use tw_msgs::{Item, Record};
 use tw_network::Network;
@@ -28,7 +30,6 @@ use tw_vtime::Stamp;
 ///
 /// Contracts see the network, the end tick and the world of the theory. Every executive is sound, whatever was done to it
 /// ([`facts`](Executive::facts)).
-#[derive(Drop)]
 pub struct Executive<M: Atomic> {
     pub(crate) alloc: Global,
     pub(crate) network: Arc<Network<M>>,
@@ -41,6 +42,23 @@ pub struct Executive<M: Atomic> {
     pub(crate) columns: Vec<Column>,
     // How many records the columns have.
     pub(crate) records: u64,
+}
+
+// Written out, since a derived one is spelt field by field, and proved, wherever one is let go.
+impl<M: Atomic> Drop for Executive<M> {
+    fn drop(self) {
+        let Executive {
+            alloc: _,
+            network: _,
+            until: _,
+            end: _,
+            gvt: _,
+            processes: _,
+            mail: _,
+            columns: _,
+            records: _,
+        } = self;
+    }
 }
 
 impl<M: Atomic> Model for Executive<M> {
@@ -180,6 +198,45 @@ impl<M: Atomic> Executive<M> {
         ensures { result.now ≡ mail_of self.now.world.mail component }
     {
         self.mail.items(component)
+    }
+
+    /// The same records as [`trace`](Executive::trace), in the same order, but the records themselves, not copies: the executive is
+    /// taken apart.
+    ///
+    /// It is refused for want of memory alone (4); then the executive is handed back as it was.
+    pub fn into_trace(self, alloc: Global) -> Result<Vec<Record>, AllocFailed<Executive<M>>>
+        ensures sequential { IfOk result (λ trace. trace.items ≡ before (least_line self.world.processes) (sequential (network_of M.meaning self.network) self.until).records) }
+        ensures merged { IfOk result (λ trace. IsMerged (least_line self.world.processes) self.world trace.items) }
+        ensures handed_back { IfErr result (λ failed. failed.value ≡ self) }
+    {
+        let line = least_line(self.processes.as_slice());
+        let Executive {
+            alloc: own,
+            network,
+            until,
+            end,
+            gvt,
+            processes,
+            mail,
+            columns,
+            records,
+        } = self;
+        match into_trace(alloc, columns, line) {
+            Ok(trace) => Ok(trace),
+            Err(failed) => Err(AllocFailed {
+                value: Executive {
+                    alloc: own,
+                    network,
+                    until,
+                    end,
+                    gvt,
+                    processes,
+                    mail,
+                    columns: failed.value,
+                    records,
+                },
+            }),
+        }
     }
 }
 

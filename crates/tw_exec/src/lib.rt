@@ -9,11 +9,11 @@
 //!
 //! | File | Calls |
 //! |---|---|
-//! | `executive` | making one, and what is read of it |
+//! | `executive` | making one, what is read of it, and `into_trace`, which takes it apart |
 //! | `acting` | `act`: an action, its answer ([`Done`]) or why it is refused ([`Refused`]); `to_post`: what a post moves |
 //! | `marking` | `mark` and `rewind` ([`Mark`]); `replay`: a list of actions |
 //! | `chains` | `start`: what a chain is worked out from; `install`: the steps of a chain made here |
-//! | `traces` | `trace`, `into_trace`: what all components have committed, merged |
+//! | `traces` | `trace`: what all components have committed, merged |
 //! | `laws` | `inverse_law`, `committed_law`: what holds of every executive |
 #![tactic(auto)]
 

@@ -1,14 +1,14 @@
 //! The trace of what all components have committed.
 
-ghost use Rattle.std.specs.Prelude.{◌≡◌, IfErr, IfOk, map};
+ghost use Rattle.std.specs.Prelude.{◌≡◌, IfOk, map};
 ghost use Rattle.tw_network.specs.Contents.{network_of};
 ghost use Rattle.tw_theory.specs.Simulator.{sequential};
 ghost use Rattle.tw_theory.specs.Traces.{IsMerged, before, least_line};
 
 use crate::executive::Executive;
-use std::alloc::{AllocError, AllocFailed, Global};
+use std::alloc::{AllocError, Global};
 use tw_atomic::Atomic;
-use tw_fossils::{into_trace, merge};
+use tw_fossils::merge;
 use tw_msgs::Record;
 use tw_process::Process;
 use tw_vtime::Stamp;
@@ -25,49 +25,10 @@ impl<M: Atomic> Executive<M> {
         let line = least_line(self.processes.as_slice());
         merge(alloc, self.columns.as_slice(), line)
     }
-
-    /// The same records as [`trace`](Executive::trace), in the same order, but the records themselves, not copies: the executive is
-    /// taken apart.
-    ///
-    /// It is refused for want of memory alone (4); then the executive is handed back as it was.
-    pub fn into_trace(self, alloc: Global) -> Result<Vec<Record>, AllocFailed<Executive<M>>>
-        ensures sequential { IfOk result (λ trace. trace.items ≡ before (least_line self.world.processes) (sequential (network_of M.meaning self.network) self.until).records) }
-        ensures merged { IfOk result (λ trace. IsMerged (least_line self.world.processes) self.world trace.items) }
-        ensures handed_back { IfErr result (λ failed. failed.value ≡ self) }
-    {
-        let line = least_line(self.processes.as_slice());
-        let Executive {
-            alloc: own,
-            network,
-            until,
-            end,
-            gvt,
-            processes,
-            mail,
-            columns,
-            records,
-        } = self;
-        match into_trace(alloc, columns, line) {
-            Ok(trace) => Ok(trace),
-            Err(failed) => Err(AllocFailed {
-                value: Executive {
-                    alloc: own,
-                    network,
-                    until,
-                    end,
-                    gvt,
-                    processes,
-                    mail,
-                    columns: failed.value,
-                    records,
-                },
-            }),
-        }
-    }
 }
 
 /// The least commit line; the end, where there are no processes.
-fn least_line<M: Atomic>(processes: &[Process<M>]) -> Stamp
+pub(crate) fn least_line<M: Atomic>(processes: &[Process<M>]) -> Stamp
     ensures { result ≡ least_line (map (λ p. p.process) processes.now) }
 {
     let mut least = Stamp::END;

@@ -26,7 +26,6 @@ pub(crate) const WAITING: usize = 4;
 pub(crate) const OWED: usize = 5;
 
 /// The six lists of a process: pending, consumed and sent messages, outgoing items, waiting and owed messages.
-#[derive(Drop)]
 pub struct EventLists {
     pub(crate) alloc: Global,
     // The lists in this order. A sent, an owed and a waiting message is kept as its anti-message.
@@ -39,6 +38,20 @@ pub struct EventLists {
     // Whether the stamps of the owed messages are known to fall, or to stay, from each to the next: so they do where steps are taken
     // back one after another, and then the least stamp is the last one's.
     pub(crate) falling: bool,
+}
+
+// Written out, since a derived one is spelt field by field, and proved, wherever one is let go.
+impl Drop for EventLists {
+    fn drop(self) {
+        let EventLists {
+            alloc: _,
+            pool: _,
+            heap: _,
+            waiting: _,
+            owed: _,
+            falling: _,
+        } = self;
+    }
 }
 
 impl Model for EventLists {

@@ -36,7 +36,6 @@ pub type Place = (usize, u8);
 /// It has at most 1,024 components, each with a name of its own and a model, 8,192 couplings and 65,536
 /// inputs. Components are numbered from 0, in the order in which they were handed in, or depth first where a
 /// tree was; ports are 0 to 15.
-#[derive(Drop)]
 pub struct Network<M: Atomic> {
     names: IndexSet<String>,
     models: Vec<M>,
@@ -44,6 +43,20 @@ pub struct Network<M: Atomic> {
     inputs: Vec<Input>,
     micro_limit: u32,
     routes: Routes,
+}
+
+// Written out, since a derived one is spelt field by field, and proved, wherever one is let go.
+impl<M: Atomic> Drop for Network<M> {
+    fn drop(self) {
+        let Network {
+            names: _,
+            models: _,
+            couplings: _,
+            inputs: _,
+            micro_limit: _,
+            routes: _,
+        } = self;
+    }
 }
 
 impl<M: Atomic> Model for Network<M> {

@@ -22,7 +22,6 @@ use tw_step::{Moment, start_moment};
 use tw_vtime::Stamp;
 
 /// A process of one component of a network.
-#[derive(Drop)]
 pub struct Process<M: Atomic> {
     pub(crate) alloc: Global,
     pub(crate) network: Arc<Network<M>>,
@@ -35,6 +34,23 @@ pub struct Process<M: Atomic> {
     // The steps that are not committed, the oldest first.
     pub(crate) history: VecDeque<Entry<M::State, M::Residue>>,
     pub(crate) lists: EventLists,
+}
+
+// Written out, since a derived one is spelt field by field, and proved, wherever one is let go.
+impl<M: Atomic> Drop for Process<M> {
+    fn drop(self) {
+        let Process {
+            alloc: _,
+            network: _,
+            component: _,
+            moment: _,
+            line: _,
+            cancel: _,
+            floor: _,
+            history: _,
+            lists: _,
+        } = self;
+    }
 }
 
 impl<M: Atomic> Model for Process<M> {

@@ -1,5 +1,5 @@
+mod helpers;
 mod jobs;
 mod lines;
 mod scripts;
-mod streams;
 mod texts;

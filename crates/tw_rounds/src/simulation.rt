@@ -28,11 +28,21 @@ pub enum Advanced {
 }
 
 /// A run up to an end tick, between two rounds. It keeps no record.
-#[derive(Drop)]
 pub struct Simulation<S: Drop> {
     until: u64,
     run: Running<S>,
     bench: Bench,
+}
+
+// Written out, since a derived one is spelt field by field, and proved, wherever one is let go.
+impl<S: Drop> Drop for Simulation<S> {
+    fn drop(self) {
+        let Simulation {
+            until: _,
+            run: _,
+            bench: _,
+        } = self;
+    }
 }
 
 impl<S: Drop> Model for Simulation<S> {

@@ -198,19 +198,29 @@ fn words_of(alloc: Global, process: &Process<Model>) -> Result<Vec<i128>, AllocE
     Ok(words)
 }
 
-/// Asserts what is told of the steps that a process made.
-fn assert_steps(rt: &impl Abort, alloc: Global, process: &Process<Model>) {
-    assert!(rt; process.last_stamp() == Some(stamp_at(rt, Some((4, 0)))));
-    assert!(rt; process.steps_before(stamp_at(rt, Some((4, 0)))) == 1);
+/// Asserts which messages a process has consumed.
+fn assert_consumed(rt: &impl Abort, process: &Process<Model>) {
     assert!(rt; process.has_consumed(&said(rt, 1, &(3, 0, 8))));
     assert!(rt; !process.has_consumed(&said(rt, 1, &(3, 0, 9))));
     assert!(rt; !process.has_consumed(&said(rt, 1, &(2, 0, 8))));
+}
+
+/// Asserts what a process has sent, and the words of its state.
+fn assert_sent(rt: &impl Abort, alloc: Global, process: &Process<Model>) {
     let lists = process.lists();
     assert!(rt;
         lists.least_outgoing() == stamp_at(rt, Some((4, 1))) && lists.least_owed() == Stamp::END
     );
-    assert!(rt; process.cancel() == Cancel::Aggressive && process.line() == Stamp::START);
     assert!(rt; words_of(alloc, process).expect(rt, "memory").as_slice() == [0, 8].as_slice());
+}
+
+/// Asserts what is told of the steps that a process made.
+fn assert_steps(rt: &impl Abort, alloc: Global, process: &Process<Model>) {
+    assert!(rt; process.last_stamp() == Some(stamp_at(rt, Some((4, 0)))));
+    assert!(rt; process.steps_before(stamp_at(rt, Some((4, 0)))) == 1);
+    assert!(rt; process.cancel() == Cancel::Aggressive && process.line() == Stamp::START);
+    assert_consumed(rt, process);
+    assert_sent(rt, alloc, process);
 }
 
 /// Its steps, the oldest first: the record, and how many messages the step consumed and sent.

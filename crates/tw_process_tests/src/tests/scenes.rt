@@ -13,19 +13,26 @@ use tw_process::{Cancel, Process, StepRefused};
 use tw_rollback::{Received, back_to, receive};
 use tw_vtime::{Refusal, Stamp};
 
-/// The names of a row.
-const NAMES: [&str; 3] = ["g", "r", "t"];
-
-/// A generator of 5 each 2 ticks, a relay with delay 1 and a tally in a row, with these inputs.
-fn row(alloc: Global, inputs: &[Input]) -> Result<Network<Model>, Refusal> {
-    let models = [Model::generator(2, 5)?, Model::relay(1)?, Model::tally()?];
+/// The components of a row: a generator of 5 each 2 ticks, a relay with delay 1 and a tally.
+fn components(alloc: Global) -> Result<Vec<(String, Model)>, Refusal> {
     let mut components = Vec::new(alloc);
-    for (name, model) in NAMES.iter().zip(Vec::from_array(alloc, models)?) {
+    for (name, model) in [
+        ("g", Model::generator(2, 5)),
+        ("r", Model::relay(1)),
+        ("t", Model::tally()),
+    ] {
+        let model = model?;
         components.push((String::from_str(alloc, name)?, model))?;
     }
+    Ok(components)
+}
+
+/// They in a row, with these inputs.
+fn row(alloc: Global, inputs: &[Input]) -> Result<Network<Model>, Refusal> {
     let couplings = Vec::from_slice(alloc, &[(0, 0, 1, 0), (1, 0, 2, 0)])?;
     let inputs = Vec::from_slice(alloc, inputs)?;
-    Ok(Network::new(alloc, components, couplings, inputs, 100)?)
+    let made = Network::new(alloc, components(alloc)?, couplings, inputs, 100);
+    made.map_err(Refusal::from)
 }
 
 /// A stamp of microstep 0: tick and phase; none for the end.
@@ -177,10 +184,11 @@ pub(crate) fn process_of(
     let inputs: &[Input] = if scene.input { &[(3, 1, 0, 8)] } else { &[] };
     let network = Arc::new(alloc, row(alloc, inputs)?)?;
     assert!(rt; scene.component < network.len());
-    match scene.cancel {
-        Cancel::Aggressive => Ok(Process::new(alloc, network, scene.component)?),
-        Cancel::Lazy => Ok(Process::with_cancel(alloc, network, scene.component, Cancel::Lazy)?),
-    }
+    let made = match scene.cancel {
+        Cancel::Aggressive => Process::new(alloc, network, scene.component),
+        Cancel::Lazy => Process::with_cancel(alloc, network, scene.component, Cancel::Lazy),
+    };
+    Ok(made?)
 }
 
 /// How many steps there are, and how many messages are pending, waiting, outgoing and owed.

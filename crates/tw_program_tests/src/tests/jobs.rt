@@ -1,7 +1,7 @@
 //! Jobs on readers and writers that fail, or take one byte a call, and with memory refused. What jobs write is compared in the
 //! program's cases.
 
-use crate::tests::streams::{OneByteReader, OneByteWriter};
+use super::helpers::{OneByteReader, OneByteWriter};
 use std::alloc::Global;
 use std::process::Abort;
 use std::sync::Wait;

@@ -1,4 +1,4 @@
-//! A reader and a writer of one byte a call, which fail.
+//! What tests of the program share: a reader and a writer of one byte a call, which fail.
 
 use std::io;
 use std::io::{ErrorKind, Read, Write};

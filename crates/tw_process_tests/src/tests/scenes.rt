@@ -27,7 +27,7 @@ fn components(alloc: Global) -> Result<Vec<(String, Model)>, Refusal> {
     Ok(components)
 }
 
-/// They in a row, with these inputs.
+/// The network that they make in a row, with these inputs.
 fn row(alloc: Global, inputs: &[Input]) -> Result<Network<Model>, Refusal> {
     let couplings = Vec::from_slice(alloc, &[(0, 0, 1, 0), (1, 0, 2, 0)])?;
     let inputs = Vec::from_slice(alloc, inputs)?;

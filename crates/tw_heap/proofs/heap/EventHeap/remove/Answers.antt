@@ -1,9 +1,9 @@
-use Rattle.std.proofs.Common.{◌≡◌, ◌-◌, ◌++◌, length, take, drop, arith, ap, ◌∙◌}
+use Rattle.std.proofs.Common.{◌≡◌, ◌+◌, ◌-◌, length-take, ◌++◌, length, take, drop, arith, ap, ◌∙◌}
 use Rattle.std.specs.List.{SwappedAt}
 use Rattle.std.specs.List.Sorted.{IsPermutation}
 use Rattle.std.proofs.lemmas.List.Sorted.{IsPermutation-refl}
 use Rattle.tw_heap.specs.declared.entries.Entry.{Entry}
-use Rattle.tw_heap.specs.Entries.{entry_of}
+use Rattle.tw_heap.specs.Entries.{entry_of, Events}
 use Rattle.tw_heap.proofs.EntriesByIndex.{entry_of-without_other}
 use Rattle.tw_heap.proofs.HeapChanges.{whole, leaving, place_of, gone, Gone}
 use Rattle.tw_heap.proofs.heap.EventHeap.remove.Goals as goal
@@ -31,6 +31,21 @@ left c =
 
 places_left : (c : After-pop) → take c.self.inside.places.len (c.exchange.new.places ++ drop (length c.exchange.new.places) c.self.inside.places.items) ≡ c.exchange.new.places
 places_left c = whole c.self.inside.places.len c.exchange.new.places c.self.inside.places.items (omega (arith, c.exchange.auto.places, c.as_mut_slice-2.ensures.len))
+
+-- the room grows by one
+room_left : (c : After-pop) → c.pop.new.self.cap - length c.pop.new.self.items ≡ c.args.self.now.room + 1
+room_left c =
+    let es = c.self.inside.entries.items in
+    let now = c.exchange.new.entries in
+    let live = rw (← c.self.view_is) at c.requires in
+    let there = leaving es c.self.inside.places.items c.args.index c.self.invariant live in
+    let len : length now ≡ length es = omega (arith, c.exchange.auto.entries, ap (length {A = Entry}) c.as_mut_slice.ensures.value) in
+    let cap : c.self.inside.entries.len ≡ length es = omega (arith, c.self.inside.entries.ok.0) in
+    let all = whole c.self.inside.entries.len now es (omega (arith, len, cap)) in
+    let popped : c.pop.new.self.items ≡ take (c.self.inside.entries.len - 1) now = c.pop.ensures.rest ∙ ap (take (c.self.inside.entries.len - 1)) all in
+    let fewer : length c.pop.new.self.items + 1 ≡ length es = omega (arith, ap (length {A = Entry}) popped, length-take (c.self.inside.entries.len - 1) now, there.within, len, cap) in
+    let old : c.self.inside.entries.cap - length es ≡ c.args.self.now.room = ap (λ (h : Events). h.room) c.self.view_is in
+    omega (arith, fewer, old, c.pop.ensures.capacity, c.self.inside.entries.ok.0, c.self.inside.entries.ok.1)
 
 pub index-place-requires : goal.index-place-requires
 index-place-requires c =
@@ -98,3 +113,36 @@ returns-then-place-last-clause-others c = λ other differs.
 pub returns-else-place-last-clause-others : goal.returns-else-place-last-clause-others
 returns-else-place-last-clause-others c = λ other differs.
     ap (entry_of other) (returns-else-place-last-clause-entries c) ∙ entry_of-without_other c.args.index other c.args.self.now.entries differs
+
+pub overflow_sub-last : goal.overflow_sub-last
+overflow_sub-last c =
+    let live = rw (← c.self.view_is) at c.requires in
+    let at = leaving c.self.inside.entries.items c.self.inside.places.items c.args.index c.self.invariant live in
+    omega (arith, at.within, c.len-last.ensures, c.self.inside.entries.ok.0)
+
+pub exchange-requires-clause-second : goal.exchange-requires-clause-second
+exchange-requires-clause-second c =
+    let live = rw (← c.self.view_is) at c.requires in
+    let at = leaving c.self.inside.entries.items c.self.inside.places.items c.args.index c.self.invariant live in
+    omega (arith, at.within, c.len-last.ensures, c.self.inside.entries.ok.0, c.as_mut_slice.ensures.len)
+
+pub returns-then-place-last-clause-room : goal.returns-then-place-last-clause-room
+returns-then-place-last-clause-room c =
+    let here = (goal.at.returns-then-place-last-clause-room c).After-pop in
+    let entries = whole c.pop.new.self.len c.settle.new.entries c.pop.new.self.items (omega (arith, c.settle.auto.entries, c.as_mut_slice-then-place-last.ensures.len)) in
+    let len : length c.settle.new.entries ≡ length c.pop.new.self.items = c.settle.auto.entries ∙ ap (length {A = Entry}) c.as_mut_slice-then-place-last.ensures.value in
+    rw (entries, len) (room_left here)
+
+pub returns-then-place-last-clause-top : goal.returns-then-place-last-clause-top
+returns-then-place-last-clause-top c =
+    let old = take c.self.inside.places.len (c.exchange.new.places ++ drop (length c.exchange.new.places) c.self.inside.places.items) in
+    let places = whole c.self.inside.places.len c.settle.new.places old (omega (arith, c.settle.auto.places, c.as_mut_slice-then-place-last-2.ensures.len)) in
+    rw places (omega (arith, c.settle.auto.places, c.as_mut_slice-then-place-last-2.ensures.len, c.exchange.auto.places, c.as_mut_slice-2.ensures.len, c.self.inside.places.ok.0, ap (λ (h : Events). h.top) c.self.view_is))
+
+pub returns-else-place-last-clause-room : goal.returns-else-place-last-clause-room
+returns-else-place-last-clause-room c = room_left (goal.at.returns-else-place-last-clause-room c).After-pop
+
+pub returns-else-place-last-clause-top : goal.returns-else-place-last-clause-top
+returns-else-place-last-clause-top c =
+    let here = (goal.at.returns-else-place-last-clause-top c).After-pop in
+    rw (places_left here) (omega (arith, c.exchange.auto.places, c.as_mut_slice-2.ensures.len, c.self.inside.places.ok.0, ap (λ (h : Events). h.top) c.self.view_is))

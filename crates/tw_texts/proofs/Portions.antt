@@ -1,8 +1,8 @@
 -- A writer and the lines that are gathered for it: together they have the lines of the items so far.
-use Rattle.std.proofs.Common.{◌≡◌, ◌∙◌, ◌++◌, ◌+◌, ◌<◌, ◌∷◌, [], ℕ, List, refl, sym, ap, append_assoc, take, drop, get_or, length, append-nil}
-use Rattle.std.specs.Prelude.{Option, Some, None, flat_map}
+use Rattle.std.proofs.Common.{◌≡◌, ◌∙◌, ◌++◌, ◌+◌, ◌<◌, ◌≤◌, ◌∷◌, [], ℕ, List, refl, sym, ap, subst, append_assoc, take, drop, get_or, length, append-nil}
+use Rattle.std.specs.Prelude.{Option, Some, None, Result, Ok, Err, OnOk, flat_map}
 use Rattle.std.specs.Io.KnownBytes.{Appends}
-use Rattle.std.proofs.lemmas.List.{take_more, take-append-drop}
+use Rattle.std.proofs.lemmas.List.{take_more, take_all, take-append-drop}
 use Rattle.std.proofs.lemmas.Grind.{flat_map-append}
 use Rattle.tw_texts.specs.Traces.{AppendsBeginning, MovesBytes}
 
@@ -49,3 +49,10 @@ moved_is_beginning line a b xs i kept p = (
   sym (append_assoc p.0 kept (flat_map line (drop i xs))) ∙ ap (λ l. l ++ flat_map line (drop i xs)) p.2
       ∙ sym (flat_map-append line (take i xs) (drop i xs)) ∙ ap (flat_map line) (take-append-drop i xs),
 )
+
+-- where what is left goes out, all lines have gone out
+pub all_out : {X A E : Type 0} (done : Result A E) (line : X → List ℕ) (a b c : Option (List ℕ)) (xs : List X) (i : ℕ) (kept : List ℕ)
+    → length xs ≤ i → MovesBytes a b (flat_map line (take i xs)) kept → OnOk done (Appends b c kept) → OnOk done (Appends a c (flat_map line xs))
+all_out (Err e) line a b c xs i kept past p q = tt
+all_out (Ok v) line a b c xs i kept past p q =
+    subst (λ l. Appends a c l) (p.2 ∙ ap (flat_map line) (take_all i xs past)) (appends_both a b c p.0 kept p.1 q)

@@ -1,6 +1,6 @@
 use Rattle.std.proofs.Common.{◌∙◌, ◌++◌, ap}
 use Rattle.tw_texts.specs.Texts.{record_line, step_line}
-use Rattle.tw_texts.proofs.Portions.{moved_more, moved_is_beginning}
+use Rattle.tw_texts.proofs.Portions.{moved_more, all_out, moved_is_beginning}
 use Rattle.tw_texts.proofs.traces.write_trace.Goals as goal
 
 pub returns-in_default-clause-err : goal.returns-in_default-clause-err
@@ -22,3 +22,8 @@ loop-record-preserved g c =
     ∙ ap (λ words. c.loop-record.lines.text ++ step_line c.name-name.result.now c.record-item.result.stamp c.record-item.result.kind c.record-item.result.bag words)
     (c.as_slice.ensures.value ∙ c.in-Ok.ensures.ok ∙ ap (λ empty. empty ++ c.record-item.result.words) c.clear.ensures.items)
     ∙ ap (λ name. c.loop-record.lines.text ++ record_line name c.record-item.result) c.name-name.ensures) c.loop-record.invariant c.in_ok-write_portion.ensures.ok
+
+pub returns-clause-ok : goal.returns-clause-ok
+returns-clause-ok g c =
+    all_out c.write_out.result (λ r. record_line (g.N.Names.name_of c.args.names.now r.component) r) _ _ _ c.args.records.now
+    c.loop-record.record-index _ c.loop-record-test.false c.loop-record.invariant c.write_out.ensures.ok

@@ -1,4 +1,6 @@
-use Rattle.std.proofs.Common.{◌≡◌, ℤ, List, ℕ, ◌+◌, ◌<◌, length, ◌++◌, ◌∷◌, [], take, sym, append_assoc, get_or, pos, ◌∙◌, ap, rules, add-one}
+use Rattle.std.proofs.Common.{◌≡◌, ℤ, List, ℕ, ◌+◌, ◌<◌, length, ◌++◌, ◌∷◌, [], take, sym, append_assoc, get_or, pos, ◌∙◌, ap, rules, add-one, arith}
+use Rattle.std.proofs.lemmas.List.{take_all}
+use Rattle.std.proofs.lemmas.Grind.{common_steps}
 use Rattle.std.proofs.Math.Seq.{take-suc}
 use Rattle.tw_msgs.proofs.words.append_few.Goals as goal
 
@@ -8,3 +10,11 @@ one_more before few items new i number n e lt g = n ∙ ap (λ l. l ++ number �
 
 pub loop-number-preserved : goal.loop-number-preserved
 loop-number-preserved c = record { items = one_more _ _ _ _ c.loop-number.number-index _ c.push_reserved.ensures.items c.loop-number.invariant.items c.loop-number-test.true (let e = c.from.ensures in search rules) }
+
+pub push_reserved-requires : goal.push_reserved-requires
+push_reserved-requires c = grind (arith, common_steps)
+
+pub returns-clause-ok : goal.returns-clause-ok
+returns-clause-ok c =
+    c.loop-number.invariant.items ∙ ap (λ l. l ++ take c.loop-number.number-index c.args.few.now) c.in_ok-reserve.ensures.items
+    ∙ ap (λ l. c.args.numbers.now.items ++ l) (take_all c.loop-number.number-index c.args.few.now c.loop-number-test.false)

@@ -108,3 +108,31 @@ pub returns-clause-item : goal.returns-clause-item
 returns-clause-item c =
     let at = (goal.at.returns-clause-item c).After-index in
     ap (λ l. slice_get l c.args.place) (sym (seen_first at)) ∙ got_first at
+
+pub overflow_add-self-inside : goal.overflow_add-self-inside
+overflow_add-self-inside c =
+    let same : c.if-self-len.self.items ≡ c.args.self.now.items = search rules in
+    let seen = ap (λ (b : Held). b.items) c.self-2.view_is ∙ same in
+    let near : c.self-2.inside.first + c.args.place < length c.self-2.inside.items.items = omega (arith, c.requires, ap length seen, length-drop c.self-2.inside.first c.self-2.inside.items.items) in
+    omega (arith, near, c.self-2.inside.items.ok.0)
+
+pub remove-item-requires : goal.remove-item-requires
+remove-item-requires c =
+    let same : c.if-self-len.self.items ≡ c.args.self.now.items = search rules in
+    let seen = ap (λ (b : Held). b.items) c.self-2.view_is ∙ same in
+    let near : c.self-2.inside.first + c.args.place < length c.self-2.inside.items.items = omega (arith, c.requires, ap length seen, length-drop c.self-2.inside.first c.self-2.inside.items.items) in
+    omega (arith, near, c.self-2.inside.items.ok.0)
+
+pub index-requires : goal.index-requires
+index-requires c =
+    let same : c.if-self-len.self.items ≡ c.args.self.now.items = search rules in
+    let seen = ap (λ (b : Held). b.items) c.self-2.view_is ∙ same in
+    let near : c.self-2.inside.first + c.args.place < length c.self-2.inside.items.items = omega (arith, c.requires, ap length seen, length-drop c.self-2.inside.first c.self-2.inside.items.items) in
+    omega (arith, near, c.self-2.inside.items.ok.0)
+
+pub behind-requires : goal.behind-requires
+behind-requires c =
+    let at = (goal.at.behind-requires c).After-remove-item in
+    let old = c.self-2.inside.items.items in
+    let k = c.self-2.inside.first + c.args.place in
+    omega (arith, near at, ap length c.remove-item.ensures.items, length-remove old k (near at), ap length c.as_slice.ensures.value)

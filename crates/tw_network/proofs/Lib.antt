@@ -3,6 +3,7 @@ pub mod Names
 pub mod RouteOrder
 pub mod RouteParts
 pub mod FirstFault
+pub mod FirstOf
 pub mod Places
 pub mod Taking
 pub mod FirstPart

@@ -1,5 +1,5 @@
 use Rattle.std.proofs.Common.{sym, ◌∙◌}
-use Rattle.tw_network.proofs.FirstFault.{passed_on, passed_on-no_memory, after_none, at_some}
+use Rattle.tw_network.proofs.FirstFault.{passed_on, after_none, at_some}
 use Rattle.tw_network.proofs.NoFaults.{all_couplings}
 use Rattle.tw_network.proofs.checks.checked_routes.Goals as goal
 

@@ -1,4 +1,4 @@
-use Rattle.std.proofs.Common.{◌≡◌, ◌≢◌, length, ◌∙◌, subst, None, Some}
+use Rattle.std.proofs.Common.{◌≡◌, ◌≢◌, ◌∙◌, subst, None}
 use Rattle.std.specs.Result.{IfErr, IfOk}
 use Rattle.tw_nested.specs.Tree.{parts_of}
 use Rattle.tw_network.specs.FlatTrees.{IsFlattened}

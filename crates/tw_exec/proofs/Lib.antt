@@ -18,5 +18,7 @@ pub mod Starts
 -- what a post moves
 pub mod Comparing
 pub mod LeastLines
+-- what the theory refuses an action for
+pub mod Reasons
 -- an executive may go to another thread
 pub mod Sent

@@ -1,5 +1,6 @@
-use Rattle.std.proofs.Common.{◌≡◌, inl, inr, length, List, ◌++◌, ◌∷◌, [], ap, sym, subst, subst₂, ◌∙◌, rules}
+use Rattle.std.proofs.Common.{◌≡◌, inl, inr, length, List, ◌++◌, ◌∷◌, [], ap, sym, subst, subst₂, ◌∙◌, rules, arith}
 use Rattle.std.specs.Prelude.{slice_get, ℕ}
+use Rattle.std.proofs.lemmas.Result.{IfOk-from_err}
 use Rattle.std.specs.Arc.{arc_value}
 use Rattle.tw_atomic.specs.Atomic.{Meaning}
 use Rattle.tw_exec.specs.Running.{AreNew}
@@ -21,3 +22,18 @@ loop-component-preserved g c = record {
   made = more g.M.Atomic.meaning (arc_value c.args.network.now) (arc_value c.in_ok-try_clone.field-0) c.args.cancel c.loop-component.processes.items c.in_ok-process.process c.loop-component.component c.in_ok-try_clone.ensures c.loop-component.invariant.count c.loop-component.invariant.made c.in_ok-process.ensures _ c.in_ok-push.ensures.items;
   count = search rules;
 }
+
+pub with_cancel-requires : goal.with_cancel-requires
+with_cancel-requires g c = omega (arith, c.loop-component-test.true, c.requires, ap (λ n. length n.models) c.in_ok-try_clone.ensures)
+
+pub returns-in_err-try_clone-clause-made : goal.returns-in_err-try_clone-clause-made
+returns-in_err-try_clone-clause-made g c = IfOk-from_err _ _ c.from_residual.ensures.0
+
+pub returns-in_err-try_clone-clause-count : goal.returns-in_err-try_clone-clause-count
+returns-in_err-try_clone-clause-count g c = IfOk-from_err _ _ c.from_residual.ensures.0
+
+pub returns-in_err-process-clause-made : goal.returns-in_err-process-clause-made
+returns-in_err-process-clause-made g c = IfOk-from_err _ _ c.from_residual-in_err-process.ensures.0
+
+pub returns-in_err-process-clause-count : goal.returns-in_err-process-clause-count
+returns-in_err-process-clause-count g c = IfOk-from_err _ _ c.from_residual-in_err-process.ensures.0

@@ -13,6 +13,7 @@ use Rattle.tw_exec.specs.declared.refused.Refused.TheVariants as refused
 use Rattle.tw_theory.specs.Executive as theory
 use Rattle.tw_actions.specs.declared.action.Done.TheVariants as done
 use Rattle.tw_exec.proofs.executive.Executive.back.Given.{Over}
+use Rattle.tw_exec.proofs.Reasons.{is_known}
 use Rattle.tw_exec.proofs.executive.Executive.back.Goals as goal
 
 pub returns-then-component-len-clause-refused : goal.returns-then-component-len-clause-refused
@@ -50,3 +51,9 @@ returns-then-lt-clause-exact g c = exact_known g.M.Atomic.meaning (Back c.args.c
 
 pub returns-clause-exact : goal.returns-clause-exact
 returns-clause-exact g c = exact_taken g.M.Atomic.meaning (Back c.args.component c.args.stamp) c.args.self.now (done.Undone c.back_to-undone.result) (returns-clause-answer g c)
+
+pub returns-then-component-len-clause-known : goal.returns-then-component-len-clause-known
+returns-then-component-len-clause-known g c = is_known _
+
+pub returns-then-lt-clause-known : goal.returns-then-lt-clause-known
+returns-then-lt-clause-known g c = is_known _

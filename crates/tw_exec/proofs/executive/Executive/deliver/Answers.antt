@@ -130,3 +130,6 @@ returns-in-Err-clause-limit g c =
       λ wants. ap Err (c.into.ensures ∙ ap of_pool (ap (λ x. x.1) (same_Err _ _ (sym c.in-Err.is ∙ refused wants)))),
       λ is. subst (IsWanting g.M.Atomic.meaning (Deliver c.args.receiver c.args.place) c.args.self.now) (same_Err _ _ is) (returns-in-Err-clause-full g c),
     )
+
+pub take-requires : goal.take-requires
+take-requires g c = omega (arith, c.if-receiver-len.false, c.len.ensures, c.self.inside.processes.ok.0, as_many_boxes c.self.invariant.0)

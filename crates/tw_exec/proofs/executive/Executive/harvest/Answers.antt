@@ -88,3 +88,6 @@ returns-in_err-committed-clause-exact g c =
     rw (p.1, p.2)
     (subst (λ e. AreExact g.M.Atomic.meaning (Harvest c.args.component) e (Err refused.OutOfMemory)) c.self.view_is
     (harvest_exact c.self.invariant.0 refused.OutOfMemory refl c.args.component (omega (arith, c.if-component-len.false, c.len.ensures, c.self.inside.processes.ok.0))))
+
+pub index_mut-column-requires : goal.index_mut-column-requires
+index_mut-column-requires g c = omega (arith, c.if-component-len.false, c.len.ensures, c.self.inside.processes.ok.0, c.self.inside.columns.ok.0, as_many_columns c.self.invariant.0)

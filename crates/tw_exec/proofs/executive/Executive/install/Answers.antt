@@ -1,4 +1,4 @@
-use Rattle.std.proofs.Common.{◌≡◌, ◌≤◌, Some, ap, sym, subst, ◌∙◌, arith}
+use Rattle.std.proofs.Common.{◌≡◌, ◌≤◌, Some, length, refl, ap, sym, subst, ◌∙◌, arith}
 use Rattle.std.specs.Arc.{arc_value}
 use Rattle.std.specs.Prelude.{slice_get, slice_set}
 use Rattle.std.proofs.lemmas.Option.{slice_get_read}
@@ -83,3 +83,9 @@ returns-clause-installed g c =
           ∙ ap (λ w. record { network = n; until = c.self.inside.until; world = w }) steps
           ∙ (λ i. record { network = (view i).network; until = (view i).until; world = replay (network_of m (view i).network) (view i).until (view i).world (steps_of_one run.start.component c.install.result.installed) });
     }
+
+pub returns-then-component-len-clause-no_such : goal.returns-then-component-len-clause-no_such
+returns-then-component-len-clause-no_such g c = (λ same. omega (arith, c.if-component-len.true, c.len.ensures, c.self.inside.processes.ok.0, as_many_columns c.self.invariant.0, columns_of_models c.self.invariant.0, ap (λ e. length e.network.models) c.self.view_is), λ past. refl)
+
+pub returns-clause-no_such : goal.returns-clause-no_such
+returns-clause-no_such g c = (λ same. absurd (cc), λ past. absurd (omega (arith, past, c.if-component-len.false, c.len.ensures, c.self.inside.processes.ok.0, as_many_columns c.self.invariant.0, columns_of_models c.self.invariant.0, ap (λ e. length e.network.models) c.self.view_is)))

@@ -1,7 +1,10 @@
-use Rattle.std.proofs.Common.{◌≡◌, ◌<◌, length, map, ap, sym, subst, ◌∙◌, arith, Ok}
+use Rattle.std.proofs.Common.{◌≡◌, ◌<◌, length, map, min, ap, sym, subst, ◌∙◌, arith, Ok}
 use Rattle.std.specs.List.{AllByRecursion as Each}
 use Rattle.std.proofs.lemmas.List.{length-map}
+use Rattle.tw_exec.specs.Rewinding.{greatest_count}
 use Rattle.tw_exec.specs.Running.{shown}
+use Rattle.tw_exec.proofs.Reasons.{is_known}
+use Rattle.tw_exec.proofs.Kept.{as_many_columns}
 use Rattle.tw_exec.proofs.Rewinds.{columns_rise, rewound_held, rewound_world, since, wrong}
 use Rattle.tw_fossils.specs.Columns.{IsRising}
 use Rattle.tw_theory.specs.Executive.{Undone}
@@ -45,3 +48,17 @@ returns-clause-done g c =
     ∙ ap (rewind (shown c.self.inside.processes.items c.self.inside.mail.boxes c.self.inside.columns.items c.self.inside.gvt)) (sym mark_is)
     ∙ rewound_world c.self.invariant.0 c.as_slice-stamps.result.now c.back_to_marks.new.processes.items same none c.back_to_marks.ensures.cut
     ∙ (λ i. (Ok (Undone (rewound_steps (mark_is i) (c.self.view_is i).world.processes)), new))
+
+pub any_committed-requires-clause-columns : goal.any_committed-requires-clause-columns
+any_committed-requires-clause-columns g c = omega (arith, c.as_slice-2.ensures.len, c.if-stamps-len.false, c.len.ensures, c.self.inside.processes.ok.0, c.self.inside.columns.ok.0, as_many_columns c.self.invariant.0)
+
+pub returns-clause-count : goal.returns-clause-count
+returns-clause-count g c =
+    let mark_is : c.as_slice-stamps.result.now ≡ c.args.mark.now = c.as_slice-stamps.ensures.value ∙ c.mark.view_is in
+    c.back_to_marks.ensures.count ∙ (λ i. min (rewound_steps (mark_is i) (c.self.view_is i).world.processes) greatest_count)
+
+pub returns-then-stamps-len-clause-known : goal.returns-then-stamps-len-clause-known
+returns-then-stamps-len-clause-known g c = is_known _
+
+pub returns-then-any_committed-clause-known : goal.returns-then-any_committed-clause-known
+returns-then-any_committed-clause-known g c = is_known _

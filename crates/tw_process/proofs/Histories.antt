@@ -1,5 +1,5 @@
 -- The last step of a history, made and taken back.
-use Rattle.std.proofs.Common.{◌≡◌, ◌≢◌, ℕ, suc, ◌+◌, ◌-◌, ◌<◌, ◌≤◌, List, [], ◌∷◌, ◌++◌, length, take, drop, Some, refl, sym, ap, subst, ◌∙◌, arith, length-append, append-nil, append_assoc, take-append-drop, length-take-le, length-drop, take_all}
+use Rattle.std.proofs.Common.{◌≡◌, ◌≢◌, ℕ, suc, ◌+◌, ◌-◌, ◌<◌, ◌≤◌, List, [], ◌∷◌, ◌++◌, length, take, drop, Some, true, false, refl, sym, ap, subst, ◌∙◌, arith, length-append, append-nil, append_assoc, take-append-drop, length-take-le, length-drop, take_all}
 use Rattle.std.proofs.lemmas.List.{map_push, take-append-le, drop-append-le}
 use Rattle.std.proofs.lemmas.Option.{same_Some}
 use Rattle.std.specs.Prelude.{slice_get, slice_index_or}
@@ -235,3 +235,8 @@ stood_before valid m floor s (x ∷ y ∷ steps) chain is =
     let low = chain.3.1 in
     let high = rest.0 in
     (omega (arith, low, high), rest)
+
+-- where there is no first or last step there is none
+pub no_steps : {X : Type 0} (xs : List X) (n : ℕ) → n ≡ length xs → (0 < n → false ≡ true) → xs ≡ []
+no_steps [] n is none = refl
+no_steps (x ∷ xs) n is none = let some = none (omega (arith, is)) in absurd (cc)

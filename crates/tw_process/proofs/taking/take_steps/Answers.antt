@@ -45,3 +45,18 @@ loop-step-preserved g c =
       room = omega (arith, done.room, ap length inv.counts, inv.counted, c.loop-step.taken.counts.ok.0);
       going = inv.going;
     }
+
+pub returns-in-Err-clause-within : goal.returns-in-Err-clause-within
+returns-in-Err-clause-within g c = omega (arith, ap length c.in-Err.ensures.none, c.loop-step.invariant.counted, c.loop-step-test.true)
+
+pub returns-in-Err-clause-short : goal.returns-in-Err-clause-short
+returns-in-Err-clause-short g c = omega (arith, ap length c.in-Err.ensures.none, c.loop-step.invariant.counted, c.loop-step-test.true)
+
+pub returns-in-Err-clause-room : goal.returns-in-Err-clause-room
+returns-in-Err-clause-room g c =
+    let counts = c.loop-step.taken.counts in
+    let kept = c.in-Err.ensures.kept (omega (arith, c.loop-step.invariant.room, c.loop-step.invariant.counted, counts.ok.0)) in
+    omega (arith, kept, ap length c.in-Err.ensures.none, counts.ok.0)
+
+pub returns-in-Err-clause-history : goal.returns-in-Err-clause-history
+returns-in-Err-clause-history g c = c.in-Err.ensures.history ∙ c.loop-step.invariant.history

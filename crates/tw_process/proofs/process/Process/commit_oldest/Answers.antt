@@ -5,6 +5,7 @@ use Rattle.tw_process.specs.History.{seen, shown, IsKeptBy}
 use Rattle.tw_lists.specs.Lists.{with_room, forgotten}
 use Rattle.tw_process.specs.Process.{oldest_of, with_spare, without_oldest}
 use Rattle.tw_process.proofs.Commits.{consumed_in, sent_in, stamp_small, committed}
+use Rattle.tw_process.proofs.Histories.{no_steps}
 use Rattle.tw_process.proofs.process.Process.commit_oldest.Given.{Over}
 use Rattle.tw_process.proofs.process.Process.commit_oldest.Goals.{In-Some}
 use Rattle.tw_process.proofs.process.Process.commit_oldest.Goals as goal
@@ -71,3 +72,8 @@ returns-clause-contents g c =
     (λ i. seen (arc_value inside.network) inside.component now inside.line inside.cancel (c.pack.ensures.number i + 1) c.pop_front.new.self.items (c.forget.ensures i))
     ∙ ap (λ h. with_spare (min n.room n.spare) (without_oldest (seen (arc_value inside.network) inside.component now inside.line inside.cancel inside.floor h inside.lists))) (sym (split g at))
     ∙ ap (λ p. with_spare (min n.room n.spare) (without_oldest p)) c.self.view_is
+
+pub returns-in_default-clause-value : goal.returns-in_default-clause-value
+returns-in_default-clause-value g c =
+    let inside = c.self.inside in
+    ap (λ h. oldest_of (shown h inside.lists.consumed inside.lists.sent)) (sym (no_steps inside.history.items _ inside.history.ok.0 c.in_default.ensures.variant.1)) ∙ ap (λ p. oldest_of p.process.history) c.self.view_is

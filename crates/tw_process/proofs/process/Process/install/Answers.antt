@@ -140,3 +140,16 @@ returns-then-not-stands_at_start-clause-installed g c =
       | then-len-eq0 w ↦ not_begun net r c.args.chain.cause c.args.self.now.process c.if-len-eq0.stop away (λ z. w.stop-is ∙ ap Ended w.cause.ensures) (λ some. absurd (omega (arith, some, c.len.ensures, w.if-len-eq0.true)))
       | else-len-eq0 w ↦ not_begun net r c.args.chain.cause c.args.self.now.process c.if-len-eq0.stop away (λ z. absurd (w.if-len-eq0.false (c.len.ensures ∙ z))) (λ some. w.stop-is)
     ]
+
+pub cut_back-steps-requires-clause-count : goal.cut_back-steps-requires-clause-count
+cut_back-steps-requires-clause-count g c =
+    let es = c.steps.result.now in
+    let counts = c.take_steps-counts.result.counts in
+    omega (arith, c.len-installed.ensures, counts.ok.0, c.take_steps-counts.ensures.within, length-map es (chain.shown {S = g.row.M-State.Denot} {R = g.row.M-Residue.Denot}), ap length c.steps.ensures)
+
+pub returns-clause-others : goal.returns-clause-others
+returns-clause-others g c =
+    let f = c.self.inside in
+    let now : Moment g.row.M-State.Denot = c.cut_back-steps.result.moment in
+    let new = seen (arc_value f.network) f.component now f.line f.cancel f.floor c.push_entries.new.history.items c.take_steps-counts.new.lists in
+    ap (λ (x : Held _ _). record x { process = new.process; spare = new.spare }) c.self.view_is

@@ -3,7 +3,7 @@ use Rattle.std.specs.Prelude.{slice_index_or}
 use Rattle.tw_theory.specs.Soundness.{AllBefore}
 use Rattle.tw_process.specs.History.{shown}
 use Rattle.tw_process.specs.Process.{last_stamp_of}
-use Rattle.tw_process.proofs.Histories.{last_shown, stood_before}
+use Rattle.tw_process.proofs.Histories.{last_shown, no_steps, stood_before}
 use Rattle.tw_process.proofs.process.Process.last_stamp.Given.{Over}
 use Rattle.tw_process.proofs.process.Process.last_stamp.Goals.{In-Some}
 use Rattle.tw_process.proofs.process.Process.last_stamp.Goals as goal
@@ -24,3 +24,8 @@ returns-in-Some-clause-latest g c =
     let kept = c.self.invariant.by in
     subst (λ p. AllBefore (c.in-Some.entry.now.step.done.stamp + 1) p.process.history) c.self.view_is
     (stood_before (g.M.Atomic.valid c.self.invariant.model) (g.M.Atomic.meaning c.self.invariant.model) inside.floor c.in-Some.entry.now.step.done.stamp (shown inside.history.items inside.lists.consumed inside.lists.sent) kept.stood (is_last g (goal.at.returns-in-Some-clause-latest g c).In-Some))
+
+pub returns-in-None-clause-value : goal.returns-in-None-clause-value
+returns-in-None-clause-value g c =
+    let inside = c.self.inside in
+    ap (λ h. last_stamp_of (shown h inside.lists.consumed inside.lists.sent)) (sym (no_steps inside.history.items _ inside.history.ok.0 c.in-None.ensures.variant.1)) ∙ ap (λ p. last_stamp_of p.process.history) c.self.view_is

@@ -1,13 +1,15 @@
 -- A text to which one part after another is added.
 use Rattle.std.proofs.Common.{◌≡◌, ◌∙◌, ◌++◌, [], ℕ, List, refl, sym, ap, append_assoc}
-use Rattle.std.specs.Prelude.{Option, Some, slice_get}
+use Rattle.std.specs.Prelude.{Option, Some, codes, slice_get}
 use Rattle.tw_atomic.specs.Atomic.{Meaning}
 use Rattle.tw_exec.specs.Running.{Running}
-use Rattle.tw_inspect.specs.Reports.{component_line, describe_text, description, messages_part, seen, seen_if_there, text_if}
+use Rattle.tw_inspect.specs.Reports.{component_line, describe_text, description, messages_part, seen, seen_if_there, stamps_part, text_if}
 use Rattle.tw_msgs.specs.declared.message.Item.{Item}
 use Rattle.tw_network.specs.Contents.{Contents}
-use Rattle.tw_theory.specs.Contents.{Process}
+use Rattle.tw_texts.specs.Texts.{time_text}
+use Rattle.tw_theory.specs.Contents.{Process, next}
 use Rattle.tw_theory.specs.Executive.{mail_of}
+use Rattle.tw_vtime.specs.Stamps.{stamp_text}
 
 -- one part more, after what was added before
 pub one_more : (old t new a b : List ℕ) → t ≡ old ++ a → new ≡ t ++ b → new ≡ old ++ (a ++ b)
@@ -28,6 +30,24 @@ one_line_more first lines more line t new p q is = q ∙ ap (λ l. l ++ line) p 
 -- a part that is made of a list, of an equal list
 pub part_of : {X : Type 0} (part : X → List ℕ) (old new : List ℕ) (x y : X) → new ≡ old ++ part x → x ≡ y → new ≡ old ++ part y
 part_of part old new x y p q = p ∙ ap (λ z. old ++ part z) q
+
+-- seven parts that were added at once, and one after them, are one part
+eight_parts : (old a b c d e f g h : List ℕ) → old ++ (a ++ (b ++ (c ++ (d ++ (e ++ (f ++ g)))))) ++ h ≡ old ++ (a ++ b ++ c ++ d ++ e ++ f ++ g ++ h)
+eight_parts old a b c d e f g h = simp append_assoc
+
+-- four stamps, as they are written
+abbrev stamps : ℕ → ℕ → ℕ → ℕ → List ℕ
+stamps line next_one due last = codes " line " ++ stamp_text line ++ codes " next " ++ stamp_text next_one ++ codes " due " ++ stamp_text due ++ codes " last " ++ time_text last
+
+-- three stamps that were added at once, and the last one after them, are the stamps of a component whose stamps they are
+pub stamps_of : {S : Type 0} (p : Process S) (old t new : List ℕ) (line next_one due last : ℕ)
+    → t ≡ old ++ (codes " line " ++ (stamp_text line ++ (codes " next " ++ (stamp_text next_one ++ (codes " due " ++ (stamp_text due ++ codes " last "))))))
+    → line ≡ p.line → next_one ≡ next p → due ≡ p.now.due → last ≡ p.now.last → new ≡ t ++ time_text last → new ≡ old ++ stamps_part p
+stamps_of p old t new line next_one due last first line_is next_is due_is last_is then_last =
+    then_last ∙ ap (λ l. l ++ time_text last) first
+    ∙ eight_parts old (codes " line ") (stamp_text line) (codes " next ") (stamp_text next_one) (codes " due ") (stamp_text due) (codes " last ") (time_text last)
+    ∙ ap (λ s. old ++ stamps s next_one due last) line_is ∙ ap (λ s. old ++ stamps p.line s due last) next_is
+    ∙ ap (λ s. old ++ stamps p.line (next p) s last) due_is ∙ ap (λ s. old ++ stamps p.line (next p) p.now.due s) last_is
 
 -- the description of a component that is there
 there : {M S : Type 0} (meaning : M → Meaning S) (names : List (List ℕ)) (mail : List Item) (a : Option (List ℕ)) (b : Option M) (c : Option (Process S)) (name : List ℕ) (model : M) (p : Process S)

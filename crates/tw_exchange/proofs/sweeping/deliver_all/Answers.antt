@@ -6,6 +6,7 @@ use Rattle.tw_theory.specs.Exchange.{deliveries}
 use Rattle.tw_theory.specs.Executive.{mail_of}
 use Rattle.tw_exchange.proofs.Idle.{less_but}
 use Rattle.tw_exchange.proofs.Marking.{fewer, standing}
+use Rattle.tw_exchange.proofs.PassByPass.{mail_count}
 use Rattle.tw_exchange.proofs.Skipping.{all_boxes, box_there, boxes_before, empty_boxes, no_boxes, same_box}
 use Rattle.tw_exchange.proofs.UnderWay.{cut_rest, finished, within}
 use Rattle.tw_exchange.specs.Agenda.{AllLate, IsLeast}
@@ -28,6 +29,12 @@ module _ (g : Over) (c : In-Some g) where
   left =
       subst (λ l. IsUnderWay g.M.Atomic.meaning (deliveries 0 c.args.executive.now.world.mail) l c.args.executive.now c.loop-receiver.executive)
       (empty_boxes c.in-Some.receiver c.loop-receiver.executive.world.mail none_before) c.loop-receiver.invariant.under
+
+pub deliver_box-requires-clause-near : goal.deliver_box-requires-clause-near
+deliver_box-requires-clause-near g c =
+    let here = (goal.at.deliver_box-requires-clause-near g c).In-Some in
+    subst (λ n. c.in-Some.receiver < n) (mail_count g.M.Atomic.meaning c.loop-receiver.executive c.loop-receiver.invariant.sound)
+    (box_there c.loop-receiver.executive.world.mail c.in-Some.field-0-0 c.in-Some.receiver (next_box g here))
 
 pub returns-in_err-deliver_box-clause-cut_short : goal.returns-in_err-deliver_box-clause-cut_short
 returns-in_err-deliver_box-clause-cut_short g c =

@@ -54,6 +54,12 @@ module _ (g : Over) (c : In-Some g) where
   cancels : Cancels c.loop-sender.invariant.sound.sound.cancel sender.0
   cancels = each-get (Cancels c.loop-sender.invariant.sound.sound.cancel) c.loop-sender.executive.world.processes c.in-Some.sender sender.0 sender.1 c.loop-sender.invariant.sound.sound.cancels
 
+pub post_one-requires-clause-near : goal.post_one-requires-clause-near
+post_one-requires-clause-near g c =
+    let here = (goal.at.post_one-requires-clause-near g c).In-Some in
+    let p = sender g here in
+    subst (λ n. c.in-Some.sender < n) (process_count g.M.Atomic.meaning c.loop-sender.executive c.loop-sender.invariant.sound) (slice_get_within c.loop-sender.executive.world.processes c.in-Some.sender p.0 p.1)
+
 pub returns-in_err-post_one-clause-cut_short : goal.returns-in_err-post_one-clause-cut_short
 returns-in_err-post_one-clause-cut_short g c =
     let here = (goal.at.returns-in_err-post_one-clause-cut_short g c).In-Some in

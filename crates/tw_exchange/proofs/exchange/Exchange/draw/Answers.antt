@@ -1,4 +1,5 @@
 use Rattle.std.proofs.Common.{◌≡◌, ◌⊎◌, ◌<◌, ◌≤◌, ℕ, Some, false, sym, ap, subst, ◌∙◌, true}
+use Rattle.std.proofs.lemmas.Option.{slice_get_within}
 use Rattle.std.specs.Prelude.{slice_get, slice_set}
 use Rattle.tw_exec.specs.Chains.{start_at}
 use Rattle.tw_theory.specs.Contents as Contents
@@ -27,6 +28,13 @@ same g c = ap (λ s. s.component) (started g c)
 
 pub returns-in_default-clause-none : goal.returns-in_default-clause-none
 returns-in_default-clause-none g c = λ _. c.next_before.ensures.none c.in_default.is
+
+pub take_out-requires : goal.take_out-requires
+take_out-requires g c =
+    let ps = c.self.inside.executive.world.processes in
+    let next = c.in-Some.ensures.next in
+    let near = slice_get_within ps c.in-Some.component next.process (ap (λ x. slice_get x.executive.world.processes c.in-Some.component) c.self.view_is ∙ next.at) in
+    subst (λ n. c.in-Some.component < n) (sym c.self.invariant.0.free.count) near
 
 pub invariant_of-self : goal.invariant_of-self
 invariant_of-self g c =

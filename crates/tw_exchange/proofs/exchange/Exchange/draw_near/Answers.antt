@@ -47,6 +47,13 @@ contents-requires g c =
       process_count g.M.Atomic.meaning e c.facts.ensures,
     )
 
+pub take_out-requires : goal.take_out-requires
+take_out-requires g c =
+    let ps = c.self.inside.executive.world.processes in
+    let next = c.in-Some.ensures.next in
+    let near = slice_get_within ps c.in-Some.component next.process (ap (λ x. slice_get x.executive.world.processes c.in-Some.component) c.self.view_is ∙ next.at) in
+    subst (λ n. c.in-Some.component < n) (sym c.self.invariant.0.free.count) near
+
 pub invariant_of-self : goal.invariant_of-self
 invariant_of-self g c =
     let kept = c.self.invariant.0 in

@@ -1,7 +1,7 @@
 use Rattle.std.proofs.Common.{◌≡◌, sym, ap, subst, ◌∙◌}
-use Rattle.std.specs.Prelude.{Err, IfOk, Ok, OnErr, Result}
+use Rattle.std.specs.Prelude.{Err, IfOk, Ok, OnErr, Result, slice_get}
 use Rattle.tw_actions.specs.declared.chain.Finished.{Finished}
-use Rattle.tw_atomic.specs.Atomic.{Meaning}
+use Rattle.tw_atomic.specs.Atomic.{AreAlike, Meaning}
 use Rattle.tw_exec.specs.Chains.{IsInstalledOn}
 use Rattle.tw_exec.specs.Running.{IsSoundly, Running}
 use Rattle.tw_network.specs.Contents.{network_of}
@@ -17,6 +17,12 @@ use Rattle.tw_exchange.specs.Exchanged.{IsExact, IsExactBut}
 use Rattle.tw_exchange.specs.Further.{IsFurther, reached}
 use Rattle.tw_exchange.specs.Queues.{AreMarkedBut, IsSameBut}
 use Rattle.tw_exchange.proofs.exchange.Exchange.finish.Goals as goal
+
+pub install-requires-clause-alike : goal.install-requires-clause-alike
+install-requires-clause-alike g c = λ m at.
+    let component = c.component-component.ensures ∙ ap (λ p. p.run.start.component) c.prepareds.view_is in
+    let there = (λ i. slice_get (sym c.self.view_is i).executive.network.models (sym component i)) ∙ at in
+    subst (λ p. AreAlike g.M.Atomic.meaning g.M.Atomic.undone m p.model) (sym c.prepareds.view_is) (c.requires.alike m there)
 
 pub free-requires : goal.free-requires
 free-requires g c =

@@ -1,12 +1,45 @@
-use Rattle.std.proofs.Common.{◌≡◌, ◌<◌, ap, ◌∙◌, length, arith}
+use Rattle.std.proofs.Common.{◌≡◌, ◌<◌, ap, refl, subst, sym, ◌∙◌, length, arith}
 use Rattle.std.specs.Prelude.{slice_get, slice_set}
 use Rattle.tw_theory.proofs.Elements.{present}
 use Rattle.tw_theory.specs.Executive.{mail_of}
 use Rattle.tw_exchange.proofs.Drawing.{if_there}
-use Rattle.tw_exchange.proofs.Marking.{marked_all, marked_next}
+use Rattle.tw_exchange.proofs.Marking.{marked_all, marked_next, none_marked}
 use Rattle.tw_exchange.proofs.PassByPass.{mail_count, process_count}
 use Rattle.tw_exchange.specs.Queues.{box_mark, post_mark}
 use Rattle.tw_exchange.proofs.queues.Queues.note_all.Goals as goal
+
+pub loop-component-init : goal.loop-component-init
+loop-component-init g c =
+    let e = c.args.executive.now in
+    let m = g.M.Atomic.meaning in
+    record {
+      marks = none_marked c.args.self.now e.world (c.requires.posting ∙ sym (process_count m e c.facts.ensures)) (c.requires.delivering ∙ sym (mail_count m e c.facts.ensures));
+      free = refl;
+    }
+
+pub note_post-requires-clause-near : goal.note_post-requires-clause-near
+note_post-requires-clause-near g c =
+    subst (λ n. c.loop-component.component < n) (c.len-component-end.ensures ∙ ap (λ x. length x.models) (c.deref.ensures ∙ c.network.ensures)) c.loop-component-test.true
+
+pub note_post-requires-clause-within : goal.note_post-requires-clause-within
+note_post-requires-clause-within g c =
+    let end = ap (λ x. length x.models) (c.deref.ensures ∙ c.network.ensures) in
+    let count = c.loop-component.invariant.marks.posting_count ∙ process_count g.M.Atomic.meaning c.args.executive.now c.facts.ensures in
+    subst (λ n. c.loop-component.component < n) (c.len-component-end.ensures ∙ end ∙ sym count) c.loop-component-test.true
+
+pub note_box-requires-clause-near : goal.note_box-requires-clause-near
+note_box-requires-clause-near g c =
+    subst (λ n. c.loop-component.component < n) (c.len-component-end.ensures ∙ ap (λ x. length x.models) (c.deref.ensures ∙ c.network.ensures)) c.loop-component-test.true
+
+pub note_box-requires-clause-within : goal.note_box-requires-clause-within
+note_box-requires-clause-within g c =
+    let end = ap (λ x. length x.models) (c.deref.ensures ∙ c.network.ensures) in
+    let count = ap length c.note_post.ensures.delivering ∙ c.loop-component.invariant.marks.delivering_count ∙ mail_count g.M.Atomic.meaning c.args.executive.now c.facts.ensures in
+    subst (λ n. c.loop-component.component < n) (c.len-component-end.ensures ∙ end ∙ sym count) c.loop-component-test.true
+
+pub note_standing-requires : goal.note_standing-requires
+note_standing-requires g c =
+    subst (λ n. c.loop-component.component < n) (c.len-component-end.ensures ∙ ap (λ x. length x.models) (c.deref.ensures ∙ c.network.ensures)) c.loop-component-test.true
 
 pub loop-component-preserved : goal.loop-component-preserved
 loop-component-preserved g c =

@@ -1,4 +1,5 @@
 use Rattle.std.proofs.Common.{sym, ap, ◌∙◌, refl, subst}
+use Rattle.std.proofs.lemmas.Result.{IfOk-from_err}
 use Rattle.std.specs.Vec.Iter.{into_iter_items}
 use Rattle.tw_network.specs.Contents.{named}
 use Rattle.tw_network.specs.Faults.{components_fault}
@@ -30,3 +31,21 @@ returns-clause-models g c = models_taken g.M.Atomic.meaning c.args.components.it
 
 pub returns-clause-ok : goal.returns-clause-ok
 returns-clause-ok g c = none_at_fault g.M.Atomic.meaning c.args.components.items c.loop-component.yielded (into_iter_items c.loop-component.component-iterator) c.loop-component.names.keys c.loop-component.models.items (sym c.loop-component.component-iterator.rest.ok.0 ∙ c.in-None.ensures.steps.0) c.loop-component.invariant.2
+
+pub returns-in_err-models-clause-names : goal.returns-in_err-models-clause-names
+returns-in_err-models-clause-names g c = IfOk-from_err _ _ c.from_residual.ensures.0
+
+pub returns-in_err-models-clause-models : goal.returns-in_err-models-clause-models
+returns-in_err-models-clause-models g c = IfOk-from_err _ _ c.from_residual.ensures.0
+
+pub returns-in_err-models-clause-ok : goal.returns-in_err-models-clause-ok
+returns-in_err-models-clause-ok g c = IfOk-from_err _ _ c.from_residual.ensures.0
+
+pub returns-in_err-take_component-clause-names : goal.returns-in_err-take_component-clause-names
+returns-in_err-take_component-clause-names g c = IfOk-from_err _ _ c.from_residual-in_err-take_component.ensures.0
+
+pub returns-in_err-take_component-clause-models : goal.returns-in_err-take_component-clause-models
+returns-in_err-take_component-clause-models g c = IfOk-from_err _ _ c.from_residual-in_err-take_component.ensures.0
+
+pub returns-in_err-take_component-clause-ok : goal.returns-in_err-take_component-clause-ok
+returns-in_err-take_component-clause-ok g c = IfOk-from_err _ _ c.from_residual-in_err-take_component.ensures.0

@@ -1,11 +1,19 @@
-use Rattle.std.proofs.Common.{◌≡◌, length, map, string_bytes, refl, sym, ap, ◌∙◌, None, Some}
-use Rattle.tw_nested.specs.Tree.{parts_of}
-use Rattle.tw_network.specs.TreeFaults.{IsTreeFault}
+use Rattle.std.proofs.Common.{◌≡◌, ◌≤◌, ◌+◌, List, length, map, string_bytes, true, nat_le, refl, sym, ap, ◌∙◌, subst, None, Some}
+use Rattle.std.proofs.lemmas.Bool.{and_parts, leb-true}
+use Rattle.tw_nested.specs.Tree.{Parts, Link, parts_of, models_in, levels, coupled_count, link_count}
+use Rattle.tw_network.specs.TreeFaults.{IsTreeFault, is_few}
 use Rattle.tw_network.specs.Refused.{flat_fault}
 use Rattle.tw_network.proofs.FirstFault.{inputs_fault_of}
 use Rattle.tw_network.proofs.TreeSound.{tree_whole, tree_linked, few_parts, tree_names_distinct, couplings_sound}
 use Rattle.tw_network.proofs.FirstTreeFault.{error_on, no_memory, counts_few, sound_tree, tree_fault_of_couplings, tree_fault_of_inputs}
 use Rattle.tw_network.proofs.network.Network.of_sound_tree.Goals as goal
+
+-- in a tree of few parts there are few atoms
+few_models : {M : Type 0} (parts : Parts M) (links : List Link) → is_few parts links ≡ true → length (models_in parts) ≤ 1024
+few_models parts links few =
+    let parts_few = (and_parts _ (nat_le (length links + link_count parts) 8192) few).0 in
+    let atoms_few = (and_parts _ (nat_le (coupled_count parts) 1024) parts_few).0 in
+    leb-true (length (models_in parts)) 1024 (and_parts (nat_le (levels parts) 16) _ atoms_few).1
 
 pub flatten-requires-clause-few : goal.flatten-requires-clause-few
 flatten-requires-clause-few g c = (few_parts (parts_of c.args.root.parts.items) c.args.root.couplings.items (counts_few (parts_of c.args.root.parts.items) c.args.root.couplings.items (length c.args.inputs.items) (sound_tree g.M.Atomic.meaning (parts_of c.args.root.parts.items) c.args.root.couplings.items c.args.inputs.items c.args.micro_limit c.requires.sound).0).0).0
@@ -66,3 +74,9 @@ returns-clause-flattened g c =
       inputs = refl;
       micro_limit = refl;
     }
+
+pub new-requires-clause-few : goal.new-requires-clause-few
+new-requires-clause-few g c =
+    let few = counts_few (parts_of c.args.root.parts.items) c.args.root.couplings.items (length c.args.inputs.items) (sound_tree g.M.Atomic.meaning (parts_of c.args.root.parts.items) c.args.root.couplings.items c.args.inputs.items c.args.micro_limit c.requires.sound).0 in
+    let count = c.len-count.ensures ∙ c.in_ok-names.field-0.models.ok.0 ∙ ap length c.in_ok-names.ensures.models in
+    subst (λ n. n ≤ 1024) (sym count) (few_models (parts_of c.args.root.parts.items) c.args.root.couplings.items few.0)

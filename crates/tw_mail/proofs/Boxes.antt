@@ -8,7 +8,7 @@ use Rattle.tw_msgs.specs.declared.message.Item.{Item}
 use Rattle.tw_mail.specs.Mail.{Held, Mail}
 use Rattle.tw_theory.specs.Executive.{mail_of, posted}
 
-box_at : (boxes : List Held) (q : ℕ) (old : Held) → slice_get boxes q ≡ Some old → mail_of (map (λ x. x.items) boxes) q ≡ old.items
+pub box_at : (boxes : List Held) (q : ℕ) (old : Held) → slice_get boxes q ≡ Some old → mail_of (map (λ x. x.items) boxes) q ≡ old.items
 box_at boxes q old at = get_or_from_slice_get (map (λ x. x.items) boxes) q old.items [] (slice_get-map (λ x. x.items) boxes q ∙ ap (option_map (λ (x : Held). x.items)) at)
 
 abbrev pub seen : List (List Item) → Option (ℕ × ℕ) → Mail

@@ -1,8 +1,10 @@
 -- One component after another.
-use Rattle.std.proofs.Common.{◌≡◌, ◌+◌, ◌<◌, ◌∙◌, ◌++◌, ◌∷◌, [], ℕ, refl, ap, sym, subst, arith, length, take, drop, slice_set, slice_index, slice_index_or, Some, append-nil, replicate}
+use Rattle.std.proofs.Common.{◌≡◌, ◌+◌, ◌*◌, ◌<◌, ◌∙◌, ◌++◌, ◌∷◌, [], ℕ, refl, ap, sym, subst, arith, length, take, drop, slice_set, slice_index, slice_index_or, Some, append-nil, replicate}
 use Rattle.std.specs.List.{AllByRecursion as Each}
 use Rattle.std.proofs.lemmas.List.{take_all, drop_all, set-get_or}
-use Rattle.std.proofs.lemmas.Option.{slice_get-get_or, slice_get_within}
+use Rattle.std.proofs.lemmas.Nat.{mul-le}
+use Rattle.std.proofs.lemmas.Option.{none-some, slice_get-get_or, slice_get_within}
+use Rattle.std.proofs.lemmas.Result.{IfOk-from_err}
 use Rattle.tw_atomic.specs.Atomic.{FitsBag}
 use Rattle.tw_msgs.specs.declared.record.Record.{Record}
 use Rattle.tw_network.specs.Contents.{network_of}
@@ -22,6 +24,10 @@ use Rattle.tw_rounds.proofs.turns.make_turns.Goals.{in-Stays, in-Moves+in_ok-tak
 -- a place in a list is one in each that is as long
 as_long : (i n m : ℕ) → i < n → m ≡ n → i < m
 as_long i n m l e = subst (λ k. i < k) (sym e) l
+
+-- where the elements of a list of this size lie is a small number
+offset_small : (i n size : ℕ) → i < n → n * size < 9223372036854775808 → i * size < 18446744073709551616
+offset_small i n size l small = let near = mul-le i size n size (omega arith) (omega arith) in omega arith
 
 -- the component in turn, and where the sweep stands before it
 module _ (g : _) (c : In-loop-component g) where
@@ -254,3 +260,71 @@ returns-clause-bags g c _ =
     all_written c.args.bench.now.arrivals.bags bags (size ∙ ap length c.as_mut_slice-bags.ensures.value)
     ∙ all_empty bags (λ d bag e. all.empty d bag (let l = slice_get_within bags d bag e in omega (arith, l, size, whole)) e)
     ∙ ap (λ n. replicate n []) (size ∙ ap length c.as_mut_slice-bags.ensures.value ∙ c.requires.bags)
+
+-- a call that failed
+pub returns-in_err-take_turn-clause-stop : goal.returns-in_err-take_turn-clause-stop
+returns-in_err-take_turn-clause-stop g c = IfOk-from_err _ _ c.from_residual.ensures.0
+
+pub returns-in_err-take_turn-clause-received : goal.returns-in_err-take_turn-clause-received
+returns-in_err-take_turn-clause-received g c = IfOk-from_err _ _ c.from_residual.ensures.0
+
+pub returns-in_err-take_turn-clause-moments : goal.returns-in_err-take_turn-clause-moments
+returns-in_err-take_turn-clause-moments g c = IfOk-from_err _ _ c.from_residual.ensures.0
+
+pub returns-in_err-take_turn-clause-standing : goal.returns-in_err-take_turn-clause-standing
+returns-in_err-take_turn-clause-standing g c = IfOk-from_err _ _ c.from_residual.ensures.0
+
+pub returns-in_err-take_turn-clause-bags : goal.returns-in_err-take_turn-clause-bags
+returns-in_err-take_turn-clause-bags g c = IfOk-from_err _ _ c.from_residual.ensures.0
+
+pub returns-in_err-take_turn-clause-agenda : goal.returns-in_err-take_turn-clause-agenda
+returns-in_err-take_turn-clause-agenda g c = IfOk-from_err _ _ c.from_residual.ensures.0
+
+pub returns-in_err-take-in-Moves-clause-stop : goal.returns-in_err-take-in-Moves-clause-stop
+returns-in_err-take-in-Moves-clause-stop g c = IfOk-from_err _ _ c.from_residual-in_err-take-in-Moves.ensures.0
+
+pub returns-in_err-take-in-Moves-clause-received : goal.returns-in_err-take-in-Moves-clause-received
+returns-in_err-take-in-Moves-clause-received g c = IfOk-from_err _ _ c.from_residual-in_err-take-in-Moves.ensures.0
+
+pub returns-in_err-take-in-Moves-clause-moments : goal.returns-in_err-take-in-Moves-clause-moments
+returns-in_err-take-in-Moves-clause-moments g c = IfOk-from_err _ _ c.from_residual-in_err-take-in-Moves.ensures.0
+
+pub returns-in_err-take-in-Moves-clause-standing : goal.returns-in_err-take-in-Moves-clause-standing
+returns-in_err-take-in-Moves-clause-standing g c = IfOk-from_err _ _ c.from_residual-in_err-take-in-Moves.ensures.0
+
+pub returns-in_err-take-in-Moves-clause-bags : goal.returns-in_err-take-in-Moves-clause-bags
+returns-in_err-take-in-Moves-clause-bags g c = IfOk-from_err _ _ c.from_residual-in_err-take-in-Moves.ensures.0
+
+pub returns-in_err-take-in-Moves-clause-agenda : goal.returns-in_err-take-in-Moves-clause-agenda
+returns-in_err-take-in-Moves-clause-agenda g c = IfOk-from_err _ _ c.from_residual-in_err-take-in-Moves.ensures.0
+
+-- nothing more is said where a limit was met
+pub returns-in-Stops-clause-received : goal.returns-in-Stops-clause-received
+returns-in-Stops-clause-received g c some = absurd (none-some _ (sym some))
+
+pub returns-in-Stops-clause-moments : goal.returns-in-Stops-clause-moments
+returns-in-Stops-clause-moments g c some = absurd (none-some _ (sym some))
+
+pub returns-in-Stops-clause-standing : goal.returns-in-Stops-clause-standing
+returns-in-Stops-clause-standing g c some = absurd (none-some _ (sym some))
+
+pub returns-in-Stops-clause-bags : goal.returns-in-Stops-clause-bags
+returns-in-Stops-clause-bags g c some = absurd (none-some _ (sym some))
+
+pub returns-in-Stops-clause-agenda : goal.returns-in-Stops-clause-agenda
+returns-in-Stops-clause-agenda g c some = absurd (none-some _ (sym some))
+
+pub take_turn-requires-clause-time : goal.take_turn-requires-clause-time
+take_turn-requires-clause-time g c = c.requires.time
+
+pub take_turn-requires-clause-even : goal.take_turn-requires-clause-even
+take_turn-requires-clause-even g c = c.requires.even
+
+pub returns-clause-agenda : goal.returns-clause-agenda
+returns-clause-agenda g c _ = c.loop-component.invariant.agenda
+
+pub offset_bounds-bags-component : goal.offset_bounds-bags-component
+offset_bounds-bags-component g c = let within = bag_within g (goal.at.offset_bounds-bags-component g c).In-loop-component in omega (arith, within)
+
+pub offset_bounds-moments-component : goal.offset_bounds-moments-component
+offset_bounds-moments-component g c = record { fits = offset_small _ _ _ (here_within g (goal.at.offset_bounds-moments-component g c).In-loop-component) c.well_formed.1.1.0.1 }

@@ -33,3 +33,13 @@ loop-preserved g c =
           let none : None ≡ Some (oldest_at h k less).step.entry = sym w.in_default.is ∙ value in
           absurd (cc none)
     ]
+
+pub returns-clause-process : goal.returns-clause-process
+returns-clause-process g c =
+    let all : c.loop.counter ≡ c.args.count = omega (arith, c.loop.auto.counter-end, c.loop-test.false) in
+    c.loop.invariant.process ∙ ap (λ k. with_spare c.loop.process.spare (without_first k c.args.process.now)) all
+
+pub returns-clause-records : goal.returns-clause-records
+returns-clause-records g c =
+    let all : c.loop.counter ≡ c.args.count = omega (arith, c.loop.auto.counter-end, c.loop-test.false) in
+    c.loop.invariant.column ∙ ap (λ k. c.args.records.now.items ++ records_of (take k c.args.process.now.process.history)) all

@@ -1,8 +1,9 @@
 -- The first record of the column that comes next is taken; it has one.
 use Rattle.std.proofs.Common.{map, slice_set, vec_len, vec_capacity, refl, sym, ap, subst, ◌∙◌, arith}
-use Rattle.std.proofs.lemmas.List.{nil_from_length}
+use Rattle.std.proofs.lemmas.List.{length-map, nil_from_length}
+use Rattle.std.proofs.lemmas.Option.{slice_get_within}
 use Rattle.tw_fossils.specs.Merging.{head_before}
-use Rattle.tw_fossils.proofs.Taking.{shown_next, shown_some, take_one, has_room, IsNext, Taken}
+use Rattle.tw_fossils.proofs.Taking.{shown_next, shown_some, take_one, has_room, is_near, IsNext, Taken}
 use Rattle.tw_fossils.proofs.merging.move_first.Goals.{After-give_back, In-Some, In_default}
 use Rattle.tw_fossils.proofs.merging.move_first.Goals as goal
 
@@ -48,3 +49,11 @@ returns-in_default-clause-fewer c = absurd (never_there (goal.at.returns-in_defa
 
 pub returns-in_default-clause-merging : goal.returns-in_default-clause-merging
 returns-in_default-clause-merging c = absurd (never_there (goal.at.returns-in_default-clause-merging c).In_default)
+
+pub index_mut-column-requires : goal.index_mut-column-requires
+index_mut-column-requires c =
+    let items = c.args.left.now.items in
+    omega (arith, is_near c.args.line (map (λ rs. rs.items) items) c.args.heads.now.times c.requires.first.0 c.args.next c.requires.ready.heads_are c.requires.first.1, length-map items (λ rs. rs.items), c.args.left.now.ok.0)
+
+pub set-requires : goal.set-requires
+set-requires c = slice_get_within c.args.heads.now.times c.args.next c.requires.first.0 c.requires.first.1.at

@@ -1,7 +1,6 @@
-use Rattle.std.proofs.Common.{◌≡◌, ℕ, ◌<◌, ◌≤◌, ◌*◌, ◌/◌, ◌∙◌, List, length, inl, sym, ap, arith, slice_index_or, true, false, true≢false}
-use Rattle.tw_nested.specs.Flat.{Coupling, IsCollected, IsFlatSet}
+use Rattle.std.proofs.Common.{◌≡◌, ◌<◌, ◌*◌, ◌/◌, ◌∙◌, sym, ap, arith, slice_index_or, true, false, true≢false}
 use Rattle.tw_nested.specs.Reach.{Edge}
-use Rattle.tw_nested.proofs.Collecting.{no_row}
+use Rattle.tw_nested.proofs.Collecting.{all_collected, no_row}
 use Rattle.std.proofs.lemmas.List.Elements.{All-contains}
 use Rattle.tw_nested.proofs.Passes.{unseen_by_read}
 use Rattle.tw_nested.proofs.collect.flat_couplings.Goals as goal
@@ -22,15 +21,6 @@ loop-from-preserved c = elim c.if-index.branch [
 
 pub collect-requires-clause-seen : goal.collect-requires-clause-seen
 collect-requires-clause-seen c v below = rw (c.as_slice.ensures.value, ← c.out_of-start.ensures) (c.in_ok-seen.ensures.exact v below)
-
--- after the last port of the atoms
-all_collected : (count : ℕ) (edges : List Edge) (atoms : List ℕ) (flat : List Coupling) (from : ℕ) → 16 * length atoms ≤ from → IsCollected count edges atoms flat from 0 → IsFlatSet count edges atoms flat
-all_collected count edges atoms flat from past s = record {
-  sound = s.sound;
-  whole = λ k is. s.whole k is (inl (let part = is.source in let port = is.source_port in omega arith));
-  once = s.once;
-  few = s.few;
-}
 
 pub returns-clause-ok : goal.returns-clause-ok
 returns-clause-ok c = all_collected c.args.count c.args.edges.now c.args.atoms.now c.loop-from.flat.items c.loop-from.from c.loop-from-test.false c.loop-from.invariant

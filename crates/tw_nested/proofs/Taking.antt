@@ -1,5 +1,5 @@
 -- Taking parts into tables, one by one.
-use Rattle.std.proofs.Common.{◌≡◌, ℕ, ◌+◌, List, [], ◌∷◌, ◌++◌, map, string_bytes, refl, sym, ap, subst, ◌∙◌, arith, append_assoc, suc, length, String, Result, Ok, Err}
+use Rattle.std.proofs.Common.{◌≡◌, ℕ, ◌+◌, ◌<◌, ◌≤◌, List, [], ◌∷◌, ◌++◌, map, string_bytes, refl, sym, ap, subst, ◌∙◌, arith, append_assoc, suc, length, String, Result, Ok, Err}
 use Rattle.std.specs.Result.{OnOk}
 use Rattle.std.proofs.lemmas.List.{append-nil, map-append}
 use Rattle.std.specs.declared.alloc.Global.{Global}
@@ -17,6 +17,7 @@ use Rattle.tw_nested.proofs.TreeViews.{part_view-atom, part_view-coupled}
 -- what stands in the tables, and the parts still to come, are together all
 pub record StillTo {M : Type 0} (whole : Parts M) (prefix : List ℕ) (before now : Tables M) (ps : List ℕ) (rest : Parts M) : Type 0 where
   pub count : before.count + size whole ≡ now.count + size rest
+  pub more : before.count ≤ now.count
   pub names : map string_bytes before.names.items ++ flat_names prefix whole ≡ map string_bytes now.names.items ++ flat_names prefix rest
   pub models : before.models.items ++ models_in whole ≡ now.models.items ++ models_in rest
   pub atoms : before.atoms.items ++ atoms_from before.count whole ≡ now.atoms.items ++ atoms_from now.count rest
@@ -76,6 +77,7 @@ module _ {M : Type 0} (whole : Parts M) (prefix : List ℕ) (before now : Tables
       let f = first name rest part in
       record {
         count = let e = s.count in let g = f.count in let h = t.count in omega (arith, e, g, h);
+        more = let e = s.more in let h = t.count in omega (arith, e, h);
         names = s.names ∙ ap (λ l. map string_bytes now.names.items ++ l) (f.names prefix)
             ∙ sym (append_assoc (map string_bytes now.names.items) (flat_names prefix one) (flat_names prefix rest)) ∙ ap (λ l. l ++ flat_names prefix rest) (sym t.names);
         models = s.models ∙ ap (λ l. now.models.items ++ l) f.models
@@ -87,6 +89,10 @@ module _ {M : Type 0} (whole : Parts M) (prefix : List ℕ) (before now : Tables
         parts = s.parts ∙ ap (λ l. ps ++ l) (f.parts now.count)
             ∙ sym (append_assoc ps (now.count ∷ []) (numbers (now.count + size one) rest)) ∙ ap (λ n. (ps ++ now.count ∷ []) ++ numbers n rest) (sym t.count);
       }
+
+  -- the part that comes next and what is in it are not too many
+  pub fits_next : before.count + size whole < 4096 → now.count + size (part_view {M = M} part name no_parts) < 4096
+  fits_next few = let e = s.count in let g = (first name rest part).count in omega (arith, e, g, few)
 
 -- ---- after the last part
 
@@ -146,3 +152,12 @@ module _ {M : Type 0} (prefix name : List ℕ) (part : Part M) (before after : T
         atoms = ae ∙ ap (λ l. before.atoms.items ++ l) (sym (append-nil (atoms_from (before.count + 1) inner)));
         coupled = ke ∙ append_assoc (map model_of before.coupled.items) (coupled_from (before.count + 1) inner) (model_at before.count (before.count + 1) inner n.couplings.items ∷ []);
       })
+
+-- ---- what is in a part
+
+-- a coupled part is counted before what is in it
+pub fits_within : {M : Type 0} (part : Part M) (name : List ℕ) (inner : Nested M) (count : ℕ) → part ≡ part_type.Coupled inner → count + size (part_view {M = M} part name no_parts) < 4096 → count + 1 + size (parts_of {M = M} inner.parts.items) < 4096
+fits_within {M} part name inner count is few =
+    let same : size (part_view {M = M} part name no_parts) ≡ suc (size (parts_of {M = M} inner.parts.items) + 0) =
+    ap (λ (q : Part M). size (part_view {M = M} q name no_parts)) is ∙ ap (λ (v : List ℕ → Parts M → Parts M). size (v name no_parts)) (part_view-coupled {M = M} inner) in
+    omega (arith, same, few)

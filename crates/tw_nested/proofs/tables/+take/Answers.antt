@@ -1,8 +1,8 @@
-use Rattle.std.proofs.Common.{◌++◌, ◌∷◌, [], map, ap, ◌∙◌, refl, sym, append_assoc, string_bytes}
+use Rattle.std.proofs.Common.{◌++◌, ◌∷◌, [], map, ap, ◌∙◌, refl, rules, sym, arith, append_assoc, string_bytes}
 use Rattle.std.specs.Vec.Iter.{into_iter_items}
 use Rattle.std.proofs.lemmas.List.{map-append}
 use Rattle.tw_nested.specs.Tree.{parts_of}
-use Rattle.tw_nested.proofs.Taking.{after_part, all_coupled, all_taken, taken_atom, taken_coupled}
+use Rattle.tw_nested.proofs.Taking.{after_part, all_coupled, all_taken, fits_next, fits_within, taken_atom, taken_coupled}
 use Rattle.tw_nested.proofs.tables.+take.Goals as goal
 
 pub take-loop-name-preserved : goal.take-loop-name-preserved
@@ -41,3 +41,21 @@ pub take_part-returns-in_ok-prefix-in-Coupled-clause-taken : goal.take_part-retu
 take_part-returns-in_ok-prefix-in-Coupled-clause-taken g t c =
     taken_coupled c.args.prefix.now c.args.name.now c.args.part c.args.tables.now c.take.new.tables c.in-Coupled.inner c.in-Coupled.is c.take.result
     (rw (c.as_str.ensures.value, c.in_ok-prefix-in-Coupled.ensures) at c.take.ensures.names) c.take.ensures.count c.take.ensures.models c.take.ensures.atoms c.take.ensures.coupled
+
+pub take-take_part-requires : goal.take-take_part-requires
+take-take_part-requires g t c κs within =
+    let s = rw c.in-Some.ensures.steps.0 at c.loop-name.invariant.3 in
+    let whole = parts_of c.args.nested.parts.items in
+    let more = s.more in let fits = c.requires.1.1.1 in (
+      omega (arith, more, fits, c.requires.1.0),
+      (
+        search rules,
+        rw c.as_str.ensures.value
+            (fits_next whole c.args.prefix.now c.args.tables.now c.loop-name.tables c.loop-name.parts.items c.in-Some.part (string_bytes c.in-Some.name) _ s c.requires.1.1.1),
+      ),
+    )
+
+pub take_part-take-requires : goal.take_part-take-requires
+take_part-take-requires g t c κs within =
+    let fits = fits_within c.args.part c.args.name.now c.in-Coupled.inner c.args.tables.now.count c.in-Coupled.is c.requires.1.1.1 in
+    (omega (arith, fits, c.requires.1.0), (search rules, fits))

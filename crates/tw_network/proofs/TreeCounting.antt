@@ -1,9 +1,12 @@
 -- Counting the parts of a model one by one.
-use Rattle.std.proofs.Common.{◌≡◌, ℕ, ◌+◌, ◌<◌, ◌≤◌, List, [], length, sym, ap, ◌∙◌, arith, length-append, drop, slice_index_or, subst, String, max, Option, Some, None, IfNone}
+use Rattle.std.proofs.Common.{◌≡◌, ◌≢◌, ℕ, ◌+◌, ◌-◌, ◌<◌, ◌≤◌, List, [], length, sym, ap, ◌∙◌, arith, length-append, drop, slice_index_or, subst, String, max, Option, Some, None, IfNone}
 use Rattle.std.specs.declared.alloc.Global.{Global}
 use Rattle.std.proofs.lemmas.List.{append-nil, at_drop_all}
-use Rattle.tw_nested.specs.declared.tree.Part.{Part}
-use Rattle.tw_nested.specs.Tree.{Parts, Link, no_parts, coupled, levels, coupled_count, link_count, models_in, parts_of, part_view}
+use Rattle.tw_nested.specs.declared.tree.Nested.{Nested}
+use Rattle.tw_nested.specs.declared.tree.Part.{Part, Atom, Coupled, roll-Part, out-Part, fold-roll-Part, roll-out-Part}
+use Rattle.tw_nested.specs.declared.tree.Part.TheOpen.{Part-F}
+use Rattle.tw_nested.specs.Tree.{Parts, Link, no_parts, atom, coupled, levels, coupled_count, link_count, models_in, parts_of, part_view, part_step, nested_step}
+use Rattle.tw_nested.proofs.TreeViews.{part_view-atom, part_view-coupled}
 use Rattle.tw_network.specs.declared.counts.Counts.{Counts}
 use Rattle.tw_network.specs.Counts.{AreFewCounts, FitsAfter, IsCounted}
 use Rattle.tw_network.proofs.FirstPart.{part_at}
@@ -20,6 +23,60 @@ pub record StillCounts {M : Type 0} (room : ℕ) (before now : Counts) (whole : 
 pub if_none : {A : Type 0} (r : Option A) (P : Type 0) → P → IfNone r P
 if_none (Some x) P at = tt
 if_none None P at = at
+
+pub if_none_more : {A P Q : Type 0} (r : Option A) → (P → Q) → IfNone r P → IfNone r Q
+if_none_more (Some x) more at = tt
+if_none_more None more at = more at
+
+-- ---- of one part
+
+models_alone : {M : Type 0} (inner : Parts M) (links : List Link) → length (models_in (coupled [] inner links no_parts)) ≡ length (models_in inner)
+models_alone {M} inner links = ap (λ (l : List M). length l) (append-nil (models_in inner))
+
+module _ {M : Type 0} (part : Part M) where
+  pub as_atom : (m : M) → part ≡ Atom m → part_view {M = M} part [] no_parts ≡ atom [] m no_parts
+  as_atom m is =
+      ap (λ (q : Part M). part_view {M = M} q [] no_parts) is
+      ∙ ap (λ (v : List ℕ → Parts M → Parts M). v [] no_parts) (part_view-atom {M = M} m)
+
+  pub as_coupled : (n : Nested M) → part ≡ Coupled n → part_view {M = M} part [] no_parts ≡ coupled [] (parts_of {M = M} n.parts.items) n.couplings.items no_parts
+  as_coupled n is =
+      ap (λ (q : Part M). part_view {M = M} q [] no_parts) is
+      ∙ ap (λ (v : List ℕ → Parts M → Parts M). v [] no_parts) (part_view-coupled {M = M} n)
+
+  -- it is a level
+  pub one_level : 1 ≤ levels (part_view {M = M} part [] no_parts)
+  one_level = subst (λ (q : Part M). 1 ≤ levels (part_view {M = M} q [] no_parts)) (roll-out-Part M part) (go (out-Part M part))
+    where
+      go : (d : Part-F M (Part M) (Nested M)) → 1 ≤ levels (part_view {M = M} (roll-Part M d) [] no_parts)
+      go (Part-F.Atom m) = subst (λ (v : List ℕ → Parts M → Parts M). 1 ≤ levels (v [] no_parts)) (sym (fold-roll-Part M (List ℕ → Parts M → Parts M) (Parts M × List Link) part_step nested_step (Part-F.Atom m))) (omega arith)
+      go (Part-F.Coupled n) = subst (λ (v : List ℕ → Parts M → Parts M). 1 ≤ levels (v [] no_parts)) (sym (fold-roll-Part M (List ℕ → Parts M → Parts M) (Parts M × List Link) part_step nested_step (Part-F.Coupled n))) (omega arith)
+
+module _ {M : Type 0} (room : ℕ) (before : Counts) (few : AreFewCounts before) (deep : room ≢ 0) where
+  pub atom_fits : (m : M) → before.atoms ≢ 1024 → FitsAfter room before (atom [] m no_parts) 0
+  atom_fits m less =
+      let a = few.atoms in let c = few.coupled in let l = few.couplings in
+      record { levels = omega (arith, deep); atoms = omega (arith, a, less); coupled = omega (arith, c); couplings = omega (arith, l) }
+
+  module _ (inner : Parts M) (links : List Link) where
+    -- one coupled model more, and then what is in it
+    pub inner_fits : FitsAfter (room - 1) (record { atoms = before.atoms; coupled = before.coupled + 1; couplings = before.couplings }) inner (length links) → FitsAfter room before (coupled [] inner links no_parts) 0
+    inner_fits f =
+        let d = f.levels in let a = f.atoms in let c = f.coupled in let l = f.couplings in
+        let whole = models_alone inner links in
+        record { levels = omega (arith, d, deep); atoms = omega (arith, a, whole); coupled = omega (arith, c); couplings = omega (arith, l) }
+
+    pub fits_inner : FitsAfter room before (coupled [] inner links no_parts) 0 → FitsAfter (room - 1) (record { atoms = before.atoms; coupled = before.coupled + 1; couplings = before.couplings }) inner (length links)
+    fits_inner f =
+        let d = f.levels in let a = f.atoms in let c = f.coupled in let l = f.couplings in
+        let whole = models_alone inner links in
+        record { levels = omega (arith, d, deep); atoms = omega (arith, a, whole); coupled = omega (arith, c); couplings = omega (arith, l) }
+
+pub inner_counted : {M : Type 0} (before after : Counts) (inner : Parts M) (links : List Link) → IsCounted (record { atoms = before.atoms; coupled = before.coupled + 1; couplings = before.couplings }) after inner (length links) → IsCounted before after (coupled [] inner links no_parts) 0
+inner_counted before after inner links c =
+    let a = c.atoms in let b = c.coupled in let l = c.couplings in
+    let whole = models_alone inner links in
+    record { atoms = omega (arith, a, whole); coupled = omega (arith, b); couplings = omega (arith, l) }
 
 -- ---- of one part and the rest
 

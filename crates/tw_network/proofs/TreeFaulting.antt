@@ -1,5 +1,5 @@
 -- The first fault of a tree, part by part.
-use Rattle.std.proofs.Common.{◌≡◌, ◌≢◌, ℕ, ◌+◌, ◌<◌, ◌≤◌, List, ◌∷◌, [], ◌++◌, length, refl, sym, ap, ◌∙◌, arith, subst, suc, drop, drop-cons, slice_index_or, String, string_bytes, Option, None, Some, Result, Ok, Err}
+use Rattle.std.proofs.Common.{◌≡◌, ◌≢◌, ℕ, ◌+◌, ◌<◌, ◌≤◌, List, ◌∷◌, [], ◌++◌, length, false, refl, sym, ap, ◌∙◌, arith, subst, suc, drop, drop-cons, slice_index_or, String, string_bytes, Option, None, Some, Result, Ok, Err}
 use Rattle.std.specs.Option.{option_or}
 use Rattle.std.proofs.lemmas.List.{at_drop_all}
 use Rattle.std.specs.Result.{IfErr, OnOk}
@@ -10,7 +10,7 @@ use Rattle.tw_nested.specs.declared.tree.Part.{Part, Atom, Coupled, roll-Part, o
 use Rattle.tw_nested.specs.declared.tree.Part.TheOpen.{Part-F}
 use Rattle.tw_nested.specs.Tree.{Parts, Link, no_parts, part_count, parts_of, part_view, part_step, nested_step}
 use Rattle.tw_nested.proofs.TreeViews.{part_view-atom, part_view-coupled}
-use Rattle.tw_network.specs.TreeFaults.{inner_fault, part_name_fault, parts_fault, start_fault}
+use Rattle.tw_network.specs.TreeFaults.{inner_fault, own_fault, part_name_fault, parts_fault, start_fault}
 use Rattle.tw_network.specs.declared.refused.NetworkRefused.{NetworkRefused}
 use Rattle.tw_network.specs.declared.refused.NetworkRefused.TheVariants.{OutOfMemory}
 use Rattle.tw_network.proofs.FirstPart.{part_at}
@@ -81,6 +81,19 @@ module _ {M S : Type 0} (meaning : M → Meaning S) (names : List (List ℕ)) wh
 pub inner_at : {M S : Type 0} (meaning : M → Meaning S) (ps qs : List (String Global × Part M)) (i : ℕ) (p : String Global × Part M) → qs ≡ ps → i < length qs → p ≡ slice_index_or qs i p → inner_fault meaning (parts_of {M = M} (drop i ps)) ≡ option_or (inner_fault meaning (part_view {M = M} p.1 [] no_parts)) (inner_fault meaning (parts_of {M = M} (drop (i + 1) ps)))
 inner_at {M} meaning ps qs i p same lt is =
     part_at (λ (x : Parts M). inner_fault meaning x) option_or (λ name m rest. refl) (λ name inner links rest. ap (λ o. option_or o (inner_fault meaning rest)) (sym (or_none _))) ps qs i p same lt is
+
+-- an atom has no model in it
+pub inner_atom : {M S : Type 0} (meaning : M → Meaning S) (part : Part M) (m : M) → part ≡ Atom m → inner_fault meaning (part_view {M = M} part [] no_parts) ≡ None
+inner_atom {M} meaning part m is =
+    ap (λ (q : Part M). inner_fault meaning (part_view {M = M} q [] no_parts)) is
+    ∙ ap (λ (v : List ℕ → Parts M → Parts M). inner_fault meaning (v [] no_parts)) (part_view-atom {M = M} m)
+
+-- the fault of a coupled model is its own, or else one of a model in it
+pub inner_coupled : {M S : Type 0} (meaning : M → Meaning S) (part : Part M) (n : Nested M) → part ≡ Coupled n → inner_fault meaning (part_view {M = M} part [] no_parts) ≡ option_or (own_fault meaning false (parts_of n.parts.items) n.couplings.items) (inner_fault meaning (parts_of n.parts.items))
+inner_coupled {M} meaning part n is =
+    ap (λ (q : Part M). inner_fault meaning (part_view {M = M} q [] no_parts)) is
+    ∙ ap (λ (v : List ℕ → Parts M → Parts M). inner_fault meaning (v [] no_parts)) (part_view-coupled {M = M} n)
+    ∙ or_none _
 
 -- ---- how many parts
 

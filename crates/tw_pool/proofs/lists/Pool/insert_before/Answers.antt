@@ -1,9 +1,12 @@
-use Rattle.std.proofs.Common.{arith, sym, ap, ◌∙◌}
+use Rattle.std.proofs.Common.{◌≡◌, ◌+◌, ◌-◌, min, arith, sym, ap, ◌∙◌}
+use Rattle.slab.specs.Slab.{slab_len}
 use Rattle.tw_pool.specs.Lists.{live_count, item_of, AreDistinct, with_item_before, IsLive}
 use Rattle.tw_pool.proofs.LinkChanges.{inserted}
 use Rattle.tw_pool.specs.Links.{lists_of}
 use Rattle.tw_pool.proofs.ListsByIndex.{item_of-with_item_before, item_of-with_item_before_other}
 use Rattle.tw_pool.proofs.LinksRead.{linked_distinct}
+use Rattle.tw_pool.proofs.lists.Pool.insert_before.Given.{Over}
+use Rattle.tw_pool.proofs.lists.Pool.insert_before.Goals.{After-link_before}
 use Rattle.tw_pool.proofs.lists.Pool.insert_before.Goals as goal
 
 pub link_before-requires-clause-linked : goal.link_before-requires-clause-linked
@@ -57,3 +60,23 @@ returns-clause-there g c =
 pub returns-clause-others : goal.returns-clause-others
 returns-clause-others g c = λ other differs.
     ap (item_of other) (returns-clause-added g c) ∙ item_of-with_item_before_other c.args.at other _ c.args.self.now.lists (λ same. differs (sym same))
+
+-- the slab has as many slots as the pool had once there was room, and one more of them is used
+top_is : (g : Over) (c : After-link_before g) → c.link_before.new.nodes.capacity ≡ c.reserve.new.self.top
+top_is g c = c.link_before.ensures.same.capacity ∙ c.insert_reserved-index.ensures.capacity ∙ ap (λ p. p.top) c.self.view_is
+
+room_is : (g : Over) (c : After-link_before g) → (min c.link_before.new.nodes.capacity 1048576 - slab_len c.link_before.new.nodes) + 1 ≡ c.reserve.new.self.room
+room_is g c =
+    omega (arith, c.link_before.ensures.same.len, c.link_before.ensures.same.capacity, c.insert_reserved-index.ensures.capacity, c.insert_reserved-index.ensures.len, ap (λ p. p.room) c.self.view_is, c.in_default.ensures.room)
+
+pub returns-clause-had_room : goal.returns-clause-had_room
+returns-clause-had_room g c = λ some. room_is g (goal.at.returns-clause-had_room g c).After-link_before ∙ ap (λ p. p.room) (c.reserve.ensures.had_room some)
+
+pub returns-clause-had_top : goal.returns-clause-had_top
+returns-clause-had_top g c = λ some. top_is g (goal.at.returns-clause-had_top g c).After-link_before ∙ ap (λ p. p.top) (c.reserve.ensures.had_room some)
+
+pub returns-clause-room : goal.returns-clause-room
+returns-clause-room g c = omega (arith, c.reserve.ensures.room_grows, room_is g (goal.at.returns-clause-room g c).After-link_before)
+
+pub returns-clause-top_grows : goal.returns-clause-top_grows
+returns-clause-top_grows g c = omega (arith, c.reserve.ensures.top_grows, top_is g (goal.at.returns-clause-top_grows g c).After-link_before)

@@ -1,4 +1,4 @@
-use Rattle.std.proofs.Common.{◌≡◌, length, set, arith, sym, ap, ◌∙◌}
+use Rattle.std.proofs.Common.{◌≡◌, ◌+◌, ◌-◌, length, set, arith, sym, ap, ◌∙◌}
 use Rattle.tw_heap.specs.declared.entries.Entry.{Entry}
 use Rattle.tw_heap.specs.Entries.{entry_of}
 use Rattle.tw_heap.proofs.EntriesByIndex.{entry_of-insert, entry_of-insert_other}
@@ -49,3 +49,14 @@ pub returns-clause-others : goal.returns-clause-others
 returns-clause-others c = λ other differs.
     let e : Entry = record { key = c.args.key; index = c.args.index } in
     ap (entry_of other) (returns-clause-entries c) ∙ entry_of-insert_other other e c.args.self.now.entries (λ same. differs (sym same))
+
+pub returns-clause-top : goal.returns-clause-top
+returns-clause-top c =
+    let places = whole c.self.inside.places.len c.sift_up.new.places (set c.self.inside.places.items c.args.index c.len-place.result) (omega (arith, c.sift_up.auto.places, c.as_mut_slice-2.ensures.len)) in
+    ap length places ∙ omega (arith, c.sift_up.auto.places, c.as_mut_slice-2.ensures.len, c.self.inside.places.ok.0, ap (λ h. h.top) c.self.view_is)
+
+pub returns-clause-room : goal.returns-clause-room
+returns-clause-room c =
+    let entries = whole c.push_reserved.new.self.len c.sift_up.new.entries c.push_reserved.new.self.items (omega (arith, c.sift_up.auto.entries, c.as_mut_slice.ensures.len)) in
+    ap (λ l. c.push_reserved.new.self.cap - length l + 1) entries
+    ∙ omega (arith, c.sift_up.auto.entries, c.as_mut_slice.ensures.len, c.push_reserved.ensures.len, c.push_reserved.ensures.capacity, c.self.inside.entries.ok.0, ap (λ h. h.room) c.self.view_is, c.requires.room)

@@ -2,7 +2,7 @@
 use Rattle.std.proofs.Common.{◌≡◌, ℕ, ◌+◌, ◌-◌, ◌<◌, ◌≤◌, true, false, List, [], ◌∷◌, ◌++◌, length, map, reverse, Option, Some, None, IfSome, cond, refl, sym, ap, subst, ◌∙◌, arith, append-nil, append_assoc, length-append}
 use Rattle.std.proofs.lemmas.Bool.{cond-false, ltb-false, le-ltb}
 use Rattle.std.proofs.lemmas.Option.{same_Some}
-use Rattle.std.proofs.lemmas.List.{map-append}
+use Rattle.std.proofs.lemmas.List.{map-append, nil_from_length}
 use Rattle.tw_pool.specs.Lists.{list_at, item_of, IsLive, first_of, next_of, backward, AreDistinct}
 use Rattle.tw_pool.proofs.ListsByIndex.{item_is, item_live, next_is, prev_is, last_of, backward_at}
 use Rattle.tw_msgs.specs.declared.message.Message.{Message}
@@ -12,7 +12,7 @@ use Rattle.tw_theory.specs.Bundles.{overdue}
 use Rattle.tw_lists.specs.Falling.{AreUpTo, IsFalling, NoneBefore}
 use Rattle.tw_lists.specs.Lists.{Nodes, message_at}
 use Rattle.tw_lists.specs.Nodes.{overdue_nodes}
-use Rattle.tw_lists.proofs.Owing.{overdue-append, overdue_messages}
+use Rattle.tw_lists.proofs.Owing.{ended_owed, overdue-append, overdue_messages}
 
 -- ---- Where the stamps fall
 
@@ -153,3 +153,13 @@ on_step s lists number k index messages distinct within w = go w.rest w.at_is w.
           due = λ t. further (messages ++ e.1.message ∷ []) (sym (parts ∙ ap (λ b. messages ++ map message_at (cond b (node ∷ []) [])) t));
           early = λ f. further messages (sym (parts ∙ ap (λ b. messages ++ map message_at (cond b (node ∷ []) [])) f ∙ append-nil messages));
         }
+
+-- all was read where nothing is left
+on_whole : (s : ℕ) (l : Nodes) (k : ℕ) (at : Option ℕ) (messages : List Message) → (w : ReadOn s l k at messages) → w.rest ≡ [] → messages ≡ overdue s (map message_at l)
+on_whole s l k at messages w none = w.all ∙ ap (λ x. overdue s (map message_at x)) (sym (w.split ∙ ap (λ r. w.seen ++ r) none ∙ append-nil w.seen))
+
+pub on_past : (s : ℕ) (l : Nodes) (k : ℕ) (at : Option ℕ) (messages : List Message) → length l ≤ k → ReadOn s l k at messages → messages ≡ overdue s (map message_at l)
+on_past s l k at messages past w = on_whole s l k at messages w (nil_from_length w.rest (omega (arith, past, w.far)))
+
+pub on_ended : (s : ℕ) (l : Nodes) (k : ℕ) (at : Option ℕ) (messages : List Message) → at ≡ None → ReadOn s l k at messages → messages ≡ overdue s (map message_at l)
+on_ended s l k at messages none w = on_whole s l k at messages w (ended_owed w.rest 0 (sym none ∙ w.at_is)).now

@@ -1,9 +1,10 @@
 -- A list of nodes read one after another.
-use Rattle.std.proofs.Common.{◌≡◌, ℕ, ◌+◌, ◌<◌, ◌==◌, Bool, true, false, min, List, [], ◌∷◌, ◌++◌, map, drop, cond, refl, sym, ap, ◌∙◌, arith, append_assoc}
+use Rattle.std.proofs.Common.{◌≡◌, ℕ, ◌+◌, ◌<◌, ◌≤◌, ◌==◌, Bool, true, false, min, List, [], ◌∷◌, ◌++◌, length, map, drop, cond, refl, sym, ap, ◌∙◌, arith, append-nil, append_assoc}
 use Rattle.std.specs.Prelude.{nat_lt}
 use Rattle.std.specs.Ordering.{nat_cmp, is_le}
 use Rattle.std.specs.declared.cmp.Ordering.TheVariants.{Less, Equal, Greater}
 use Rattle.std.proofs.lemmas.Bool.{ltb-false, eqb-false}
+use Rattle.std.proofs.lemmas.List.{drop_all}
 use Rattle.tw_msgs.specs.declared.message.Item.{Item}
 use Rattle.tw_theory.specs.Bundles.{least_owed, least_stamp}
 use Rattle.tw_vtime.specs.Stamps.{never}
@@ -19,6 +20,10 @@ read_more f l k node behind xs y is dropped rest all =
 
 pub read_end : {B : Type 0} (f : ℕ × Item → B) (l : Nodes) (k : ℕ) (xs : List B) → drop k l ≡ [] → drop (k + 1) l ≡ [] → xs ++ map f (drop k l) ≡ map f l → xs ++ map f (drop (k + 1) l) ≡ map f l
 read_end f l k xs now later all = ap (λ r. xs ++ map f r) (later ∙ sym now) ∙ all
+
+-- past the last node all was read
+pub read_whole : {B : Type 0} (f : ℕ × Item → B) (l : Nodes) (k : ℕ) (xs : List B) → length l ≤ k → xs ++ map f (drop k l) ≡ map f l → xs ≡ map f l
+read_whole f l k xs past all = sym (append-nil xs) ∙ ap (λ r. xs ++ map f r) (sym (drop_all k l past)) ∙ all
 
 pub least_top : (is : List Item) → min never (least_stamp is) ≡ least_stamp is
 least_top [] = omega arith

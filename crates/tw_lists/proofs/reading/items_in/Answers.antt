@@ -1,10 +1,11 @@
 use Rattle.std.proofs.Common.{◌≡◌, ◌+◌, ◌++◌, drop, map, None, IfSome, ap, sym, subst, ◌∙◌, arith}
 use Rattle.std.proofs.lemmas.Option.{same_Some}
+use Rattle.std.proofs.lemmas.Result.{IfOk-from_err}
 use Rattle.tw_pool.specs.Lists.{list_at, first_of, IsLive}
 use Rattle.tw_lists.specs.Lists.{item_at}
 use Rattle.tw_lists.proofs.Finding.{find_step, ended_first}
 use Rattle.tw_lists.proofs.Owing.{ended_owed}
-use Rattle.tw_lists.proofs.Walks.{read_more, read_end}
+use Rattle.tw_lists.proofs.Walks.{read_more, read_end, read_whole}
 use Rattle.tw_lists.proofs.reading.items_in.Goals.{in-Some+in_ok-push, in_default}
 use Rattle.tw_lists.proofs.reading.items_in.Goals as goal
 
@@ -32,3 +33,9 @@ loop-preserved c =
             live = subst (λ o. IfSome o (λ index. IsLive index lists)) (sym (w.at-is ∙ w.in_default.is)) tt;
           }
     ]
+
+pub returns : goal.returns
+returns c = read_whole item_at (list_at c.args.pool.now.lists c.args.list) c.loop.counter c.loop.items.items (omega (arith, c.loop-test.false, c.len-end.ensures.value)) c.loop.invariant.all
+
+pub returns-in_err-push : goal.returns-in_err-push
+returns-in_err-push c = IfOk-from_err _ _ c.from_residual.ensures.0

@@ -1,9 +1,10 @@
 use Rattle.std.proofs.Common.{◌≡◌, ◌+◌, ◌++◌, List, [], ◌∷◌, ap, sym, subst, ◌∙◌, arith}
 use Rattle.std.proofs.lemmas.Option.{same_Some}
+use Rattle.std.proofs.lemmas.Result.{IfOk-from_err}
 use Rattle.tw_pool.specs.Lists.{list_at, next_of}
 use Rattle.tw_msgs.specs.declared.message.Message.{Message}
 use Rattle.tw_vtime.specs.Stamps.{is_overdue}
-use Rattle.tw_lists.proofs.Overdue.{ReadOn, on_begun, on_live, on_step}
+use Rattle.tw_lists.proofs.Overdue.{ReadOn, on_begun, on_ended, on_live, on_past, on_step}
 use Rattle.tw_lists.proofs.reading.overdue_from.Goals.{then-is_overdue+in_ok-push, else-is_overdue}
 use Rattle.tw_lists.proofs.reading.overdue_from.Goals as goal
 
@@ -37,3 +38,12 @@ loop-preserved c =
       walked = subst (λ o. ReadOn s (list_at lists 5) (k + 1) o c.if-is_overdue.messages.items) (sym c.next-at.ensures.value) on;
       live = c.next-at.ensures.live;
     }
+
+pub returns : goal.returns
+returns c = on_past c.args.next (list_at c.args.pool.now.lists 5) c.loop.counter c.loop.at c.loop.messages.items (omega (arith, c.loop-test.false, c.len-end.ensures.value)) c.loop.invariant.walked
+
+pub returns-in_default : goal.returns-in_default
+returns-in_default c = on_ended c.args.next (list_at c.args.pool.now.lists 5) c.loop.counter c.loop.at c.loop.messages.items c.in_default.is c.loop.invariant.walked
+
+pub returns-in_err-push : goal.returns-in_err-push
+returns-in_err-push c = IfOk-from_err _ _ c.from_residual.ensures.0

@@ -2,6 +2,7 @@ pub mod Histories
 pub mod Readers
 pub mod Made
 pub mod Receipts
+pub mod Room
 pub mod Commits
 pub mod Starts
 pub mod Outcomes

@@ -1,4 +1,5 @@
-use Rattle.std.proofs.Common.{◌≡◌, ℕ, ◌++◌, List, [], ◌∷◌, Option, Some, None, drop, length, ap, sym, ◌∙◌, arith, refl, append_assoc}
+use Rattle.std.proofs.Common.{◌≡◌, ℕ, ◌++◌, List, [], ◌∷◌, Option, Some, None, drop, length, ap, sym, ◌∙◌, arith, refl, append-nil, append_assoc}
+use Rattle.std.proofs.lemmas.List.{nil_from_length}
 use Rattle.std.specs.Option.{option_to_list, unwrap_or}
 use Rattle.tw_process.specs.Installing.{entries_with, entry_with, first_count}
 use Rattle.tw_process.proofs.installing.push_entries.Goals as goal
@@ -22,3 +23,15 @@ loop-step-preserved g c =
           ∙ c.loop-step.invariant.all;
       room = omega (arith, c.push_back_reserved.ensures.len, c.push_back_reserved.ensures.capacity, c.in-Some.ensures.cases, c.loop-step.invariant.room);
     }
+
+pub push_back_reserved-requires : goal.push_back_reserved-requires
+push_back_reserved-requires g c = omega (arith, c.in-Some.ensures.cases, c.loop-step.invariant.room)
+
+pub loop-step-smaller : goal.loop-step-smaller
+loop-step-smaller g c = omega (arith, ap length c.in-Some.ensures.items)
+
+pub returns : goal.returns
+returns g c =
+    let l = c.loop-step in
+    let none : l.steps.items ≡ [] = nil_from_length l.steps.items (omega (arith, c.in_default.ensures.cases, l.steps.ok.0)) in
+    sym (append-nil l.history.items) ∙ ap (λ es. l.history.items ++ entries_with l.counts.items es) (sym none) ∙ l.invariant.all

@@ -1,6 +1,8 @@
 use Rattle.std.proofs.Common.{◌≡◌, ℕ, ◌+◌, ◌∷◌, map, drop, length, slice_index_or, pos, cond, ap, sym, subst, ◌∙◌, arith, FitsSigned, w64}
 use Rattle.std.specs.List.{All, AllByRecursion as Each}
 use Rattle.std.proofs.lemmas.Bool.{eq-eqb, ne_eqb}
+use Rattle.std.proofs.lemmas.List.{drop_all}
+use Rattle.tw_msgs.specs.Messages.{sorted_messages}
 use Rattle.tw_network.specs.Contents.{Input, message_of, IsInput}
 use Rattle.tw_theory.specs.Bundles.{addressed}
 use Rattle.tw_theory.proofs.Elements.{each-place}
@@ -63,3 +65,15 @@ loop-input-preserved g c =
             owed = ap (λ l. l.owed) is ∙ inv.owed;
           }
     ]
+
+pub put_input-requires : goal.put_input-requires
+put_input-requires g c =
+    (subst (All (IsInput (length c.args.network.now.models))) (sym c.inputs-input-items.ensures) c.facts.ensures.inputs c.loop-input.input-index (0, 0, 0, pos 0) c.loop-input-test.true).tick
+
+pub returns-clause-pending : goal.returns-clause-pending
+returns-clause-pending g c =
+    let items = c.inputs-input-items.result.now in
+    let l = c.loop-input in
+    ap (λ rest. folded l.lists.pending (addressed c.args.component (map message_of rest))) (sym (drop_all l.input-index items c.loop-input-test.false))
+    ∙ l.invariant.pending
+    ∙ ap (λ all. sorted_messages (addressed c.args.component (map message_of all))) c.inputs-input-items.ensures

@@ -25,3 +25,9 @@ returns-then-not-room-clause-stays g c =
     c.restore.ensures
     ∙ ap (restored c.len.result) (c.consume_equal.ensures.yes c.if-not-consume_equal.false).1
     ∙ (back g (goal.at.returns-then-not-room-clause-stays g c).After-len).same
+
+pub push_reserved-requires : goal.push_reserved-requires
+push_reserved-requires g c = c.has_room-room.ensures.counts_room c.if-not-room.false
+
+pub returns-clause-room : goal.returns-clause-room
+returns-clause-room g c = c.has_room-room.ensures.room c.if-not-room.false

@@ -3,6 +3,7 @@ use Rattle.std.specs.Arc.{arc_value}
 use Rattle.tw_theory.specs.Transitions.{Moment}
 use Rattle.tw_lists.specs.Lists.{with_room}
 use Rattle.tw_process.proofs.Receipts.{kept_with, others_kept}
+use Rattle.tw_process.proofs.Room.{room_made, room_parts}
 use Rattle.tw_lists.specs.Lists.{node_count as lists_count}
 use Rattle.tw_theory.specs.Memory.{live}
 use Rattle.tw_process.proofs.Histories.{live_shown}
@@ -26,3 +27,11 @@ count g c =
 
 pub returns-clause-limit : goal.returns-clause-limit
 returns-clause-limit g c = rw (count g (goal.at.returns-clause-limit g c).After-reserve_pending) at c.reserve_pending.ensures.limit
+
+pub returns-clause-succeeds : goal.returns-clause-succeeds
+returns-clause-succeeds g c = λ some.
+    let had = room_parts c.self.inside.lists.room c.self.inside.lists.spare c.args.self.now.spare (ap (λ p. p.spare) c.self.view_is) some in
+    c.reserve_pending.ensures.succeeds had.0 had.1
+
+pub returns-clause-room : goal.returns-clause-room
+returns-clause-room g c = room_made c.reserve_pending.new.self.room c.reserve_pending.new.self.spare c.reserve_pending.result c.reserve_pending.ensures.room c.reserve_pending.ensures.spare

@@ -1,9 +1,11 @@
 -- The code's parts are the definition's.
 use Rattle.std.proofs.Common.{◌≡◌, ◌+◌, ◌<◌, ◌==◌, ◌∙◌, ◌++◌, [], ap, sym, refl, subst, arith, false}
-use Rattle.std.specs.Prelude.{◌≢◌}
+use Rattle.std.specs.Prelude.{IsOk, ◌≢◌}
 use Rattle.std.proofs.lemmas.Bool.{eq-eqb}
+use Rattle.std.proofs.lemmas.Option.{same_Some}
 use Rattle.tw_atomic.specs.Atomic.{FitsBag, IsSorted}
 use Rattle.tw_msgs.proofs.Bags.{sorted_bag-sorted}
+use Rattle.tw_msgs.specs.Bags.{sorted_bag}
 use Rattle.tw_network.specs.Contents.{network_of}
 use Rattle.tw_rounds.specs.Invariant.{IsBetween}
 use Rattle.tw_rounds.specs.Turning.{past_output}
@@ -13,7 +15,7 @@ use Rattle.tw_vtime.specs.Stamps.{never}
 use Rattle.tw_rounds.proofs.SortedBags.{sorted_bag-FitsBag}
 use Rattle.tw_rounds.proofs.Between.{stays_between}
 use Rattle.tw_rounds.proofs.RoundOutputs.{transition_of}
-use Rattle.tw_rounds.proofs.TurnsMade.{can_move, moves_turn, past_idle, past_last, stops_turn}
+use Rattle.tw_rounds.proofs.TurnsMade.{can_move, moves_turn, passed_between, past_idle, past_last, stays_turn, stops_turn}
 use Rattle.tw_rounds.proofs.turns.take_turn.Given.{Over}
 use Rattle.tw_rounds.proofs.turns.take_turn.Goals.{After-micro_limit, in-Ok+in_ok-words-in-Ok, in-Err}
 use Rattle.tw_rounds.proofs.turns.take_turn.Goals as goal
@@ -84,4 +86,33 @@ returns-clause-turn g c =
           rw w.result-is
           (stops_turn mean contents k t model now bag c.model-model.ensures (some g at) after w.in-Err.limit (subst (IsPassedAs (mean model) contents.micro_limit (past_output t now) (t + 1) bag after) w.in-Err.is passed)
           ∙ sorted)
+    ]
+
+pub returns-then-not-has_turn-clause-turn : goal.returns-then-not-has_turn-clause-turn
+returns-then-not-has_turn-clause-turn g c =
+    let net = network_of g.M.Atomic.meaning c.args.round.now.network.now in
+    let k = c.args.component in
+    let t = c.args.round.now.time in
+    let now = c.args.now.now in
+    let none = c.if-not-has_turn.ensures.none refl in
+    sym (stays_turn net k (t + 1) (after_output net k now t) (now.due == t) (sorted_bag c.args.bag.now) (sym c.pass_output-imminent.ensures.imminent ∙ none.0) (sym c.sort.ensures.sorted ∙ c.is_empty.ensures.0 none.1))
+
+pub returns-clause-standing : goal.returns-clause-standing
+returns-clause-standing g c =
+    let at = (goal.at.returns-clause-standing g c).After-micro_limit in
+    let valid = g.M.Atomic.valid in
+    let mean = g.M.Atomic.meaning in
+    let model = c.model-model.result.now in
+    let contents = c.args.round.now.network.now in
+    let t = c.args.round.now.time in
+    let now = c.args.now.now in
+    let bag = c.sort.new.self in
+    let after = c.pass_turn.new.now in
+    let passed = subst (λ (x : Type 0). x) (λ i. IsPassedAs (mean model) (c.micro_limit.ensures i) (c.pass_output-imminent.ensures.now i) (stamp_is g at i) (c.as_slice.ensures i) after c.in_ok-kind.field-0) c.in_ok-kind.ensures.passed in
+    elim c.match-branch-2.branch [
+      | in-Ok+in_ok-words-in-Ok w ↦
+          let moved = subst (IsPassedAs (mean model) contents.micro_limit (past_output t now) (t + 1) bag after) w.in-Ok.is passed in
+          rw w.result-is (λ _ other found. subst (λ m. IsBetween (valid m) (mean m) (t + 2) after) (same_Some model other (sym c.model-model.ensures ∙ found))
+          (passed_between (valid model) (mean model) t now (stands g at) c.requires.even c.requires.time contents.micro_limit bag after c.facts.ensures.microsteps moved.0 (c.in_ok-kind.ensures.valid (subst IsOk (sym w.in-Ok.is) refl))))
+      | in-Err w ↦ rw w.result-is (λ stops. absurd stops)
     ]

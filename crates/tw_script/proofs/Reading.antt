@@ -1,11 +1,14 @@
 -- Lines that are read one after another.
-use Rattle.std.proofs.Common.{◌≡◌, ◌<◌, ◌≤◌, ⊎_elim, ◌++◌, ◌∷◌, [], ◌∙◌, ◌+◌, ℕ, zero, suc, List, length, map, take, get_or, sym, ap, arith, true, false, refl, Bor, true≢false, add-one, take_all, subst, eq-or-lt_of_le}
-use Rattle.std.specs.Prelude.{Some, IfSome, slice_get, unwrap_or, ◌==◌, ◌-◌, if◌then◌else◌}
+use Rattle.std.proofs.Common.{◌≡◌, ◌<◌, ◌≤◌, ⊎_elim, ◌++◌, ◌∷◌, [], ◌∙◌, ◌+◌, ℕ, zero, suc, List, length, map, take, get_or, sym, ap, arith, true, false, refl, Bor, true≢false, add-one, take_all, subst, eq-or-lt_of_le, inl, inr}
+use Rattle.std.specs.Prelude.{Result, Ok, Err, Some, IfSome, slice_get, unwrap_or, ◌==◌, ◌-◌, if◌then◌else◌}
 use Rattle.std.specs.List.{slice_split, AllByRecursion as Each}
+use Rattle.std.specs.Result.{IfErr, IsErrAnd}
 use Rattle.std.specs.Str.{IsUtf8}
 use Rattle.std.proofs.lemmas.Option.{none-some, slice_get_within}
 use Rattle.tw_theory.proofs.Elements.{each_from_get}
-use Rattle.tw_script.specs.Scripts.{AreSaid, nothing, skipped, said, IsFirst, IsFirstNoText, IsWrong, Says, ends_in_nothing, is_skipped, lines_of, lines_of_pieces, newline}
+use Rattle.tw_script.specs.Scripts.{AreSaid, nothing, skipped, said, IsFirst, IsFirstNoText, IsNotText, IsRefusedFor, IsWrong, Says, SaysNothing, ends_in_nothing, is_skipped, lines_of, lines_of_pieces, max_lines, newline}
+use Rattle.tw_script.specs.declared.refused.ScriptRefused.{ScriptRefused}
+use Rattle.tw_script.specs.declared.refused.ScriptRefused.TheVariants.{OutOfMemory, TooMany, BadLine}
 use Rattle.tw_script.specs.declared.command.Command.{Command}
 
 abbrev pub shown : List (Bor (List ℕ)) → List (List ℕ)
@@ -94,6 +97,22 @@ first_no_text lines texts i line h at bad = record {
   within = slice_get_within lines i line at;
   earlier = λ k other l there is_bad. is_bad (h.utf8 k other l there);
 }
+
+-- ---- what lines are refused for, the text is refused for
+
+pub refused_no_text : (names lines : List (List ℕ)) (bytes : List ℕ) (why : ScriptRefused) → lines ≡ lines_of bytes → length (lines_of bytes) ≤ max_lines → IsNotText lines why → IsRefusedFor names bytes why
+refused_no_text names lines bytes OutOfMemory e few h = tt
+refused_no_text names lines bytes TooMany e few h = absurd h
+refused_no_text names lines bytes (BadLine n) e few h = (few, inl (subst (λ ls. IsFirstNoText ls n) e h))
+
+pub refused_wrong : (names lines : List (List ℕ)) (bytes : List ℕ) (why : ScriptRefused) → lines ≡ lines_of bytes → length (lines_of bytes) ≤ max_lines → Each IsUtf8 (lines_of bytes) → SaysNothing names lines why → IsRefusedFor names bytes why
+refused_wrong names lines bytes OutOfMemory e few text h = tt
+refused_wrong names lines bytes TooMany e few text h = absurd h
+refused_wrong names lines bytes (BadLine n) e few text h = (few, inr (text, subst (λ ls. IsFirst (IsWrong names) ls n) e h))
+
+pub refused_on : {A : Type 0} (P : ScriptRefused → Type 0) (r : Result A ScriptRefused) (why : ScriptRefused) → IsErrAnd r (λ e. e ≡ why) → P why → IfErr r P
+refused_on P (Ok x) why e h = tt
+refused_on P (Err y) why e h = subst P (sym e) h
 
 -- ---- as the code has them
 

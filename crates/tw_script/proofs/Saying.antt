@@ -1,5 +1,5 @@
 -- Which commands a line can be the line of, by its first word and what follows it.
-use Rattle.std.proofs.Common.{◌≡◌, ◌<◌, ◌≤◌, ◌++◌, ◌∷◌, [], ◌∙◌, ℕ, List, codes, decimal, length, sym, ap, true, true≢false, refl, append_assoc, not, eqb}
+use Rattle.std.proofs.Common.{◌≡◌, ◌<◌, ◌≤◌, ◌++◌, ◌∷◌, [], ◌∙◌, ℕ, List, arith, codes, decimal, get_or, length, sym, ap, ap₂, true, true≢false, refl, append_assoc, not, eqb}
 use Rattle.std.specs.Prelude.{Some, slice_get}
 use Rattle.std.specs.List.{list_all, Contains}
 use Rattle.std.proofs.lemmas.Bool.{eq-eqb}
@@ -7,7 +7,7 @@ use Rattle.std.proofs.lemmas.List.Sums.{AllPass-from_list_all}
 use Rattle.std.proofs.lemmas.Option.{get_or_from_slice_get, slice_get-get_or, slice_get_within}
 use Rattle.tw_actions.specs.declared.action.Action.TheVariants.{Step, Post, Deliver, Back, Raise, Harvest}
 use Rattle.tw_script.proofs.Cuts.{cut_once, no_cut}
-use Rattle.tw_script.specs.Scripts.{Says, name_of}
+use Rattle.tw_script.specs.Scripts.{Says, line_of, name_of}
 use Rattle.tw_script.specs.Words.{IsFree}
 use Rattle.tw_script.specs.declared.command.Command.{Command}
 use Rattle.tw_script.specs.declared.command.Command.TheVariants.{Act, Mark, Rewind, Show, Describe}
@@ -76,6 +76,10 @@ operands_are names q first second last f g e = cut_once 32 first second (name_of
 pub named : (names : List (List ℕ)) (q : ℕ) (name : List ℕ) → slice_get names q ≡ Some name → (q < length names) × (name ≡ name_of names q)
 named names q name h = (slice_get_within names q name h, sym (get_or_from_slice_get names q name [] h))
 
+-- the line of a verb and the name of a component
+pub one_said : (names : List (List ℕ)) (p : ℕ) (us verb operands : List ℕ) → verb ≡ us → slice_get names p ≡ Some operands → (p < length names) × (verb ++ 32 ∷ operands ≡ us ++ 32 ∷ name_of names p)
+one_said names p us verb operands e h = ((named names p operands h).0, ap₂ (λ v o. v ++ 32 ∷ o) e (named names p operands h).1)
+
 pub two_operands : (verb first second : List ℕ) → verb ++ (first ++ 32 ∷ second) ≡ verb ++ first ++ codes " " ++ second
 two_operands verb first second =
     ap (λ l. verb ++ l) (sym (append_assoc first (codes " ") second)) ∙ sym (append_assoc verb (first ++ codes " ") second) ∙ ap (λ l. l ++ second) (sym (append_assoc verb first (codes " ")))
@@ -93,3 +97,20 @@ rollback_said names p s operands component at e h text is = record {
   fits = ((named names p component h).0, is);
   is_line = ap (λ l. codes "back " ++ l) (e ∙ (λ k. (named names p component h).1 k ++ 32 ∷ text k)) ∙ two_operands (codes "back ") (name_of names p) (stamp_text s);
 }
+
+first_letters : (us verb operands line : List ℕ) → verb ≡ us → verb ++ 32 ∷ operands ≡ line → get_or (us ++ 32 ∷ operands) 0 0 ≡ get_or line 0 0
+first_letters us verb operands line h e = ap (λ v. get_or (v ++ 32 ∷ operands) 0 0) (sym h) ∙ ap (λ l. get_or l 0 0) e
+
+-- a line that begins with this verb says no command where its operands are no receiver and place
+pub no_delivery : (names : List (List ℕ)) (verb operands : List ℕ) → IsFree 32 verb → verb ≡ codes "deliver"
+    → ((q i : ℕ) → q < length names → i ≤ 18446744073709551615 → operands ≡ name_of names q ++ 32 ∷ decimal i → ⊥) → (command : Command) → Says names command (verb ++ 32 ∷ operands) → ⊥
+no_delivery names verb operands f is none (Act (Deliver q i)) s =
+    none q i s.fits.0 s.fits.1 ((first_is (codes "deliver") _ verb operands refl f s.is_line).1 ∙ append_assoc (name_of names q) (codes " ") (decimal i))
+no_delivery names verb operands f is none command s = omega (arith, first_letters (codes "deliver") verb operands (line_of names command) is s.is_line)
+
+-- nor with this one where they are no component and stamp
+pub no_rollback : (names : List (List ℕ)) (verb operands : List ℕ) → IsFree 32 verb → verb ≡ codes "back"
+    → ((p s : ℕ) → p < length names → IsStamp s → operands ≡ name_of names p ++ 32 ∷ stamp_text s → ⊥) → (command : Command) → Says names command (verb ++ 32 ∷ operands) → ⊥
+no_rollback names verb operands f is none (Act (Back p at)) s =
+    none p at s.fits.0 s.fits.1 ((first_is (codes "back") _ verb operands refl f s.is_line).1 ∙ append_assoc (name_of names p) (codes " ") (stamp_text at))
+no_rollback names verb operands f is none command s = omega (arith, first_letters (codes "back") verb operands (line_of names command) is s.is_line)

@@ -1,6 +1,7 @@
 -- One answer more, of commands and of the actions that a generator gives; and what went out where memory was wanting.
 use Rattle.std.proofs.Common.{◌≡◌, ◌≢◌, ◌<◌, ◌≤◌, ◌+◌, ◌-◌, ◌⊎◌, ◌++◌, ◌∷◌, [], ◌∙◌, ℕ, suc, List, length, take, drop, sym, ap, append_assoc, append-nil, subst, inl, inr, arith, take-append-drop, take_all}
 use Rattle.std.specs.Prelude.{Option, Some, None, Result, Ok, Err, IfErr, OnOk, slice_index_or}
+use Rattle.std.specs.Result.{IsErrAnd}
 use Rattle.std.specs.Io.KnownBytes.{Appends}
 use Rattle.std.proofs.lemmas.List.{take_more}
 use Rattle.rand_pcg.specs.Lcg.{Lcg}
@@ -144,3 +145,8 @@ written_apart e = cc e
 pub failed_only : {A : Type 0} (r : Result A NotWritten) (P : Type 0) → IfErr r (λ why. why ≡ WriteFailed) → IfErr r (λ why. why ≡ OutOfMemory → P)
 failed_only (Ok x) P h = h
 failed_only (Err e) P h = λ is. absurd (written_apart (sym h ∙ is))
+
+-- why it was not written is passed on
+pub passed_on : {A : Type 0} (r : Result A NotWritten) (given : NotWritten) (P : Type 0) → IsErrAnd r (λ why. why ≡ given) → (given ≡ OutOfMemory → P) → IfErr r (λ why. why ≡ OutOfMemory → P)
+passed_on (Ok x) given P e h = tt
+passed_on (Err why) given P e h = λ is. h (sym e ∙ is)

@@ -1,7 +1,6 @@
-use Rattle.std.proofs.Common.{[], rules, ◌≡◌}
-use Rattle.tw_play.proofs.OneMore.{nothing_moved, on_ok, way_done, way_more, way_short}
+use Rattle.std.proofs.Common.{[]}
+use Rattle.tw_play.proofs.OneMore.{failed_only, nothing_moved, on_ok, passed_on, way_done, way_more, way_short}
 use Rattle.tw_play.specs.Playing.{nothing}
-use Rattle.tw_texts.specs.declared.traces.NotWritten.TheVariants.{OutOfMemory}
 use Rattle.tw_play.proofs.telling.play_script.Goals as goal
 
 pub loop-command-init : goal.loop-command-init
@@ -18,9 +17,11 @@ loop-command-preserved g c =
 
 pub returns-in_err-tell-clause-wanting : goal.returns-in_err-tell-clause-wanting
 returns-in_err-tell-clause-wanting g c =
-    let short = λ (e : c.in_err-tell.field-0.0 ≡ OutOfMemory). way_short c.args.commands.now c.loop-command.command-index c.loop-command.player _ _ _ c.loop-command.invariant (c.in_err-tell.ensures.wanting e) in
-    search (rules, short)
+    passed_on c.from_residual.result c.in_err-tell.field-0.0 _ c.from_residual.ensures.1 (λ e. way_short c.args.commands.now c.loop-command.command-index c.loop-command.player _ _ _ c.loop-command.invariant (c.in_err-tell.ensures.wanting e))
 
 pub returns-clause-played : goal.returns-clause-played
 returns-clause-played g c =
     on_ok c.write_out.result _ _ (way_done c.args.commands.now c.loop-command.command-index c.loop-command.player _ _ _ c.loop-command-test.false c.loop-command.invariant) c.write_out.ensures.ok
+
+pub returns-clause-wanting : goal.returns-clause-wanting
+returns-clause-wanting g c = failed_only c.write_out.result _ c.write_out.ensures.err

@@ -1,11 +1,15 @@
+pub mod AnyFormat
 pub mod AtomNumbers
 pub mod Counting
+pub mod FlatMembers
 pub mod Formats
 pub mod Loops
 pub mod MachinesOfFile
 pub mod Making
 pub mod ManyAtoms
 pub mod Networks
+pub mod Numbered
 pub mod OneMeaning
 pub mod PartsInOrder
+pub mod TreeMembers
 pub mod TreeOfFile

@@ -1,7 +1,8 @@
 -- Parts one by one: those that are read or made so far, and those still to come.
 use Rattle.std.proofs.Common.{◌≡◌, ◌≢◌, ◌∙◌, ◌+◌, ◌<◌, ◌++◌, ◌∷◌, [], ℕ, suc, List, refl, sym, ap, subst, length, drop, get_or, add-one, drop-cons, arith, String, string_bytes, append_assoc}
 use Rattle.std.proofs.Math.ListN.{drop_of_length-le}
-use Rattle.std.specs.Prelude.{◌≤◌, codes, Option, Some, None, option_and_then, option_map, Result, Ok, Err}
+use Rattle.std.specs.Prelude.{◌≤◌, true, if◌then◌else◌, codes, Option, Some, None, option_and_then, option_map, Result, Ok, Err}
+use Rattle.std.specs.Option.{option_or}
 use Rattle.std.specs.Result.{IfErr, IsErrAnd}
 use Rattle.std.specs.declared.alloc.Global.{Global}
 use Rattle.serde_json.specs.Data.{Data, Items}
@@ -10,13 +11,15 @@ use Rattle.serde_json.specs.View.{view, items_view}
 use Rattle.serde_json.specs.declared.value.Value.{Value}
 use Rattle.tw_any_model.specs.declared.any_model.AnyModel.{AnyModel}
 use Rattle.tw_machine_file.specs.Seen.{Machine}
+use Rattle.tw_members.specs.Members.{has_members, text_at}
 use Rattle.tw_nested.specs.declared.tree.Nested.{Nested}
-use Rattle.tw_nested.specs.declared.tree.Part.{Part, roll-Part, out-Part, fold-roll-Part, roll-out-Part}
+use Rattle.tw_nested.specs.declared.tree.Part.{Part, Atom, Coupled, roll-Part, out-Part, fold-roll-Part, roll-out-Part}
 use Rattle.tw_nested.specs.declared.tree.Part.TheOpen.{Part-F}
-use Rattle.tw_nested.specs.Tree.{Parts, Link, no_parts, part_view, parts_of, part_step, nested_step}
-use Rattle.tw_netfile.specs.Components.{after}
-use Rattle.tw_netfile.specs.Shape.{FileCoupling, all_read, array_at, coupling_of, of_two}
-use Rattle.tw_netfile.specs.TreeShape.{FileTree, links_named, part_names, part_read, parts_read, tree_made, tree_read}
+use Rattle.tw_nested.proofs.TreeViews.{part_view-atom, part_view-coupled}
+use Rattle.tw_nested.specs.Tree.{Parts, Link, no_parts, atom, coupled, part_view, parts_of, part_step, nested_step}
+use Rattle.tw_netfile.specs.Components.{after, any_model_of}
+use Rattle.tw_netfile.specs.Shape.{FileComponent, FileCoupling, all_read, array_at, component_of, coupling_of, of_two}
+use Rattle.tw_netfile.specs.TreeShape.{FileTree, coupled_read, links_named, part_names, part_read, parts_read, tree_made, tree_read}
 use Rattle.tw_netfile.specs.declared.draft.AnyDraft.{AnyDraft}
 use Rattle.tw_netfile.specs.declared.refused.FileRefused.{FileRefused}
 use Rattle.tw_netfile.specs.declared.refused.FileRefused.TheVariants.{OutOfMemory}
@@ -94,6 +97,29 @@ module _ (ms : List Machine) (room r : ℕ) (above : room ≡ suc r) (d : Data) 
       ∙ ap (λ (x : Option Items). of_two (λ parts couplings. (parts, links_named parts couplings)) (Some parts) (option_and_then (all_read coupling_of) x)) (sym there)
       ∙ ap (λ (x : Option (List FileCoupling)). of_two (λ parts couplings. (parts, links_named parts couplings)) (Some parts) x) read
 
+  pub no_links : (parts : Parts AnyDraft) (ks : Items) → parts_read ms (tree_read ms r) ds ≡ Some parts
+      → Some ks ≡ option_and_then as_array (get (codes "couplings") d) → all_read coupling_of ks ≡ None → tree_read ms room d ≡ None
+  no_links parts ks is there none =
+      of_parts (Some parts) is
+      ∙ ap (λ (x : Option Items). of_two (λ parts couplings. (parts, links_named parts couplings)) (Some parts) (option_and_then (all_read coupling_of) x)) (sym there)
+      ∙ ap (λ (x : Option (List FileCoupling)). of_two (λ parts couplings. (parts, links_named parts couplings)) (Some parts) x) none
+
+-- a part is read as the atom, or else as the coupled model, that it is
+module _ (ms : List Machine) (tree : Data → Option FileTree) (d : Data) (name n : List ℕ) (same : name ≡ n) where
+  pub an_atom : (m : AnyDraft) → component_of ms d ≡ Some (n, m) → part_read ms tree d ≡ Some (part_view {M = AnyDraft} (Atom m) name)
+  an_atom m is =
+      ap (λ (o : Option FileComponent). option_or (option_map (λ c. atom c.0 c.1) o) (coupled_read tree d)) is
+      ∙ ap (λ (k : List ℕ). Some (atom k m)) (sym same)
+      ∙ ap (λ (v : List ℕ → Parts AnyDraft → Parts AnyDraft). Some (v name)) (sym (part_view-atom {M = AnyDraft} m))
+
+  pub a_model : (inner : Nested AnyDraft) → component_of ms d ≡ None → has_members 3 d ≡ true → text_at (codes "name") d ≡ Some n
+      → tree d ≡ Some (parts_of {M = AnyDraft} inner.parts.items, inner.couplings.items) → part_read ms tree d ≡ Some (part_view {M = AnyDraft} (Coupled inner) name)
+  a_model inner none has text read =
+      ap (λ (o : Option FileComponent). option_or (option_map (λ c. atom c.0 c.1) o) (coupled_read tree d)) none
+      ∙ (λ i. if has i then of_two (λ k t. coupled k t.0 t.1) (text i) (read i) else None)
+      ∙ ap (λ (k : List ℕ). Some (coupled k (parts_of {M = AnyDraft} inner.parts.items) inner.couplings.items)) (sym same)
+      ∙ ap (λ (v : List ℕ → Parts AnyDraft → Parts AnyDraft). Some (v name)) (sym (part_view-coupled {M = AnyDraft} inner))
+
 -- ---- names
 
 name_open : {M : Type 0} (d : Part-F M (Part M) (Nested M)) (name : List ℕ) (rest : Parts M) → part_names (part_view {M = M} (roll-Part M d) name rest) ≡ name ∷ part_names rest
@@ -122,6 +148,39 @@ remade : (done : List (String Global × Part AnyModel)) (p : String Global × Pa
     → after (λ more. Ok (parts_then {M = AnyModel} done more)) (after (λ more. Ok (part_view {M = AnyModel} p.1 (string_bytes p.0) more)) r) ≡ after (λ more. Ok (parts_then {M = AnyModel} (done ++ p ∷ []) more)) r
 remade done p (Err e) = refl
 remade done p (Ok more) = ap (λ (x : Parts AnyModel). Ok x) (one_part_more {M = AnyModel} done p more)
+
+-- one part is made as its model, or as the models in it, are
+module _ (part : Part AnyDraft) (name : List ℕ) (rest : Parts AnyDraft) where
+  as_atom : (d : AnyDraft) → part ≡ Atom d → tree_made (part_view {M = AnyDraft} part name rest) ≡ tree_made (atom name d rest)
+  as_atom d is =
+      ap (λ (q : Part AnyDraft). tree_made (part_view {M = AnyDraft} q name rest)) is
+      ∙ ap (λ (v : List ℕ → Parts AnyDraft → Parts AnyDraft). tree_made (v name rest)) (part_view-atom {M = AnyDraft} d)
+
+  as_coupled : (n : Nested AnyDraft) → part ≡ Coupled n → tree_made (part_view {M = AnyDraft} part name rest) ≡ tree_made (coupled name (parts_of {M = AnyDraft} n.parts.items) n.couplings.items rest)
+  as_coupled n is =
+      ap (λ (q : Part AnyDraft). tree_made (part_view {M = AnyDraft} q name rest)) is
+      ∙ ap (λ (v : List ℕ → Parts AnyDraft → Parts AnyDraft). tree_made (v name rest)) (part_view-coupled {M = AnyDraft} n)
+
+  pub atom_made : (d : AnyDraft) (m : AnyModel) → part ≡ Atom d → any_model_of d ≡ Ok m
+      → tree_made (part_view {M = AnyDraft} part name rest) ≡ after (λ more. Ok (part_view {M = AnyModel} (Atom m) name more)) (tree_made rest)
+  atom_made d m is made =
+      as_atom d is
+      ∙ ap (λ (r : Result AnyModel FileRefused). after (λ x. after (λ more. Ok (atom name x more)) (tree_made rest)) r) made
+      ∙ ap (λ (v : List ℕ → Parts AnyModel → Parts AnyModel). after (λ more. Ok (v name more)) (tree_made rest)) (sym (part_view-atom {M = AnyModel} m))
+
+  pub atom_fails : (d : AnyDraft) (e : FileRefused) → part ≡ Atom d → any_model_of d ≡ Err e → tree_made (part_view {M = AnyDraft} part name rest) ≡ Err e
+  atom_fails d e is fails = as_atom d is ∙ ap (λ (r : Result AnyModel FileRefused). after (λ x. after (λ more. Ok (atom name x more)) (tree_made rest)) r) fails
+
+  pub coupled_made : (n : Nested AnyDraft) (made : Nested AnyModel) → part ≡ Coupled n → tree_made (parts_of {M = AnyDraft} n.parts.items) ≡ Ok (parts_of {M = AnyModel} made.parts.items) → made.couplings.items ≡ n.couplings.items
+      → tree_made (part_view {M = AnyDraft} part name rest) ≡ after (λ more. Ok (part_view {M = AnyModel} (Coupled made) name more)) (tree_made rest)
+  coupled_made n made is within links =
+      as_coupled n is
+      ∙ ap (λ (r : Result (Parts AnyModel) FileRefused). after (λ x. after (λ more. Ok (coupled name x n.couplings.items more)) (tree_made rest)) r) within
+      ∙ ap (λ (l : List Link). after (λ more. Ok (coupled name (parts_of {M = AnyModel} made.parts.items) l more)) (tree_made rest)) (sym links)
+      ∙ ap (λ (v : List ℕ → Parts AnyModel → Parts AnyModel). after (λ more. Ok (v name more)) (tree_made rest)) (sym (part_view-coupled {M = AnyModel} made))
+
+  pub coupled_fails : (n : Nested AnyDraft) (e : FileRefused) → part ≡ Coupled n → tree_made (parts_of {M = AnyDraft} n.parts.items) ≡ Err e → tree_made (part_view {M = AnyDraft} part name rest) ≡ Err e
+  coupled_fails n e is fails = as_coupled n is ∙ ap (λ (r : Result (Parts AnyModel) FileRefused). after (λ x. after (λ more. Ok (coupled name x n.couplings.items more)) (tree_made rest)) r) fails
 
 module _ (ps qs : List (String Global × Part AnyDraft)) (done : List (String Global × Part AnyModel)) (i : ℕ) (q : String Global × Part AnyDraft) (same : qs ≡ ps) (lt : i < length qs) (is : q ≡ get_or qs i q) where
   at_part : models_left ps done i ≡ after (λ more. Ok (parts_then {M = AnyModel} done more)) (tree_made (part_view {M = AnyDraft} q.1 (string_bytes q.0) (parts_of {M = AnyDraft} (drop (i + 1) ps))))

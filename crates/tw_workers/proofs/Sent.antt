@@ -7,7 +7,6 @@ use Rattle.tw_atomic.specs.declared.Atomic.{Ghosts}
 use Rattle.tw_exchange.proofs.Sent.{exchange_send}
 use Rattle.tw_network.proofs.network.Network.TheSendSync as network_sent
 use Rattle.tw_network.specs.contracts.network.Network as network
-use Rattle.tw_vtime.proofs.stamps.Stamp.TheSendSync as stamp_sent
 use Rattle.tw_workers.specs.contracts.desk.Desk as desk
 use Rattle.tw_workers.specs.contracts.desk.Desk.TheInside as desk_inside
 use Rattle.tw_workers.specs.contracts.running.Shared as shared

@@ -1,6 +1,7 @@
-# Each request for memory refused in its turn, alone and with all that come later; each write and each read; and reads and writes of
-# one byte: by tests/refuse.c, which stands before the C library. Refused memory gives the whole output, or status 4 with a beginning
-# of it (of `play` with at most one reply more, that the action was refused). Left out where no C compiler is.
+# Each request for memory refused in its turn, alone and with all that come later; each write and each read; reads and writes of one
+# byte, and of these each in its turn: by tests/refuse.c, which stands before the C library. Refused memory gives the whole output, or
+# status 4 with a beginning of it (of `play` with at most one reply more, that the action was refused). A byte that cannot be written
+# has all those before it written; one that cannot be read leaves nothing written. Left out where no C compiler is.
 
 # Whether what was written is a beginning of a file, but for a last reply that memory was refused.
 is_beginning() {
@@ -8,10 +9,17 @@ is_beginning() {
     head -c "$(wc -c <"$room/begun")" "$1" | cmp --silent - "$room/begun"
 }
 
-# Runs the program in a case's folder by these words, with a variable of tests/refuse.c set.
+# Runs the program in a case's folder by these words, with a variable of tests/refuse.c set, and others that stand in $also.
+also=()
 with_refused() {
-    (cd "$case" && exec timeout 60 env LD_PRELOAD="$room/refuse.so" "$1=$2" "$program" "${@:3}" >"$out" 2>"$err")
+    (cd "$case" && exec timeout 60 env LD_PRELOAD="$room/refuse.so" "${also[@]}" "$1=$2" "$program" "${@:3}" >"$out" 2>"$err")
     ended=$?
+}
+
+# Counts the requests, writes and reads of a case that runs by these words.
+count_calls() {
+    with_refused COUNT_TO "$room/counts" "$@"
+    read -r requests writes reads < <(od -An -t d8 -w24 "$room/counts")
 }
 
 # Refuses each of a kind while a case runs by these words: the variable, how many there are, the status and the line of a refusal.
@@ -31,6 +39,33 @@ refuse_each() {
     count "${*:5} with each of $many $kind" 0 0 $?
 }
 
+# Whether the case ended with this status and line, and wrote this text.
+is_cut() {
+    local written
+    IFS= read -r -d '' written <"$out"
+    [[ $ended -eq $1 && $(<"$err") == "$2" && $written == "$3" ]]
+}
+
+# Refuses each byte that the case writes, and each that it reads, while it runs by these words.
+refuse_each_byte() {
+    local bad=0 wanted
+    IFS= read -r -d '' wanted <"$case/stdout"
+    also=(ONE_BYTE=1)
+    count_calls "$@"
+    [ "$writes" -eq "${#wanted}" ] || bad=1
+    for ((number = 1; number <= writes; number++)); do
+        with_refused REFUSE_WRITE "$number" "$@"
+        is_cut 5 "twarp: 24 WriteFailed" "${wanted:0:number-1}" || bad=$((bad + 1))
+    done
+    for ((number = 1; number <= reads; number++)); do
+        with_refused REFUSE_READ "$number" "$@"
+        is_cut 2 "twarp: 19 Unreadable" "" || bad=$((bad + 1))
+    done
+    also=()
+    [ "$bad" -eq 0 ]
+    count "$* with each of $writes bytes written and $reads read" 0 0 $?
+}
+
 if cc -shared -fPIC -O1 -o "$room/refuse.so" tests/refuse.c 2>"$err"; then
     # A picture of a run and one of Time Warp: what is wanted of them is what they are with nothing refused.
     for case in gen-tally straggler-of-three; do
@@ -48,8 +83,7 @@ if cc -shared -fPIC -O1 -o "$room/refuse.so" tests/refuse.c 2>"$err"; then
         for line in "${lines[@]}"; do
             # shellcheck disable=SC2206 # a line is words
             words=($line)
-            with_refused COUNT_TO "$room/counts" "${words[@]}"
-            read -r requests writes reads < <(od -An -t d8 -w24 "$room/counts")
+            count_calls "${words[@]}"
             refuse_each REFUSE_REQUEST "$requests" 4 "twarp: 4 OutOfMemory" "${words[@]}"
             refuse_each REFUSE_FROM "$requests" 4 "twarp: 4 OutOfMemory" "${words[@]}"
             refuse_each REFUSE_WRITE "$writes" 5 "twarp: 24 WriteFailed" "${words[@]}"
@@ -58,5 +92,24 @@ if cc -shared -fPIC -O1 -o "$room/refuse.so" tests/refuse.c 2>"$err"; then
             cmp --silent "$out" "$case/stdout"
             count "$line by single bytes" "$status" "$ended" $?
         done
+    done
+    # A job of each kind: what it reads is nothing, a network, or a network and a script.
+    cp -r tests/program/figures-of-gen-tally "$room/figures-as-json"
+    cp tests/program/gen-tally/stats.json "$room/figures-as-json/stdout"
+    echo --json >>"$room/figures-as-json/args"
+    for case in $PWD/tests/program/{demonstration,check-whole,check-comma-forgotten,gen-tally,items-of-a-microstep-fault} \
+        "$room/figures-as-json" $PWD/tests/program/{all-of-tick-2-committed,a-seed}; do
+        mapfile -t words <"$case/args"
+        refuse_each_byte "${words[@]}"
+        [ "${words[0]}" != seq ] || refuse_each_byte run "${words[@]:1}" --workers 2
+    done
+    # Of a network that is refused no script is read.
+    for case in $PWD/tests/program/network-before-script $PWD/tests/program/shape-before-unreadable-script; do
+        mapfile -t words <"$case/args"
+        count_calls check network.json
+        before=$reads
+        count_calls "${words[@]}"
+        [ "$reads" -eq "$before" ]
+        count "${case##*/} reads the network alone" 2 "$ended" $?
     done
 fi

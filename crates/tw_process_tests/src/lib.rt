@@ -1,4 +1,4 @@
-//! Tests of one process and of what it is made of: containers, lists, mail, rollback, global virtual time, fossil collection.
+//! Tests of one process and of what it is made of: containers, lists and mail.
 #![tactic(auto)]
 
 #[cfg(test)]

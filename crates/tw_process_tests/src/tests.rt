@@ -1,9 +1,7 @@
-mod fossils;
-mod gvt;
 mod heap;
 mod helpers;
 mod lists;
 mod mail;
 mod pool;
 mod process;
-mod scenes;
+mod row;

@@ -1,5 +1,4 @@
 mod helpers;
-mod jobs;
 mod lines;
 mod scripts;
 mod texts;

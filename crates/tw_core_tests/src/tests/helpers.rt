@@ -113,11 +113,3 @@ pub(crate) fn network_of(alloc: Global, net: &Net) -> Result<Network<Model>, Ref
     let inputs = Vec::from_slice(alloc, net.inputs)?;
     Ok(Network::new(alloc, components, couplings, inputs, net.micro_limit)?)
 }
-
-/// For what a network is refused, by its number; 0 where it is taken.
-pub(crate) fn number_of(answer: Result<Network<Model>, Refusal>) -> u8 {
-    match answer {
-        Ok(_) => 0,
-        Err(refusal) => refusal.number(),
-    }
-}

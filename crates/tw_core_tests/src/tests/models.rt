@@ -7,7 +7,6 @@ use super::helpers::Made;
 use std::alloc::{AllocError, Global};
 use std::process::Abort;
 use tw_atomic::{Atomic, Outbox, Turn};
-use tw_vtime::Refusal;
 
 /// Whether one item may stand before another.
 fn is_in_order(one: &(u8, i64), other: &(u8, i64)) -> bool
@@ -471,35 +470,10 @@ static WAITS: [(Made, Option<u64>); 10] = [
     (Made::Hop(0, 2, 1), Some(1)),
 ];
 
-/// Models, each with the number of the refusal of its parameters, 0 where they are taken.
-static PARAMETERS: [(Made, u8); 10] = [
-    (Made::Generator(0, 1), 10),
-    (Made::Generator(1_099_511_627_775, 1), 10),
-    (Made::Generator(1_099_511_627_774, 1), 0),
-    (Made::Relay(1_099_511_627_775), 10),
-    (Made::Relay(0), 0),
-    (Made::Queue(1_099_511_627_775), 10),
-    (Made::Hop(0, 17, 0), 6),
-    (Made::Hop(0, 16, 0), 10),
-    (Made::Hop(0, 16, 1_048_577), 10),
-    (Made::Hop(0, 16, 1_048_576), 0),
-];
-
-/// For what a model is refused, by its number; 0 where it is taken.
-fn number_of(made: Made) -> u8 {
-    match made.model() {
-        Ok(_) => 0,
-        Err(bad) => Refusal::from(bad).number(),
-    }
-}
-
 #[test]
-fn longest_waits_and_parameters_out_of_range(rt: HostRuntime) {
+fn longest_waits_of_models(rt: HostRuntime) {
     for (made, longest) in WAITS.iter() {
         let model = made.model().expect(&rt, "a model");
         assert!(rt; model.longest_wait() == *longest);
-    }
-    for (made, number) in PARAMETERS.iter() {
-        assert!(rt; number_of(*made) == *number);
     }
 }

@@ -66,16 +66,19 @@ fn assert_sorted(rt: &impl Abort, bag: &mut Bag) {
     assert!(rt; bag.is_empty());
 }
 
-/// A record of this kind and these words is another one.
-fn assert_other(
-    rt: &impl Abort,
-    alloc: Global,
-    record: &Record,
-    kind: RecordKind,
-    words: &[i128],
-) -> Result<(), AllocError> {
-    let other = record_of(alloc, kind, words)?;
-    assert!(rt; *record != other);
+/// Kinds and words of other records.
+static OTHERS: [(RecordKind, &'static [i128]); 3] = [
+    (RecordKind::Ext, &[0, -1, i128::MAX]),
+    (RecordKind::Con, &[0, -1]),
+    (RecordKind::Con, &[0, -1, 2]),
+];
+
+/// Asserts that a record is none of the others.
+fn assert_none_other(rt: &impl Abort, alloc: Global, record: &Record) -> Result<(), AllocError> {
+    for (kind, words) in OTHERS.iter() {
+        let other = record_of(alloc, *kind, *words)?;
+        assert!(rt; *record != other);
+    }
     Ok(())
 }
 
@@ -101,15 +104,21 @@ fn assert_words(rt: &impl Abort, alloc: Global, words: &Words) -> Result<(), All
     Ok(())
 }
 
+/// Asserts that a record is compared by each part.
+fn assert_record(rt: &impl Abort, alloc: Global, record: &Record) -> Result<(), AllocError> {
+    assert_none_other(rt, alloc, record)?;
+    assert_copied(rt, record)?;
+    assert_words(rt, alloc, &record.words)
+}
+
 /// Records are compared by each part.
 fn records(rt: &impl Abort, alloc: Global) -> Result<(), AllocError> {
     equality_law();
-    let record = record_of(alloc, RecordKind::Con, &[0, -1, i128::MAX])?;
-    assert_other(rt, alloc, &record, RecordKind::Ext, &[0, -1, i128::MAX])?;
-    assert_other(rt, alloc, &record, RecordKind::Con, &[0, -1])?;
-    assert_other(rt, alloc, &record, RecordKind::Con, &[0, -1, 2])?;
-    assert_copied(rt, &record)?;
-    assert_words(rt, alloc, &record.words)
+    assert_record(
+        rt,
+        alloc,
+        &record_of(alloc, RecordKind::Con, &[0, -1, i128::MAX])?,
+    )
 }
 
 /// The second try is made where memory is refused in the first.

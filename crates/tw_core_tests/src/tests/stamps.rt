@@ -125,8 +125,14 @@ fn packs_the_listed_stamps_and_refuses_at_the_ends_of_the_ranges(rt: HostRuntime
             "{tick}.{micro}.{phase}"
         );
     }
-    assert!(rt; Stamp::END.pack() == u64::MAX && Stamp::END.is_end() && Stamp::START.pack() == 0);
-    assert!(rt; Stamp::unpack(u64::MAX) == Ok(Stamp::END));
+    assert!(rt;
+        (
+            Stamp::END.pack(),
+            Stamp::END.is_end(),
+            Stamp::START.pack(),
+            Stamp::unpack(u64::MAX)
+        ) == (u64::MAX, true, 0, Ok(Stamp::END))
+    );
 }
 
 /// Stamps in their order.
@@ -241,10 +247,16 @@ fn shows_stamps_and_refusals(rt: HostRuntime) {
         assert_text(&rt, alloc, refusal, text);
     }
     assert!(rt;
-        Refusal::from(AllocError) == Refusal::OutOfMemory && Refusal::from(Range) == Refusal::Range
-    );
-    assert!(rt;
-        Refusal::from(Limit::Microstep) == Refusal::Microstep
-            && Refusal::from(Limit::Tick) == Refusal::Tick
+        (
+            Refusal::from(AllocError),
+            Refusal::from(Range),
+            Refusal::from(Limit::Microstep),
+            Refusal::from(Limit::Tick)
+        ) == (
+            Refusal::OutOfMemory,
+            Refusal::Range,
+            Refusal::Microstep,
+            Refusal::Tick
+        )
     );
 }

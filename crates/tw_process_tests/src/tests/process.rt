@@ -1,191 +1,31 @@
-//! One process by worked examples: its steps, the way back, what comes to it, and each call once.
+//! One process: what is read of it, and what is put, committed and installed. Its steps, the way back and what comes to it are
+//! compared in the program's cases.
 
 ghost use Rattle.std.specs.Prelude.{◌≡◌, OnOk, Some, [], slice_get};
 
-use super::helpers::{Line, assert_messages, assert_records, message, said, shows};
-use super::scenes::{Act, Scene, play, process_of, stamp_at};
+use super::helpers::{Line, assert_messages, assert_records, message, said, shows, stamp};
+use super::row::{after, at_rest};
 use std::alloc::{AllocError, Global};
 use std::process::Abort;
 use tw_atomic::Atomic;
 use tw_chain::{Cause, Prepared};
 use tw_fossils::Column;
 use tw_models::Model;
-use tw_msgs::{RecordKind, Sign};
+use tw_msgs::RecordKind;
 use tw_pool::PoolRefused;
 use tw_process::{Cancel, Finished, Process, Stop};
-use tw_rollback::Received;
 use tw_vtime::{Refusal, Stamp};
 
-/// Scenes of the relay and of the tally.
-static SCENES: [Scene; 6] = [
-    // Three steps taken back leave an anti-message.
-    Scene {
-        input: true,
-        component: 1,
-        cancel: Cancel::Aggressive,
-        acts: &[
-            (Act::Step(3, 1, RecordKind::Ext), [1, 0, 0, 0, 0]),
-            (Act::Step(4, 0, RecordKind::Out), [2, 0, 0, 1, 0]),
-            (Act::Step(4, 1, RecordKind::Int), [3, 0, 0, 1, 0]),
-            (Act::Nothing, [3, 0, 0, 1, 0]),
-            (Act::Undo(true), [2, 0, 0, 1, 0]),
-            (Act::Undo(true), [1, 0, 0, 2, 0]),
-            (Act::Undo(true), [0, 1, 0, 2, 0]),
-            (Act::Undo(false), [0, 1, 0, 2, 0]),
-        ],
-        times: (Some((3, 1)), Some((0, 0)), None),
-        pending: &[(3, 0, 8)],
-        waiting: &[],
-        outgoing: &[(Sign::Positive, 4, 8), (Sign::Anti, 4, 8)],
-        owed: &[],
-    },
-    // A lazy process owes it, and sends the same again.
-    Scene {
-        input: true,
-        component: 1,
-        cancel: Cancel::Lazy,
-        acts: &[
-            (Act::Step(3, 1, RecordKind::Ext), [1, 0, 0, 0, 0]),
-            (Act::Step(4, 0, RecordKind::Out), [2, 0, 0, 1, 0]),
-            (Act::Step(4, 1, RecordKind::Int), [3, 0, 0, 1, 0]),
-            (Act::Undo(true), [2, 0, 0, 1, 0]),
-            (Act::Undo(true), [1, 0, 0, 1, 1]),
-            (Act::Undo(true), [0, 1, 0, 1, 1]),
-            (Act::Settle, [0, 1, 0, 1, 1]),
-            (Act::Step(3, 1, RecordKind::Ext), [1, 0, 0, 1, 1]),
-            (Act::Step(4, 0, RecordKind::Out), [2, 0, 0, 1, 0]),
-            (Act::Undo(true), [1, 0, 0, 1, 1]),
-        ],
-        times: (Some((4, 0)), Some((3, 0)), Some((4, 0))),
-        pending: &[],
-        waiting: &[],
-        outgoing: &[(Sign::Positive, 4, 8)],
-        owed: &[(4, 0, 8)],
-    },
-    // A straggler takes three steps back.
-    Scene {
-        input: false,
-        component: 1,
-        cancel: Cancel::Aggressive,
-        acts: &[
-            (
-                Act::Come(Sign::Positive, 3, 8, Received::Placed),
-                [0, 1, 0, 0, 0],
-            ),
-            (Act::Step(3, 1, RecordKind::Ext), [1, 0, 0, 0, 0]),
-            (Act::Step(4, 0, RecordKind::Out), [2, 0, 0, 1, 0]),
-            (Act::Step(4, 1, RecordKind::Int), [3, 0, 0, 1, 0]),
-            (
-                Act::Come(Sign::Positive, 2, 5, Received::Straggler(3)),
-                [0, 2, 0, 2, 0],
-            ),
-        ],
-        times: (Some((2, 1)), Some((0, 0)), None),
-        pending: &[(2, 0, 5), (3, 0, 8)],
-        waiting: &[],
-        outgoing: &[(Sign::Positive, 4, 8), (Sign::Anti, 4, 8)],
-        owed: &[],
-    },
-    // Steps are taken back to a stamp.
-    Scene {
-        input: true,
-        component: 1,
-        cancel: Cancel::Aggressive,
-        acts: &[
-            (
-                Act::Come(Sign::Positive, 2, 5, Received::Placed),
-                [0, 2, 0, 0, 0],
-            ),
-            (Act::Step(2, 1, RecordKind::Ext), [1, 1, 0, 0, 0]),
-            (Act::Step(3, 0, RecordKind::Out), [2, 1, 0, 1, 0]),
-            (Act::Step(3, 1, RecordKind::Con), [3, 0, 0, 1, 0]),
-            (Act::Back(3, 0, 2), [1, 1, 0, 2, 0]),
-            (Act::Post, [1, 1, 0, 0, 0]),
-        ],
-        times: (Some((3, 0)), Some((2, 0)), Some((3, 0))),
-        pending: &[(3, 0, 8)],
-        waiting: &[],
-        outgoing: &[],
-        owed: &[],
-    },
-    // An anti-message comes before its message.
-    Scene {
-        input: false,
-        component: 2,
-        cancel: Cancel::Aggressive,
-        acts: &[
-            (
-                Act::Come(Sign::Anti, 4, 8, Received::Waiting),
-                [0, 0, 1, 0, 0],
-            ),
-            (
-                Act::Come(Sign::Positive, 4, 8, Received::Annihilated(0)),
-                [0, 0, 0, 0, 0],
-            ),
-        ],
-        times: (None, Some((0, 0)), None),
-        pending: &[],
-        waiting: &[],
-        outgoing: &[],
-        owed: &[],
-    },
-    // Messages come and go.
-    Scene {
-        input: true,
-        component: 1,
-        cancel: Cancel::Aggressive,
-        acts: &[
-            (Act::Wait((2, 0, 5)), [0, 1, 1, 0, 0]),
-            (Act::Clear((2, 0, 5), true), [0, 1, 0, 0, 0]),
-            (Act::Clear((2, 0, 5), false), [0, 1, 0, 0, 0]),
-            (Act::Withdraw((2, 0, 5), false), [0, 1, 0, 0, 0]),
-            (Act::Withdraw((3, 0, 8), true), [0, 0, 0, 0, 0]),
-            (Act::Wait((5, 1, 4)), [0, 0, 1, 0, 0]),
-            (Act::Wait((4, 0, 5)), [0, 0, 2, 0, 0]),
-        ],
-        times: (None, Some((0, 0)), None),
-        pending: &[],
-        waiting: &[(5, 1, 4), (4, 0, 5)],
-        outgoing: &[],
-        owed: &[],
-    },
-];
+/// A stamp of microstep 0: tick and phase; none for the end.
+type At = Option<(u64, u8)>;
 
-/// Whichever request for memory is refused.
-#[test]
-fn scenes_of_one_process(rt: HostRuntime) {
-    for scene in SCENES.iter() {
-        play(&rt, rt.alloc(), scene);
+/// The stamp.
+fn stamp_at(rt: &impl Abort, at: At) -> Stamp {
+    match at {
+        Some((tick, phase)) => stamp(rt, tick, 0, phase),
+        None => Stamp::END,
     }
 }
-
-/// The relay before its first step, and the relay after two.
-static AT_REST: Scene = Scene {
-    input: true,
-    component: 1,
-    cancel: Cancel::Aggressive,
-    acts: &[],
-    times: (Some((3, 1)), Some((0, 0)), None),
-    pending: &[(3, 0, 8)],
-    waiting: &[],
-    outgoing: &[],
-    owed: &[],
-};
-
-static AFTER_TWO: Scene = Scene {
-    input: true,
-    component: 1,
-    cancel: Cancel::Aggressive,
-    acts: &[
-        (Act::Step(3, 1, RecordKind::Ext), [1, 0, 0, 0, 0]),
-        (Act::Step(4, 0, RecordKind::Out), [2, 0, 0, 1, 0]),
-    ],
-    times: (Some((4, 1)), Some((3, 0)), Some((4, 1))),
-    pending: &[],
-    waiting: &[],
-    outgoing: &[(Sign::Positive, 4, 8)],
-    owed: &[],
-};
 
 /// The words of the state of a process.
 fn words_of(alloc: Global, process: &Process<Model>) -> Result<Vec<i128>, AllocError> {
@@ -248,7 +88,7 @@ static COMING: [(u64, usize, bool); 3] = [(4, 1, true), (3, 1, false), (4, 2, fa
 
 #[test]
 fn steps_are_read_and_messages_can_come_after_them(rt: HostRuntime) {
-    let process = play(&rt, rt.alloc(), &AFTER_TWO);
+    let process = after(&rt, rt.alloc(), 2);
     for (number, step) in STEPS.iter().enumerate() {
         assert_step(&rt, &process, number, step);
     }
@@ -265,7 +105,7 @@ static COMMITTED: [Line; 1] = [Line(3, 0, 1, RecordKind::Ext, &[(0, 8)], &[0, 8]
 /// The oldest step becomes a record of a column.
 #[test]
 fn the_oldest_step_is_committed(rt: HostRuntime) {
-    let mut process = play(&rt, rt.alloc(), &AFTER_TWO);
+    let mut process = after(&rt, rt.alloc(), 2);
     assert_steps(&rt, rt.alloc(), &process);
     let mut column = Column::new(rt.alloc());
     assert!(rt; column.is_empty());
@@ -306,7 +146,7 @@ fn put(
 
 /// The relay with 0=4 and 0=5 at tick 2 put before its input.
 fn with_two_put(rt: &impl Abort, alloc: Global) -> Result<Process<Model>, Refusal> {
-    let mut process = process_of(rt, alloc, &AT_REST)?;
+    let mut process = at_rest(rt, alloc)?;
     put(rt, &mut process, 5, false)?;
     put(rt, &mut process, 4, true)?;
     process.count_law();
@@ -366,7 +206,7 @@ fn assert_chain(rt: &impl Abort, chain: &Prepared<Model>) {
 
 #[test]
 fn the_second_of_two_chains_is_stale(rt: HostRuntime) {
-    let mut process = play(&rt, rt.alloc(), &AT_REST);
+    let mut process = after(&rt, rt.alloc(), 0);
     let first = prepared(&rt, &process);
     let second = prepared(&rt, &process);
     assert_chain(&rt, &first);

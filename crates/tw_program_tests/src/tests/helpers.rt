@@ -1,51 +1,29 @@
-//! What tests of the program share: a reader and a writer of one byte a call, which fail.
+//! What tests of the program are given: the network of a row.
 
-use std::io;
-use std::io::{ErrorKind, Read, Write};
+use std::alloc::Global;
+use tw_models::Model;
+use tw_network::Network;
+use tw_vtime::Refusal;
 
-/// A reader that gives one byte a call, and fails where none of its calls is left.
-#[derive(Drop)]
-pub(crate) struct OneByteReader<'a> {
-    pub(crate) left: &'a [u8],
-    pub(crate) calls: usize,
-}
+/// The generator of the row.
+pub(crate) const G: usize = 0;
+/// Its relay.
+pub(crate) const R: usize = 1;
+/// Its tally.
+pub(crate) const T: usize = 2;
 
-impl Read for OneByteReader<'_> {
-    fn read(&mut self, buf: &mut [u8]) -> io::Result<usize> {
-        if self.calls == 0 {
-            return Err(io::Error::from(ErrorKind::TimedOut));
-        }
-        self.calls -= 1;
-        let (Some(byte), Some(room)) = (self.left.first(), buf.first_mut()) else {
-            return Ok(0);
-        };
-        *room = *byte;
-        self.left = &self.left[1..];
-        Ok(1)
+/// A generator of period 2 and value 5, a relay of delay 1 and a tally in a row, of which the relay has 0=8 at tick 3.
+pub(crate) fn row(alloc: Global) -> Result<Network<Model>, Refusal> {
+    let named = [
+        ("g", Model::generator(2, 5)?),
+        ("r", Model::relay(1)?),
+        ("t", Model::tally()?),
+    ];
+    let mut components = Vec::new(alloc);
+    for (name, model) in named.iter() {
+        components.push((String::from_str(alloc, *name)?, *model))?;
     }
-}
-
-/// A writer that takes a text, one byte a call, and fails at any other byte and where none of its calls is left. It takes no memory.
-#[derive(Drop)]
-pub(crate) struct OneByteWriter<'a> {
-    pub(crate) left: &'a [u8],
-    pub(crate) calls: usize,
-}
-
-impl Write for OneByteWriter<'_> {
-    fn write(&mut self, buf: &[u8]) -> io::Result<usize> {
-        let (Some(byte), Some(wanted)) = (buf.first(), self.left.first()) else {
-            return Ok(0);
-        };
-        if byte != wanted || self.calls == 0 {
-            return Err(io::Error::from(ErrorKind::BrokenPipe));
-        }
-        self.calls -= 1;
-        self.left = &self.left[1..];
-        Ok(1)
-    }
-
-    fn flush(&mut self) -> io::Result<()> {
-        Ok(())
-    }
+    let couplings = Vec::from_slice(alloc, &[(G, 0, R, 0), (R, 0, T, 0)])?;
+    let inputs = Vec::from_slice(alloc, &[(3, R, 0, 8)])?;
+    Ok(Network::new(alloc, components, couplings, inputs, 100)?)
 }

@@ -1,26 +1,15 @@
 //! Scripts and the schedules that seeds give: each form of a line, and the generator's published words. The lines that are refused
 //! are tried on the program.
 
+use super::helpers::{G, R, T, row};
 use rand_core::utils::NextWord;
 use rand_pcg::Pcg32;
 use std::process::Abort;
-use tw_any_model::AnyModel;
 use tw_drawn::Schedule;
 use tw_exec::{Action, Executive};
-use tw_netfile::network_of_file;
+use tw_models::Model;
 use tw_script::{Command, commands_of_script};
 use tw_vtime::Stamp;
-
-/// The generator of the row.
-const G: usize = 0;
-/// Its relay.
-const R: usize = 1;
-/// Its tally.
-const T: usize = 2;
-
-/// A generator of period 2 and value 5, a relay of delay 1 and a tally in a row, of which the relay has 0=8 at tick 3.
-const ROW: &str =
-    r#"{"format": "tw-1", "micro_limit": 100, "components": [{"name": "g", "model": "gen", "period": 2, "value": 5}, {"name": "r", "model": "relay", "delay": 1}, {"name": "t", "model": "tally"}], "couplings": [["g", 0, "r", 0], ["r", 0, "t", 0]], "inputs": [{"tick": 3, "to": "r", "port": 0, "value": 8}]}"#;
 
 /// A script that has each form of a line, and some that say nothing.
 const SCRIPT: &[u8] =
@@ -30,7 +19,7 @@ back g 1099511627774.8388607.1\nback r end\n#\nraise\nharvest t\nmark\nrewind\ns
 #[test]
 fn each_form_of_a_line_says_its_command(rt: HostRuntime) {
     let alloc = rt.alloc();
-    let network = network_of_file(alloc, ROW.as_bytes()).expect(&rt, "a network");
+    let network = row(alloc).expect(&rt, "a network");
     let last = Stamp::new(1_099_511_627_774, 8_388_607, 1).expect(&rt, "a stamp");
     let wanted = [
         Command::Act(Action::Step(R)),
@@ -50,7 +39,7 @@ fn each_form_of_a_line_says_its_command(rt: HostRuntime) {
 }
 
 /// Asserts that a seed gives these actions to an executive that does not move.
-fn assert_gives(rt: &impl Abort, executive: &Executive<AnyModel>, seed: u64, actions: &[Action]) {
+fn assert_gives(rt: &impl Abort, executive: &Executive<Model>, seed: u64, actions: &[Action]) {
     let mut schedule = Schedule::new(seed);
     for action in actions {
         assert!(rt; schedule.next_action(executive) == Some(*action));
@@ -61,7 +50,7 @@ fn assert_gives(rt: &impl Abort, executive: &Executive<AnyModel>, seed: u64, act
 #[test]
 fn a_seed_gives_its_actions(rt: HostRuntime) {
     let alloc = rt.alloc();
-    let network = network_of_file(alloc, ROW.as_bytes()).expect(&rt, "a network");
+    let network = row(alloc).expect(&rt, "a network");
     let executive = Executive::new(alloc, network, 10).expect(&rt, "memory");
     let first = [
         Action::Post(T),

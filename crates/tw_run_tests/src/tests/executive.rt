@@ -1,4 +1,4 @@
-//! The executive by worked examples: lists of actions, and marks.
+//! The executive by a worked example: a list of actions in one replay.
 
 use super::helpers::{G, R, T, assert_relay, assert_trace, in_a_row, stamp};
 use tw_exec::Action;
@@ -51,37 +51,4 @@ fn commit_and_cut_by_one_replay(rt: HostRuntime) {
     assert_relay(&rt, alloc, &executive, CUT_RELAY);
     let trace = executive.trace(alloc).expect(&rt, "memory");
     assert_trace(&rt, alloc, trace.as_slice(), &["g", "r", "t"], COMMITTED);
-}
-
-/// The relay after three steps were taken back: as it was, with what it sent outgoing, and its anti-message.
-const REWOUND: &str = "\
-r line 0.0.0 next 3.0.1 due end last 0.0 steps 0 pending 1 waiting 0 outgoing 2 mail 0 | 0
-pending 0=8 at 3.0.1
-outgoing + t 0=8 at 4.0.1
-outgoing - t 0=8 at 4.0.1
-";
-
-/// The same where the anti-message is owed.
-const REWOUND_LAZILY: &str = "\
-r line 0.0.0 next 3.0.1 due end last 0.0 steps 0 pending 1 waiting 0 outgoing 1 owed 1 mail 0 | 0
-pending 0=8 at 3.0.1
-outgoing + t 0=8 at 4.0.1
-owed t 0=8 at 4.0.1
-";
-
-#[test]
-fn mark_and_rewind(rt: HostRuntime) {
-    let alloc = rt.alloc();
-    for (cancel, seen) in [
-        (Cancel::Aggressive, REWOUND),
-        (Cancel::Lazy, REWOUND_LAZILY),
-    ] {
-        let mut executive = in_a_row(&rt, alloc, cancel);
-        let mark = executive.mark().expect(&rt, "memory");
-        assert!(rt; executive.replay(&[Action::Step(R), Action::Step(R), Action::Step(R)]) == 3);
-        for undone in [3, 0] {
-            assert!(rt; executive.rewind(&mark) == Ok(undone));
-            assert_relay(&rt, alloc, &executive, seen);
-        }
-    }
 }

@@ -48,11 +48,15 @@ is_cut() {
 
 # Refuses each byte that the case writes, and each that it reads, while it runs by these words.
 refuse_each_byte() {
-    local bad=0 wanted
+    local LC_ALL=C bad=0 wanted told=0 word
     IFS= read -r -d '' wanted <"$case/stdout"
     also=(ONE_BYTE=1)
     count_calls "$@"
-    [ "$writes" -eq "${#wanted}" ] || bad=1
+    # Each byte of a file that is named, and its end.
+    for word in "$@"; do
+        [ ! -f "$case/$word" ] || told=$((told + $(wc -c <"$case/$word") + 1))
+    done
+    [[ $writes -eq ${#wanted} && $reads -eq $told ]] || bad=1
     for ((number = 1; number <= writes; number++)); do
         with_refused REFUSE_WRITE "$number" "$@"
         is_cut 5 "twarp: 24 WriteFailed" "${wanted:0:number-1}" || bad=$((bad + 1))
@@ -98,7 +102,7 @@ if cc -shared -fPIC -O1 -o "$room/refuse.so" tests/refuse.c 2>"$err"; then
     cp tests/program/gen-tally/stats.json "$room/figures-as-json/stdout"
     echo --json >>"$room/figures-as-json/args"
     for case in $PWD/tests/program/{demonstration,check-whole,check-comma-forgotten,gen-tally,items-of-a-microstep-fault} \
-        "$room/figures-as-json" $PWD/tests/program/{all-of-tick-2-committed,a-seed}; do
+        "$room"/{figures-as-json,gen-tally-drawn} $PWD/tests/program/{all-of-tick-2-committed,a-seed}; do
         mapfile -t words <"$case/args"
         refuse_each_byte "${words[@]}"
         [ "${words[0]}" != seq ] || refuse_each_byte run "${words[@]:1}" --workers 2

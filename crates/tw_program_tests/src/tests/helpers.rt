@@ -1,9 +1,10 @@
-//! What tests of the program are given: the network of a row.
+//! What tests of the program are given: the network of a row, from its file.
 
 use std::alloc::Global;
-use tw_models::Model;
+use std::process::Abort;
+use tw_any_model::AnyModel;
+use tw_netfile::network_of_file;
 use tw_network::Network;
-use tw_vtime::Refusal;
 
 /// The generator of the row.
 pub(crate) const G: usize = 0;
@@ -13,17 +14,10 @@ pub(crate) const R: usize = 1;
 pub(crate) const T: usize = 2;
 
 /// A generator of period 2 and value 5, a relay of delay 1 and a tally in a row, of which the relay has 0=8 at tick 3.
-pub(crate) fn row(alloc: Global) -> Result<Network<Model>, Refusal> {
-    let named = [
-        ("g", Model::generator(2, 5)?),
-        ("r", Model::relay(1)?),
-        ("t", Model::tally()?),
-    ];
-    let mut components = Vec::new(alloc);
-    for (name, model) in named.iter() {
-        components.push((String::from_str(alloc, *name)?, *model))?;
-    }
-    let couplings = Vec::from_slice(alloc, &[(G, 0, R, 0), (R, 0, T, 0)])?;
-    let inputs = Vec::from_slice(alloc, &[(3, R, 0, 8)])?;
-    Ok(Network::new(alloc, components, couplings, inputs, 100)?)
+const ROW: &str =
+    r#"{"format": "tw-1", "micro_limit": 100, "components": [{"name": "g", "model": "gen", "period": 2, "value": 5}, {"name": "r", "model": "relay", "delay": 1}, {"name": "t", "model": "tally"}], "couplings": [["g", 0, "r", 0], ["r", 0, "t", 0]], "inputs": [{"tick": 3, "to": "r", "port": 0, "value": 8}]}"#;
+
+/// The network of the row.
+pub(crate) fn row(rt: &impl Abort, alloc: Global) -> Network<AnyModel> {
+    network_of_file(alloc, ROW.as_bytes()).expect(rt, "a network")
 }

@@ -5,9 +5,9 @@ use super::helpers::{G, R, T, row};
 use rand_core::utils::NextWord;
 use rand_pcg::Pcg32;
 use std::process::Abort;
+use tw_any_model::AnyModel;
 use tw_drawn::Schedule;
 use tw_exec::{Action, Executive};
-use tw_models::Model;
 use tw_script::{Command, commands_of_script};
 use tw_vtime::Stamp;
 
@@ -19,7 +19,7 @@ back g 1099511627774.8388607.1\nback r end\n#\nraise\nharvest t\nmark\nrewind\ns
 #[test]
 fn each_form_of_a_line_says_its_command(rt: HostRuntime) {
     let alloc = rt.alloc();
-    let network = row(alloc).expect(&rt, "a network");
+    let network = row(&rt, alloc);
     let last = Stamp::new(1_099_511_627_774, 8_388_607, 1).expect(&rt, "a stamp");
     let wanted = [
         Command::Act(Action::Step(R)),
@@ -39,7 +39,7 @@ fn each_form_of_a_line_says_its_command(rt: HostRuntime) {
 }
 
 /// Asserts that a seed gives these actions to an executive that does not move.
-fn assert_gives(rt: &impl Abort, executive: &Executive<Model>, seed: u64, actions: &[Action]) {
+fn assert_gives(rt: &impl Abort, executive: &Executive<AnyModel>, seed: u64, actions: &[Action]) {
     let mut schedule = Schedule::new(seed);
     for action in actions {
         assert!(rt; schedule.next_action(executive) == Some(*action));
@@ -50,7 +50,7 @@ fn assert_gives(rt: &impl Abort, executive: &Executive<Model>, seed: u64, action
 #[test]
 fn a_seed_gives_its_actions(rt: HostRuntime) {
     let alloc = rt.alloc();
-    let network = row(alloc).expect(&rt, "a network");
+    let network = row(&rt, alloc);
     let executive = Executive::new(alloc, network, 10).expect(&rt, "memory");
     let first = [
         Action::Post(T),

@@ -1,5 +1,5 @@
 # Each request for memory refused in its turn, by tests/refuse.c before the C library, while a program makes each call that takes
-# memory until it stands (crates/tw_core_refusals, crates/tw_run_refusals): it must write the bytes that it writes undisturbed, with
+# memory until it stands (crates/tw_test_core_refusals, crates/tw_test_run_refusals): it must write the bytes that it writes undisturbed, with
 # status 0. Left out where no C compiler is.
 
 # Runs a program with every so manyth of its requests refused, from one on, and tells each run that is not as it should be.
@@ -16,7 +16,7 @@ refuse_some() {
 
 if cc -shared -fPIC -O1 -o "$room/refuse.so" tests/refuse.c 2>"$err"; then
     side_by_side=$(nproc)
-    for name in tw_core_refusals tw_run_refusals; do
+    for name in tw_test_core_refusals tw_test_run_refusals; do
         runner=$PWD/crates/$name/out/$name
         wanted=$PWD/crates/$name/stdout
         (cd "$room" && exec env LD_PRELOAD="$room/refuse.so" "COUNT_TO=$room/counts" "$runner" >"$out" 2>"$err")

@@ -3,9 +3,9 @@ use Rattle.std.proofs.Common.{ℕ, List, inl, inr, refl, subst, sym}
 use Rattle.std.specs.Prelude.{◌≢◌, Option, Ok, Err}
 use Rattle.tw_any_model.specs.declared.any_model.AnyModel.{AnyModel}
 use Rattle.tw_network.specs.Contents.{Contents}
-use Rattle.tw_netfile.specs.TreeMeaning.{IsFault, IsMeaning}
-use Rattle.tw_netfile.specs.declared.refused.FileRefused.{FileRefused}
-use Rattle.tw_netfile.specs.declared.refused.FileRefused.TheVariants.{OutOfMemory}
+use Rattle.tw_file_network.specs.TreeMeaning.{IsFault, IsMeaning}
+use Rattle.tw_file_network.specs.declared.refused.FileRefused.{FileRefused}
+use Rattle.tw_file_network.specs.declared.refused.FileRefused.TheVariants.{OutOfMemory}
 use Rattle.tw_engine.specs.Checks.{IsCheck, IsCounted, IsTold}
 use Rattle.tw_engine.specs.Ends.{PlainEnd}
 use Rattle.tw_engine.specs.declared.failed.Failed.{Failed}

@@ -11,11 +11,11 @@ use Rattle.tw_engine.specs.Runs.{HasNoRun, run_fault}
 use Rattle.tw_engine.specs.Scripting.{HasNoCommands}
 use Rattle.tw_engine.specs.Views.{IsLineOf}
 use Rattle.tw_engine.specs.declared.failed.Failed.{Failed}
-use Rattle.tw_netfile.specs.TreeMeaning.{IsMeaning}
+use Rattle.tw_file_network.specs.TreeMeaning.{IsMeaning}
 use Rattle.tw_network.specs.Contents.{Contents}
-use Rattle.tw_pictures.specs.Refusals.{draw_refusal}
-use Rattle.tw_pictures.specs.declared.refused.DrawRefused.{DrawRefused}
-use Rattle.tw_pictures.specs.declared.refused.DrawRefused.TheVariants as drawing
+use Rattle.tw_run_picture.specs.Refusals.{draw_refusal}
+use Rattle.tw_run_picture.specs.declared.refused.DrawRefused.{DrawRefused}
+use Rattle.tw_run_picture.specs.declared.refused.DrawRefused.TheVariants as drawing
 use Rattle.tw_texts.specs.Refusals.{not_written_refusal}
 use Rattle.tw_texts.specs.declared.traces.NotWritten.{NotWritten}
 use Rattle.tw_texts.specs.declared.traces.NotWritten.TheVariants.{OutOfMemory, WriteFailed}

@@ -12,11 +12,11 @@ use Rattle.tw_exec.specs.Running.{Running}
 use Rattle.tw_any_model.specs.AnyModel.{any_meaning}
 use Rattle.tw_any_model.specs.declared.any_model.AnyModel.{AnyModel}
 use Rattle.tw_any_model.specs.declared.any_model.AnyState.{AnyState}
-use Rattle.tw_netfile.specs.TreeMeaning.{IsMeaning}
+use Rattle.tw_file_network.specs.TreeMeaning.{IsMeaning}
 use Rattle.tw_network.specs.Contents.{Contents}
 use Rattle.tw_play.specs.Playing.{Played}
 use Rattle.tw_play.specs.Telling.{IsCutShort, IsDrawnShort, IsPlayed, IsWhollyDrawn}
-use Rattle.tw_drawn.specs.Schedules.{seeded}
+use Rattle.tw_seeded.specs.Schedules.{seeded}
 use Rattle.tw_script.specs.Scripts.{IsScript}
 use Rattle.tw_script.specs.declared.command.Command.{Command}
 use Rattle.tw_texts.specs.Refusals.{not_written_refusal}

@@ -5,7 +5,7 @@ use Rattle.tw_any_model.specs.declared.any_model.AnyModel.{AnyModel}
 use Rattle.tw_any_model.specs.declared.any_model.AnyState.{AnyState}
 use Rattle.tw_engine.specs.Runs.{HasOneText, fault_text, name_in}
 use Rattle.tw_laws.specs.Couplings.{AreAlike, CouplingsLaw}
-use Rattle.tw_netfile.specs.OneMeaning.{MeansOne}
+use Rattle.tw_file_network.specs.OneMeaning.{MeansOne}
 use Rattle.tw_network.specs.Contents.{Contents, message_of, network_of}
 use Rattle.tw_network.specs.FlatTrees.{IsSameNetwork}
 use Rattle.tw_texts.specs.Texts.{trace_text}

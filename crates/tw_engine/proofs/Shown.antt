@@ -8,7 +8,7 @@ use Rattle.tw_any_model.specs.AnyModel.{any_meaning}
 use Rattle.tw_network.specs.Contents.{Contents, network_of}
 use Rattle.tw_theory.specs.Transitions.{output, moved, transition}
 use Rattle.tw_theory.specs.Simulator.{sequential, rounds, round}
-use Rattle.tw_netfile.specs.TreeMeaning.{IsMeaning}
+use Rattle.tw_file_network.specs.TreeMeaning.{IsMeaning}
 use Rattle.tw_texts.specs.Refusals.{not_written_refusal}
 use Rattle.tw_texts.specs.Texts.{trace_text}
 use Rattle.tw_texts.specs.Traces.{AppendsBeginning}

@@ -10,7 +10,7 @@ use Rattle.tw_engine.specs.Ends.{Fault, failed_of}
 use Rattle.tw_engine.specs.Runs.{HasNoRun, run_fault}
 use Rattle.tw_engine.specs.Views.{IsLineOf, IsSummedOf, IsTabulatedOf, run_table}
 use Rattle.tw_engine.specs.declared.failed.Failed.{Failed}
-use Rattle.tw_options.specs.declared.seeing.Rows.{Rows}
+use Rattle.tw_cli_options.specs.declared.seeing.Rows.{Rows}
 use Rattle.tw_network.specs.Contents.{Contents}
 use Rattle.tw_rounds.specs.Refusals.{seq_refusal}
 use Rattle.tw_rounds.specs.declared.refused.SeqRefused.{SeqRefused}
@@ -19,9 +19,9 @@ use Rattle.tw_texts.specs.Refusals.{not_written_refusal}
 use Rattle.tw_texts.specs.Traces.{AppendsBeginning}
 use Rattle.tw_texts.specs.declared.traces.NotWritten.{NotWritten}
 use Rattle.tw_texts.specs.declared.traces.NotWritten.TheVariants as writing
-use Rattle.tw_views.specs.Refusals.{stats_refusal}
-use Rattle.tw_views.specs.declared.refused.StatsRefused.{StatsRefused}
-use Rattle.tw_views.specs.declared.refused.StatsRefused.TheVariants as stats
+use Rattle.tw_stats.specs.Refusals.{stats_refusal}
+use Rattle.tw_stats.specs.declared.refused.StatsRefused.{StatsRefused}
+use Rattle.tw_stats.specs.declared.refused.StatsRefused.TheVariants as stats
 use Rattle.tw_vtime.specs.Stamps.{max_tick}
 
 -- there are as many of the one as of the other

@@ -7,10 +7,10 @@ use Rattle.std.specs.Io.KnownBytes.{Appends, Keeps}
 use Rattle.tw_any_model.specs.declared.any_model.AnyModel.{AnyModel}
 use Rattle.tw_network.specs.Contents.{Contents}
 use Rattle.tw_vtime.specs.declared.refusal.Refusal.TheVariants as refusal
-use Rattle.tw_netfile.specs.Refused.{file_refusal}
-use Rattle.tw_netfile.specs.TreeMeaning.{IsFault}
-use Rattle.tw_netfile.specs.declared.refused.FileRefused.{FileRefused}
-use Rattle.tw_netfile.specs.declared.refused.FileRefused.TheVariants.{OutOfMemory}
+use Rattle.tw_file_network.specs.Refused.{file_refusal}
+use Rattle.tw_file_network.specs.TreeMeaning.{IsFault}
+use Rattle.tw_file_network.specs.declared.refused.FileRefused.{FileRefused}
+use Rattle.tw_file_network.specs.declared.refused.FileRefused.TheVariants.{OutOfMemory}
 use Rattle.tw_engine.specs.Ends.{PlainEnd}
 use Rattle.tw_engine.specs.Runs.{Means}
 use Rattle.tw_engine.specs.declared.failed.Failed.{Failed}

@@ -14,7 +14,7 @@ use Rattle.tw_any_model.specs.declared.any_model.AnyState.{AnyState}
 use Rattle.tw_network.specs.Contents.{Contents, network_of}
 use Rattle.tw_play.specs.Playing.{Played, begun}
 use Rattle.tw_play.specs.Telling.{IsCutShort, IsDrawnShort, IsPlayed, IsWhollyDrawn}
-use Rattle.tw_drawn.specs.Schedules.{seeded}
+use Rattle.tw_seeded.specs.Schedules.{seeded}
 use Rattle.tw_script.specs.Scripts.{IsRefusedFor, IsScript}
 use Rattle.tw_script.specs.declared.command.Command.{Command}
 use Rattle.tw_script.specs.declared.refused.ScriptRefused.TheVariants.{TooMany, BadLine}

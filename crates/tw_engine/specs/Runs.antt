@@ -14,9 +14,9 @@ use Rattle.tw_models.specs.declared.model.Model.TheVariants.{Gen, Tally}
 use Rattle.tw_any_model.specs.AnyModel.{any_meaning}
 use Rattle.tw_network.specs.Contents.{Contents, network_of}
 use Rattle.tw_theory.specs.Simulator.{sequential}
-use Rattle.tw_netfile.specs.Refused.{file_refusal}
-use Rattle.tw_netfile.specs.TreeMeaning.{IsFault, IsMeaning}
-use Rattle.tw_netfile.specs.declared.refused.FileRefused.{FileRefused}
+use Rattle.tw_file_network.specs.Refused.{file_refusal}
+use Rattle.tw_file_network.specs.TreeMeaning.{IsFault, IsMeaning}
+use Rattle.tw_file_network.specs.declared.refused.FileRefused.{FileRefused}
 use Rattle.tw_texts.specs.Texts.{trace_text, fault_line}
 use Rattle.tw_texts.specs.Traces.{AppendsBeginning}
 use Rattle.tw_engine.specs.Ends.{Fails, Fault, RunEnd}

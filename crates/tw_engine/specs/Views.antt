@@ -10,12 +10,12 @@ use Rattle.tw_any_model.specs.declared.any_model.AnyModel.{AnyModel}
 use Rattle.tw_engine.specs.Ends.{Fails, Fault, ViewEnd}
 use Rattle.tw_engine.specs.Runs.{HasNoNetwork, IsLate, Means, fault_text, name_in, run_fault}
 use Rattle.tw_engine.specs.declared.failed.Failed.TheVariants.{Bad, Want, NoWrite}
-use Rattle.tw_options.specs.declared.seeing.Rows.{Rows}
-use Rattle.tw_options.specs.declared.seeing.Rows.TheVariants.{Records, Items, Words}
+use Rattle.tw_cli_options.specs.declared.seeing.Rows.{Rows}
+use Rattle.tw_cli_options.specs.declared.seeing.Rows.TheVariants.{Records, Items, Words}
 use Rattle.tw_network.specs.Contents.{Contents, network_of}
-use Rattle.tw_tables.specs.Tables.{table_text}
-use Rattle.tw_tables.specs.declared.rows.Rows.{Rows as Lines}
-use Rattle.tw_tables.specs.declared.rows.Rows.TheVariants as lines
+use Rattle.tw_record_lines.specs.Tables.{table_text}
+use Rattle.tw_record_lines.specs.declared.rows.Rows.{Rows as Lines}
+use Rattle.tw_record_lines.specs.declared.rows.Rows.TheVariants as lines
 use Rattle.tw_texts.specs.Traces.{AppendsBeginning}
 use Rattle.tw_theory.specs.Simulator.{sequential}
 use Rattle.tw_vtime.specs.declared.refusal.Refusal.TheVariants as refusal

@@ -6,8 +6,8 @@ use crate::failed::Failed;
 use std::alloc::Global;
 use std::io::Write;
 use tw_any_model::AnyModel;
-use tw_faults::explain;
-use tw_netfile::{FileRefused, network_of_any_file};
+use tw_file_faults::explain;
+use tw_file_network::{FileRefused, network_of_any_file};
 use tw_network::Network;
 use tw_vtime::Refusal;
 

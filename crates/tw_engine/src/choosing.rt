@@ -5,9 +5,9 @@ use std::thread;
 use std::thread::Threads;
 use std::time::{Clock, Duration, Instant};
 use tw_any_model::AnyModel;
-use tw_line::{RunOptions, Workers};
+use tw_cli::{RunOptions, Workers};
+use tw_listen::{Judge, Reached, try_out};
 use tw_network::Network;
-use tw_tell::{Judge, Reached, try_out};
 
 // The most records that are made in order to see what they cost, and how long that may take, in milliseconds.
 const RECORDS: u64 = 20_000;

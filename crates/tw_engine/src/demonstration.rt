@@ -12,7 +12,7 @@ use std::thread::Threads;
 use std::time::Clock;
 use tw_actions::Fault;
 use tw_any_model::AnyModel;
-use tw_line::{RunOptions, Workers};
+use tw_cli::{RunOptions, Workers};
 use tw_models::Model;
 use tw_network::Network;
 use tw_process::Cancel;

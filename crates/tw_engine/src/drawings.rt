@@ -3,7 +3,7 @@
 ghost use Rattle.std.specs.Prelude.{◌≡◌, ◌⊎◌, ℕ, List, Some};
 ghost use Rattle.tw_engine.specs.Drawings.{IsSeedDrawn, IsScriptDrawn, IsScriptDrawnBy, IsViewDrawn, IsViewDrawnOf, IsWarpDrawn};
 ghost use Rattle.tw_engine.specs.Jobs.{DriverReads, MeansSome};
-ghost use Rattle.tw_netfile.specs.TreeMeaning.{IsMeaning};
+ghost use Rattle.tw_file_network.specs.TreeMeaning.{IsMeaning};
 
 use crate::failed::Failed;
 use crate::names::NetworkNames;
@@ -13,12 +13,12 @@ use crate::views::fault_line;
 use std::alloc::Global;
 use std::io::{Read, Write};
 use tw_any_model::AnyModel;
-use tw_labels::labels_in;
-use tw_line::{Driver, View};
+use tw_cli::{Driver, View};
+use tw_figure_names::labels_in;
 use tw_network::Network;
 use tw_process::Cancel;
 use tw_vtime::Refusal;
-use tw_warp_pictures::{draw_script, draw_seed};
+use tw_warp_picture::{draw_script, draw_seed};
 
 /// The title of a file's pictures: its name without the folders before it and the ending behind it.
 pub(crate) fn title_of(path: &str) -> &str {
@@ -61,13 +61,13 @@ fn draw_network<W: Write>(
 {
     let labels = labels_in(alloc, bytes, network)?;
     let names = NetworkNames { network };
-    let view = tw_pictures::View {
+    let view = tw_run_picture::View {
         title,
         from: view.from,
         only: view.only,
         figure: view.figure,
     };
-    let drawn = tw_pictures::draw(alloc, network, &names, labels.as_slice(), until, &view, out);
+    let drawn = tw_run_picture::draw(alloc, network, &names, labels.as_slice(), until, &view, out);
     match drawn {
         Ok(fault) => Ok(fault_line(alloc, network, fault)?),
         Err(why) => Err(Failed::from(Refusal::from(why))),

@@ -4,7 +4,7 @@ ghost use Rattle.std.specs.Prelude.{◌≡◌, ℕ, List, IfErr, IfOk};
 ghost use Rattle.tw_engine.specs.Plays.{first, IsDrawnBy, IsDrivenBy, IsScripted, IsSeeded, IsTraced};
 ghost use Rattle.tw_engine.specs.Runs.{HasNoRun};
 ghost use Rattle.tw_engine.specs.Scripting.{HasNoCommands};
-ghost use Rattle.tw_netfile.specs.TreeMeaning.{IsMeaning};
+ghost use Rattle.tw_file_network.specs.TreeMeaning.{IsMeaning};
 ghost use Rattle.tw_script.specs.Scripts.{IsScript};
 
 use crate::failed::Failed;

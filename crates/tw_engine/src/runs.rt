@@ -1,7 +1,7 @@
 //! From a job and the bytes of its file to the bytes written.
 
 ghost use Rattle.std.specs.Prelude.{◌≡◌, ◌⊎◌, ◌≤◌, IfOk, IfErr, IfSome, string_bytes, None};
-ghost use Rattle.tw_netfile.specs.TreeMeaning.{IsMeaning};
+ghost use Rattle.tw_file_network.specs.TreeMeaning.{IsMeaning};
 ghost use Rattle.tw_vtime.specs.Stamps.{max_tick};
 ghost use Rattle.tw_vtime.specs.declared.refusal.Refusal.TheVariants as refusal;
 ghost use Rattle.tw_engine.specs.Checks.{IsCheck};
@@ -28,11 +28,11 @@ use std::thread::Threads;
 use std::time::Clock;
 use tw_actions::Fault;
 use tw_any_model::AnyModel;
-use tw_line::{Driver, Job, Picture, Rows};
-use tw_netfile::network_of_any_file;
+use tw_cli::{Driver, Job, Picture, Rows};
+use tw_file_network::network_of_any_file;
+use tw_listen::{Listener, outcome_telling};
 use tw_network::Network;
 use tw_process::Cancel;
-use tw_tell::{Listener, outcome_telling};
 use tw_texts::{Names, push_fault};
 use tw_vtime::Refusal;
 

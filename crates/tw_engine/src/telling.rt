@@ -1,8 +1,8 @@
 //! Telling on standard error how far a run is.
 
 use std::time::{Clock, Duration, Instant};
+use tw_listen::{Listener, Reached};
 use tw_progress::Progress;
-use tw_tell::{Listener, Reached};
 use tw_vtime::Stamp;
 
 // How long it is from one line to the next, in seconds.

@@ -11,8 +11,8 @@ use std::alloc::Global;
 use std::io::{Read, Write};
 use std::time::Clock;
 use tw_actions::Fault;
-use tw_line::Rows;
-use tw_tell::Nobody;
+use tw_cli::Rows;
+use tw_listen::Nobody;
 
 /// Does the job `seq`.
 pub(crate) fn seq_told<R: Clock + Eprint, N: Read, W: Write>(

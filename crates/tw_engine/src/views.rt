@@ -10,12 +10,12 @@ use std::alloc::{AllocError, Global};
 use std::io::Write;
 use tw_actions::Fault;
 use tw_any_model::AnyModel;
-use tw_labels::labels_in;
-use tw_line::Rows;
+use tw_cli::Rows;
+use tw_figure_names::labels_in;
+use tw_listen::Listener;
 use tw_network::Network;
-use tw_tables::write_table;
-use tw_tell::Listener;
-use tw_views::{report_of, write_report};
+use tw_record_lines::write_table;
+use tw_stats::{report_of, write_report};
 use tw_vtime::Refusal;
 
 /// Writes the counts and the figures of the run of the network that a file's bytes mean.
@@ -109,12 +109,12 @@ fn tabulate_network<L: Listener, W: Write>(
 }
 
 /// What a line of a table is of that the command line asks for.
-fn lines_of(rows: Rows) -> tw_tables::Rows
+fn lines_of(rows: Rows) -> tw_record_lines::Rows
     ensures { result ≡ lines_of rows }
 {
     match rows {
-        Rows::Records => tw_tables::Rows::Records,
-        Rows::Items => tw_tables::Rows::Items,
-        Rows::Words => tw_tables::Rows::Words,
+        Rows::Records => tw_record_lines::Rows::Records,
+        Rows::Items => tw_record_lines::Rows::Items,
+        Rows::Words => tw_record_lines::Rows::Words,
     }
 }

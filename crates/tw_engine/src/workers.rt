@@ -2,7 +2,7 @@
 
 ghost use Rattle.std.specs.Prelude.{◌≡◌, IfErr, IfOk};
 ghost use Rattle.tw_engine.specs.Runs.{HasNoRun, IsMadeInOrder, IsRunByWorkers, IsWorked};
-ghost use Rattle.tw_run.specs.Settings.{IsSet};
+ghost use Rattle.tw_workers_progress.specs.Settings.{IsSet};
 
 use crate::choosing::workers_of;
 use crate::failed::Failed;
@@ -16,14 +16,14 @@ use std::thread::Threads;
 use std::time::Clock;
 use tw_actions::{Fault, MAX_BURST, MAX_WORKERS};
 use tw_any_model::AnyModel;
+use tw_cli::RunOptions;
 use tw_exec::Executive;
-use tw_line::RunOptions;
+use tw_listen::Nobody;
 use tw_network::Network;
 use tw_process::Cancel;
-use tw_run::worked;
-use tw_tell::Nobody;
 use tw_vtime::{MAX_TICK, Refusal};
 use tw_workers::Setting;
+use tw_workers_progress::worked;
 
 /// A run to be made: up to which end tick, how steps that are taken back are cancelled, and how its workers are set.
 #[derive(Clone, Copy)]

@@ -14,11 +14,11 @@ use std::alloc::Global;
 use std::io::Write;
 use tw_actions::Fault;
 use tw_any_model::AnyModel;
+use tw_listen::Listener;
 use tw_msgs::Record;
 use tw_network::Network;
-use tw_stream::write_rounds;
-use tw_tell::Listener;
 use tw_texts::write_trace;
+use tw_trace_lines::write_rounds;
 
 /// Writes the text of a network's run, of which the fault is known: the lines of its rounds, as they are made, and that of the fault.
 pub(crate) fn write_streamed<L: Listener, W: Write>(

@@ -3,7 +3,7 @@
 use crate::names::{bad_name, bad_parameter, is_list, is_parameter, parameters_of};
 use serde_json::Value;
 use std::alloc::{AllocError, Global};
-use tw_text_faults::{Nearest, described, quoted};
+use tw_machine_text_faults::{Nearest, described, quoted};
 
 /// What a whole number with a sign is.
 pub const WHOLE: &str = "a whole number from -9223372036854775808 to 9223372036854775807";

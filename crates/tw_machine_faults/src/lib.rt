@@ -1,7 +1,7 @@
 //! What is wrong with the machines of a network file, in words: the place in the file and the reason.
 //!
 //! [`machines_of`] reads the machines in order, by the reader of `tw_machine_file`, and stops at the first that has a
-//! fault, which is then looked for in the values and texts of that machine; where a text goes wrong `tw_text_faults` says.
+//! fault, which is then looked for in the values and texts of that machine; where a text goes wrong `tw_machine_text_faults` says.
 //! Of the words nothing is proved but that they are made safely and that the search ends: they are shown by tests, one
 //! for each kind of fault.
 //!

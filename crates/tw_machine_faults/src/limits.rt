@@ -3,12 +3,12 @@
 use crate::machines::Machine;
 use crate::members::member_text;
 use std::alloc::{AllocError, Global};
-use tw_costs::{
+use tw_machine_compiler::{BadMachine, Constant, Given, Thing};
+use tw_machine_declaration::{
     block_work, constant, count_of, list_given, outputs_work, room_of, standings_of, words_work,
 };
-use tw_declared::{BadMachine, Constant, Given, Thing};
 use tw_machine_file::{FileMachine, Part};
-use tw_text_faults::{quoted, words_of};
+use tw_machine_text_faults::{quoted, words_of};
 use tw_vtime::MAX_TICK;
 
 /// The most computations of a run.

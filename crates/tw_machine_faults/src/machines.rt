@@ -8,10 +8,10 @@ use crate::stop::Stop;
 use crate::values::{items_at, name_of};
 use serde_json::Value;
 use std::alloc::{AllocError, Global};
-use tw_declared::{BadMachine, Given, declared};
+use tw_machine_compiler::{BadMachine, Given, declared};
 use tw_machine_file::{FileMachine, MachineFault, Part, Why, machine_of};
-use tw_program_text::Place;
-use tw_text_faults::{Nearest, described, listed, quoted, reason};
+use tw_machine_text::Place;
+use tw_machine_text_faults::{Nearest, described, listed, quoted, reason};
 use tw_vtime::MAX_TICK;
 
 /// The most machines of a file.

@@ -5,8 +5,8 @@ use crate::values::items_at;
 use serde_json::Value;
 use std::alloc::{AllocError, Global};
 use tw_machine_file::Part;
-use tw_program_text::Member;
-use tw_text_faults::{described, quoted};
+use tw_machine_text::Member;
+use tw_machine_text_faults::{described, quoted};
 
 /// The members of an output.
 const MEMBERS: [&str; 4] = ["port", "value", "when", "each"];

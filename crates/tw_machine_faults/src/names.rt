@@ -2,8 +2,8 @@
 
 use serde_json::Value;
 use std::alloc::{AllocError, Global};
-use tw_program_text::{Declared, Kind};
-use tw_text_faults::{is_reserved, quoted};
+use tw_machine_text::{Declared, Kind};
+use tw_machine_text_faults::{is_reserved, quoted};
 
 /// The longest name, in bytes.
 const MAX_NAME: usize = 32;

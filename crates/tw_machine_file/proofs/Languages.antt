@@ -1,10 +1,10 @@
 -- The names that are lent to the texts' reader are those of the machine.
 use Rattle.std.proofs.Common.{◌≡◌, ◌∷◌, [], ℕ, List, map, refl, ap, ◌∙◌}
-use Rattle.tw_program_text.specs.Kinds.{kinds_of}
-use Rattle.tw_program_text.specs.TextViews.{names_of, declarations}
-use Rattle.tw_program_text.specs.declared.kinds.Declared.{Declared}
-use Rattle.tw_program_text.specs.declared.kinds.Kind.{Kind}
-use Rattle.tw_costs.specs.Seen.{Name}
+use Rattle.tw_machine_text.specs.Kinds.{kinds_of}
+use Rattle.tw_machine_text.specs.TextViews.{names_of, declarations}
+use Rattle.tw_machine_text.specs.declared.kinds.Declared.{Declared}
+use Rattle.tw_machine_text.specs.declared.kinds.Kind.{Kind}
+use Rattle.tw_machine_declaration.specs.Seen.{Name}
 use Rattle.tw_machine_file.specs.Declares.{texts}
 use Rattle.tw_machine_file.specs.Machine.{language}
 use Rattle.tw_machine_file.specs.Seen.{kind_of}

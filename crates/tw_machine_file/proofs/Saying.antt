@@ -3,19 +3,19 @@ use Rattle.std.proofs.Common.{◌≡◌, ◌≤◌, ◌∷◌, ℕ, List, Bool, 
 use Rattle.std.proofs.lemmas.Bool.{leb-true, le-leb}
 use Rattle.std.proofs.lemmas.Option.{same_Some}
 use Rattle.std.specs.Prelude.{Option, Some, None, nat_le, option_and_then, option_map, if◌then◌else◌}
-use Rattle.tw_program_text.specs.declared.kinds.Kind.{Kind}
-use Rattle.tw_program_text.specs.declared.kinds.Member.{Member}
-use Rattle.tw_program_text.specs.declared.words.Word.{Word}
-use Rattle.tw_program_text.specs.declared.words.Word.TheVariants.{Wait}
-use Rattle.tw_program_text.specs.Kinds.{bound_block, bound_as, waited}
-use Rattle.tw_program_text.specs.Machine.{program_of, weigh}
-use Rattle.tw_program_text.specs.Text.{words_of, Reads, ReadsTree}
-use Rattle.tw_program_text.specs.Tree.{Block, Tree, Empty, Then, Means}
-use Rattle.tw_program_text.specs.Tree as t
-use Rattle.tw_program_text.proofs.Readings.{read_words, read_tree, tree_means}
-use Rattle.tw_program_text.proofs.Scanned.{words_again}
-use Rattle.tw_program_text.proofs.Statements.{again_means}
-use Rattle.tw_program_text.proofs.Told.{sound, light}
+use Rattle.tw_machine_text.specs.declared.kinds.Kind.{Kind}
+use Rattle.tw_machine_text.specs.declared.kinds.Member.{Member}
+use Rattle.tw_machine_text.specs.declared.words.Word.{Word}
+use Rattle.tw_machine_text.specs.declared.words.Word.TheVariants.{Wait}
+use Rattle.tw_machine_text.specs.Kinds.{bound_block, bound_as, waited}
+use Rattle.tw_machine_text.specs.Machine.{program_of, weigh}
+use Rattle.tw_machine_text.specs.Text.{words_of, Reads, ReadsTree}
+use Rattle.tw_machine_text.specs.Tree.{Block, Tree, Empty, Then, Means}
+use Rattle.tw_machine_text.specs.Tree as t
+use Rattle.tw_machine_text.proofs.Readings.{read_words, read_tree, tree_means}
+use Rattle.tw_machine_text.proofs.Scanned.{words_again}
+use Rattle.tw_machine_text.proofs.Statements.{again_means}
+use Rattle.tw_machine_text.proofs.Told.{sound, light}
 use Rattle.tw_machine_file.specs.Said.{spelled_program, bound_program, bound_tree, program_said, tree_said}
 
 -- ---- options

@@ -3,10 +3,10 @@ use Rattle.std.specs.Prelude.{[], ℕ, ℤ, List, Bool, true, Option, option_and
 use Rattle.std.specs.Option.{option_or}
 use Rattle.serde_json.specs.Data.{Data, Items, no_items, item}
 use Rattle.serde_json.specs.Find.{as_i64, as_number, as_str}
-use Rattle.tw_program_text.specs.Text.{position}
-use Rattle.tw_declared.specs.Limits.{is_up_to}
-use Rattle.tw_costs.specs.declared.declaration.Constant.{Constant}
-use Rattle.tw_costs.specs.declared.declaration.Constant.TheVariants as c
+use Rattle.tw_machine_text.specs.Text.{position}
+use Rattle.tw_machine_compiler.specs.Limits.{is_up_to}
+use Rattle.tw_machine_declaration.specs.declared.declaration.Constant.{Constant}
+use Rattle.tw_machine_declaration.specs.declared.declaration.Constant.TheVariants as c
 use Rattle.tw_machine_file.specs.Fault.{Fault, wrong, once, with_rest, expected, provided}
 use Rattle.tw_machine_file.specs.declared.fault.Part.{Part}
 use Rattle.tw_machine_file.specs.declared.fault.Why.TheVariants as why

@@ -4,10 +4,10 @@ use Rattle.std.specs.Option.{option_map_or}
 use Rattle.serde_json.specs.Data.{Data, Items, no_items, item, Members, no_members, member}
 use Rattle.serde_json.specs.Find.{get, as_array, as_object, as_str, at}
 use Rattle.serde_json.specs.Events.{items_len}
-use Rattle.tw_program_text.specs.Letters.{same_text}
-use Rattle.tw_program_text.specs.Text.{position}
-use Rattle.tw_costs.specs.Seen.{Declares, Name, parameter, list_parameter, register, registers, queue, queues, table, list_table}
-use Rattle.tw_costs.specs.declared.declaration.Constant.{Constant}
+use Rattle.tw_machine_text.specs.Letters.{same_text}
+use Rattle.tw_machine_text.specs.Text.{position}
+use Rattle.tw_machine_declaration.specs.Seen.{Declares, Name, parameter, list_parameter, register, registers, queue, queues, table, list_table}
+use Rattle.tw_machine_declaration.specs.declared.declaration.Constant.{Constant}
 use Rattle.tw_machine_file.specs.Constants.{constant, constants, count, wholes}
 use Rattle.tw_machine_file.specs.Fault.{Fault, wrong, once, made, expected}
 use Rattle.tw_machine_file.specs.Names.{is_among, is_name, is_own_name}

@@ -1,11 +1,11 @@
 -- A machine by hand: the arrivals of `machine-pool`, the value of the file and what it declares; and eight values with one fault each.
 use Rattle.std.specs.Prelude.{◌≡◌, ◌∷◌, [], ℕ, List, pos, true, false, Some, None, Result, Ok, Err, codes}
 use Rattle.serde_json.specs.Data.{Data, unsigned, Items, number, string, array, object, no_items, item, Members, no_members, member}
-use Rattle.tw_program_text.specs.Tree.{Number, Name, Indexed, RandomBelow, Binary, Empty, Then, Assign, Wait, Draw}
-use Rattle.tw_program_text.specs.declared.words.Change.TheVariants.{Add}
-use Rattle.tw_program_text.specs.declared.words.Operator.TheVariants.{Plus}
-use Rattle.tw_costs.specs.Seen.{Given, parameter, list_parameter, register, list_table, whole, tree}
-use Rattle.tw_costs.specs.declared.declaration.Constant.TheVariants as c
+use Rattle.tw_machine_text.specs.Tree.{Number, Name, Indexed, RandomBelow, Binary, Empty, Then, Assign, Wait, Draw}
+use Rattle.tw_machine_text.specs.declared.words.Change.TheVariants.{Add}
+use Rattle.tw_machine_text.specs.declared.words.Operator.TheVariants.{Plus}
+use Rattle.tw_machine_declaration.specs.Seen.{Given, parameter, list_parameter, register, list_table, whole, tree}
+use Rattle.tw_machine_declaration.specs.declared.declaration.Constant.TheVariants as c
 use Rattle.tw_machine_file.specs.Fault.{Fault, wrong, text}
 use Rattle.tw_machine_file.specs.Given.{given_of}
 use Rattle.tw_machine_file.specs.Machine.{machine_of}

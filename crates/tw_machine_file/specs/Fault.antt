@@ -1,7 +1,7 @@
 -- What is wrong with a machine, but for the place in a text; and what is done only where nothing is wrong.
 use Rattle.std.specs.Prelude.{◌∷◌, Bool, List, Option, Result, Ok, Err, if◌then◌else◌}
 use Rattle.std.specs.Option.{ok_or}
-use Rattle.tw_declared.specs.declared.limits.BadMachine.{BadMachine}
+use Rattle.tw_machine_compiler.specs.declared.limits.BadMachine.{BadMachine}
 use Rattle.tw_machine_file.specs.declared.fault.Part.{Part}
 use Rattle.tw_machine_file.specs.declared.fault.Why.{Why}
 use Rattle.tw_machine_file.specs.declared.fault.MachineFault.{MachineFault}

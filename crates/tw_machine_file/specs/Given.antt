@@ -4,7 +4,7 @@ use Rattle.std.specs.Option.{option_map_or}
 use Rattle.serde_json.specs.Data.{Data, Items}
 use Rattle.serde_json.specs.Events.{members_len}
 use Rattle.serde_json.specs.Find.{as_array, as_object, get}
-use Rattle.tw_costs.specs.Seen.{Given}
+use Rattle.tw_machine_declaration.specs.Seen.{Given}
 use Rattle.tw_machine_file.specs.Constants.{whole_of, wholes}
 use Rattle.tw_machine_file.specs.Fault.{Fault, wrong, once, with_rest, expected, provided}
 use Rattle.tw_machine_file.specs.Values.{is_long}

@@ -2,11 +2,11 @@
 use Rattle.std.specs.Prelude.{◌∷◌, [], ℕ, List, map, Option, Some, None, Result, Ok, Err, codes, pos, if◌then◌else◌}
 use Rattle.serde_json.specs.Data.{Data}
 use Rattle.serde_json.specs.Find.{as_object, as_str, get}
-use Rattle.tw_program_text.specs.Kinds.{kinds_of}
-use Rattle.tw_program_text.specs.Tree.{Block}
-use Rattle.tw_costs.specs.Seen.{Declaration, Name, Output, Value}
-use Rattle.tw_costs.specs.declared.declaration.Constant.{Constant}
-use Rattle.tw_costs.specs.declared.declaration.Constant.TheVariants as c
+use Rattle.tw_machine_text.specs.Kinds.{kinds_of}
+use Rattle.tw_machine_text.specs.Tree.{Block}
+use Rattle.tw_machine_declaration.specs.Seen.{Declaration, Name, Output, Value}
+use Rattle.tw_machine_declaration.specs.declared.declaration.Constant.{Constant}
+use Rattle.tw_machine_declaration.specs.declared.declaration.Constant.TheVariants as c
 use Rattle.tw_machine_file.specs.Constants.{constant, count}
 use Rattle.tw_machine_file.specs.Declares.{scope_of, texts}
 use Rattle.tw_machine_file.specs.Fault.{Fault, wrong, once, made, expected, provided}

@@ -5,10 +5,10 @@ use Rattle.std.specs.Prelude.{◌++◌, ◌∷◌, [], ℕ, List, Option, Some, 
 use Rattle.serde_json.specs.Data.{Data, Items, no_items, item}
 use Rattle.serde_json.specs.Events.{items_len}
 use Rattle.serde_json.specs.Find.{as_array}
-use Rattle.tw_costs.specs.Seen.{Declaration, Given}
-use Rattle.tw_declared.specs.Limits.{fault_of}
-use Rattle.tw_declared.specs.Program.{program_of}
-use Rattle.tw_declared.specs.declared.limits.BadMachine.{BadMachine}
+use Rattle.tw_machine_declaration.specs.Seen.{Declaration, Given}
+use Rattle.tw_machine_compiler.specs.Limits.{fault_of}
+use Rattle.tw_machine_compiler.specs.Program.{program_of}
+use Rattle.tw_machine_compiler.specs.declared.limits.BadMachine.{BadMachine}
 use Rattle.tw_machine.specs.Program.{ProgramText}
 use Rattle.tw_machine_file.specs.Fault.{Fault, wrong, limit, once, made, expected, provided}
 use Rattle.tw_machine_file.specs.Given.{given_of}

@@ -1,8 +1,8 @@
 -- What may be a name.
 use Rattle.std.specs.Prelude.{ℕ, Bool, false, not, ◌&&◌, ◌||◌, ◌==◌, List, [], ◌∷◌, length, nat_le, codes}
 use Rattle.std.specs.List.{list_all}
-use Rattle.tw_program_text.specs.Letters.{same_text}
-use Rattle.tw_program_text.specs.Text.{is_digit, is_word}
+use Rattle.tw_machine_text.specs.Letters.{same_text}
+use Rattle.tw_machine_text.specs.Text.{is_digit, is_word}
 
 abbrev pub is_among : List (List ℕ) → List ℕ → Bool
 is_among [] text = false

@@ -3,9 +3,9 @@ use Rattle.std.specs.Prelude.{◌∷◌, [], ℕ, ◌+◌, List, Option, Some, N
 use Rattle.serde_json.specs.Data.{Data, Items, no_items, item, Members}
 use Rattle.serde_json.specs.Events.{items_len}
 use Rattle.serde_json.specs.Find.{as_array, as_object, get}
-use Rattle.tw_program_text.specs.declared.kinds.Member.TheVariants as member
-use Rattle.tw_program_text.specs.Tree.{Tree}
-use Rattle.tw_costs.specs.Seen.{Value, Output}
+use Rattle.tw_machine_text.specs.declared.kinds.Member.TheVariants as member
+use Rattle.tw_machine_text.specs.Tree.{Tree}
+use Rattle.tw_machine_declaration.specs.Seen.{Value, Output}
 use Rattle.tw_machine_file.specs.Fault.{Fault, wrong, once, made, with_rest, expected, provided}
 use Rattle.tw_machine_file.specs.Texts.{Language, tree_in, value_in}
 use Rattle.tw_machine_file.specs.Values.{are_among}

@@ -1,13 +1,13 @@
 -- What a text says: the program or the expression that the grammar gives it, of at most 64 levels and 4,096 nodes.
 use Rattle.std.specs.Prelude.{◌≡◌, ◌↔◌, ◌∷◌, ℕ, List, false, Option, Some, None, nat_le, option_and_then, option_map, if◌then◌else◌}
-use Rattle.tw_program_text.specs.declared.kinds.Kind.{Kind}
-use Rattle.tw_program_text.specs.declared.kinds.Member.{Member}
-use Rattle.tw_program_text.specs.declared.words.Word.{Word}
-use Rattle.tw_program_text.specs.declared.words.Word.TheVariants.{Wait}
-use Rattle.tw_program_text.specs.Kinds.{bound_block, bound_as, waited}
-use Rattle.tw_program_text.specs.Machine.{program_of, weigh}
-use Rattle.tw_program_text.specs.Text.{words_of, Reads, ReadsTree}
-use Rattle.tw_program_text.specs.Tree.{Block, Tree}
+use Rattle.tw_machine_text.specs.declared.kinds.Kind.{Kind}
+use Rattle.tw_machine_text.specs.declared.kinds.Member.{Member}
+use Rattle.tw_machine_text.specs.declared.words.Word.{Word}
+use Rattle.tw_machine_text.specs.declared.words.Word.TheVariants.{Wait}
+use Rattle.tw_machine_text.specs.Kinds.{bound_block, bound_as, waited}
+use Rattle.tw_machine_text.specs.Machine.{program_of, weigh}
+use Rattle.tw_machine_text.specs.Text.{words_of, Reads, ReadsTree}
+use Rattle.tw_machine_text.specs.Tree.{Block, Tree}
 
 -- the program that words are, of no more than so many nodes
 abbrev pub spelled_program : ℕ → List Word → Option Block

@@ -1,11 +1,11 @@
 -- A machine of a file without where its parts lie in memory.
 use Rattle.std.specs.Prelude.{ℕ, List, Option, map, string_bytes}
-use Rattle.tw_program_text.specs.Tree.{Block}
-use Rattle.tw_program_text.specs.Views.{body}
-use Rattle.tw_program_text.specs.declared.kinds.Kind.{Kind}
-use Rattle.tw_program_text.specs.declared.kinds.Kind.TheVariants as kind
-use Rattle.tw_costs.specs.Seen.{Declaration, Declares, Name, Output, Value, parameter, list_parameter, register, registers, queue, queues, table, list_table, declaration, name, output, value}
-use Rattle.tw_costs.specs.declared.declaration.Constant.{Constant}
+use Rattle.tw_machine_text.specs.Tree.{Block}
+use Rattle.tw_machine_text.specs.Views.{body}
+use Rattle.tw_machine_text.specs.declared.kinds.Kind.{Kind}
+use Rattle.tw_machine_text.specs.declared.kinds.Kind.TheVariants as kind
+use Rattle.tw_machine_declaration.specs.Seen.{Declaration, Declares, Name, Output, Value, parameter, list_parameter, register, registers, queue, queues, table, list_table, declaration, name, output, value}
+use Rattle.tw_machine_declaration.specs.declared.declaration.Constant.{Constant}
 use Rattle.tw_machine_file.specs.declared.declarations.Scope as rust
 use Rattle.tw_machine_file.specs.declared.machine.FileMachine.{FileMachine}
 use Rattle.tw_machine_file.specs.declared.machine.Starts as rust_starts

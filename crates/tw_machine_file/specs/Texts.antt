@@ -3,13 +3,13 @@ use Rattle.std.specs.Prelude.{◌++◌, ◌∷◌, [], ℕ, ℤ, List, Option, S
 use Rattle.std.specs.Option.{ok_or, option_or}
 use Rattle.serde_json.specs.Data.{Data, Items, no_items, item}
 use Rattle.serde_json.specs.Find.{as_array, as_str}
-use Rattle.tw_program_text.specs.Tree.{Block, Empty, Tree}
-use Rattle.tw_program_text.specs.Kinds.{kinds_of}
-use Rattle.tw_program_text.specs.TextViews.{names_of, declarations}
-use Rattle.tw_program_text.specs.declared.kinds.Declared.{Declared}
-use Rattle.tw_program_text.specs.declared.kinds.Kind.{Kind}
-use Rattle.tw_program_text.specs.declared.kinds.Member.{Member}
-use Rattle.tw_costs.specs.Seen.{Value, whole, tree}
+use Rattle.tw_machine_text.specs.Tree.{Block, Empty, Tree}
+use Rattle.tw_machine_text.specs.Kinds.{kinds_of}
+use Rattle.tw_machine_text.specs.TextViews.{names_of, declarations}
+use Rattle.tw_machine_text.specs.declared.kinds.Declared.{Declared}
+use Rattle.tw_machine_text.specs.declared.kinds.Kind.{Kind}
+use Rattle.tw_machine_text.specs.declared.kinds.Member.{Member}
+use Rattle.tw_machine_declaration.specs.Seen.{Value, whole, tree}
 use Rattle.tw_machine_file.specs.Constants.{whole_of}
 use Rattle.tw_machine_file.specs.Fault.{Fault, text, once, made, expected}
 use Rattle.tw_machine_file.specs.Said.{program_said, tree_said}

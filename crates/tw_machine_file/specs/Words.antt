@@ -3,11 +3,11 @@ use Rattle.std.specs.Prelude.{◌++◌, ◌∷◌, [], ◌&&◌, ◌==◌, ◌+�
 use Rattle.std.specs.List.{list_any}
 use Rattle.serde_json.specs.Data.{Data, Items, no_items, item}
 use Rattle.serde_json.specs.Find.{as_array}
-use Rattle.tw_program_text.specs.Kinds.{is_shown}
-use Rattle.tw_program_text.specs.Tree.{Tree, Number, Name, Indexed}
-use Rattle.tw_program_text.specs.declared.kinds.Kind.{Kind}
-use Rattle.tw_program_text.specs.declared.kinds.Member.TheVariants as member
-use Rattle.tw_costs.specs.Seen.{Value, tree}
+use Rattle.tw_machine_text.specs.Kinds.{is_shown}
+use Rattle.tw_machine_text.specs.Tree.{Tree, Number, Name, Indexed}
+use Rattle.tw_machine_text.specs.declared.kinds.Kind.{Kind}
+use Rattle.tw_machine_text.specs.declared.kinds.Member.TheVariants as member
+use Rattle.tw_machine_declaration.specs.Seen.{Value, tree}
 use Rattle.tw_machine_file.specs.Fault.{Fault, wrong, once, made, expected, provided}
 use Rattle.tw_machine_file.specs.Texts.{Language, value_in}
 use Rattle.tw_machine_file.specs.Values.{is_long}

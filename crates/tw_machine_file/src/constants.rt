@@ -1,7 +1,7 @@
 //! Constants: whole numbers, and names of parameters that are numbers.
 ghost use Rattle.std.specs.Prelude.{◌≡◌, ◌≢◌, Ok, Err, IfOk, IfErr, map, string_bytes};
 ghost use Rattle.serde_json.specs.View.{view, items_view};
-ghost use Rattle.tw_declared.specs.Limits.{is_up_to};
+ghost use Rattle.tw_machine_compiler.specs.Limits.{is_up_to};
 ghost use Rattle.tw_machine_file.specs.Constants.{constant, constant_of, constants, count, is_within, wholes};
 ghost use Rattle.tw_machine_file.specs.Fault.{fault};
 
@@ -9,7 +9,7 @@ use crate::fault::{MachineFault, Part, Why};
 use crate::names::place_in;
 use serde_json::Value;
 use std::alloc::Global;
-use tw_declared::Constant;
+use tw_machine_compiler::Constant;
 
 fn constant_of(numbers: &[String], value: &Value) -> Option<Constant>
     ensures { result ≡ constant_of (map string_bytes numbers.now) (view value.now) }

@@ -2,8 +2,8 @@
 ghost use Rattle.std.specs.Prelude.{◌≡◌, ◌≢◌, ◌++◌, ◌∷◌, [], Ok, Err, IfOk, IfErr, map, codes, option_and_then, option_map, string_bytes};
 ghost use Rattle.serde_json.specs.Find.{as_array, as_object, as_str, at, get};
 ghost use Rattle.serde_json.specs.View.{view, items_view, members_view};
-ghost use Rattle.tw_program_text.specs.Text.{position};
-ghost use Rattle.tw_costs.specs.Seen.{name, thing};
+ghost use Rattle.tw_machine_text.specs.Text.{position};
+ghost use Rattle.tw_machine_declaration.specs.Seen.{name, thing};
 ghost use Rattle.tw_machine_file.specs.Declares.{
   declare,
   declare_all,
@@ -38,7 +38,7 @@ use crate::names::{is_name, is_own_name, place_in, same_text};
 use crate::values::{has_items, is_long, items_of};
 use serde_json::{Map, Value};
 use std::alloc::{AllocError, Global};
-use tw_declared::{Constant, Named, Thing};
+use tw_machine_compiler::{Constant, Named, Thing};
 
 /// What is declared so far: all names in order, and of these the parameters that are numbers and those that are lists.
 #[derive(Drop)]

@@ -5,8 +5,8 @@ ghost use Rattle.tw_machine_file.specs.declared.fault.MachineFault.TheVariants.{
 
 use std::alloc::{AllocError, AllocFailed};
 use thiserror::Error;
-use tw_declared::BadMachine;
-use tw_program_text::Place;
+use tw_machine_compiler::BadMachine;
+use tw_machine_text::Place;
 
 /// A part of a machine, or of a component of one. Entries are numbered from 0.
 #[derive(Clone, Copy, Debug, PartialEq, Eq)]

@@ -2,7 +2,7 @@
 ghost use Rattle.std.specs.Prelude.{◌≡◌, ◌≢◌, ◌+◌, Ok, Err, IfOk, IfErr, is_some, length, map, option_map, string_bytes};
 ghost use Rattle.serde_json.specs.Find.{get};
 ghost use Rattle.serde_json.specs.View.{view, items_view};
-ghost use Rattle.tw_costs.specs.Seen.{given};
+ghost use Rattle.tw_machine_declaration.specs.Seen.{given};
 ghost use Rattle.tw_machine_file.specs.Fault.{fault};
 ghost use Rattle.tw_machine_file.specs.Given.{given_of, has_count, has_exactly, list_given, lists_given, long_list, number_given, numbers_given};
 
@@ -12,7 +12,7 @@ use crate::machine::FileMachine;
 use crate::values::{is_long, items_of};
 use serde_json::Value;
 use std::alloc::Global;
-use tw_declared::Given;
+use tw_machine_compiler::Given;
 
 fn number_given(index: usize, member: Option<&Value>) -> Result<i64, MachineFault>
     ensures ok { IfOk result (λ n. number_given index (option_map (λ v. view v.now) member.entry) ≡ Ok n) }

@@ -16,8 +16,8 @@ use crate::values::are_among;
 use crate::words::words_in;
 use serde_json::Value;
 use std::alloc::Global;
-use tw_declared::{Constant, Declaration, OutputText, Value as Said};
-use tw_program_text::{Block, Declared};
+use tw_machine_compiler::{Constant, Declaration, OutputText, Value as Said};
+use tw_machine_text::{Block, Declared};
 use tw_vtime::MAX_TICK;
 
 /// A machine of a file.

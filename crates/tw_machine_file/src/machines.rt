@@ -1,7 +1,7 @@
 //! All machines of a file, and the program that a component makes of one.
 ghost use Rattle.std.specs.Prelude.{◌≡◌, ◌≢◌, [], Ok, Err, IfOk, IfErr, OnOk, map, string_bytes};
 ghost use Rattle.serde_json.specs.View.{view, items_view};
-ghost use Rattle.tw_costs.specs.Seen as plain;
+ghost use Rattle.tw_machine_declaration.specs.Seen as plain;
 ghost use Rattle.tw_machine.specs.Seen.{seen_program};
 ghost use Rattle.tw_machine_file.specs.Fault.{fault};
 ghost use Rattle.tw_machine_file.specs.Machines.{few, machine_behind, machines_behind, machines_in, program_given, program_in, within_limits};
@@ -14,8 +14,8 @@ use crate::machine::{FileMachine, machine_of};
 use crate::values::{are_few, items_of};
 use serde_json::Value;
 use std::alloc::Global;
-use tw_declared::{Declaration, Given, declared};
 use tw_machine::program::Program;
+use tw_machine_compiler::{Declaration, Given, declared};
 
 /// How many machines a file may have.
 const MACHINES: usize = 256;

@@ -1,8 +1,8 @@
 //! What may be a name.
 ghost use Rattle.std.specs.Prelude.{◌≡◌, map, string_bytes};
 ghost use Rattle.std.specs.List.{list_all};
-ghost use Rattle.tw_program_text.specs.Letters.{same_text};
-ghost use Rattle.tw_program_text.specs.Text.{is_digit, is_word, position};
+ghost use Rattle.tw_machine_text.specs.Letters.{same_text};
+ghost use Rattle.tw_machine_text.specs.Text.{is_digit, is_word, position};
 ghost use Rattle.tw_machine_file.specs.Names.{is_among, is_letter, is_machine_name, is_name, is_own_name, is_word_or_dash};
 
 /// The words of the language that no name may be.

@@ -1,8 +1,8 @@
 //! What a machine sends.
 ghost use Rattle.std.specs.Prelude.{◌≡◌, ◌≢◌, Ok, Err, IfOk, IfErr, map, option_map};
 ghost use Rattle.serde_json.specs.View.{view, items_view, members_view};
-ghost use Rattle.tw_program_text.specs.Views.{tree};
-ghost use Rattle.tw_costs.specs.Seen.{output, value};
+ghost use Rattle.tw_machine_text.specs.Views.{tree};
+ghost use Rattle.tw_machine_declaration.specs.Seen.{output, value};
 ghost use Rattle.tw_machine_file.specs.Fault.{fault};
 ghost use Rattle.tw_machine_file.specs.Outputs.{each_of, entry_of, few_outputs, output_of, outputs_in, outputs_of, sent_value, when_of};
 ghost use Rattle.tw_machine_file.specs.Texts.{language_of};
@@ -12,8 +12,8 @@ use crate::texts::{tree_in, value_in};
 use crate::values::{are_among, are_few, items_of};
 use serde_json::{Map, Value};
 use std::alloc::Global;
-use tw_declared::{OutputText, Value as Said};
-use tw_program_text::{Declared, Expr, Member};
+use tw_machine_compiler::{OutputText, Value as Said};
+use tw_machine_text::{Declared, Expr, Member};
 
 /// The members of an entry.
 const MEMBERS: [&[u8]; 4] = [b"port", b"value", b"when", b"each"];

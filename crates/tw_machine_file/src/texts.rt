@@ -1,9 +1,9 @@
 //! The texts of a machine: programs, and expressions in members.
 ghost use Rattle.std.specs.Prelude.{◌≡◌, ◌≢◌, ◌++◌, ◌∷◌, [], Some, None, Ok, Err, IfOk, IfErr, map, option_map, string_bytes};
 ghost use Rattle.serde_json.specs.View.{view, items_view};
-ghost use Rattle.tw_program_text.specs.TextViews.{declarations, names_of};
-ghost use Rattle.tw_program_text.specs.Views.{body, tree};
-ghost use Rattle.tw_costs.specs.Seen.{name, thing, value};
+ghost use Rattle.tw_machine_text.specs.TextViews.{declarations, names_of};
+ghost use Rattle.tw_machine_text.specs.Views.{body, tree};
+ghost use Rattle.tw_machine_declaration.specs.Seen.{name, thing, value};
 ghost use Rattle.tw_machine_file.specs.Fault.{fault};
 ghost use Rattle.tw_machine_file.specs.Said.{SaysPrograms, SaysTrees};
 ghost use Rattle.tw_machine_file.specs.Seen.{kind_of};
@@ -13,8 +13,8 @@ use crate::fault::{MachineFault, Part, Why};
 use crate::values::items_of;
 use serde_json::Value;
 use std::alloc::{AllocError, Global};
-use tw_declared::{Named, Thing, Value as Said};
-use tw_program_text::{
+use tw_machine_compiler::{Named, Thing, Value as Said};
+use tw_machine_text::{
     Block, Declared, Expr, Kind, Member, NODES, TextRefused, kinds_of, read_member, read_program,
 };
 

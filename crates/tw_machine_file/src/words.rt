@@ -2,8 +2,8 @@
 ghost use Rattle.std.specs.Prelude.{◌≡◌, ◌≢◌, [], Ok, Err, IfOk, IfErr, map, option_map};
 ghost use Rattle.std.specs.List.{list_any};
 ghost use Rattle.serde_json.specs.View.{view, items_view};
-ghost use Rattle.tw_program_text.specs.Views.{tree as spelled};
-ghost use Rattle.tw_costs.specs.Seen.{value};
+ghost use Rattle.tw_machine_text.specs.Views.{tree as spelled};
+ghost use Rattle.tw_machine_declaration.specs.Seen.{value};
 ghost use Rattle.tw_machine_file.specs.Fault.{fault};
 ghost use Rattle.tw_machine_file.specs.Texts.{language_of};
 ghost use Rattle.tw_machine_file.specs.Words.{is_again, is_same_number, is_same_tree, some_words, word_of, words_in, words_of};
@@ -13,8 +13,8 @@ use crate::texts::{kinds_in, value_in};
 use crate::values::{is_long, items_of};
 use serde_json::Value;
 use std::alloc::Global;
-use tw_declared::Value as Said;
-use tw_program_text::{Declared, Expr, Kind, Member, is_shown};
+use tw_machine_compiler::Value as Said;
+use tw_machine_text::{Declared, Expr, Kind, Member, is_shown};
 
 /// Whether two indices are one number.
 fn is_same_number(a: &Expr, b: &Expr) -> bool

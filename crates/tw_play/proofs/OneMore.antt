@@ -10,7 +10,7 @@ use Rattle.tw_actions.specs.declared.action.Action.{Action}
 use Rattle.tw_play.specs.Playing.{Played, IsObeyed, ArePlayed, AreDrawn, response_text, wants_memory, nothing, obeyed, ended, idle, taken}
 use Rattle.tw_play.specs.Telling.{HasTold, refused_text, IsCutShort, IsDrawnShort, IsPlayed, IsWhollyDrawn}
 use Rattle.tw_play.specs.declared.response.Response.{Response}
-use Rattle.tw_drawn.specs.Schedules.{action_drawn, after as next_of, drawn}
+use Rattle.tw_seeded.specs.Schedules.{action_drawn, after as next_of, drawn}
 use Rattle.tw_script.specs.declared.command.Command.{Command}
 use Rattle.tw_script.specs.declared.command.Command.TheVariants.{Act}
 use Rattle.tw_texts.proofs.Portions.{appends_nothing, appends_both}

@@ -21,7 +21,7 @@ use Rattle.tw_inspect.specs.declared.replies.Reply.{Reply as Replied}
 use Rattle.tw_inspect.specs.declared.replies.Reply.TheVariants.{Marked, Refused}
 use Rattle.tw_play.specs.declared.response.Response.{Response}
 use Rattle.tw_play.specs.declared.response.Response.TheVariants.{Reply, Text}
-use Rattle.tw_drawn.specs.Schedules.{action_drawn, after as next_of, drawn}
+use Rattle.tw_seeded.specs.Schedules.{action_drawn, after as next_of, drawn}
 use Rattle.tw_script.specs.declared.command.Command.{Command}
 use Rattle.tw_script.specs.declared.command.Command.TheVariants.{Act, Mark, Rewind, Show, Describe}
 use Rattle.tw_theory.specs.Marks.{marks, rewind, rewound_steps}

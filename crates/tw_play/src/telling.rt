@@ -4,7 +4,7 @@ ghost use Rattle.std.specs.Prelude.{◌≡◌, ◌≢◌, ◌⊎◌, ◌++◌, I
 ghost use Rattle.std.specs.Io.KnownBytes.{Appends};
 ghost use Rattle.tw_play.specs.Playing.{response_text, wants_memory};
 ghost use Rattle.tw_play.specs.Telling.{refused_text, IsCutShort, IsDrawnShort, IsPlayed, IsWhollyDrawn};
-ghost use Rattle.tw_drawn.specs.Schedules.{seeded};
+ghost use Rattle.tw_seeded.specs.Schedules.{seeded};
 ghost use Rattle.tw_texts.specs.Traces.{MovesBytes};
 
 use crate::player::Player;
@@ -12,10 +12,10 @@ use crate::response::{Response, push_response};
 use std::alloc::Global;
 use std::io::Write;
 use tw_atomic::Atomic;
-use tw_drawn::Schedule;
 use tw_exec::Refused;
 use tw_inspect::Reply;
 use tw_script::Command;
+use tw_seeded::Schedule;
 use tw_texts::{NotWritten, write_out, write_portion};
 
 /// Obeys commands in turn, and writes what is answered to each.

@@ -1,6 +1,6 @@
 //! The program: its words, its file and its standard streams.
 //!
-//! What it does is [`tw_line::job`] and [`tw_engine::engine`]; here they only get the process's arguments,
+//! What it does is [`tw_cli::job`] and [`tw_engine::engine`]; here they only get the process's arguments,
 //! the files and the streams.
 #![tactic(auto)]
 
@@ -14,8 +14,8 @@ use std::sync::Wait;
 use std::thread::Threads;
 use std::time::Clock;
 use std::{env, io};
+use tw_cli::{Driver, Job, NoJob, Picture, job};
 use tw_engine::{Exit, engine};
-use tw_line::{Driver, Job, NoJob, Picture, job};
 use tw_vtime::Refusal;
 
 /// How the run of the program ends.

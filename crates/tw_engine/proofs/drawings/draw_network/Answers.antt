@@ -1,7 +1,7 @@
 use Rattle.std.proofs.Common.{◌∙◌, ap, length, subst, sym}
 use Rattle.std.specs.Prelude.{Err}
 use Rattle.std.specs.Io.KnownBytes.{Keeps}
-use Rattle.tw_labels.specs.Labels.{AreLabels}
+use Rattle.tw_figure_names.specs.Labels.{AreLabels}
 use Rattle.tw_engine.proofs.Drawn.{view_refused}
 use Rattle.tw_engine.proofs.Driven.{keeps_all}
 use Rattle.tw_engine.proofs.Viewed.{as_many}

@@ -1,5 +1,5 @@
 use Rattle.std.proofs.Common.{sym, subst}
-use Rattle.tw_line.specs.declared.jobs.Job.{Job}
+use Rattle.tw_cli.specs.declared.jobs.Job.{Job}
 use Rattle.tw_engine.specs.Jobs.{IsDone}
 use Rattle.tw_engine.proofs.runs.engine.Goals as goal
 

@@ -1,5 +1,5 @@
 use Rattle.std.proofs.Common.{◌∙◌, ap, length}
-use Rattle.tw_labels.specs.Labels.{AreLabels}
+use Rattle.tw_figure_names.specs.Labels.{AreLabels}
 use Rattle.tw_engine.proofs.Viewed.{as_many}
 use Rattle.tw_engine.proofs.views.sum_up_network.Goals as goal
 

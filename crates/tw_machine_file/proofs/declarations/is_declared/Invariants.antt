@@ -1,5 +1,5 @@
 use Rattle.std.proofs.Common.{◌≡◌, drop, map}
-use Rattle.tw_costs.specs.Seen.{name}
+use Rattle.tw_machine_declaration.specs.Seen.{name}
 use Rattle.tw_machine_file.specs.Declares.{texts}
 use Rattle.tw_machine_file.specs.Names.{is_among}
 use Rattle.tw_machine_file.proofs.declarations.is_declared.Given as goal

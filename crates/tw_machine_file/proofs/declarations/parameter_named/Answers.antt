@@ -2,7 +2,7 @@ use Rattle.std.proofs.Common.{◌≡◌, ◌∙◌, Bool, List, ℕ, Option, Ok,
 use Rattle.std.specs.Prelude.{option_map}
 use Rattle.serde_json.specs.Data.{Data}
 use Rattle.serde_json.specs.View.{view}
-use Rattle.tw_costs.specs.Seen.{Name, name}
+use Rattle.tw_machine_declaration.specs.Seen.{Name, name}
 use Rattle.tw_machine_file.specs.Declares.{is_list, new_name, parameter_named, with_parameter}
 use Rattle.tw_machine_file.specs.Fault.{made}
 use Rattle.tw_machine_file.specs.Names.{is_own_name}

@@ -1,6 +1,6 @@
 use Rattle.std.proofs.Common.{◌∙◌, ap, map}
-use Rattle.tw_program_text.specs.TextViews.{declarations}
-use Rattle.tw_costs.specs.Seen.{name}
+use Rattle.tw_machine_text.specs.TextViews.{declarations}
+use Rattle.tw_machine_declaration.specs.Seen.{name}
 use Rattle.tw_machine_file.specs.Seen.{kind_of, scope}
 use Rattle.tw_machine_file.proofs.Languages.{same_language}
 use Rattle.tw_machine_file.proofs.machine.texts_in.Goals as goal

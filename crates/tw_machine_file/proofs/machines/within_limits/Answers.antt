@@ -1,5 +1,5 @@
 use Rattle.std.proofs.Common.{◌≡◌, [], List, ap, map, sym, ◌∙◌}
-use Rattle.tw_costs.specs.Seen as plain
+use Rattle.tw_machine_declaration.specs.Seen as plain
 use Rattle.tw_machine_file.specs.Fault.{made}
 use Rattle.tw_machine_file.specs.Machines.{nothing_given, program_given}
 use Rattle.tw_machine_file.proofs.machines.within_limits.Goals as goal

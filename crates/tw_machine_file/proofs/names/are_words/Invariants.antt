@@ -1,6 +1,6 @@
 use Rattle.std.proofs.Common.{◌≡◌, drop}
 use Rattle.std.specs.List.{list_all}
-use Rattle.tw_program_text.specs.Text.{is_word}
+use Rattle.tw_machine_text.specs.Text.{is_word}
 use Rattle.tw_machine_file.proofs.names.are_words.Given as goal
 
 abbrev pub invariant-loop-c : goal.invariant-loop-c

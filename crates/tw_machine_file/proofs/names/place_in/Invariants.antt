@@ -1,5 +1,5 @@
 use Rattle.std.proofs.Common.{◌≡◌, drop, map, string_bytes}
-use Rattle.tw_program_text.specs.Text.{position}
+use Rattle.tw_machine_text.specs.Text.{position}
 use Rattle.tw_machine_file.proofs.names.place_in.Given as goal
 
 abbrev pub invariant-loop-index : goal.invariant-loop-index

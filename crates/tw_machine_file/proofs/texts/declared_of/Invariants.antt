@@ -1,7 +1,7 @@
 use Rattle.std.proofs.Common.{◌≡◌, ◌++◌, List, drop, map}
-use Rattle.tw_program_text.specs.TextViews.{declarations}
-use Rattle.tw_costs.specs.Seen.{name}
-use Rattle.tw_costs.specs.declared.declaration.Named.{Named}
+use Rattle.tw_machine_text.specs.TextViews.{declarations}
+use Rattle.tw_machine_declaration.specs.Seen.{name}
+use Rattle.tw_machine_declaration.specs.declared.declaration.Named.{Named}
 use Rattle.tw_machine_file.specs.Seen.{kind_of}
 use Rattle.tw_machine_file.proofs.texts.declared_of.Given as goal
 

@@ -1,6 +1,6 @@
 use Rattle.std.proofs.Common.{ap}
-use Rattle.tw_program_text.specs.Kinds.{kinds_of}
-use Rattle.tw_program_text.specs.TextViews.{names_of, declarations}
+use Rattle.tw_machine_text.specs.Kinds.{kinds_of}
+use Rattle.tw_machine_text.specs.TextViews.{names_of, declarations}
 use Rattle.tw_machine_file.specs.Texts.{language_of, said}
 use Rattle.tw_machine_file.proofs.Saying.{no_tree, reads_tree}
 use Rattle.tw_machine_file.proofs.texts.expression.Goals as goal

@@ -1,6 +1,6 @@
 use Rattle.std.proofs.Common.{◌≡◌, drop, map}
 use Rattle.std.specs.List.{list_any}
-use Rattle.tw_costs.specs.Seen.{value}
+use Rattle.tw_machine_declaration.specs.Seen.{value}
 use Rattle.tw_machine_file.specs.Words.{is_again}
 use Rattle.tw_machine_file.proofs.words.is_among_words.Given as goal
 

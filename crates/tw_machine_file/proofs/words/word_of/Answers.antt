@@ -2,9 +2,9 @@ use Rattle.std.proofs.Common.{◌≡◌, ◌∙◌, Bool, List, ℕ, Ok, Result,
 use Rattle.std.specs.List.{list_any}
 use Rattle.serde_json.specs.Data.{Data}
 use Rattle.serde_json.specs.View.{view}
-use Rattle.tw_program_text.specs.declared.kinds.Kind.{Kind}
-use Rattle.tw_program_text.specs.declared.kinds.Member.TheVariants.{Shown}
-use Rattle.tw_costs.specs.Seen.{Value, value}
+use Rattle.tw_machine_text.specs.declared.kinds.Kind.{Kind}
+use Rattle.tw_machine_text.specs.declared.kinds.Member.TheVariants.{Shown}
+use Rattle.tw_machine_declaration.specs.Seen.{Value, value}
 use Rattle.tw_machine_file.specs.Fault.{Fault, once, provided, wrong}
 use Rattle.tw_machine_file.specs.Texts.{Language, language_of, value_in}
 use Rattle.tw_machine_file.specs.Words.{is_again, word_of}

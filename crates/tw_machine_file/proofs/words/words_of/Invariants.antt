@@ -1,6 +1,6 @@
 use Rattle.std.proofs.Common.{◌≡◌, [], drop, map}
 use Rattle.serde_json.specs.View.{items_view}
-use Rattle.tw_costs.specs.Seen.{value}
+use Rattle.tw_machine_declaration.specs.Seen.{value}
 use Rattle.tw_machine_file.specs.Texts.{language_of}
 use Rattle.tw_machine_file.specs.Words.{words_of}
 use Rattle.tw_machine_file.proofs.Loops.{behind}

@@ -2,7 +2,7 @@ use Rattle.std.proofs.Common.{arith, ◌≡◌, ◌∙◌, ap, sym, subst, strin
 use Rattle.std.specs.Prelude.{None, Some}
 use Rattle.std.proofs.lemmas.Result.{IfOk-from_err}
 use Rattle.tw_play.proofs.OneMore.{IsDrawing, drawing_done, drawing_idle, drawing_more, drawing_short, failed_only, on_ok, passed_on}
-use Rattle.tw_drawn.specs.Schedules.{action_drawn, drawn, seeded}
+use Rattle.tw_seeded.specs.Schedules.{action_drawn, drawn, seeded}
 use Rattle.tw_play.proofs.telling.play_seed.Goals as goal
 
 pub loop-preserved : goal.loop-preserved

@@ -1,6 +1,6 @@
 use Rattle.std.proofs.Common.{string_bytes}
 use Rattle.tw_play.proofs.OneMore.{IsDrawing}
-use Rattle.tw_drawn.specs.Schedules.{seeded}
+use Rattle.tw_seeded.specs.Schedules.{seeded}
 use Rattle.tw_play.proofs.telling.play_seed.Given as goal
 
 abbrev pub invariant-loop : goal.invariant-loop

@@ -1,0 +1,185 @@
+-- The command line, as clap reads it, and the job that stands in it.
+--     twarp_app      the command in clap's own words
+--     IsJob sub j      the job of a subcommand and its options
+--     IsReason words e      why there is no job
+use Rattle.std.specs.Prelude.{◌≡◌, ◌≢◌, ◌⊎◌, [], ◌∷◌, ℕ, List, Option, Some, None, Result, Ok, codes, true}
+use Rattle.clap.specs.Words.{AddsSubcommand, App, IsAmong, Kinds, Row, Rule, Text, fault_of, first_of, kind_of, new_app, new_rule, subcommand_of, with_rule, with_subcommand}
+use Rattle.clap.specs.declared.builder.action.ArgAction.TheVariants.{SetTrue}
+use Rattle.clap.specs.declared.builder.command.Command.{Command}
+use Rattle.clap.specs.declared.builder.value_parser.ValueParser.TheVariants.{Unsigned}
+use Rattle.clap.specs.declared.error.kind.ErrorKind.{ErrorKind}
+use Rattle.clap.specs.declared.error.kind.ErrorKind.TheVariants as kind
+use Rattle.tw_vtime.specs.declared.refusal.Refusal.{Refusal}
+use Rattle.tw_vtime.specs.declared.refusal.Refusal.TheVariants as refusal
+use Rattle.tw_cli_options.specs.Options.{HasFlag, HasNumber, IsCancelIn, IsDriverIn, IsPictureIn, IsRowsIn, IsSettingIn}
+use Rattle.tw_cli.specs.declared.jobs.Job.{Job}
+use Rattle.tw_cli.specs.declared.jobs.Job.TheVariants.{Demo, Check, Seq, Stats, Table, Draw, Run, Play}
+use Rattle.tw_cli.specs.declared.jobs.NoJob.{NoJob}
+use Rattle.tw_cli.specs.declared.jobs.NoJob.TheVariants.{Help, Version, BadLine, OutOfMemory}
+
+-- ---- the command
+
+-- the network file: required, with no name of its own on the line
+abbrev pub net_rule : Rule
+net_rule = record (new_rule (codes "net")) { required = true; value_names = 1 }
+
+-- an option that takes a number in a range
+abbrev pub number_rule : Text → ℕ → ℕ → Rule
+number_rule id least most = record (new_rule id) { long = Some id; parser = Some (Unsigned least most); value_names = 1 }
+
+-- a number in a range that stands there as this text where the option is left out
+abbrev pub preset_rule : Text → ℕ → ℕ → Text → Rule
+preset_rule id least most left_out = record (number_rule id least most) { defaults = left_out ∷ [] }
+
+-- an option that takes a text
+abbrev pub text_rule : Text → Rule
+text_rule id = record (new_rule id) { long = Some id; value_names = 1 }
+
+-- one that stands there as this text where the option is left out
+abbrev pub preset_text_rule : Text → Text → Rule
+preset_text_rule id left_out = record (text_rule id) { defaults = left_out ∷ [] }
+
+-- an option that takes no value: it is `true` where it stands on the line, and `false` where it is left out
+abbrev pub flag_rule : Text → Rule
+flag_rule id = record (new_rule id) { long = Some id; action = Some SetTrue }
+
+abbrev pub until_rule : Rule
+until_rule = record (number_rule (codes "until") 0 1099511627774) { required = true }
+
+abbrev pub demo_app : App
+demo_app = new_app (codes "demo")
+
+-- a subcommand that takes a network file alone
+abbrev pub check_app : App
+check_app = with_rule (new_app (codes "check")) net_rule
+
+-- a subcommand over a network, up to an end tick
+abbrev pub network_app : Text → App
+network_app name = with_rule (with_rule (new_app name) net_rule) until_rule
+
+-- one that may tell how far it is
+abbrev pub told_app : Text → App
+told_app name = with_rule (network_app name) (flag_rule (codes "progress"))
+
+abbrev pub seq_app : App
+seq_app = told_app (codes "seq")
+
+abbrev pub stats_app : App
+stats_app = with_rule (told_app (codes "stats")) (flag_rule (codes "json"))
+
+abbrev pub table_app : App
+table_app = with_rule (with_rule (told_app (codes "table")) (flag_rule (codes "items"))) (flag_rule (codes "words"))
+
+-- `run` and what its workers are set to: 2 workers, bursts of 64 steps and a window of all ticks where it is left out,
+-- and no word of how far it is
+abbrev pub set_app : App
+set_app = with_rule (with_rule (with_rule (with_rule (network_app (codes "run"))
+    (preset_text_rule (codes "workers") (codes "2")))
+    (preset_rule (codes "burst") 1 256 (codes "64")))
+    (preset_rule (codes "window") 0 1099511627774 (codes "1099511627774")))
+    (flag_rule (codes "progress"))
+
+abbrev pub run_app : App
+run_app = with_rule set_app (text_rule (codes "cancel"))
+
+-- a subcommand with what may drive an executive; any number of 64 bits is a seed
+abbrev pub driven_app : App → App
+driven_app app = with_rule (with_rule (with_rule app
+    (text_rule (codes "script")))
+    (number_rule (codes "seed") 0 18446744073709551615))
+    (number_rule (codes "steps") 0 1000000)
+
+abbrev pub cancelled_app : App → App
+cancelled_app app = with_rule (driven_app app) (text_rule (codes "cancel"))
+
+abbrev pub play_app : App
+play_app = cancelled_app (network_app (codes "play"))
+
+-- `draw` and what is seen of a run, before what may drive it
+abbrev pub seen_app : App
+seen_app = with_rule (with_rule (with_rule (network_app (codes "draw"))
+    (number_rule (codes "from") 0 1099511627774))
+    (text_rule (codes "only")))
+    (text_rule (codes "figure"))
+
+abbrev pub draw_app : App
+draw_app = cancelled_app seen_app
+
+-- twarp alone, which has a version and wants a subcommand
+abbrev pub bare_app : App
+bare_app = record { top = record (new_app (codes "twarp")).top { has_version = true; subcommand_required = true }; subs = [] }
+
+-- with the subcommands that simulate no network of a file
+abbrev pub first_app : App
+first_app = with_subcommand (with_subcommand bare_app demo_app.top) check_app.top
+
+-- with those that tell of the sequential run
+abbrev pub alone_app : App
+alone_app = with_subcommand (with_subcommand (with_subcommand first_app seq_app.top) stats_app.top) table_app.top
+
+abbrev pub twarp_app : App
+twarp_app = with_subcommand (with_subcommand (with_subcommand alone_app draw_app.top) run_app.top) play_app.top
+
+-- a command with one more subcommand, that was made
+abbrev pub IsJoined : {E : Type 0} → Command → Result Command E → Command → Type 0
+IsJoined old made new = (sub : Command) × (made ≡ Ok sub) × AddsSubcommand old sub new
+
+-- ---- the job
+
+-- the job of a subcommand's name and its options
+abbrev pub IsJobOf : Text → List Row → Job → Type 0
+IsJobOf name rows Demo = name ≡ codes "demo"
+IsJobOf name rows (Check net) = (name ≡ codes "check") × (first_of (codes "net") rows ≡ Some net.now)
+IsJobOf name rows (Seq net until progress) =
+    (name ≡ codes "seq") × (first_of (codes "net") rows ≡ Some net.now)
+    × HasNumber (codes "until") 0 1099511627774 rows until × HasFlag (codes "progress") rows progress
+IsJobOf name rows (Stats net until json progress) =
+    (name ≡ codes "stats") × (first_of (codes "net") rows ≡ Some net.now)
+    × HasNumber (codes "until") 0 1099511627774 rows until × HasFlag (codes "json") rows json × HasFlag (codes "progress") rows progress
+IsJobOf name rows (Table net until lines progress) =
+    (name ≡ codes "table") × (first_of (codes "net") rows ≡ Some net.now)
+    × HasNumber (codes "until") 0 1099511627774 rows until × IsRowsIn rows lines × HasFlag (codes "progress") rows progress
+IsJobOf name rows (Draw net until picture) =
+    (name ≡ codes "draw") × (first_of (codes "net") rows ≡ Some net.now)
+    × HasNumber (codes "until") 0 1099511627774 rows until × IsPictureIn rows picture
+IsJobOf name rows (Run net until cancel setting) =
+    (name ≡ codes "run") × (first_of (codes "net") rows ≡ Some net.now)
+    × HasNumber (codes "until") 0 1099511627774 rows until × IsCancelIn rows cancel × IsSettingIn rows setting
+IsJobOf name rows (Play net until cancel driver) =
+    (name ≡ codes "play") × (first_of (codes "net") rows ≡ Some net.now)
+    × HasNumber (codes "until") 0 1099511627774 rows until × IsCancelIn rows cancel × IsDriverIn rows driver
+
+-- of no subcommand there is none
+abbrev pub IsJob : Option (Text × List Row) → Job → Type 0
+IsJob None j = ⊥
+IsJob (Some p) j = IsJobOf p.0 p.1 j
+
+-- ---- no job
+
+-- the parse may answer an error of another kind than help and the version
+abbrev pub HasFault : Kinds → Type 0
+HasFault kinds = (k : ErrorKind) × IsAmong k kinds × (k ≢ kind.DisplayHelp) × (k ≢ kind.DisplayVersion)
+
+-- help or the version comes where the parse answers it; a line is refused where the parse refuses it, or finds no job
+abbrev pub IsReason : List Text → NoJob → Type 0
+IsReason words (Help error) = (kind_of error ≡ kind.DisplayHelp) × IsAmong kind.DisplayHelp (fault_of twarp_app words)
+IsReason words (Version error) = (kind_of error ≡ kind.DisplayVersion) × IsAmong kind.DisplayVersion (fault_of twarp_app words)
+IsReason words BadLine = HasFault (fault_of twarp_app words) ⊎ ((j : Job) → ¬ (IsJob (subcommand_of twarp_app words) j))
+IsReason words OutOfMemory = Unit {0}
+
+-- what becomes of an error of the parse, by its kind
+abbrev pub IsMadeOf : ErrorKind → NoJob → Type 0
+IsMadeOf k (Help error) = (k ≡ kind.DisplayHelp) × (kind_of error ≡ k)
+IsMadeOf k (Version error) = (k ≡ kind.DisplayVersion) × (kind_of error ≡ k)
+IsMadeOf k BadLine = (k ≢ kind.DisplayHelp) × (k ≢ kind.DisplayVersion) × (k ≢ kind.OutOfMemory)
+IsMadeOf k OutOfMemory = Unit {0}
+
+abbrev pub refused_for_memory : NoJob
+refused_for_memory = OutOfMemory
+
+-- help and the version are no refusals
+abbrev pub refusal_of : NoJob → Option Refusal
+refusal_of (Help error) = None
+refusal_of (Version error) = None
+refusal_of BadLine = Some refusal.BadLine
+refusal_of OutOfMemory = Some refusal.OutOfMemory

@@ -1,0 +1,194 @@
+//! From the words of a line to a job.
+
+ghost use Rattle.std.specs.Prelude.{◌≡◌, [], codes, IfOk, IfErr, IfSome, IfNone, map, string_bytes};
+ghost use Rattle.clap.specs.Words.{rows_of, found_of, fault_of, kind_of, subcommand_of, subcommand_rows_of};
+ghost use Rattle.tw_cli.specs.Lines.{twarp_app, IsJob, IsJobOf, IsReason, IsMadeOf};
+
+use crate::commands::command;
+use crate::jobs::{Job, NoJob};
+use clap::error::ErrorKind;
+use clap::{ArgMatches, Error};
+use std::alloc::Global;
+use tw_cli_options::{
+    cancel_in, driver_in, flag_in, number_in, picture_in, rows_in, setting_in, text_in,
+};
+use tw_vtime::MAX_TICK;
+
+/// The job of `check` and its options.
+fn check_in<'a>(options: &ArgMatches<'a>) -> Option<Job<'a>>
+    ensures some { IfSome result (IsJobOf (codes "check") (rows_of (found_of options.now))) }
+    ensures none { IfNone result ((j : _) → ¬ (IsJobOf (codes "check") (rows_of (found_of options.now)) j)) }
+{
+    let net = text_in(options, "net")?;
+    Some(Job::Check { net })
+}
+
+/// The job of `seq` and its options.
+fn seq_in<'a>(options: &ArgMatches<'a>) -> Option<Job<'a>>
+    ensures some { IfSome result (IsJobOf (codes "seq") (rows_of (found_of options.now))) }
+    ensures none { IfNone result ((j : _) → ¬ (IsJobOf (codes "seq") (rows_of (found_of options.now)) j)) }
+{
+    let net = text_in(options, "net")?;
+    let until = number_in(options, "until", 0, MAX_TICK)?;
+    let progress = flag_in(options, "progress");
+    Some(Job::Seq {
+        net,
+        until,
+        progress,
+    })
+}
+
+/// The job of `stats` and its options.
+fn stats_in<'a>(options: &ArgMatches<'a>) -> Option<Job<'a>>
+    ensures some { IfSome result (IsJobOf (codes "stats") (rows_of (found_of options.now))) }
+    ensures none { IfNone result ((j : _) → ¬ (IsJobOf (codes "stats") (rows_of (found_of options.now)) j)) }
+{
+    let net = text_in(options, "net")?;
+    let until = number_in(options, "until", 0, MAX_TICK)?;
+    let json = flag_in(options, "json");
+    let progress = flag_in(options, "progress");
+    Some(Job::Stats {
+        net,
+        until,
+        json,
+        progress,
+    })
+}
+
+/// The job of `table` and its options.
+fn table_in<'a>(options: &ArgMatches<'a>) -> Option<Job<'a>>
+    ensures some { IfSome result (IsJobOf (codes "table") (rows_of (found_of options.now))) }
+    ensures none { IfNone result ((j : _) → ¬ (IsJobOf (codes "table") (rows_of (found_of options.now)) j)) }
+{
+    let net = text_in(options, "net")?;
+    let until = number_in(options, "until", 0, MAX_TICK)?;
+    let rows = rows_in(options)?;
+    let progress = flag_in(options, "progress");
+    Some(Job::Table {
+        net,
+        until,
+        rows,
+        progress,
+    })
+}
+
+/// The job of `draw` and its options.
+fn draw_in<'a>(options: &ArgMatches<'a>) -> Option<Job<'a>>
+    ensures some { IfSome result (IsJobOf (codes "draw") (rows_of (found_of options.now))) }
+    ensures none { IfNone result ((j : _) → ¬ (IsJobOf (codes "draw") (rows_of (found_of options.now)) j)) }
+{
+    let net = text_in(options, "net")?;
+    let until = number_in(options, "until", 0, MAX_TICK)?;
+    let picture = picture_in(options)?;
+    Some(Job::Draw {
+        net,
+        until,
+        picture,
+    })
+}
+
+/// The job of `run` and its options.
+fn run_in<'a>(options: &ArgMatches<'a>) -> Option<Job<'a>>
+    ensures some { IfSome result (IsJobOf (codes "run") (rows_of (found_of options.now))) }
+    ensures none { IfNone result ((j : _) → ¬ (IsJobOf (codes "run") (rows_of (found_of options.now)) j)) }
+{
+    let net = text_in(options, "net")?;
+    let until = number_in(options, "until", 0, MAX_TICK)?;
+    let cancel = cancel_in(options)?;
+    let setting = setting_in(options)?;
+    Some(Job::Run {
+        net,
+        until,
+        cancel,
+        setting,
+    })
+}
+
+/// The job of `play` and its options.
+fn play_in<'a>(options: &ArgMatches<'a>) -> Option<Job<'a>>
+    ensures some { IfSome result (IsJobOf (codes "play") (rows_of (found_of options.now))) }
+    ensures none { IfNone result ((j : _) → ¬ (IsJobOf (codes "play") (rows_of (found_of options.now)) j)) }
+{
+    let net = text_in(options, "net")?;
+    let until = number_in(options, "until", 0, MAX_TICK)?;
+    let cancel = cancel_in(options)?;
+    let driver = driver_in(options)?;
+    Some(Job::Play {
+        net,
+        until,
+        cancel,
+        driver,
+    })
+}
+
+/// The job of a subcommand, by its name, and its options.
+fn job_named<'a>(name: &str, options: &ArgMatches<'a>) -> Option<Job<'a>>
+    ensures some { IfSome result (IsJobOf name.now (rows_of (found_of options.now))) }
+    ensures none { IfNone result ((j : _) → ¬ (IsJobOf name.now (rows_of (found_of options.now)) j)) }
+{
+    match name {
+        "demo" => Some(Job::Demo),
+        "check" => check_in(options),
+        "seq" => seq_in(options),
+        "stats" => stats_in(options),
+        "table" => table_in(options),
+        "draw" => draw_in(options),
+        "run" => run_in(options),
+        "play" => play_in(options),
+        _ => None,
+    }
+}
+
+/// The job of a command line that has been read.
+fn job_of<'a>(matches: &ArgMatches<'a>) -> Option<Job<'a>>
+    ensures some { IfSome result (IsJob (subcommand_rows_of matches.now)) }
+    ensures none { IfNone result ((j : _) → ¬ (IsJob (subcommand_rows_of matches.now) j)) }
+{
+    let (name, options) = matches.subcommand()?;
+    job_named(name, options)
+}
+
+/// What an error of the parse means.
+fn no_job(error: Error) -> NoJob
+    ensures { IsMadeOf (kind_of error) result }
+{
+    match error.kind() {
+        ErrorKind::DisplayHelp => NoJob::Help(error),
+        ErrorKind::DisplayVersion => NoJob::Version(error),
+        ErrorKind::OutOfMemory => NoJob::OutOfMemory,
+        _ => NoJob::BadLine,
+    }
+}
+
+/// The job that a command line asks for. The first word is the program's name.
+///
+/// The jobs are `demo`; `check NET`; `seq NET --until T`; `stats NET --until T` with `--json` or without; `table NET --until T`
+/// with `--items` or `--words` or neither; `run NET --until T` with `--workers N` (1 to 64) or `--workers auto`, `--burst K` (1 to
+/// 256 steps) and `--window W` (0 to 1,099,511,627,774 ticks), which are 2, 64 and 1,099,511,627,774 where they are left out;
+/// `play NET --until T` with what drives it, either `--script FILE` alone or both `--seed S` and `--steps N`; and
+/// `draw NET --until T`, either with what drives an executive, as `play`, or with what is seen of a run: `--from T0` (0 to
+/// 1,099,511,627,774 ticks, 0 where it is left out), `--only NAMES` and `--figure NAME`. `run`, `play` and a driven `draw`
+/// take `--cancel aggressive` (also where it is left out) or `--cancel lazy`; `seq`, `stats`, `table` and `run` take
+/// `--progress`. A flag stands there once or not at all. T is a number of ticks, 0
+/// to 1,099,511,627,774, S any u64, N of `--steps` at most 1,000,000; numbers are those that clap's reader of a u64
+/// takes, `+5` and `007` among them. Every other line is refused by [`NoJob::BadLine`] (23), also one with no
+/// subcommand, one with two drivers, one with half of one, and a `draw` that is driven and says what is seen. Where `--help`, `-h` or `help` is met first,
+/// [`NoJob::Help`] has clap's text, and where `--version` or `-V` is in place of a subcommand, [`NoJob::Version`];
+/// where memory is wanting, it is [`NoJob::OutOfMemory`] (4).
+///
+/// In the contract, `twarp_app` is the command in clap's own words, `subcommand_of` the subcommand that
+/// clap's parse finds there and `fault_of` the kinds of error that it answers, none for a line that it
+/// takes.
+pub fn job<'a>(alloc: Global, words: &'a [String]) -> Result<Job<'a>, NoJob>
+    ensures ok { IfOk result (IsJob (subcommand_of twarp_app (map string_bytes words.entry.now))) }
+    ensures taken { IfOk result (λ _. fault_of twarp_app (map string_bytes words.entry.now) ≡ []) }
+    ensures err { IfErr result (IsReason (map string_bytes words.entry.now)) }
+{
+    match command(alloc)?.try_get_matches_from(words) {
+        Ok(matches) => match job_of(&matches) {
+            Some(job) => Ok(job),
+            None => Err(NoJob::BadLine),
+        },
+        Err(error) => Err(no_job(error)),
+    }
+}

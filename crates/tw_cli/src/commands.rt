@@ -1,0 +1,430 @@
+//! The command as clap takes it, with its help.
+
+ghost use Rattle.std.specs.Prelude.{◌≡◌, IfOk, codes, false};
+ghost use Rattle.clap.specs.Words.{app_of, rule_of};
+ghost use Rattle.clap.specs.declared.builder.command.Command.TheViews.{out-Command};
+ghost use Rattle.tw_cli.specs.Lines.{flag_rule, net_rule, number_rule, text_rule, until_rule, alone_app, cancelled_app, check_app, demo_app, draw_app, driven_app, first_app, network_app, play_app, preset_rule, preset_text_rule, run_app, seen_app, seq_app, set_app, stats_app, table_app, told_app, twarp_app, IsJoined};
+
+use crate::help::{
+    CHECK_END, DEMO_END, DRAW_END, PLAY_END, RUN_END, SEQ_END, STATS_END, TABLE_END, TWARP_END,
+    VERSION,
+};
+use clap::builder::ValueParser;
+use clap::{Arg, ArgAction, Command};
+use std::alloc::{AllocError, Global};
+use tw_actions::MAX_BURST;
+use tw_cli_options::MAX_STEPS;
+use tw_vtime::MAX_TICK;
+
+/// The path of the network file, which stands on the line with no name of its own.
+fn net<'a>(alloc: Global) -> Arg<'a>
+    ensures rule { rule_of result ≡ net_rule }
+    ensures local { result.global ≡ false }
+{
+    Arg::new(alloc, "net").required(true).value_name("NET").help(
+        "The network: the path of a JSON file of the format tw-1, tw-2 or tw-3",
+    )
+}
+
+/// An option that takes a number in a range.
+fn number<'a>(alloc: Global, id: &'a str, value_name: &'a str, least: u64, most: u64) -> Arg<'a>
+    ensures rule { rule_of result ≡ number_rule id.entry.now least most }
+    ensures local { result.global ≡ false }
+{
+    Arg::new(alloc, id)
+        .long(id)
+        .value_name(value_name)
+        .value_parser(ValueParser::unsigned(least, most))
+}
+
+/// A number in a range, which stands there as this text where the option is left out.
+fn preset<'a>(
+    alloc: Global,
+    id: &'a str,
+    value_name: &'a str,
+    least: u64,
+    most: u64,
+    left_out: &'a str,
+) -> Arg<'a>
+    ensures rule { rule_of result ≡ preset_rule id.entry.now least most left_out.entry.now }
+    ensures local { result.global ≡ false }
+{
+    number(alloc, id, value_name, least, most).default_value(left_out)
+}
+
+/// An option that takes a text.
+fn text<'a>(alloc: Global, id: &'a str, value_name: &'a str) -> Arg<'a>
+    ensures rule { rule_of result ≡ text_rule id.entry.now }
+    ensures local { result.global ≡ false }
+{
+    Arg::new(alloc, id).long(id).value_name(value_name)
+}
+
+/// A text, which stands there as this one where the option is left out.
+fn preset_text<'a>(alloc: Global, id: &'a str, value_name: &'a str, left_out: &'a str) -> Arg<'a>
+    ensures rule { rule_of result ≡ preset_text_rule id.entry.now left_out.entry.now }
+    ensures local { result.global ≡ false }
+{
+    text(alloc, id, value_name).default_value(left_out)
+}
+
+/// An option that takes no value, and stands on the line or not.
+fn flag<'a>(alloc: Global, id: &'a str) -> Arg<'a>
+    ensures rule { rule_of result ≡ flag_rule id.entry.now }
+    ensures local { result.global ≡ false }
+{
+    Arg::new(alloc, id).long(id).action(ArgAction::SetTrue)
+}
+
+fn until<'a>(alloc: Global) -> Arg<'a>
+    ensures rule { rule_of result ≡ until_rule }
+    ensures local { result.global ≡ false }
+{
+    number(alloc, "until", "T", 0, MAX_TICK).required(true).help(
+        "The end of the run in ticks, 0 to 1099511627774: only steps before tick T are made",
+    )
+}
+
+fn demo_command<'a>(alloc: Global) -> Command<'a>
+    ensures app { app_of result ≡ demo_app }
+    ensures local { (out-Command result).has_globals ≡ false }
+{
+    Command::new(alloc, "demo")
+        .about("Run a built-in network, a generator of period 2 ticks and a tally, until tick 5")
+        .after_help(DEMO_END)
+}
+
+fn check_command<'a>(alloc: Global) -> Result<Command<'a>, AllocError>
+    ensures app { IfOk result (λ c. app_of c ≡ check_app) }
+    ensures local { IfOk result (λ c. (out-Command c).has_globals ≡ false) }
+{
+    Command::new(alloc, "check")
+        .about(
+            "Read a network file and say what it has, or where its first fault is and why; simulate nothing",
+        )
+        .after_help(CHECK_END)
+        .arg(net(alloc))
+}
+
+/// A subcommand over a network, up to an end.
+fn network_command<'a>(
+    alloc: Global,
+    name: &'a str,
+    about: &'a str,
+    end: &'a str,
+) -> Result<Command<'a>, AllocError>
+    ensures app { IfOk result (λ c. app_of c ≡ network_app name.entry.now) }
+    ensures local { IfOk result (λ c. (out-Command c).has_globals ≡ false) }
+{
+    Command::new(alloc, name)
+        .about(about)
+        .after_help(end)
+        .arg(net(alloc))?
+        .arg(until(alloc))
+}
+
+fn far<'a>(alloc: Global) -> Arg<'a>
+    ensures rule { rule_of result ≡ flag_rule (codes "progress") }
+    ensures local { result.global ≡ false }
+{
+    flag(alloc, "progress").help(
+        "Tell on standard error, once a second, the tick simulated, of the end tick, and how many records there are",
+    )
+}
+
+/// A subcommand over a network, up to an end, that may tell how far it is.
+fn told_command<'a>(
+    alloc: Global,
+    name: &'a str,
+    about: &'a str,
+    end: &'a str,
+) -> Result<Command<'a>, AllocError>
+    ensures app { IfOk result (λ c. app_of c ≡ told_app name.entry.now) }
+    ensures local { IfOk result (λ c. (out-Command c).has_globals ≡ false) }
+{
+    network_command(alloc, name, about, end)?.arg(far(alloc))
+}
+
+fn seq_command<'a>(alloc: Global) -> Result<Command<'a>, AllocError>
+    ensures app { IfOk result (λ c. app_of c ≡ seq_app) }
+    ensures local { IfOk result (λ c. (out-Command c).has_globals ≡ false) }
+{
+    told_command(
+        alloc,
+        "seq",
+        "Simulate a network one step after another and write its trace",
+        SEQ_END,
+    )
+}
+
+fn json<'a>(alloc: Global) -> Arg<'a>
+    ensures rule { rule_of result ≡ flag_rule (codes "json") }
+    ensures local { result.global ≡ false }
+{
+    flag(alloc, "json").help("Write them as one line of JSON")
+}
+
+fn stats_command<'a>(alloc: Global) -> Result<Command<'a>, AllocError>
+    ensures app { IfOk result (λ c. app_of c ≡ stats_app) }
+    ensures local { IfOk result (λ c. (out-Command c).has_globals ≡ false) }
+{
+    told_command(
+        alloc,
+        "stats",
+        "Simulate a network and write counts of its components, and the least, greatest, last and mean value of each figure",
+        STATS_END,
+    )?
+    .arg(json(alloc))
+}
+
+fn items<'a>(alloc: Global) -> Arg<'a>
+    ensures rule { rule_of result ≡ flag_rule (codes "items") }
+    ensures local { result.global ≡ false }
+{
+    flag(alloc, "items").help("A line for each item of a record; without --words")
+}
+
+fn words<'a>(alloc: Global) -> Arg<'a>
+    ensures rule { rule_of result ≡ flag_rule (codes "words") }
+    ensures local { result.global ≡ false }
+{
+    flag(alloc, "words").help("A line for each word of a state after a transition; without --items")
+}
+
+fn table_command<'a>(alloc: Global) -> Result<Command<'a>, AllocError>
+    ensures app { IfOk result (λ c. app_of c ≡ table_app) }
+    ensures local { IfOk result (λ c. (out-Command c).has_globals ≡ false) }
+{
+    told_command(
+        alloc,
+        "table",
+        "Simulate a network and write its records as comma-separated values, one line each",
+        TABLE_END,
+    )?
+    .arg(items(alloc))?
+    .arg(words(alloc))
+}
+
+fn workers<'a>(alloc: Global) -> Arg<'a>
+    ensures rule { rule_of result ≡ preset_text_rule (codes "workers") (codes "2") }
+    ensures local { result.global ≡ false }
+{
+    preset_text(alloc, "workers", "N", "2").help(
+        "How many threads work, 1 to 64; or auto: one for each processor where that pays, and else the run is made in order; the trace is the same",
+    )
+}
+
+fn burst<'a>(alloc: Global) -> Arg<'a>
+    ensures rule { rule_of result ≡ preset_rule (codes "burst") 1 256 (codes "64") }
+    ensures local { result.global ≡ false }
+{
+    preset(alloc, "burst", "K", 1, MAX_BURST, "64").help(
+        "The most steps of one component that a worker computes at a time, 1 to 256",
+    )
+}
+
+fn window<'a>(alloc: Global) -> Arg<'a>
+    ensures rule { rule_of result ≡ preset_rule (codes "window") 0 1099511627774 (codes "1099511627774") }
+    ensures local { result.global ≡ false }
+{
+    preset(alloc, "window", "W", 0, MAX_TICK, "1099511627774").help(
+        "How many ticks after gvt a component may still make a step, 0 to 1099511627774",
+    )
+}
+
+fn progress<'a>(alloc: Global) -> Arg<'a>
+    ensures rule { rule_of result ≡ flag_rule (codes "progress") }
+    ensures local { result.global ≡ false }
+{
+    flag(alloc, "progress").help(
+        "Tell on standard error, once a second, the tick committed, of the end tick, and how many records are committed",
+    )
+}
+
+/// `run` with what its workers are set to.
+fn set_command<'a>(alloc: Global) -> Result<Command<'a>, AllocError>
+    ensures app { IfOk result (λ c. app_of c ≡ set_app) }
+    ensures local { IfOk result (λ c. (out-Command c).has_globals ≡ false) }
+{
+    network_command(
+        alloc,
+        "run",
+        "Simulate a network by Time Warp, with workers in threads, and write its trace",
+        RUN_END,
+    )?
+    .arg(workers(alloc))?
+    .arg(burst(alloc))?
+    .arg(window(alloc))?
+    .arg(progress(alloc))
+}
+
+fn run_command<'a>(alloc: Global) -> Result<Command<'a>, AllocError>
+    ensures app { IfOk result (λ c. app_of c ≡ run_app) }
+    ensures local { IfOk result (λ c. (out-Command c).has_globals ≡ false) }
+{
+    set_command(alloc)?.arg(cancel(alloc))
+}
+
+fn script<'a>(alloc: Global) -> Arg<'a>
+    ensures rule { rule_of result ≡ text_rule (codes "script") }
+    ensures local { result.global ≡ false }
+{
+    text(alloc, "script", "FILE").help(
+        "The actions: the path of a script, one action on each line; without --seed and --steps",
+    )
+}
+
+fn seed<'a>(alloc: Global) -> Arg<'a>
+    ensures rule { rule_of result ≡ number_rule (codes "seed") 0 18446744073709551615 }
+    ensures local { result.global ≡ false }
+{
+    number(alloc, "seed", "S", 0, u64::MAX).help(
+        "The seed of random actions, 0 to 18446744073709551615; together with --steps",
+    )
+}
+
+fn steps<'a>(alloc: Global) -> Arg<'a>
+    ensures rule { rule_of result ≡ number_rule (codes "steps") 0 1000000 }
+    ensures local { result.global ≡ false }
+{
+    number(alloc, "steps", "N", 0, MAX_STEPS).help(
+        "How many random actions, 0 to 1000000; together with --seed",
+    )
+}
+
+fn cancel<'a>(alloc: Global) -> Arg<'a>
+    ensures rule { rule_of result ≡ text_rule (codes "cancel") }
+    ensures local { result.global ≡ false }
+{
+    text(alloc, "cancel", "WAY").help(
+        "How the messages of steps taken back are cancelled: aggressive (at once, where the option is left out) or lazy (only those not sent again)",
+    )
+}
+
+/// A subcommand with what may drive an executive.
+fn driven_command<'a>(command: Command<'a>, alloc: Global) -> Result<Command<'a>, AllocError>
+    ensures app { IfOk result (λ c. app_of c ≡ driven_app (app_of command.entry)) }
+    ensures local { (out-Command command.entry).has_globals ≡ false → IfOk result (λ c. (out-Command c).has_globals ≡ false) }
+{
+    command
+        .arg(script(alloc))?
+        .arg(seed(alloc))?
+        .arg(steps(alloc))
+}
+
+/// A subcommand with what may drive an executive, and how that cancels.
+fn cancelled_command<'a>(command: Command<'a>, alloc: Global) -> Result<Command<'a>, AllocError>
+    ensures app { IfOk result (λ c. app_of c ≡ cancelled_app (app_of command.entry)) }
+    ensures local { (out-Command command.entry).has_globals ≡ false → IfOk result (λ c. (out-Command c).has_globals ≡ false) }
+{
+    driven_command(command, alloc)?.arg(cancel(alloc))
+}
+
+fn play_command<'a>(alloc: Global) -> Result<Command<'a>, AllocError>
+    ensures app { IfOk result (λ c. app_of c ≡ play_app) }
+    ensures local { IfOk result (λ c. (out-Command c).has_globals ≡ false) }
+{
+    let bare = network_command(
+        alloc,
+        "play",
+        "Drive a network by hand: make, take back and commit steps in any order, write a reply to each action, then the trace of what is committed",
+        PLAY_END,
+    )?;
+    cancelled_command(bare, alloc)
+}
+
+fn from<'a>(alloc: Global) -> Arg<'a>
+    ensures rule { rule_of result ≡ number_rule (codes "from") 0 1099511627774 }
+    ensures local { result.global ≡ false }
+{
+    number(alloc, "from", "T0", 0, MAX_TICK).help(
+        "The tick from which on the run is seen, 0 to 1099511627774; 0 where it is left out",
+    )
+}
+
+fn only<'a>(alloc: Global) -> Arg<'a>
+    ensures rule { rule_of result ≡ text_rule (codes "only") }
+    ensures local { result.global ≡ false }
+{
+    text(alloc, "only", "NAMES").help(
+        "The components that are seen: their names, parted by commas; all where it is left out",
+    )
+}
+
+fn figure<'a>(alloc: Global) -> Arg<'a>
+    ensures rule { rule_of result ≡ text_rule (codes "figure") }
+    ensures local { result.global ≡ false }
+{
+    text(alloc, "figure", "NAME").help(
+        "The figure whose course is seen, as stats names it; the last of each model, of a tally its sum, where it is left out",
+    )
+}
+
+/// `draw` with what is seen of a run.
+fn seen_command<'a>(alloc: Global) -> Result<Command<'a>, AllocError>
+    ensures app { IfOk result (λ c. app_of c ≡ seen_app) }
+    ensures local { IfOk result (λ c. (out-Command c).has_globals ≡ false) }
+{
+    network_command(
+        alloc,
+        "draw",
+        "Draw a picture: of a network's run, a lane for each component; or, with --script or --seed, of a run of Time Warp, with its rollbacks",
+        DRAW_END,
+    )?
+    .arg(from(alloc))?
+    .arg(only(alloc))?
+    .arg(figure(alloc))
+}
+
+fn draw_command<'a>(alloc: Global) -> Result<Command<'a>, AllocError>
+    ensures app { IfOk result (λ c. app_of c ≡ draw_app) }
+    ensures local { IfOk result (λ c. (out-Command c).has_globals ≡ false) }
+{
+    let seen = seen_command(alloc)?;
+    cancelled_command(seen, alloc)
+}
+
+/// A command with a subcommand more, where memory sufficed for it.
+fn with_made<'a>(
+    command: Command<'a>,
+    made: Result<Command<'a>, AllocError>,
+) -> Result<Command<'a>, AllocError>
+    ensures { IfOk result (IsJoined command.entry made.entry) }
+{
+    command.subcommand(made?)
+}
+
+/// The program with the subcommands that simulate no network of a file.
+fn first_commands<'a>(alloc: Global) -> Result<Command<'a>, AllocError>
+    ensures app { IfOk result (λ c. app_of c ≡ first_app) }
+    ensures local { IfOk result (λ c. (out-Command c).has_globals ≡ false) }
+{
+    let first = Command::new(alloc, "twarp")
+        .version(VERSION)
+        .about("Simulate networks of Parallel DEVS models")
+        .after_help(TWARP_END)
+        .subcommand_required(true)
+        .subcommand(demo_command(alloc))?;
+    with_made(first, check_command(alloc))
+}
+
+/// The program with the subcommands that tell of the sequential run.
+fn alone_commands<'a>(alloc: Global) -> Result<Command<'a>, AllocError>
+    ensures app { IfOk result (λ c. app_of c ≡ alone_app) }
+    ensures local { IfOk result (λ c. (out-Command c).has_globals ≡ false) }
+{
+    let first = first_commands(alloc)?;
+    let second = with_made(first, seq_command(alloc))?;
+    let third = with_made(second, stats_command(alloc))?;
+    with_made(third, table_command(alloc))
+}
+
+/// The whole command.
+pub(crate) fn command<'a>(alloc: Global) -> Result<Command<'a>, AllocError>
+    ensures app { IfOk result (λ c. app_of c ≡ twarp_app) }
+{
+    let first = alone_commands(alloc)?;
+    let second = with_made(first, draw_command(alloc))?;
+    let third = with_made(second, run_command(alloc))?;
+    with_made(third, play_command(alloc))
+}

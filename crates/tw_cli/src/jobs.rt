@@ -1,0 +1,123 @@
+//! What the program can be asked to do.
+
+ghost use Rattle.std.specs.Prelude.{◌≡◌};
+ghost use Rattle.tw_cli.specs.Lines.{refusal_of, refused_for_memory};
+
+use std::alloc::AllocError;
+use thiserror::Error;
+use tw_actions::Cancel;
+use tw_cli_options::{Driver, Picture, Rows, RunOptions};
+use tw_vtime::Refusal;
+
+/// What the program is asked to do.
+#[derive(Debug, Drop)]
+pub enum Job<'a> {
+    /// Show a run of a built-in network.
+    Demo,
+    /// Read a network file and say what it has, or its first fault, where it stands and why; simulate nothing.
+    Check {
+        /// The path of the network file.
+        net: &'a str,
+    },
+    /// Simulate a network by the sequential abstract simulator and write the trace.
+    Seq {
+        /// The path of the network file.
+        net: &'a str,
+        /// The end tick, 0 to 1,099,511,627,774: only steps before it are made.
+        until: u64,
+        /// Whether a line on standard error tells once a second how far the run is.
+        progress: bool,
+    },
+    /// Simulate a network the same way and write counts and figures of its run.
+    Stats {
+        /// The path of the network file.
+        net: &'a str,
+        /// The end tick, 0 to 1,099,511,627,774: only steps before it are made.
+        until: u64,
+        /// Whether they are written as a line of JSON, in place of tables.
+        json: bool,
+        /// Whether a line on standard error tells once a second how far the run is.
+        progress: bool,
+    },
+    /// Simulate a network the same way and write its records as comma-separated values.
+    Table {
+        /// The path of the network file.
+        net: &'a str,
+        /// The end tick, 0 to 1,099,511,627,774: only steps before it are made.
+        until: u64,
+        /// What a line is of.
+        rows: Rows,
+        /// Whether a line on standard error tells once a second how far the run is.
+        progress: bool,
+    },
+    /// Draw a picture.
+    Draw {
+        /// The path of the network file.
+        net: &'a str,
+        /// The end tick, 0 to 1,099,511,627,774: only steps before it are made.
+        until: u64,
+        /// Of what.
+        picture: Picture<'a>,
+    },
+    /// Simulate a network by Time Warp, with workers in threads, and write the trace.
+    Run {
+        /// The path of the network file.
+        net: &'a str,
+        /// The end tick, 0 to 1,099,511,627,774: only steps before it are made.
+        until: u64,
+        /// How steps that are taken back are cancelled.
+        cancel: Cancel,
+        /// How many workers there are, how far they work ahead, and whether the run tells how far it is.
+        setting: RunOptions,
+    },
+    /// Drive a network's executive by hand, action by action: write a reply to each, then the trace of what is
+    /// committed.
+    Play {
+        /// The path of the network file.
+        net: &'a str,
+        /// The end tick, 0 to 1,099,511,627,774: only steps before it are made.
+        until: u64,
+        /// How steps that are taken back are cancelled.
+        cancel: Cancel,
+        /// What drives it.
+        driver: Driver<'a>,
+    },
+}
+
+/// Why a command line gave no job.
+#[derive(Debug, Drop, Error)]
+pub enum NoJob {
+    /// Help was asked for, and here is its text: print it, with status 0.
+    #[error("{0}")]
+    Help(clap::Error),
+    /// The version was asked for, and here is its text: print it, with status 0.
+    #[error("{0}")]
+    Version(clap::Error),
+    /// The line is none of the program's: 23.
+    #[error("the command line is none of the program's")]
+    BadLine,
+    /// A growth of memory was refused: 4.
+    #[error("a growth of memory was refused")]
+    OutOfMemory,
+}
+
+impl From<AllocError> for NoJob {
+    ghost from_gives = { λ _ no_job. no_job ≡ refused_for_memory };
+
+    fn from(_error: AllocError) -> NoJob {
+        Self::OutOfMemory
+    }
+}
+
+impl NoJob {
+    /// The refusal of the line: 23 or 4, and none where help or the version was asked for.
+    pub fn refusal(&self) -> Option<Refusal>
+        ensures { result ≡ refusal_of self.now }
+    {
+        match self {
+            NoJob::Help(_) | NoJob::Version(_) => None,
+            NoJob::BadLine => Some(Refusal::BadLine),
+            NoJob::OutOfMemory => Some(Refusal::OutOfMemory),
+        }
+    }
+}

@@ -1,5 +1,0 @@
-use Rattle.std.proofs.Common.{length}
-use Rattle.tw_core_tests.proofs.tests.models.+is_bag.Given as goal
-
-abbrev pub decreases-is_bag : goal.decreases-is_bag
-decreases-is_bag l = length l.bag.now

@@ -1,5 +1,0 @@
--- The state is one that the model has.
-use Rattle.tw_core_tests.proofs.tests.models.follow_once.Given as goal
-
-abbrev pub invariant-loop-worked : goal.invariant-loop-worked
-invariant-loop-worked g l = g.M.Atomic.valid l.model l.state

@@ -1,5 +1,0 @@
-use Rattle.std.proofs.Common.{◌≡◌, length}
-use Rattle.tw_core_tests.proofs.tests.tournament.the_first_of_five_and_of_none.Given as goal
-
-abbrev pub invariant-loop-next : goal.invariant-loop-next
-invariant-loop-next g l = length l.times.times ≡ 5

@@ -1,8 +1,0 @@
-use Rattle.std.proofs.Common.{◌≡◌, ◌++◌, drop, map}
-use Rattle.tw_costs.specs.Seen.{name, given}
-use Rattle.tw_costs.specs.Names.{things, own_standings, none_taken}
-use Rattle.tw_costs.proofs.names.own_standings.Given as goal
-
--- what has come and what is to come
-abbrev pub invariant-loop-named : goal.invariant-loop-named
-invariant-loop-named l = l.standings.items ++ own_standings (given l.given) l.at (things (map name (drop l.named-index l.names))) ≡ own_standings (given l.given) none_taken (things (map name l.names))

@@ -1,9 +1,0 @@
-use Rattle.std.proofs.Common.{◌≡◌, drop, map}
-use Rattle.tw_costs.specs.Seen.{name}
-use Rattle.tw_costs.specs.Names.{things}
-use Rattle.tw_declared.specs.Limits.{is_register, all}
-use Rattle.tw_declared.proofs.limits.are_registers.Given as goal
-
--- what is to come decides
-abbrev pub invariant-loop-named : goal.invariant-loop-named
-invariant-loop-named l = all is_register (things (map name (drop l.named-index l.names))) ≡ all is_register (things (map name l.names))

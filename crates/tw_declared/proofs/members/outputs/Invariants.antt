@@ -1,9 +1,0 @@
-use Rattle.std.proofs.Common.{◌≡◌, ◌++◌, drop, map}
-use Rattle.tw_costs.specs.Seen as plain
-use Rattle.tw_machine.specs.Seen.{seen_output}
-use Rattle.tw_declared.specs.Program.{output}
-use Rattle.tw_declared.proofs.members.outputs.Given as goal
-
--- what has come and what is to come
-abbrev pub invariant-loop-text : goal.invariant-loop-text
-invariant-loop-text l = map seen_output l.outputs.items ++ map (output l.standings) (map plain.output (drop l.text-index l.texts)) ≡ map (output l.standings) (map plain.output l.texts)

@@ -1,8 +1,0 @@
-use Rattle.std.proofs.Common.{◌≡◌, ◌++◌, drop, map}
-use Rattle.tw_costs.specs.Seen.{given}
-use Rattle.tw_costs.specs.Names.{start_of}
-use Rattle.tw_declared.proofs.starts.push_starts.Given as goal
-
--- what has come and what is to come
-abbrev pub invariant-loop-start : goal.invariant-loop-start
-invariant-loop-start l = l.cells.items ++ map (start_of (given l.given)) (drop l.start-index l.starts) ≡ l.initial.cells.items ++ map (start_of (given l.given)) l.starts

@@ -1,0 +1,77 @@
+//! The names and the figures of the built-in models.
+
+ghost use Rattle.std.specs.Prelude.{◌≡◌, ◌++◌, ◌∷◌, [], IfOk, OnOk, map, string_bytes};
+ghost use Rattle.tw_figure_names.specs.Labels.{figures_in, figure_shown, model_name};
+
+use std::alloc::{AllocError, Global};
+use tw_figures::{Figure, Measure};
+use tw_models::Model;
+use tw_stats::Labels;
+
+/// What a built-in model is called, and its figures: `count` of gen; `count`, `sum` and `last` of tally; `dropped` and `held`, how
+/// many values it holds, of relay; `dropped` and `jobs`, how many there are, of queue; none of hop.
+///
+/// Refused for want of memory (4).
+pub fn labels_of(alloc: Global, model: &Model) -> Result<Labels, AllocError>
+    ensures model { IfOk result (λ labels. string_bytes labels.model ≡ model_name model.now) }
+    ensures figures { IfOk result (λ labels. map figure_shown labels.figures.items ≡ figures_in model.now) }
+{
+    let figures = figures_of(alloc, model)?;
+    let name = String::from_str(alloc, name_of(model))?;
+    Ok(Labels {
+        model: name,
+        figures,
+    })
+}
+
+/// The name of a model.
+fn name_of(model: &Model) -> &'static str
+    ensures { result.now ≡ model_name model.now }
+{
+    match model {
+        Model::Gen(_) => "gen",
+        Model::Tally => "tally",
+        Model::Relay(_) => "relay",
+        Model::Queue(_) => "queue",
+        Model::Hop(_) => "hop",
+    }
+}
+
+/// The figures of a model.
+fn figures_of(alloc: Global, model: &Model) -> Result<Vec<Figure>, AllocError>
+    ensures { IfOk result (λ figures. map figure_shown figures.items ≡ figures_in model.now) }
+{
+    let mut figures = Vec::new(alloc);
+    match model {
+        Model::Gen(_) => add(alloc, &mut figures, "count", Measure::Word(0))?,
+        Model::Tally => {
+            add(alloc, &mut figures, "count", Measure::Word(0))?;
+            add(alloc, &mut figures, "sum", Measure::Word(1))?;
+            add(alloc, &mut figures, "last", Measure::Word(2))?;
+        }
+        Model::Relay(_) => {
+            add(alloc, &mut figures, "dropped", Measure::Word(0))?;
+            add(alloc, &mut figures, "held", Measure::Beyond(1))?;
+        }
+        Model::Queue(_) => {
+            add(alloc, &mut figures, "dropped", Measure::Word(0))?;
+            add(alloc, &mut figures, "jobs", Measure::Beyond(1))?;
+        }
+        Model::Hop(_) => {}
+    }
+    Ok(figures)
+}
+
+/// A figure more.
+fn add(
+    alloc: Global,
+    figures: &mut Vec<Figure>,
+    name: &str,
+    measure: Measure,
+) -> Result<(), AllocError>
+    ensures { OnOk result (map figure_shown figures.new.items ≡ map figure_shown figures.old.items ++ (name.now, measure) ∷ []) }
+{
+    let name = String::from_str(alloc, name)?;
+    figures.push(Figure { name, measure })?;
+    Ok(())
+}

@@ -1,0 +1,75 @@
+//! From a refused file to a line of words.
+
+use crate::connections::{
+    bad_names, bad_ports, bad_ticks, repeated_names, repeated_routes, self_couplings, unknown_names,
+};
+use crate::counts::{bad_limit, too_many};
+use crate::parameters::bad_parameters;
+use crate::shape::bad_shape;
+use crate::syntax::not_json;
+use serde_json::Value;
+use std::alloc::{AllocError, Global};
+use tw_file_network::FileRefused;
+use tw_file_outline::Outline;
+use tw_machine_faults::Stop;
+use tw_network::NetworkRefused;
+
+/// The place and the reason of a fault that the reader has found in a file's bytes, in words, with no line's end:
+///
+/// - `components[3] "q": service is 1099511627775, at most 1099511627774`: a component, by its place from 0 in the
+///   file's list, and its name. One of a coupled model has the places on its way, and its flat name:
+///   `components[1].components[0] "left.saw": ..`.
+/// - `couplings[500]: no component is named "h1001"`, and in the same form a place in `inputs`; a coupling of a
+///   coupled model has that model's place before it.
+/// - `the file: micro_limit is 0, at least 1`.
+/// - `line 12, column 8: not JSON: expected a comma`: lines and columns count from 1, columns in bytes. Where the text
+///   ends too early it is the last byte's place.
+///
+/// The words are those of the first place of this fault; nothing is proved of them. For a fault that the file does
+/// not have, the words are the fault's own.
+///
+/// Refused where a growth of memory is.
+pub fn explain(alloc: Global, bytes: &[u8], fault: FileRefused) -> Result<String, AllocError> {
+    match found(alloc, bytes, fault) {
+        Err(Stop::Fault(line)) => Ok(line),
+        Err(Stop::OutOfMemory) => Err(AllocError),
+        Ok(()) => format!(in alloc; "{fault}"),
+    }
+}
+
+/// Looks for a fault, and stops there.
+fn found(alloc: Global, bytes: &[u8], fault: FileRefused) -> Result<(), Stop> {
+    let value = match Value::from_slice(alloc, bytes) {
+        Ok(value) => value,
+        Err(error) if error.is_memory() => return Err(Stop::OutOfMemory),
+        Err(error) => return Err(Stop::Fault(not_json(alloc, bytes, &error)?)),
+    };
+    let outline = Outline::new(alloc, &value)?;
+    match fault {
+        FileRefused::OutOfMemory | FileRefused::NotJson => Ok(()),
+        FileRefused::BadShape => bad_shape(alloc, &value, &outline),
+        FileRefused::Parameter(_) => bad_parameters(alloc, &outline),
+        FileRefused::Network(fault) => unconnected(alloc, &value, &outline, fault),
+    }
+}
+
+/// Looks for a fault of a network whose members and parameters are good.
+fn unconnected(
+    alloc: Global,
+    value: &Value,
+    outline: &Outline<'_>,
+    fault: NetworkRefused,
+) -> Result<(), Stop> {
+    match fault {
+        NetworkRefused::OutOfMemory => Ok(()),
+        NetworkRefused::UnknownComponent => unknown_names(alloc, value, outline),
+        NetworkRefused::BadPort => bad_ports(alloc, value, outline),
+        NetworkRefused::SelfCoupling => self_couplings(alloc, outline),
+        NetworkRefused::DuplicateRoute => repeated_routes(alloc, outline),
+        NetworkRefused::TooMany => too_many(alloc, value, outline),
+        NetworkRefused::BadTick => bad_ticks(alloc, value, outline),
+        NetworkRefused::BadLimit => bad_limit(alloc, value),
+        NetworkRefused::BadName => bad_names(alloc, outline),
+        NetworkRefused::DuplicateName => repeated_names(alloc, outline),
+    }
+}

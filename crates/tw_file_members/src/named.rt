@@ -1,0 +1,19 @@
+//! The machine of a name, among those that a file declares.
+
+ghost use Rattle.std.specs.Prelude.{◌≡◌, map, option_map};
+ghost use Rattle.tw_machine_file.specs.Seen.{machine};
+ghost use Rattle.tw_file_members.specs.Named.{machine_named};
+
+use tw_machine_file::FileMachine;
+
+/// The first machine of a name.
+pub fn machine_named<'a>(machines: &'a [FileMachine], name: &str) -> Option<&'a FileMachine>
+    ensures { option_map (λ m. machine m.now) result ≡ machine_named (map machine machines.now) name.now }
+{
+    for machine in machines {
+        if machine.name.as_str() == name {
+            return Some(machine);
+        }
+    }
+    None
+}

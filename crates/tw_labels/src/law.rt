@@ -1,8 +1,0 @@
-//! What the figures are of a state.
-
-ghost use Rattle.tw_labels.specs.Law.{FiguresLaw};
-
-/// What the figures of a model tell of a state: they are parts of it, or how many values it holds. It does nothing.
-pub fn figures_law()
-    ensures { FiguresLaw }
-{}

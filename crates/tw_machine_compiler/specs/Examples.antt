@@ -1,0 +1,126 @@
+-- Machines by hand: the adder of `machine-tally`, the line of `machine-ring`, and parts of the pool of `machine-pool`.
+use Rattle.std.specs.Prelude.{◌≡◌, pos, List, [], ◌∷◌, ◌++◌, true, false, filter_map, replicate}
+use Rattle.tw_machine.specs.declared.language.Measure.TheVariants.{Length, Room, Front}
+use Rattle.tw_machine.specs.declared.language.Leaf.TheVariants as leaf
+use Rattle.tw_machine.specs.declared.language.Unary.TheVariants as unary
+use Rattle.tw_machine.specs.declared.language.Binary.TheVariants as binary
+use Rattle.tw_machine.specs.declared.language.Expr.TheVariants.{Plain}
+use Rattle.tw_machine.specs.declared.language.Target.TheVariants.{Single}
+use Rattle.tw_machine.specs.declared.language.Change.TheVariants as change
+use Rattle.tw_machine.specs.declared.language.Position.TheVariants.{End, Given as AtPlace}
+use Rattle.tw_machine.specs.declared.language.Which.TheVariants.{Foremost}
+use Rattle.tw_machine.specs.declared.language.Statement.TheVariants as m
+use Rattle.tw_machine_text.specs.declared.words.Builtin.TheVariants.{Value, Now}
+use Rattle.tw_machine_text.specs.declared.words.Change.TheVariants.{Set, Add}
+use Rattle.tw_machine_text.specs.declared.words.Operator.TheVariants.{Comma, Equal, Greater, Plus}
+use Rattle.tw_machine_text.specs.declared.words.Verb.TheVariants.{Push, Put}
+use Rattle.tw_machine_text.specs.Tree.{Tree, Number, Name, Known, Indexed, Call, RandomBelow, Binary, Statement, Assign, Act, Pop, Draw, Wait, If, Repeat, Block, Empty, Then, One}
+use Rattle.tw_machine_declaration.specs.declared.declaration.Constant.TheVariants as c
+use Rattle.tw_machine_declaration.specs.Seen.{Given, register}
+use Rattle.tw_machine_declaration.specs.declared.names.Standing.{Standing}
+use Rattle.tw_machine_declaration.specs.declared.names.Standing.TheVariants as s
+use Rattle.tw_machine_declaration.specs.Names.{none_taken, own_standings}
+use Rattle.tw_machine.specs.Seen.{one, two, both, branch, repeated}
+use Rattle.tw_machine_compiler.specs.Statements.{statement, block}
+use Rattle.tw_machine_compiler.specs.Rows.{row_of, twice}
+use Rattle.tw_machine_declaration.specs.Work.{statement_work, block_work}
+
+-- behind the functions' names, which nothing else has
+abbrev pub behind_functions : List Standing → List Standing
+behind_functions own = replicate 10 s.Nothing ++ own
+
+abbrev pub then : Block → Statement → Block
+then before last = Then before last false
+
+-- registers `count`, `sum`, `last`: the names 10 to 12, the cells 0 to 2
+abbrev pub adder : List Standing
+adder = s.Cell 0 ∷ s.Cell 1 ∷ s.Cell 2 ∷ []
+
+abbrev pub adder_names : Type 0
+adder_names =
+    (given : Given) → own_standings given none_taken (register (c.Number (pos 0)) ∷ register (c.Number (pos 0)) ∷ register (c.Number (pos 0)) ∷ []) ≡ adder
+
+-- count += 1, sum += value, last = value
+abbrev pub adder_external : Block
+adder_external = then (then (then Empty (Assign (Name 10) Add (Number 1))) (Assign (Name 11) Add (Known Value))) (Assign (Name 12) Set (Known Value))
+
+abbrev pub adder_adds : Type 0
+adder_adds =
+    block (behind_functions adder) adder_external
+    ≡ both (both (both m.Skip (m.Alter change.Add (Single 0) (Plain (leaf.Number (pos 1))))) (m.Alter change.Add (Single 1) (Plain leaf.Value))) (m.Set (Single 2) (Plain leaf.Value))
+
+-- a parameter `service` of 2, a register `dropped`, a queue `jobs` with room for 64: the names 10 to 12
+abbrev pub line : List Standing
+line = behind_functions (s.Number (pos 2) ∷ s.Cell 0 ∷ s.Queue 0 64 ∷ [])
+
+abbrev pub length_of_jobs : Tree
+length_of_jobs = Call 3 (Name 12)
+
+-- pop jobs, if length(jobs) > 0 { wait service }
+abbrev pub line_internal : Block
+line_internal = then (then Empty (Pop (Name 12))) (If (One (Binary Greater length_of_jobs (Number 0)) (then Empty (Wait (Name 10)))))
+
+abbrev pub line_serves : Type 0
+line_serves =
+    block line line_internal
+    ≡ both (both m.Skip (m.Take (Single 0) Foremost)) (branch (two binary.Greater (Plain (leaf.Queue Length 0)) (Plain (leaf.Number (pos 0)))) (both m.Skip (m.Wait (Plain (leaf.Number (pos 2))))) m.Skip)
+
+-- `pop jobs` is 2, the `if` 1, its test 4 and its block 2
+abbrev pub line_computes : Type 0
+line_computes = block_work line line_internal ≡ 9
+
+-- dropped += length(jobs) == room(jobs)
+abbrev pub line_drops : Type 0
+line_drops =
+    statement line (Assign (Name 11) Add (Binary Equal length_of_jobs (Call 4 (Name 12))))
+    ≡ m.Alter change.Add (Single 0) (two binary.Equal (Plain (leaf.Queue Length 0)) (Plain (leaf.Queue Room 0)))
+
+-- push jobs value
+abbrev pub line_takes : Type 0
+line_takes = statement line (Act Push (Name 12) (Known Value)) ≡ m.Put (Single 0) End (Plain leaf.Value)
+
+-- parameters `servers` and `places` of 3, a register `end`, queues `busy`, `who`, `waiting`, a table `service` of 20: the names 10 to 16
+abbrev pub pool : List Standing
+pool = behind_functions (s.Number (pos 3) ∷ s.Number (pos 3) ∷ s.Cell 0 ∷ s.Queue 0 3 ∷ s.Queue 1 3 ∷ s.Queue 2 3 ∷ s.Table (record { first = 0; count = 20 }) ∷ [])
+
+-- end = now + service[random(20)]
+abbrev pub pool_draws : Type 0
+pool_draws =
+    statement pool (Assign (Name 12) Set (Binary Plus (Known Now) (Indexed 16 (RandomBelow (Number 20)))))
+    ≡ m.Set (Single 0) (two binary.Plus (Plain leaf.Now) (one (unary.Table (record { first = 0; count = 20 })) (one unary.RandomBelow (Plain (leaf.Number (pos 20))))))
+
+-- put who place(busy, end), front(waiting)
+abbrev pub pool_put : Statement
+pool_put = Act Put (Name 14) (Binary Comma (Call 9 (Binary Comma (Name 13) (Name 12))) (Call 5 (Name 15)))
+
+abbrev pub pool_puts : Type 0
+pool_puts = statement pool pool_put ≡ m.Put (Single 1) (AtPlace (one (unary.Place 0) (Plain (leaf.Register 0)))) (Plain (leaf.Queue Front 2))
+
+-- seven nodes, and the rooms of `busy` and `who` more
+abbrev pub pool_computes : Type 0
+pool_computes = statement_work pool pool_put ≡ 13
+
+-- repeat places { draw }
+abbrev pub pool_repeats : Type 0
+pool_repeats = statement pool (Repeat (Name 11) (then Empty Draw)) ≡ repeated 3 (both m.Skip m.Draw)
+
+-- `repeat` is 2, and three turns of 1 each
+abbrev pub pool_turns : Type 0
+pool_turns = statement_work pool (Repeat (Name 11) (then Empty Draw)) ≡ 5
+
+-- a register `a`, an array register `b` of two, a queue `q`, arrays `r` of two queues and `u` of as many as a parameter says of which nothing is given: the names 10 to 14
+abbrev pub shows : List Standing
+shows = behind_functions (s.Cell 0 ∷ s.Cells (record { first = 1; count = 2 }) ∷ s.Queue 0 4 ∷ s.Queues (record { first = 1; count = 2 }) 3 ∷ s.Queues (record { first = 3; count = 0 }) 3 ∷ [])
+
+-- b, a, b
+abbrev pub array_twice : Type 0
+array_twice = twice (filter_map (row_of shows) (Name 11 ∷ Name 10 ∷ Name 11 ∷ [])) ≡ true
+
+-- r[1], q, r[5]: past the end is the last
+abbrev pub last_twice : Type 0
+last_twice = twice (filter_map (row_of shows) (Indexed 13 (Number 1) ∷ Name 12 ∷ Indexed 13 (Number 5) ∷ [])) ≡ true
+
+-- a, a, b, q, r[0], r[1], b[0], b[0], u[0], u[1]: what is an expression may stand there again
+abbrev pub none_twice : Type 0
+none_twice =
+    twice (filter_map (row_of shows) (Name 10 ∷ Name 10 ∷ Name 11 ∷ Name 12 ∷ Indexed 13 (Number 0) ∷ Indexed 13 (Number 1) ∷ Indexed 11 (Number 0) ∷ Indexed 11 (Number 0) ∷ Indexed 14 (Number 0) ∷ Indexed 14 (Number 1) ∷ [])) ≡ false

@@ -1,0 +1,301 @@
+//! What is wrong with a machine as it is declared, the first of it.
+ghost use Rattle.std.specs.Prelude.{◌≡◌, ◌≤◌, length, map, sum, option_and_then};
+ghost use Rattle.tw_machine.specs.Program.{text_of};
+ghost use Rattle.tw_machine_text.specs.Views.{told, body, chain};
+ghost use Rattle.tw_machine_declaration.specs.Seen as plain;
+ghost use Rattle.tw_machine_declaration.specs.Names.{constant, things};
+ghost use Rattle.tw_machine_compiler.specs.Limits.{is_up_to, constant_up_to, length_up_to, is_register, is_queue, is_table, all, is_turns, turns_fit, turns_fit_statement, turns_fit_arms, members_fault, limit};
+ghost use Rattle.tw_machine_compiler.specs.declared.limits.BadMachine.TheVariants.{OutOfMemory};
+
+use crate::rows::twice;
+use std::alloc::AllocError;
+use thiserror::Error;
+use tw_machine::program::Parts;
+use tw_machine_declaration::{
+    Constant, Declaration, Given, Named, Standing, Thing, all_nodes, block_work, constant,
+    outputs_work, words_work, written_turns,
+};
+use tw_machine_text::{Arms, Block, Statement as Said};
+
+/// Why a machine makes no program: the first fault, in this order, or want of memory. Each but that is refusal 21
+/// (BadShape).
+#[derive(Clone, Copy, Debug, Error, PartialEq, Eq)]
+pub enum BadMachine {
+    /// A growth of memory was refused: refusal 4.
+    #[error("out of memory")]
+    OutOfMemory,
+    #[error("an array register has 1 to 64 cells")]
+    CellCount,
+    #[error("an array of queues has 1 to 16, and a queue has room for 1 to 1,024")]
+    QueueCount,
+    #[error("a table has 1 to 65,536 numbers")]
+    TableCount,
+    #[error("the longest wait is 1 to 1,099,511,627,774")]
+    Longest,
+    #[error("a block is repeated 0 to 64 times")]
+    Turns,
+    #[error("there are at most 64 outputs")]
+    OutputCount,
+    #[error("there are 1 to 64 words")]
+    WordCount,
+    #[error("no queue and no array register stands twice among the words")]
+    WordTwice,
+    #[error("the registers have more than 64 cells")]
+    TooManyCells,
+    #[error("there are more than 16 queues")]
+    TooManyQueues,
+    #[error("the queues have room for more than 4,096 values together")]
+    TooMuchRoom,
+    #[error("the tables have more than 65,536 numbers together")]
+    TooManyNumbers,
+    #[error("there are more than 4,096 nodes")]
+    TooManyNodes,
+    #[error("a run makes more than 262,144 computations")]
+    TooManyComputations,
+}
+
+impl From<AllocError> for BadMachine {
+    ghost from_gives = { λ _ bad. bad ≡ OutOfMemory };
+
+    fn from(_error: AllocError) -> BadMachine {
+        BadMachine::OutOfMemory
+    }
+}
+
+/// Whether the greatest wait is 1 to 1,099,511,627,774, if it is given.
+fn is_longest(given: &Given, longest: Option<Constant>) -> bool
+    ensures { result ≡ constant_up_to 1099511627774 (option_and_then (constant (plain.given given.now)) longest) }
+{
+    match longest {
+        Some(longest) => constant_up_to(1099511627774, constant(given, longest)),
+        None => true,
+    }
+}
+
+/// The rooms of at most 16 queues together.
+fn total_room(rooms: &[u16]) -> usize
+    requires { length rooms.now ≤ 16 }
+    ensures { result ≡ sum rooms.now }
+{
+    let mut total = 0;
+    for room in rooms {
+        total += *room as usize;
+    }
+    total
+}
+
+/// Whether a number is from 1 to this.
+fn is_up_to(most: u64, number: i64) -> bool
+    ensures { result ≡ is_up_to most number }
+{
+    number >= 1 && number as u64 <= most
+}
+
+/// Whether a constant is from 1 to this, if it is given.
+pub fn constant_up_to(most: u64, number: Option<i64>) -> bool
+    ensures { result ≡ constant_up_to most number }
+{
+    match number {
+        Some(number) => is_up_to(most, number),
+        None => true,
+    }
+}
+
+/// Whether an array register has 1 to 64 cells.
+fn is_register(thing: &Thing) -> bool
+    ensures { result ≡ is_register (plain.thing thing.now) }
+{
+    match thing {
+        Thing::RegisterArray(cells) => cells.len() >= 1 && cells.len() <= 64,
+        _ => true,
+    }
+}
+
+/// Whether there are as many queues, and as much room, as there may be.
+fn is_queue(given: &Given, thing: &Thing) -> bool
+    ensures { result ≡ is_queue (plain.given given.now) (plain.thing thing.now) }
+{
+    match thing {
+        Thing::Queue(room) => constant_up_to(1024, constant(given, *room)),
+        Thing::QueueArray(count, room) => {
+            constant_up_to(16, constant(given, *count))
+                && constant_up_to(1024, constant(given, *room))
+        }
+        _ => true,
+    }
+}
+
+/// Whether a table has 1 to 65,536 numbers.
+fn is_table(given: &Given, thing: &Thing) -> bool
+    ensures { result ≡ is_table (plain.given given.now) (plain.thing thing.now) }
+{
+    match thing {
+        Thing::Table(numbers) => numbers.len() >= 1 && numbers.len() <= 65536,
+        Thing::ListTable(place) => match given.lists.get(*place) {
+            Some(list) => list.len() >= 1 && list.len() <= 65536,
+            None => true,
+        },
+        _ => true,
+    }
+}
+
+/// Whether all array registers have as many cells as they may have.
+fn are_registers(names: &[Named]) -> bool
+    ensures { result ≡ all is_register (things (map plain.name names.now)) }
+{
+    for named in names {
+        if !is_register(&named.thing) {
+            return false;
+        }
+    }
+    true
+}
+
+/// Whether this is so of all queues.
+fn are_queues(given: &Given, names: &[Named]) -> bool
+    ensures { result ≡ all (is_queue (plain.given given.now)) (things (map plain.name names.now)) }
+{
+    for named in names {
+        if !is_queue(given, &named.thing) {
+            return false;
+        }
+    }
+    true
+}
+
+/// Whether this is so of all tables.
+fn are_tables(given: &Given, names: &[Named]) -> bool
+    ensures { result ≡ all (is_table (plain.given given.now)) (things (map plain.name names.now)) }
+{
+    for named in names {
+        if !is_table(given, &named.thing) {
+            return false;
+        }
+    }
+    true
+}
+
+/// Whether a block is repeated 0 to 64 times.
+fn is_turns(written: Option<i128>) -> bool
+    ensures { result ≡ is_turns written }
+{
+    match written {
+        Some(turns) => turns >= 0 && turns <= 64,
+        None => true,
+    }
+}
+
+/// Whether all blocks in a statement are repeated 0 to 64 times.
+#[cycle(repeats)]
+fn turns_fit_statement(standings: &[Standing], said: &Said) -> bool
+    ensures { result ≡ turns_fit_statement standings.now (told said.now) }
+{
+    match said {
+        Said::If(arms) => turns_fit_arms(standings, arms),
+        Said::IfElse(arms, last) => {
+            turns_fit_arms(standings, arms) && turns_fit(standings, last)
+        }
+        Said::Repeat(count, each) => {
+            is_turns(written_turns(standings, count)) && turns_fit(standings, each)
+        }
+        _ => true,
+    }
+}
+
+/// Whether all blocks in a program are repeated 0 to 64 times.
+#[cycle(repeats)]
+pub fn turns_fit(standings: &[Standing], program: &Block) -> bool
+    ensures { result ≡ turns_fit standings.now (body program.now) }
+{
+    match program {
+        Block::Empty => true,
+        Block::Then(before, last, _) => {
+            turns_fit(standings, before) && turns_fit_statement(standings, last)
+        }
+    }
+}
+
+/// Whether all blocks in the arms of an `if` are repeated 0 to 64 times.
+#[cycle(repeats)]
+fn turns_fit_arms(standings: &[Standing], arms: &Arms) -> bool
+    ensures { result ≡ turns_fit_arms standings.now (chain arms.now) }
+{
+    match arms {
+        Arms::One(_, then) => turns_fit(standings, then),
+        Arms::More(before, _, then) => {
+            turns_fit_arms(standings, before) && turns_fit(standings, then)
+        }
+    }
+}
+
+/// The first of a machine's members that is wrong.
+pub fn members_fault(
+    given: &Given,
+    declaration: &Declaration,
+    standings: &[Standing],
+) -> Option<BadMachine>
+    ensures { result ≡ members_fault (plain.given given.now) (plain.declaration declaration.now) standings.now }
+{
+    let names = declaration.names.as_slice();
+    if !are_registers(names) {
+        return Some(BadMachine::CellCount);
+    }
+    if !are_queues(given, names) {
+        return Some(BadMachine::QueueCount);
+    }
+    if !are_tables(given, names) {
+        return Some(BadMachine::TableCount);
+    }
+    if !is_longest(given, declaration.longest) {
+        return Some(BadMachine::Longest);
+    }
+    if !(turns_fit(standings, &declaration.internal)
+        && turns_fit(standings, &declaration.external))
+    {
+        return Some(BadMachine::Turns);
+    }
+    if declaration.outputs.len() > 64 {
+        return Some(BadMachine::OutputCount);
+    }
+    if declaration.words.len() < 1 || declaration.words.len() > 64 {
+        return Some(BadMachine::WordCount);
+    }
+    if twice(standings, declaration.words.as_slice()) {
+        return Some(BadMachine::WordTwice);
+    }
+    None
+}
+
+/// The first limit that is passed.
+pub fn limit(standings: &[Standing], declaration: &Declaration, parts: &Parts) -> Option<BadMachine>
+    ensures { result ≡ limit standings.now (plain.declaration declaration.now) (text_of parts.now) }
+{
+    if parts.cells.len() > 64 {
+        return Some(BadMachine::TooManyCells);
+    }
+    if parts.rooms.len() > 16 {
+        return Some(BadMachine::TooManyQueues);
+    }
+    if total_room(parts.rooms.as_slice()) > 4096 {
+        return Some(BadMachine::TooMuchRoom);
+    }
+    if parts.numbers.len() > 65536 {
+        return Some(BadMachine::TooManyNumbers);
+    }
+    if all_nodes(declaration) > 4096 {
+        return Some(BadMachine::TooManyNodes);
+    }
+    if block_work(standings, &declaration.internal) > 262144 {
+        return Some(BadMachine::TooManyComputations);
+    }
+    if block_work(standings, &declaration.external) > 262144 {
+        return Some(BadMachine::TooManyComputations);
+    }
+    if outputs_work(standings, declaration.outputs.as_slice()) > 262144 {
+        return Some(BadMachine::TooManyComputations);
+    }
+    if words_work(standings, declaration.words.as_slice()) > 262144 {
+        return Some(BadMachine::TooManyComputations);
+    }
+    None
+}

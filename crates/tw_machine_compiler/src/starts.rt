@@ -1,0 +1,101 @@
+//! What a machine has at the start: the cells of its registers, the rooms of its queues, the numbers of its tables.
+ghost use Rattle.std.specs.Prelude.{◌≡◌, ◌++◌, ◌≤◌, IfOk, OnOk, flat_map, map, replicate};
+ghost use Rattle.tw_machine_declaration.specs.Seen as plain;
+ghost use Rattle.tw_machine_declaration.specs.Names.{start_of, cells, rooms, numbers, things};
+
+use std::alloc::{AllocError, Global};
+use tw_machine_declaration::{
+    Constant, Given, Named, Thing, count_of, list_given, room_of, start_of,
+};
+
+/// Appends what the cells of an array register have at the start.
+fn push_starts(given: &Given, starts: &[Constant], cells: &mut Vec<i64>) -> Result<(), AllocError>
+    ensures { OnOk result (cells.new.items ≡ cells.old.items ++ map (start_of (plain.given given.now)) starts.now) }
+{
+    for start in starts {
+        cells.push(start_of(given, *start))?;
+    }
+    Ok(())
+}
+
+/// Appends the room of a queue so many times.
+fn push_rooms(count: u32, room: u16, rooms: &mut Vec<u16>) -> Result<(), AllocError>
+    ensures { OnOk result (rooms.new.items ≡ rooms.old.items ++ replicate count room) }
+{
+    for i in 0..count {
+        let _ = i;
+        rooms.push(room)?;
+    }
+    Ok(())
+}
+
+/// Appends the cells of a name.
+fn push_cells(given: &Given, thing: &Thing, out: &mut Vec<i64>) -> Result<(), AllocError>
+    ensures { OnOk result (out.new.items ≡ out.old.items ++ cells (plain.given given.now) (plain.thing thing.now)) }
+{
+    match thing {
+        Thing::Register(start) => out.push(start_of(given, *start))?,
+        Thing::RegisterArray(starts) => push_starts(given, starts, out)?,
+        _ => {}
+    }
+    Ok(())
+}
+
+/// Appends the rooms of a name.
+fn push_queues(given: &Given, thing: &Thing, out: &mut Vec<u16>) -> Result<(), AllocError>
+    ensures { OnOk result (out.new.items ≡ out.old.items ++ rooms (plain.given given.now) (plain.thing thing.now)) }
+{
+    match thing {
+        Thing::Queue(room) => out.push(room_of(given, *room))?,
+        Thing::QueueArray(count, room) => {
+            push_rooms(count_of(given, *count), room_of(given, *room), out)?;
+        }
+        _ => {}
+    }
+    Ok(())
+}
+
+/// Appends the numbers of a table.
+fn push_numbers(given: &Given, thing: &Thing, out: &mut Vec<i64>) -> Result<(), AllocError>
+    ensures { OnOk result (out.new.items ≡ out.old.items ++ numbers (plain.given given.now) (plain.thing thing.now)) }
+{
+    match thing {
+        Thing::Table(numbers) => out.extend_from_slice(numbers)?,
+        Thing::ListTable(place) => out.extend_from_slice(list_given(given, *place))?,
+        _ => {}
+    }
+    Ok(())
+}
+
+/// The cells of all registers at the start. The only error is want of memory.
+pub fn all_cells(alloc: Global, given: &Given, names: &[Named]) -> Result<Vec<i64>, AllocError>
+    ensures { IfOk result (λ out. out.items ≡ flat_map (cells (plain.given given.now)) (things (map plain.name names.now))) }
+{
+    let mut out = Vec::new(alloc);
+    for named in names {
+        push_cells(given, &named.thing, &mut out)?;
+    }
+    Ok(out)
+}
+
+/// The rooms of all queues. The only error is want of memory.
+pub fn all_rooms(alloc: Global, given: &Given, names: &[Named]) -> Result<Vec<u16>, AllocError>
+    ensures { IfOk result (λ out. out.items ≡ flat_map (rooms (plain.given given.now)) (things (map plain.name names.now))) }
+{
+    let mut out = Vec::new(alloc);
+    for named in names {
+        push_queues(given, &named.thing, &mut out)?;
+    }
+    Ok(out)
+}
+
+/// The numbers of all tables. The only error is want of memory.
+pub fn all_numbers(alloc: Global, given: &Given, names: &[Named]) -> Result<Vec<i64>, AllocError>
+    ensures { IfOk result (λ out. out.items ≡ flat_map (numbers (plain.given given.now)) (things (map plain.name names.now))) }
+{
+    let mut out = Vec::new(alloc);
+    for named in names {
+        push_numbers(given, &named.thing, &mut out)?;
+    }
+    Ok(out)
+}

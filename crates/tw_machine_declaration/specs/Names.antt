@@ -1,0 +1,104 @@
+-- What each name of a machine stands for, once the numbers of a component are put in.
+use Rattle.std.specs.Prelude.{ℕ, ◌+◌, ℤ, pos, min, List, [], ◌∷◌, ◌++◌, map, length, Option, Some, None, slice_get, slice_index_or, unwrap_or, replicate, if◌then◌else◌}
+use Rattle.tw_machine.specs.Values.{natural}
+use Rattle.tw_machine_text.specs.Letters.{functions, same_text}
+use Rattle.tw_machine_declaration.specs.declared.declaration.Constant.{Constant}
+use Rattle.tw_machine_declaration.specs.declared.declaration.Constant.TheVariants as c
+use Rattle.tw_machine_declaration.specs.Seen.{Given, Name, Declares, parameter, list_parameter, register, registers, queue, queues, table, list_table}
+use Rattle.tw_machine_declaration.specs.declared.names.Places.{Places}
+use Rattle.tw_machine_declaration.specs.declared.names.Standing.{Standing}
+use Rattle.tw_machine_declaration.specs.declared.names.Standing.TheVariants as s
+
+-- the number that a constant is; none where it is a parameter of which nothing is given
+abbrev pub constant : Given → Constant → Option ℤ
+constant given (c.Number n) = Some n
+constant given (c.Parameter k) = slice_get given.numbers k
+
+-- what a register has at the start
+abbrev pub start_of : Given → Constant → ℤ
+start_of given c = unwrap_or (constant given c) (pos 0)
+
+-- the room of a queue; one past 1,024 is refused
+abbrev pub room_of : Given → Constant → ℕ
+room_of given c = min (natural (start_of given c)) 1024
+
+-- how many queues an array has; more than 16 are refused
+abbrev pub count_of : Given → Constant → ℕ
+count_of given c = min (natural (start_of given c)) 16
+
+-- the list that is given for a parameter, empty where none is
+abbrev pub list_given : Given → ℕ → List ℤ
+list_given given k = slice_index_or given.lists k []
+
+-- what the cells of a register have at the start
+abbrev pub cells : Given → Declares → List ℤ
+cells given (register c) = start_of given c ∷ []
+cells given (registers cs) = map (start_of given) cs
+cells given _ = []
+
+-- the rooms of the queues that a name declares
+abbrev pub rooms : Given → Declares → List ℕ
+rooms given (queue c) = room_of given c ∷ []
+rooms given (queues n c) = replicate (count_of given n) (room_of given c)
+rooms given _ = []
+
+-- the numbers of a table
+abbrev pub numbers : Given → Declares → List ℤ
+numbers given (table ns) = ns
+numbers given (list_table k) = list_given given k
+numbers given _ = []
+
+-- before the first name nothing is taken
+abbrev pub none_taken : Places
+none_taken = record { cells = 0; queues = 0; numbers = 0 }
+
+-- what a parameter that is a number stands for
+abbrev pub given_number : Option ℤ → Standing
+given_number (Some n) = s.Number n
+given_number None = s.Unknown
+
+-- what is taken behind a name, counted to one past what a machine may have
+abbrev pub taken : Given → Places → Declares → Places
+taken given at thing =
+    record {
+      cells = min (at.cells + length (cells given thing)) 65;
+      queues = min (at.queues + length (rooms given thing)) 17;
+      numbers = min (at.numbers + length (numbers given thing)) 65537;
+    }
+
+-- what a name stands for, where so much is taken before it
+abbrev pub standing_of : Given → Places → Declares → Standing
+standing_of given at (parameter k) = given_number (slice_get given.numbers k)
+standing_of given at (list_parameter k) = s.Nothing
+standing_of given at (register c) = s.Cell at.cells
+standing_of given at (registers cs) = s.Cells (record { first = at.cells; count = min (length cs) 65 })
+standing_of given at (queue c) = s.Queue at.queues (room_of given c)
+standing_of given at (queues n c) = s.Queues (record { first = at.queues; count = count_of given n }) (room_of given c)
+standing_of given at (table ns) = s.Table (record { first = at.numbers; count = min (length ns) 65537 })
+standing_of given at (list_table k) = s.Table (record { first = at.numbers; count = min (length (list_given given k)) 65537 })
+
+-- what the names that are declared stand for
+abbrev pub own_standings : Given → Places → List Declares → List Standing
+own_standings given at [] = []
+own_standings given at (thing ∷ things) = standing_of given at thing ∷ own_standings given (taken given at thing) things
+
+-- the place of the first name that is this text, counted on from a place; behind the last where there is none
+abbrev pub place_named : ℕ → List (List ℕ) → List ℕ → ℕ
+place_named k [] text = k
+place_named k (name ∷ names) text = if same_text name text then k else place_named (k + 1) names text
+
+abbrev pub texts : List Name → List (List ℕ)
+texts names = map (λ n. n.0) names
+
+abbrev pub things : List Name → List Declares
+things names = map (λ n. n.1) names
+
+-- what a name stands for, by its number
+abbrev pub standing_at : List Standing → ℕ → Standing
+standing_at ss n = slice_index_or ss n s.Nothing
+
+-- what each name stands for, by its number: first the functions' names, then those that are declared
+abbrev pub standings_of : Given → List Name → List Standing
+standings_of given names =
+    let own = own_standings given none_taken (things names) in
+    map (λ function. standing_at own (place_named 0 (texts names) function)) functions ++ own

@@ -1,0 +1,84 @@
+//! A machine as it is declared.
+
+use tw_machine_text::{Block, Expr};
+
+/// A constant.
+#[derive(Clone, Copy, Debug, PartialEq, Eq)]
+pub enum Constant {
+    Number(i64),
+    /// What a component gives for the parameter at this place among those that are numbers.
+    Parameter(usize),
+}
+
+/// What a machine declares by a name.
+#[derive(Drop)]
+pub enum Thing {
+    /// A parameter that is a number, at this place among those.
+    Parameter(usize),
+    /// A parameter that is a list, at this place among those.
+    ListParameter(usize),
+    /// A register, and what it has at the start.
+    Register(Constant),
+    /// An array register, and what its cells have at the start.
+    RegisterArray(Vec<Constant>),
+    /// A queue, and its room.
+    Queue(Constant),
+    /// An array of queues: how many, and the room of each.
+    QueueArray(Constant, Constant),
+    /// A table of these numbers.
+    Table(Vec<i64>),
+    /// A table of the numbers of a list, at this place among the parameters that are lists.
+    ListTable(usize),
+}
+
+/// A name that a machine declares, and what is declared by it.
+#[derive(Drop)]
+pub struct Named {
+    pub name: String,
+    pub thing: Thing,
+}
+
+/// An expression in a member: a whole number, or the tree of a text.
+#[derive(Drop)]
+pub enum Value {
+    Number(i64),
+    Text(Expr),
+}
+
+/// An entry of what is sent.
+#[derive(Drop)]
+pub struct OutputText {
+    pub port: Value,
+    pub value: Value,
+    pub when: Option<Value>,
+    /// A queue.
+    pub each: Option<Expr>,
+}
+
+/// A machine. The numbers of names in its trees are those of the texts' reader: 0 to 9 for the functions' names, and
+/// from 10 on for `names`, in this order.
+#[derive(Drop)]
+pub struct Declaration {
+    pub names: Vec<Named>,
+    /// The random number at the start is one draw from it, modulo 2^64.
+    pub random: Constant,
+    /// The first wait; passive where it is left out or negative.
+    pub first: Option<Constant>,
+    /// The greatest wait.
+    pub longest: Option<Constant>,
+    pub internal: Block,
+    pub external: Block,
+    pub outputs: Vec<OutputText>,
+    /// Expressions, queues and array registers.
+    pub words: Vec<Value>,
+}
+
+/// What a component gives for the parameters of its machine. Where it gives nothing, what hangs on a parameter counts
+/// as none: so a machine is looked at that no component uses.
+#[derive(Drop)]
+pub struct Given {
+    /// For each parameter that is a number.
+    pub numbers: Vec<i64>,
+    /// For each parameter that is a list.
+    pub lists: Vec<Vec<i64>>,
+}

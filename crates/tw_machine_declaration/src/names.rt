@@ -1,0 +1,254 @@
+//! What each name of a machine stands for.
+ghost use Rattle.std.specs.Prelude.{◌≡◌, ◌+◌, ◌≤◌, min, IfOk, map, length, slice_index_or};
+ghost use Rattle.tw_machine_text.specs.Letters.{functions, same_text};
+ghost use Rattle.tw_machine_declaration.specs.Seen as plain;
+ghost use Rattle.tw_machine_declaration.specs.Names.{constant, start_of, room_of, count_of, list_given, cells, rooms, numbers, given_number, none_taken, taken, things, place_named, standing_of, own_standings, texts, standings_of, standing_at};
+ghost use Rattle.tw_machine_declaration.specs.declared.names.Standing.TheVariants.{Nothing};
+
+use crate::declaration::{Constant, Given, Named, Thing};
+use std::alloc::{AllocError, Global};
+use tw_machine::language::Span;
+
+/// What a name stands for.
+#[derive(Clone, Copy, Debug, PartialEq, Eq)]
+pub enum Standing {
+    /// A list, or a function's name that nothing else has.
+    Nothing,
+    /// The number of a parameter.
+    Number(i64),
+    /// A parameter of which nothing is given.
+    Unknown,
+    /// The register at this place.
+    Cell(u32),
+    /// The cells of an array register.
+    Cells(Span),
+    /// The queue at this place, and its room.
+    Queue(u32, u16),
+    /// An array of queues, and the room of each.
+    Queues(Span, u16),
+    /// Numbers of the tables.
+    Table(Span),
+}
+
+/// How many cells, queues and numbers of tables are taken by the names before.
+#[derive(Clone, Copy, PartialEq, Eq)]
+pub struct Places {
+    pub cells: u32,
+    pub queues: u32,
+    pub numbers: u32,
+}
+
+/// The number that a constant is, if it is given.
+pub fn constant(given: &Given, one: Constant) -> Option<i64>
+    ensures { result ≡ constant (plain.given given.now) one }
+{
+    match one {
+        Constant::Number(number) => Some(number),
+        Constant::Parameter(place) => given.numbers.get(place).copied(),
+    }
+}
+
+/// What a register has at the start.
+pub fn start_of(given: &Given, start: Constant) -> i64
+    ensures { result ≡ start_of (plain.given given.now) start }
+{
+    constant(given, start).unwrap_or(0)
+}
+
+/// The room of a queue, at most 1,024.
+pub fn room_of(given: &Given, room: Constant) -> u16
+    ensures value { result ≡ room_of (plain.given given.now) room }
+    ensures small { result ≤ 1024 }
+{
+    start_of(given, room).max(0).min(1024) as u16
+}
+
+/// How many queues an array has, at most 16.
+pub fn count_of(given: &Given, count: Constant) -> u32
+    ensures value { result ≡ count_of (plain.given given.now) count }
+    ensures small { result ≤ 16 }
+{
+    start_of(given, count).max(0).min(16) as u32
+}
+
+/// The list that is given for a parameter; empty where none is.
+pub fn list_given(given: &Given, place: usize) -> &[i64]
+    ensures { result.now ≡ list_given (plain.given given.now) place }
+{
+    match given.lists.get(place) {
+        Some(list) => list.as_slice(),
+        None => &[],
+    }
+}
+
+/// What the name of this number stands for.
+pub fn standing_at(standings: &[Standing], name: usize) -> Standing
+    ensures { result ≡ standing_at standings.now name }
+{
+    standings.get(name).copied().unwrap_or(Standing::Nothing)
+}
+
+/// How many cells a name takes, at most 65.
+fn cell_count(given: &Given, thing: &Thing) -> u32
+    ensures value { result ≡ min (length (cells (plain.given given.now) (plain.thing thing.now))) 65 }
+    ensures small { result ≤ 65 }
+{
+    let _ = given;
+    match thing {
+        Thing::Register(_) => 1,
+        Thing::RegisterArray(starts) => starts.len().min(65) as u32,
+        _ => 0,
+    }
+}
+
+/// How many queues a name takes.
+fn queue_count(given: &Given, thing: &Thing) -> u32
+    ensures value { result ≡ length (rooms (plain.given given.now) (plain.thing thing.now)) }
+    ensures small { result ≤ 16 }
+{
+    match thing {
+        Thing::Queue(_) => 1,
+        Thing::QueueArray(count, _) => count_of(given, *count),
+        _ => 0,
+    }
+}
+
+/// How many numbers of tables a name takes, at most 65,537.
+fn number_count(given: &Given, thing: &Thing) -> u32
+    ensures value { result ≡ min (length (numbers (plain.given given.now) (plain.thing thing.now))) 65537 }
+    ensures small { result ≤ 65537 }
+{
+    match thing {
+        Thing::Table(numbers) => numbers.len().min(65537) as u32,
+        Thing::ListTable(place) => list_given(given, *place).len().min(65537) as u32,
+        _ => 0,
+    }
+}
+
+/// A count, to one past what is allowed.
+fn added(at: u32, more: u32, most: u32) -> u32
+    requires { more ≤ 65537 }
+    ensures { result ≡ min (at + more) most }
+{
+    (at as u64 + more as u64).min(most as u64) as u32
+}
+
+/// What is taken behind a name, counted to one past what a machine may have.
+fn taken(given: &Given, at: Places, thing: &Thing) -> Places
+    ensures { result ≡ taken (plain.given given.now) at (plain.thing thing.now) }
+{
+    Places {
+        cells: added(at.cells, cell_count(given, thing), 65),
+        queues: added(at.queues, queue_count(given, thing), 17),
+        numbers: added(at.numbers, number_count(given, thing), 65537),
+    }
+}
+
+/// What a parameter stands for.
+fn given_number(number: Option<i64>) -> Standing
+    ensures { result ≡ given_number number }
+{
+    match number {
+        Some(number) => Standing::Number(number),
+        None => Standing::Unknown,
+    }
+}
+
+/// What a name stands for, where so much is taken before it.
+fn standing_of(given: &Given, at: Places, thing: &Thing) -> Standing
+    ensures { result ≡ standing_of (plain.given given.now) at (plain.thing thing.now) }
+{
+    match thing {
+        Thing::Parameter(place) => given_number(given.numbers.get(*place).copied()),
+        Thing::ListParameter(_) => Standing::Nothing,
+        Thing::Register(_) => Standing::Cell(at.cells),
+        Thing::RegisterArray(_) => Standing::Cells(Span {
+            first: at.cells,
+            count: cell_count(given, thing),
+        }),
+        Thing::Queue(room) => Standing::Queue(at.queues, room_of(given, *room)),
+        Thing::QueueArray(count, room) => Standing::Queues(
+            Span {
+                first: at.queues,
+                count: count_of(given, *count),
+            },
+            room_of(given, *room),
+        ),
+        Thing::Table(_) | Thing::ListTable(_) => Standing::Table(Span {
+            first: at.numbers,
+            count: number_count(given, thing),
+        }),
+    }
+}
+
+/// What the names that are declared stand for.
+fn own_standings(alloc: Global, given: &Given, names: &[Named]) -> Result<Vec<Standing>, AllocError>
+    ensures { IfOk result (λ standings. standings.items ≡ own_standings (plain.given given.now) none_taken (things (map plain.name names.now))) }
+{
+    let mut standings = Vec::with_capacity(alloc, names.len())?;
+    let mut at = Places {
+        cells: 0,
+        queues: 0,
+        numbers: 0,
+    };
+    for named in names {
+        standings.push(standing_of(given, at, &named.thing))?;
+        at = taken(given, at, &named.thing);
+    }
+    Ok(standings)
+}
+
+/// Whether two texts are the same.
+fn same_text(a: &[u8], b: &[u8]) -> bool
+    ensures { result ≡ same_text a.now b.now }
+{
+    a == b
+}
+
+/// The place of the first name that is this text; their count where there is none.
+fn place_named(names: &[Named], text: &[u8]) -> usize
+    ensures { result ≡ place_named 0 (texts (map plain.name names.now)) text.now }
+{
+    for (index, named) in names.iter().enumerate() {
+        if same_text(named.name.as_bytes(), text) {
+            return index;
+        }
+    }
+    names.len()
+}
+
+/// The names of the functions, which may be names of registers and queues too.
+const FUNCTION_NAMES: [&[u8]; 10] = [
+    b"min", b"max", b"choose", b"length", b"room", b"front", b"last", b"sum", b"at", b"place",
+];
+
+/// What each of these names stands for.
+fn named_standings(
+    alloc: Global,
+    names: &[Named],
+    own: &[Standing],
+    functions: &[&[u8]],
+) -> Result<Vec<Standing>, AllocError>
+    ensures { IfOk result (λ standings. standings.items ≡ map (λ f. standing_at own.now (place_named 0 (texts (map plain.name names.now)) f.now)) functions.now) }
+{
+    let mut standings = Vec::with_capacity(alloc, functions.len())?;
+    for function in functions {
+        standings.push(standing_at(own, place_named(names, function)))?;
+    }
+    Ok(standings)
+}
+
+/// What each name stands for, by its number: first the functions' names, then those that are declared. The only error
+/// is want of memory.
+pub fn standings_of(
+    alloc: Global,
+    given: &Given,
+    names: &[Named],
+) -> Result<Vec<Standing>, AllocError>
+    ensures { IfOk result (λ standings. standings.items ≡ standings_of (plain.given given.now) (map plain.name names.now)) }
+{
+    let own = own_standings(alloc, given, names)?;
+    let mut standings = named_standings(alloc, names, &own, &FUNCTION_NAMES)?;
+    standings.extend_from_slice(&own)?;
+    Ok(standings)
+}

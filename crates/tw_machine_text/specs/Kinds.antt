@@ -1,0 +1,130 @@
+-- What names stand for, and which of them may stand where.
+use Rattle.std.specs.Prelude.{ℕ, Bool, true, false, ◌&&◌, ◌||◌, List, [], ◌∷◌, ◌++◌, map, Option, Some, None, nat_le, nat_lt, if◌then◌else◌, get_or}
+use Rattle.tw_machine_text.specs.declared.words.Operator.TheVariants.{Comma}
+use Rattle.tw_machine_text.specs.declared.kinds.Kind.{Kind}
+use Rattle.tw_machine_text.specs.declared.kinds.Member.{Member}
+use Rattle.tw_machine_text.specs.declared.kinds.Member.TheVariants.{Value, Each, Shown}
+use Rattle.tw_machine_text.specs.declared.kinds.Kind.TheVariants.{Nothing, Register, RegisterArray, Queue, QueueArray, Table, Parameter}
+use Rattle.tw_machine_text.specs.Letters.{same_text, functions}
+use Rattle.tw_machine_text.specs.Tree.{Tree, Number, Name, Known, Indexed, Call, RandomBelow, Group, Negate, Not, Binary, Statement, Assign, Act, Pop, Draw, Wait, Passivate, If, IfElse, Repeat, Block, Empty, Then, Arms, One, More}
+
+-- what is declared by a name; where it is declared twice, by the first
+abbrev pub kind_named : List (List ℕ × Kind) → List ℕ → Kind
+kind_named [] name = Nothing
+kind_named (d ∷ ds) name = if same_text d.0 name then d.1 else kind_named ds name
+
+-- what each name stands for, by its number: first the functions' names, then those that are declared
+abbrev pub kinds_of : List (List ℕ × Kind) → List Kind
+kinds_of declared = map (kind_named declared) functions ++ map (λ d. d.1) declared
+
+-- what the machine declares by the name of this number
+abbrev pub stands_for : List Kind → ℕ → Kind
+stands_for kinds n = get_or kinds n Nothing
+
+abbrev pub reads : Kind → Bool
+reads Register = true
+reads Parameter = true
+reads _ = false
+
+abbrev pub indexes : Kind → Bool
+indexes RegisterArray = true
+indexes Table = true
+indexes _ = false
+
+abbrev pub is_register : Kind → Bool
+is_register Register = true
+is_register _ = false
+
+abbrev pub is_register_array : Kind → Bool
+is_register_array RegisterArray = true
+is_register_array _ = false
+
+abbrev pub is_queue : Kind → Bool
+is_queue Queue = true
+is_queue _ = false
+
+abbrev pub is_queue_array : Kind → Bool
+is_queue_array QueueArray = true
+is_queue_array _ = false
+
+abbrev pub is_parameter : Kind → Bool
+is_parameter Parameter = true
+is_parameter _ = false
+
+abbrev mutual
+  -- an expression, or arguments of which none is a queue
+  pub bound : List Kind → Tree → Bool
+  bound kinds (Number n) = true
+  bound kinds (Name n) = reads (stands_for kinds n)
+  bound kinds (Known g) = true
+  bound kinds (Indexed n e) = indexes (stands_for kinds n) && bound kinds e
+  bound kinds (Call n e) = if nat_lt n 3 then bound kinds e else bound_queue kinds e
+  bound kinds (RandomBelow e) = bound kinds e
+  bound kinds (Group e) = bound kinds e
+  bound kinds (Negate e) = bound kinds e
+  bound kinds (Not e) = bound kinds e
+  bound kinds (Binary op a b) = bound kinds a && bound kinds b
+
+  -- a queue, or arguments of which the first is one
+  pub bound_queue : List Kind → Tree → Bool
+  bound_queue kinds (Name n) = is_queue (stands_for kinds n)
+  bound_queue kinds (Indexed n e) = is_queue_array (stands_for kinds n) && bound kinds e
+  bound_queue kinds (Binary Comma a b) = bound_queue kinds a && bound kinds b
+  bound_queue kinds _ = false
+
+-- a register, or a cell of an array of them
+abbrev pub bound_place : List Kind → Tree → Bool
+bound_place kinds (Name n) = is_register (stands_for kinds n)
+bound_place kinds (Indexed n e) = is_register_array (stands_for kinds n) && bound kinds e
+bound_place kinds _ = false
+
+-- how many turns are made: 0 to 64, or a parameter
+abbrev pub bound_count : List Kind → Tree → Bool
+bound_count kinds (Number n) = nat_le n 64
+bound_count kinds (Name n) = is_parameter (stands_for kinds n)
+bound_count kinds _ = false
+
+abbrev mutual
+  pub bound_statement : List Kind → Statement → Bool
+  bound_statement kinds (Assign p c e) = bound_place kinds p && bound kinds e
+  bound_statement kinds (Act v q e) = bound_queue kinds q && bound kinds e
+  bound_statement kinds (Pop q) = bound_queue kinds q
+  bound_statement kinds Draw = true
+  bound_statement kinds (Wait e) = bound kinds e
+  bound_statement kinds Passivate = true
+  bound_statement kinds (If arms) = bound_arms kinds arms
+  bound_statement kinds (IfElse arms b) = bound_arms kinds arms && bound_block kinds b
+  bound_statement kinds (Repeat n b) = bound_count kinds n && bound_block kinds b
+
+  pub bound_block : List Kind → Block → Bool
+  bound_block kinds Empty = true
+  bound_block kinds (Then b s m) = bound_block kinds b && bound_statement kinds s
+
+  pub bound_arms : List Kind → Arms → Bool
+  bound_arms kinds (One t b) = bound kinds t && bound_block kinds b
+  bound_arms kinds (More a t b) = bound_arms kinds a && bound kinds t && bound_block kinds b
+
+-- what stands in words beside expressions: a queue, one of an array by its number, an array register
+abbrev pub is_shown : List Kind → Tree → Bool
+is_shown kinds (Name n) = is_queue (stands_for kinds n) || is_register_array (stands_for kinds n)
+is_shown kinds (Indexed n (Number i)) = is_queue_array (stands_for kinds n)
+is_shown kinds _ = false
+
+-- what a member's text may be
+abbrev pub bound_as : Member → List Kind → Tree → Bool
+bound_as Value kinds e = bound kinds e
+bound_as Each kinds e = bound_queue kinds e
+bound_as Shown kinds e = is_shown kinds e || bound kinds e
+
+abbrev pub is_empty : Block → Bool
+is_empty Empty = true
+is_empty _ = false
+
+abbrev pub waits : Statement → Option Tree
+waits (Wait e) = Some e
+waits _ = None
+
+-- the expression of a program that is one `wait`
+abbrev pub waited : Block → Option Tree
+waited (Then b s false) = if is_empty b then waits s else None
+waited _ = None

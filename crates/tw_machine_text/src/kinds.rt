@@ -1,0 +1,146 @@
+//! What names stand for.
+ghost use Rattle.std.specs.Prelude.{◌≡◌, IfOk, map};
+ghost use Rattle.tw_machine_text.specs.Kinds.{stands_for, reads, indexes, is_register, is_register_array, is_queue, is_queue_array, is_parameter, kind_named, kinds_of};
+ghost use Rattle.tw_machine_text.specs.Letters.{functions};
+ghost use Rattle.tw_machine_text.specs.TextViews.{declarations};
+
+use crate::dictionary::{FUNCTIONS, same_text};
+use std::alloc::{AllocError, Global};
+
+/// What a machine declares by a name.
+#[derive(Clone, Copy, Debug, PartialEq, Eq)]
+pub enum Kind {
+    /// A function's name that nothing else has.
+    Nothing,
+    Register,
+    /// An array register.
+    RegisterArray,
+    Queue,
+    /// An array of queues.
+    QueueArray,
+    Table,
+    /// A parameter that is a number.
+    Parameter,
+    /// A parameter that is a list.
+    ListParameter,
+}
+
+/// A name that a machine declares, and what it is the name of.
+#[derive(Drop)]
+pub struct Declared {
+    pub name: String,
+    pub kind: Kind,
+}
+
+/// What the text of a member is.
+#[derive(Clone, Copy, Debug, PartialEq, Eq)]
+pub enum Member {
+    /// An expression.
+    Value,
+    /// A queue.
+    Each,
+    /// An expression, a queue, one of an array by its number, or an array register.
+    Shown,
+}
+
+/// What is declared by a name.
+fn kind_named(declared: &[Declared], name: &[u8]) -> Kind
+    ensures { result ≡ kind_named (declarations declared.now) name.now }
+{
+    for one in declared {
+        if same_text(one.name.as_bytes(), name) {
+            return one.kind;
+        }
+    }
+    Kind::Nothing
+}
+
+/// What is declared by each of these names.
+fn kinds_named(
+    alloc: Global,
+    declared: &[Declared],
+    names: &[&[u8]],
+) -> Result<Vec<Kind>, AllocError>
+    ensures { IfOk result (λ kinds. kinds.items ≡ map (λ name. kind_named (declarations declared.now) name.now) names.now) }
+{
+    let mut kinds = Vec::with_capacity(alloc, names.len())?;
+    for name in names {
+        kinds.push(kind_named(declared, name))?;
+    }
+    Ok(kinds)
+}
+
+/// What is declared, without the names.
+fn kinds_declared(alloc: Global, declared: &[Declared]) -> Result<Vec<Kind>, AllocError>
+    ensures { IfOk result (λ kinds. kinds.items ≡ map (λ d. d.1) (declarations declared.now)) }
+{
+    let mut kinds = Vec::with_capacity(alloc, declared.len())?;
+    for one in declared {
+        kinds.push(one.kind)?;
+    }
+    Ok(kinds)
+}
+
+/// What each name stands for, by its number: first the functions' names, then those that are declared. The only error
+/// is want of memory.
+pub fn kinds_of(alloc: Global, declared: &[Declared]) -> Result<Vec<Kind>, AllocError>
+    ensures { IfOk result (λ kinds. kinds.items ≡ kinds_of (declarations declared.now)) }
+{
+    let mut kinds = kinds_named(alloc, declared, &FUNCTIONS)?;
+    let others = kinds_declared(alloc, declared)?;
+    kinds.extend_from_slice(&others)?;
+    Ok(kinds)
+}
+
+/// What is declared by the name of this number.
+pub fn stands_for(kinds: &[Kind], name: usize) -> Kind
+    ensures { result ≡ stands_for kinds.now name }
+{
+    kinds.get(name).copied().unwrap_or(Kind::Nothing)
+}
+
+impl Kind {
+    /// Whether it is a number as it stands.
+    pub fn reads(self) -> bool
+        ensures { result ≡ reads self }
+    {
+        matches!(self, Kind::Register | Kind::Parameter)
+    }
+
+    /// Whether it is a number with an index.
+    pub fn indexes(self) -> bool
+        ensures { result ≡ indexes self }
+    {
+        matches!(self, Kind::RegisterArray | Kind::Table)
+    }
+
+    pub fn is_register(self) -> bool
+        ensures { result ≡ is_register self }
+    {
+        matches!(self, Kind::Register)
+    }
+
+    pub fn is_register_array(self) -> bool
+        ensures { result ≡ is_register_array self }
+    {
+        matches!(self, Kind::RegisterArray)
+    }
+
+    pub fn is_queue(self) -> bool
+        ensures { result ≡ is_queue self }
+    {
+        matches!(self, Kind::Queue)
+    }
+
+    pub fn is_queue_array(self) -> bool
+        ensures { result ≡ is_queue_array self }
+    {
+        matches!(self, Kind::QueueArray)
+    }
+
+    pub fn is_parameter(self) -> bool
+        ensures { result ≡ is_parameter self }
+    {
+        matches!(self, Kind::Parameter)
+    }
+}

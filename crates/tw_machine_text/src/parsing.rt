@@ -1,0 +1,113 @@
+//! A program of its words.
+ghost use Rattle.std.specs.Prelude.{◌≡◌, ℕ, ◌≤◌, nat_le, Bool, true, false, Some, IfOk, List, [], ◌∷◌};
+ghost use Rattle.tw_machine_text.specs.Machine.{program_of, weigh};
+ghost use Rattle.tw_machine_text.specs.Tree.{Means, Block as Tree};
+ghost use Rattle.tw_machine_text.specs.Views.{body, held, seen, Tells, refused};
+ghost use Rattle.tw_machine_text.specs.declared.words.Word.{Word};
+
+use crate::fault::Fault;
+use crate::frames::State;
+use crate::kinds::{Kind, Member};
+use crate::reading::{ended, step};
+use crate::refused::Refused;
+use crate::stack::{LEVELS, Stack};
+use crate::tree::Block;
+use crate::watching::{note, watch};
+use crate::words::Word;
+use std::alloc::Global;
+
+pub fn refused(fault: Fault, index: usize) -> Refused
+    ensures { result ≡ refused fault index }
+{
+    match fault {
+        Fault::OutOfMemory => Refused::OutOfMemory,
+        Fault::Wrong => Refused::Wrong(index),
+    }
+}
+
+/// All words, one after another; and the first of them, so far as it was seen, at which a name stands that may not.
+fn all(
+    alloc: Global,
+    member: Option<Member>,
+    kinds: &[Kind],
+    words: &[Word],
+    first: &mut Option<usize>,
+) -> Result<Block, Refused>
+    ensures { Tells body result (program_of LEVELS words.now) }
+{
+    let mut stack = Stack::new(alloc);
+    let mut state = State::Begin(Block::Empty);
+    'words: for (index, word) in words.iter().enumerate() {
+        note(
+            first,
+            watch(member, kinds, &stack, &state, Some(*word)),
+            index,
+        );
+        state = match step(alloc, &mut stack, *word, state) {
+            Ok(next) => next,
+            Err(fault) => return Err(refused(fault, index)),
+        };
+    }
+    note(
+        first,
+        watch(member, kinds, &stack, &state, None),
+        words.len(),
+    );
+    match ended(alloc, &mut stack, state) {
+        Ok(block) => {
+            if stack.is_empty() {
+                Ok(block)
+            } else {
+                Err(Refused::Wrong(words.len()))
+            }
+        }
+        Err(fault) => Err(refused(fault, words.len())),
+    }
+}
+
+/// Whether the words make no more than so many nodes.
+fn is_light(words: &[Word], many: usize) -> bool
+    ensures { result ≡ nat_le (weigh false words.now) many }
+{
+    let mut left = many;
+    let mut chained = false;
+    'words: for word in words {
+        let weight = match *word {
+            Word::Else => 0,
+            Word::If => { if chained { 0 } else { 1 } }
+            _ => word.weight(),
+        };
+        if weight > left {
+            return false;
+        }
+        left -= weight;
+        chained = *word == Word::Else;
+    }
+    true
+}
+
+/// The program that the words are.
+pub fn parse(
+    alloc: Global,
+    member: Option<Member>,
+    kinds: &[Kind],
+    words: &[Word],
+    many: usize,
+    first: &mut Option<usize>,
+) -> Result<Block, Refused>
+    // What is read means this program.
+    ensures found { IfOk result (λ program. Means LEVELS many words.now (body program)) }
+    // Words that are a program are read as it, unless memory runs out.
+    ensures only { (program : Tree) → Means LEVELS many words.now program → Tells body result (Some program) }
+{
+    if is_light(words, many) {
+        all(alloc, member, kinds, words, first)
+    } else {
+        Err(Refused::Wrong(words.len()))
+    }
+}
+
+/// Words are one program at most, however deep.
+pub fn one_program()
+    ensures { (ws : List Word) (m n i j : ℕ) (a b : Tree) → Means m i ws a → Means n j ws b → a ≡ b }
+{}

@@ -1,0 +1,155 @@
+//! The program of a text, and the expression of the text of a member. A wrong text is told by the byte at which the
+//! first word begins that cannot stand there.
+ghost use Rattle.std.specs.Prelude.{◌≡◌, ℕ, ◌≤◌, ◌∷◌, Some, IfOk, List};
+ghost use Rattle.std.specs.Option.{option_map};
+ghost use Rattle.tw_machine_text.specs.Kinds.{is_empty, waits, waited};
+ghost use Rattle.tw_machine_text.specs.Text.{Reads, ReadsTree};
+ghost use Rattle.tw_machine_text.specs.TextViews.{names_of};
+ghost use Rattle.tw_machine_text.specs.Tree.{Block as Tree, Tree as Spelled};
+ghost use Rattle.tw_machine_text.specs.Views.{body, told, tree, Tells, IsWrong};
+ghost use Rattle.tw_machine_text.specs.declared.words.Word.TheVariants.{Wait};
+ghost use Rattle.tw_machine_text.specs.declared.kinds.Member.{Member};
+ghost use Rattle.tw_machine_text.specs.declared.kinds.Kind.{Kind};
+
+use crate::binding::{bound_as, bound_block};
+use crate::kinds::{Declared, Kind, Member};
+use crate::lexing::{Words, lex};
+use crate::parsing::parse;
+use crate::refused::Refused;
+use crate::stack::LEVELS;
+use crate::tree::{Block, Expr, Statement};
+use crate::words::Word;
+use std::alloc::{AllocError, Global};
+
+/// The program of a text, in which the functions and these names may stand. What each name stands for is said for the
+/// functions' names first. A program has no more than so many nodes.
+pub fn read(
+    alloc: Global,
+    declared: &[Declared],
+    kinds: &[Kind],
+    text: &[u8],
+    many: usize,
+) -> Result<Block, Refused>
+    // What is read is what the text means.
+    ensures found { IfOk result (λ program. Reads LEVELS many (names_of declared.now) kinds.now text.now (body program)) }
+    // A text that means a program is read as it, unless memory runs out.
+    ensures only { (program : Tree) → Reads LEVELS many (names_of declared.now) kinds.now text.now program → Tells body result (Some program) }
+{
+    let Ok(words) = lex(alloc, declared, text) else {
+        return Err(Refused::OutOfMemory);
+    };
+    let mut first = None;
+    match parse(alloc, None, kinds, &words.words, many, &mut first) {
+        Ok(program) => {
+            if words.complete && bound_block(kinds, &program) {
+                Ok(program)
+            } else {
+                Err(Refused::Wrong(words.place(first.unwrap_or(words.words.len()))))
+            }
+        }
+        Err(Refused::OutOfMemory) => Err(Refused::OutOfMemory),
+        Err(Refused::Wrong(index)) => Err(Refused::Wrong(words.place(first.unwrap_or(index)))),
+    }
+}
+
+fn is_empty(block: &Block) -> bool
+    ensures { result ≡ is_empty (body block.now) }
+{
+    matches!(block, Block::Empty)
+}
+
+fn waits(statement: Statement) -> Option<Expr>
+    ensures { option_map tree result ≡ waits (told statement) }
+{
+    match statement {
+        Statement::Wait(e) => Some(e),
+        other => {
+            drop(other);
+            None
+        }
+    }
+}
+
+/// The expression of a program that is one `wait`.
+fn waited(program: Block) -> Option<Expr>
+    ensures { option_map tree result ≡ waited (body program) }
+{
+    match program {
+        Block::Then(before, last, false) => {
+            if is_empty(&before) {
+                waits(Box::into_inner(last))
+            } else {
+                None
+            }
+        }
+        other => {
+            drop(other);
+            None
+        }
+    }
+}
+
+/// The words behind `wait`.
+fn behind_wait(alloc: Global, words: &[Word]) -> Result<Vec<Word>, AllocError>
+    ensures { IfOk result (λ all. all.items ≡ Wait ∷ words.now) }
+{
+    let mut all = Vec::new(alloc);
+    all.push(Word::Wait)?;
+    all.extend_from_slice(words)?;
+    Ok(all)
+}
+
+/// What the text of a member is: read as the program that waits for it.
+pub fn read_tree(
+    alloc: Global,
+    member: Member,
+    declared: &[Declared],
+    kinds: &[Kind],
+    text: &[u8],
+    many: usize,
+) -> Result<Expr, Refused>
+    requires { many ≤ 4096 }
+    // What is read is what the text is.
+    ensures found { IfOk result (λ e. ReadsTree LEVELS many member (names_of declared.now) kinds.now text.now (tree e)) }
+    // A text that is one is read as it, unless memory runs out.
+    ensures only { (e : Spelled) → ReadsTree LEVELS many member (names_of declared.now) kinds.now text.now e → Tells tree result (Some e) }
+{
+    let Ok(words) = lex(alloc, declared, text) else {
+        return Err(Refused::OutOfMemory);
+    };
+    let Ok(all) = behind_wait(alloc, &words.words) else {
+        return Err(Refused::OutOfMemory);
+    };
+    let mut first = None;
+    match parse(alloc, Some(member), kinds, &all, many + 1, &mut first) {
+        Ok(program) => match waited(program) {
+            Some(e) => {
+                if words.complete && bound_as(member, kinds, &e) {
+                    Ok(e)
+                } else {
+                    Err(wrong_at(&words, first, all.len()))
+                }
+            }
+            None => Err(wrong_at(&words, first, all.len())),
+        },
+        Err(Refused::OutOfMemory) => Err(Refused::OutOfMemory),
+        Err(Refused::Wrong(index)) => Err(wrong_at(&words, first, index)),
+    }
+}
+
+/// The place of a wrong word, of which the first is none of the text.
+fn wrong_at(words: &Words, first: Option<usize>, index: usize) -> Refused
+    ensures { IsWrong result }
+{
+    Refused::Wrong(words.place(first.unwrap_or(index).saturating_sub(1)))
+}
+
+/// A text is one program at most, however deep.
+pub fn one_text()
+    ensures { (names : List (List ℕ)) (kinds : List Kind) (text : List ℕ) (m n i j : ℕ) (a b : Tree) → Reads m i names kinds text a → Reads n j names kinds text b → a ≡ b }
+{}
+
+/// A text is one expression at most.
+pub fn one_tree()
+    ensures { (names : List (List ℕ)) (kinds : List Kind) (text : List ℕ) (m n i j : ℕ) (s t : Member) (a b : Spelled) → ReadsTree m i s names kinds text a → ReadsTree n j t names kinds text b → a ≡ b }
+{}

@@ -1,0 +1,191 @@
+//! What has begun, the innermost last, and how deep it is.
+ghost use Rattle.std.specs.Prelude.{◌≡◌, ◌∷◌, [], Bool, true, false, Some, None, OnOk, MatchOption, nat_lt, if◌then◌else◌};
+ghost use Rattle.tw_machine_text.specs.Machine.{nests, closes, demand, depth, wants, is_bottom};
+ghost use Rattle.tw_machine_text.specs.Views.{framed, held, Gives};
+
+use crate::fault::Fault;
+use crate::frames::Frame;
+use crate::kinds::{Kind, Member, stands_for};
+use crate::tree::arity;
+use crate::words::{Operator, Verb};
+use std::alloc::{AllocError, Global};
+
+/// How deep blocks, parentheses, brackets, `not` and signs may stand in one another.
+pub const LEVELS: usize = 64;
+
+#[derive(Drop)]
+pub struct Stack {
+    frames: Vec<Frame>,
+    deep: usize,
+    ghost counted: { deep ≡ depth (held frames.items) },
+}
+
+/// What an operand is to stand for.
+#[derive(Clone, Copy, PartialEq, Eq)]
+pub enum Role {
+    Value,
+    Place,
+    Queue,
+    /// The first argument of a function of a queue.
+    First,
+    Count,
+    /// A queue alone.
+    Each,
+    /// An expression, a queue or an array register, alone.
+    Shown,
+    /// The number of a queue in an array of them, alone.
+    Numbered,
+}
+
+impl Frame {
+    /// Whether it counts as a level.
+    fn nests(&self) -> bool
+        ensures { result ≡ nests (framed self.now) }
+    {
+        match self {
+            Frame::InNot
+            | Frame::InNegative
+            | Frame::InGroup
+            | Frame::InIndex(_)
+            | Frame::InCall(_)
+            | Frame::InRandom
+            | Frame::InThen(..)
+            | Frame::InElseThen(..)
+            | Frame::InElse(..)
+            | Frame::InTurns(..) => true,
+            _ => false,
+        }
+    }
+}
+
+impl Stack {
+    pub fn new(alloc: Global) -> Stack
+        ensures { held result.frames.items ≡ [] }
+    {
+        Stack {
+            frames: Vec::new(alloc),
+            deep: 0,
+        }
+    }
+
+    /// Something begins that is no level.
+    pub fn push(&mut self, frame: Frame) -> Result<(), AllocError>
+        requires { nests (framed frame) ≡ false }
+        ensures { OnOk result (held self.new.frames.items ≡ framed frame ∷ held self.old.frames.items) }
+    {
+        self.frames.push(frame)?;
+        Ok(())
+    }
+
+    /// A level begins, if it is not too deep.
+    pub fn nest(&mut self, frame: Frame) -> Result<(), Fault>
+        requires { nests (framed frame) ≡ true }
+        ensures { Gives (λ _. held self.new.frames.items) result (if nat_lt (depth (held self.old.frames.items)) LEVELS then Some (framed frame ∷ held self.old.frames.items) else None) }
+    {
+        if self.deep >= LEVELS {
+            drop(frame);
+            return Err(Fault::Wrong);
+        }
+        self.frames.push(frame)?;
+        self.deep += 1;
+        Ok(())
+    }
+
+    /// What has begun last is done.
+    pub fn pop(&mut self) -> Option<Frame>
+        ensures { MatchOption result (held self.old.frames.items ≡ []) (λ frame. held self.old.frames.items ≡ framed frame ∷ held self.new.frames.items) }
+    {
+        let frame = self.frames.pop()?;
+        if frame.nests() {
+            self.deep -= 1;
+        }
+        Some(frame)
+    }
+
+    /// How tightly what comes has to be bound.
+    pub fn demand(&self) -> usize
+        ensures { result ≡ demand (held self.now.frames.items) }
+    {
+        match self.frames.last() {
+            None => 9,
+            Some(Frame::Operand(_, operator)) => operator.rank() + 1,
+            Some(Frame::InNot) => 3,
+            Some(Frame::InNegative) => 7,
+            Some(Frame::InCall(_) | Frame::InItem(..)) => 0,
+            Some(Frame::InPlace(_) | Frame::InQueue(..) | Frame::InPop(_)) => 9,
+            Some(_) => 1,
+        }
+    }
+
+    /// Whether an operand completes what has begun last, where so tightly bound operands are asked for.
+    pub fn closes(&self, rank: usize) -> bool
+        ensures { result ≡ closes rank (held self.now.frames.items) }
+    {
+        match self.frames.last() {
+            Some(Frame::Operand(_, operator)) => rank <= operator.rank(),
+            Some(Frame::InNot) => rank <= 3,
+            Some(Frame::InNegative) => rank <= 7,
+            _ => false,
+        }
+    }
+
+    /// Whether a queue has been asked for last, to which something is done.
+    pub fn wants(&self) -> bool
+        ensures { result ≡ wants (held self.now.frames.items) }
+    {
+        matches!(self.frames.last(), Some(Frame::InQueue(..)))
+    }
+
+    /// Whether nothing has begun.
+    pub fn is_empty(&self) -> bool
+        ensures { result ≡ is_bottom (held self.now.frames.items) }
+    {
+        self.frames.is_empty()
+    }
+
+    /// What the next operand is to stand for, or the one that has come.
+    pub fn role(&self, member: Option<Member>, kinds: &[Kind]) -> Role {
+        match self.frames.last() {
+            Some(Frame::InWait(_)) => match member {
+                Some(Member::Each) => Role::Each,
+                Some(Member::Shown) => Role::Shown,
+                _ => Role::Value,
+            },
+            Some(Frame::InIndex(name)) => {
+                if member == Some(Member::Shown)
+                    && self.frames.len() == 2
+                    && stands_for(kinds, *name).is_queue_array()
+                {
+                    Role::Numbered
+                } else {
+                    Role::Value
+                }
+            }
+            Some(Frame::InPlace(_)) => Role::Place,
+            Some(Frame::InQueue(..) | Frame::InPop(_)) => Role::Queue,
+            Some(Frame::InCall(name)) => { if *name < 3 { Role::Value } else { Role::First } }
+            Some(Frame::InCount(_)) => Role::Count,
+            _ => Role::Value,
+        }
+    }
+
+    /// Whether one argument more may come.
+    pub fn takes_comma(&self) -> bool {
+        let mut before = None;
+        for frame in self.frames.iter().rev() {
+            match frame {
+                Frame::Operand(arguments, Operator::Comma) => before = Some(arguments),
+                Frame::Operand(..) | Frame::InNot | Frame::InNegative => {}
+                Frame::InCall(name) => {
+                    return match before {
+                        None => arity(*name) > 1,
+                        Some(arguments) => arity(*name) > 2 && arguments.is_many(1),
+                    };
+                }
+                Frame::InItem(_, Verb::Put, _) => return before.is_none(),
+                _ => return false,
+            }
+        }
+        false
+    }
+}

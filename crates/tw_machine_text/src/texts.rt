@@ -1,0 +1,102 @@
+//! The texts of a machine: its programs, and the expressions, queues and words of its other members.
+ghost use Rattle.std.specs.Prelude.{◌≡◌, ◌≢◌, ◌≤◌, IfOk, IfErr, List, ℕ};
+ghost use Rattle.tw_machine_text.specs.Kinds.{kinds_of};
+ghost use Rattle.tw_machine_text.specs.Place.{IsInText};
+ghost use Rattle.tw_machine_text.specs.Text.{Reads, ReadsTree};
+ghost use Rattle.tw_machine_text.specs.TextViews.{names_of, declarations};
+ghost use Rattle.tw_machine_text.specs.Tree.{Block as Tree, Tree as Spelled, nodes, nodes_block};
+ghost use Rattle.tw_machine_text.specs.Views.{body, tree, IsReadAs, Tells};
+ghost use Rattle.tw_machine_text.specs.declared.refused.Refused.{Refused};
+
+use crate::counting::{nodes, nodes_block};
+use crate::kinds::{Declared, Member, kinds_of};
+use crate::place::place_at;
+use crate::read::{read, read_tree};
+use crate::refusal::TextRefused;
+use crate::refused::Refused;
+use crate::stack::LEVELS;
+use crate::tree::{Block, Expr};
+use std::alloc::Global;
+
+/// How many nodes the programs, outputs and words of a machine may have together.
+pub const NODES: usize = 4096;
+
+/// A program, and how many nodes it has.
+#[derive(Drop)]
+pub struct Program {
+    pub block: Block,
+    pub nodes: usize,
+}
+
+/// An expression, a queue or an array register, and how many nodes it has.
+#[derive(Drop)]
+pub struct Expression {
+    pub tree: Expr,
+    pub nodes: usize,
+}
+
+/// A refusal with its place in lines and columns.
+fn refusal(text: &str, refused: Refused) -> TextRefused
+    ensures memory { refused ≡ Refused.OutOfMemory → result ≡ TextRefused.OutOfMemory }
+    ensures wrong { refused ≢ Refused.OutOfMemory → result ≢ TextRefused.OutOfMemory }
+    ensures place { IsInText text.now result }
+{
+    match refused {
+        Refused::OutOfMemory => TextRefused::OutOfMemory,
+        Refused::Wrong(byte) => TextRefused::Wrong(place_at(text, byte.min(text.len()))),
+    }
+}
+
+/// Reads a program, of at most so many nodes: what the machine has left of its 4,096. The names are those that the
+/// machine declares, in any order; in the tree a name is its number, 0 to 9 for the functions' names and from 10 on for
+/// those that are declared. A text that is no program is refused as `Wrong` (21), want of memory as `OutOfMemory` (4).
+pub fn read_program(
+    alloc: Global,
+    declared: &[Declared],
+    text: &str,
+    left: usize,
+) -> Result<Program, TextRefused>
+    requires { left ≤ NODES }
+    // What is read is what the text says.
+    ensures found { IfOk result (λ program. Reads LEVELS left (names_of declared.now) (kinds_of (declarations declared.now)) text.now (body program.block)) }
+    ensures nodes { IfOk result (λ program. program.nodes ≡ nodes_block (body program.block)) }
+    // A text that says a program is read as it, unless memory runs out.
+    ensures only { (program : Tree) → Reads LEVELS left (names_of declared.now) (kinds_of (declarations declared.now)) text.now program → IsReadAs (λ p. body p.block) result program }
+    ensures place { IfErr result (IsInText text.now) }
+{
+    let kinds = kinds_of(alloc, declared)?;
+    match read(alloc, declared, &kinds, text.as_bytes(), left) {
+        Ok(block) => {
+            let nodes = nodes_block(&block);
+            Ok(Program { block, nodes })
+        }
+        Err(refused) => Err(refusal(text, refused)),
+    }
+}
+
+/// Reads the text of a member that is no program: an expression, or what else the member may be. It has at most so many
+/// nodes. Names and refusals are as with `read_program`.
+pub fn read_member(
+    alloc: Global,
+    member: Member,
+    declared: &[Declared],
+    text: &str,
+    left: usize,
+) -> Result<Expression, TextRefused>
+    requires { left ≤ NODES }
+    // What is read is what the text says.
+    ensures found { IfOk result (λ e. ReadsTree LEVELS left member (names_of declared.now) (kinds_of (declarations declared.now)) text.now (tree e.tree)) }
+    ensures nodes { IfOk result (λ e. e.nodes ≡ nodes (tree e.tree)) }
+    // A text that says one is read as it, unless memory runs out.
+    ensures only { (e : Spelled) → ReadsTree LEVELS left member (names_of declared.now) (kinds_of (declarations declared.now)) text.now e → IsReadAs (λ x. tree x.tree) result e }
+    ensures place { IfErr result (IsInText text.now) }
+{
+    let kinds = kinds_of(alloc, declared)?;
+    match read_tree(alloc, member, declared, &kinds, text.as_bytes(), left) {
+        Ok(tree) => {
+            let nodes = nodes(&tree);
+            Ok(Expression { tree, nodes })
+        }
+        Err(refused) => Err(refusal(text, refused)),
+    }
+}

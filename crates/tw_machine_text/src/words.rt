@@ -1,0 +1,157 @@
+//! The words of a program.
+ghost use Rattle.std.specs.Prelude.{◌≡◌, ◌≤◌};
+ghost use Rattle.tw_machine_text.specs.Tree.{rank, left_rank, wanted};
+ghost use Rattle.tw_machine_text.specs.Machine.{weight};
+
+/// An operator between two operands. A comma stands between the arguments of a function, below all others.
+#[derive(Clone, Copy, Debug, PartialEq, Eq)]
+pub enum Operator {
+    Comma,
+    Or,
+    And,
+    Equal,
+    NotEqual,
+    Less,
+    LessEqual,
+    Greater,
+    GreaterEqual,
+    Plus,
+    Minus,
+    Times,
+    Divide,
+    Modulo,
+}
+
+/// What a word of the language reads.
+#[derive(Clone, Copy, Debug, PartialEq, Eq)]
+pub enum Builtin {
+    Random,
+    Port,
+    Value,
+    Elapsed,
+    Left,
+    Now,
+    Turn,
+}
+
+/// How a place is changed: `=`, `+=`, `-=`, `^=`.
+#[derive(Clone, Copy, Debug, PartialEq, Eq)]
+pub enum Change {
+    Set,
+    Add,
+    Subtract,
+    Xor,
+}
+
+/// What begins a statement on a queue and a number.
+#[derive(Clone, Copy, Debug, PartialEq, Eq)]
+pub enum Verb {
+    Push,
+    Insert,
+    Remove,
+    Put,
+}
+
+/// A word. A name is its number in the list of names: first the functions', then those that the machine declares.
+#[derive(Clone, Copy, Debug, PartialEq, Eq)]
+pub enum Word {
+    Number(u64),
+    Name(usize),
+    Known(Builtin),
+    Sign(Operator),
+    Not,
+    Open,
+    Close,
+    OpenBracket,
+    CloseBracket,
+    OpenBrace,
+    CloseBrace,
+    Semicolon,
+    Becomes(Change),
+    Begins(Verb),
+    Pop,
+    Draw,
+    Wait,
+    Passivate,
+    If,
+    Else,
+    Repeat,
+}
+
+impl Operator {
+    /// How tightly it binds.
+    pub fn rank(self) -> usize
+        ensures { result ≡ rank self }
+    {
+        match self {
+            Operator::Comma => 0,
+            Operator::Or => 1,
+            Operator::And => 2,
+            Operator::Equal
+            | Operator::NotEqual
+            | Operator::Less
+            | Operator::LessEqual
+            | Operator::Greater
+            | Operator::GreaterEqual => 4,
+            Operator::Plus | Operator::Minus => 5,
+            Operator::Times | Operator::Divide | Operator::Modulo => 6,
+        }
+    }
+
+    /// How tightly its left operand has to bind.
+    pub fn left_rank(self) -> usize
+        ensures { result ≡ left_rank self }
+    {
+        match self {
+            Operator::Comma => 0,
+            Operator::Or => 1,
+            Operator::And => 2,
+            Operator::Equal
+            | Operator::NotEqual
+            | Operator::Less
+            | Operator::LessEqual
+            | Operator::Greater
+            | Operator::GreaterEqual
+            | Operator::Plus
+            | Operator::Minus => 5,
+            Operator::Times | Operator::Divide | Operator::Modulo => 6,
+        }
+    }
+}
+
+impl Verb {
+    /// How many operands, parted by commas, follow the queue.
+    pub fn wanted(self) -> usize
+        ensures { result ≡ wanted self }
+    {
+        match self {
+            Verb::Push | Verb::Insert | Verb::Remove => 1,
+            Verb::Put => 2,
+        }
+    }
+}
+
+impl Word {
+    /// How many nodes it makes.
+    pub fn weight(self) -> usize
+        ensures weight { result ≡ weight self }
+        ensures small { result ≤ 1 }
+    {
+        match self {
+            Word::Number(_)
+            | Word::Name(_)
+            | Word::Known(_)
+            | Word::Not
+            | Word::Becomes(_)
+            | Word::Begins(_)
+            | Word::Pop
+            | Word::Draw
+            | Word::Wait
+            | Word::Passivate
+            | Word::If
+            | Word::Repeat => 1,
+            Word::Sign(operator) => { if operator == Operator::Comma { 0 } else { 1 } }
+            _ => 0,
+        }
+    }
+}

@@ -1,8 +1,0 @@
-use Rattle.std.proofs.Common.{◌≡◌, map, take}
-use Rattle.tw_netfile.specs.Draft.{couplings_view}
-use Rattle.tw_netfile.specs.Numbering.{numbering}
-use Rattle.tw_netfile.specs.TreeShape.{link_named}
-use Rattle.tw_netfile.proofs.numbers.Numbers.links.Given as goal
-
-abbrev pub invariant-loop-draft : goal.invariant-loop-draft
-invariant-loop-draft l = l.links.items ≡ map (link_named (numbering l.self)) (couplings_view (take l.draft-index l.drafts))

@@ -1,7 +1,0 @@
-use Rattle.std.proofs.Common.{◌≡◌, ◌++◌, map, drop}
-use Rattle.tw_nested.specs.Tree.{parts_of}
-use Rattle.tw_netfile.specs.TreeShape.{part_names}
-use Rattle.tw_netfile.proofs.tree_shape.part_names.Given as goal
-
-abbrev pub invariant-loop-name : goal.invariant-loop-name
-invariant-loop-name l = part_names (parts_of l.parts) ≡ map (λ n. n.now) l.names.items ++ part_names (parts_of (drop l.name-index l.parts))

@@ -1,7 +1,0 @@
-use Rattle.std.proofs.Common.{◌≡◌, ◌+◌, drop}
-use Rattle.tw_program_text.specs.Text.{position}
-use Rattle.tw_program_text.specs.TextViews.{names_of}
-use Rattle.tw_program_text.proofs.dictionary.position.Given as goal
-
-abbrev pub invariant-loop-index : goal.invariant-loop-index
-invariant-loop-index l = position (l.index + 10) (names_of (drop l.index l.declared)) l.text ≡ position 10 (names_of l.declared) l.text

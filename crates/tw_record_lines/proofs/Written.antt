@@ -1,0 +1,48 @@
+-- A table whose lines are written round by round.
+use Rattle.std.proofs.Common.{◌≡◌, ◌++◌, ◌∙◌, ℕ, List, [], ◌∷◌, sym, ap, subst, append_assoc, append-nil}
+use Rattle.std.specs.Prelude.{Option}
+use Rattle.std.specs.Io.KnownBytes.{Appends}
+use Rattle.std.proofs.lemmas.Grind.{flat_map-append}
+use Rattle.tw_msgs.specs.declared.record.Record.{Record}
+use Rattle.tw_rounds.specs.Receiving.{Receives}
+use Rattle.tw_texts.specs.Traces.{AppendsBeginning, MovesBytes}
+use Rattle.tw_texts.proofs.Portions.{appends_both}
+use Rattle.tw_record_lines.specs.Tables.{head_text, row_text, rows_text, table_text}
+use Rattle.tw_record_lines.specs.declared.rows.Rows.{Rows}
+
+-- ---- lines
+
+pub rows_more : (rows : Rows) (name_of : ℕ → List ℕ) (xs ys : List Record) → rows_text rows name_of (xs ++ ys) ≡ rows_text rows name_of xs ++ rows_text rows name_of ys
+rows_more rows name_of xs ys = flat_map-append (λ r. row_text rows (name_of r.component) r) xs ys
+
+pub table_more : (rows : Rows) (name_of : ℕ → List ℕ) (xs ys : List Record) → table_text rows name_of xs ++ rows_text rows name_of ys ≡ table_text rows name_of (xs ++ ys)
+table_more rows name_of xs ys = append_assoc (head_text rows) (rows_text rows name_of xs) (rows_text rows name_of ys) ∙ ap (λ l. head_text rows ++ l) (sym (rows_more rows name_of xs ys))
+
+-- lines that got records have theirs at the end
+pub gathered : {V N : Type 0} (names : V → N) (kinds : V → Rows) (text : V → List ℕ) (name_of : N → ℕ → List ℕ) (old : V) (records : List Record) (new : V)
+    → Receives (λ a r b. (names b ≡ names a) × (kinds b ≡ kinds a) × (text b ≡ text a ++ row_text (kinds a) (name_of (names a) r.component) r)) old records new
+    → (names new ≡ names old) × (kinds new ≡ kinds old) × (text new ≡ text old ++ rows_text (kinds old) (name_of (names old)) records)
+gathered names kinds text name_of old [] new h = (ap names (sym h), ap kinds (sym h), ap text (sym h) ∙ sym (append-nil (text old)))
+gathered names kinds text name_of old (r ∷ records) new h =
+    let line = row_text (kinds old) (name_of (names old) r.component) r in
+    let rest = gathered names kinds text name_of h.0 records new h.2 in (
+      rest.0 ∙ h.1.0,
+      rest.1 ∙ h.1.1,
+      rest.2 ∙ (λ i. h.1.2 i ++ rows_text (h.1.1 i) (name_of (h.1.0 i)) records) ∙ append_assoc (text old) line (rows_text (kinds old) (name_of (names old)) records),
+    )
+
+-- ---- the writer and what is kept for it: together they have a text
+
+pub moves_on : (a b c : Option (List ℕ)) (text added kept grown left : List ℕ) → MovesBytes a b text kept → grown ≡ kept ++ added → MovesBytes b c grown left → MovesBytes a c (text ++ added) left
+moves_on a b c text added kept grown left p is q = (
+  p.0 ++ q.0,
+  appends_both a b c p.0 q.0 p.1 q.1,
+  append_assoc p.0 q.0 left ∙ ap (λ l. p.0 ++ l) (q.2 ∙ is) ∙ sym (append_assoc p.0 kept added) ∙ ap (λ l. l ++ added) p.2,
+)
+
+pub moved_begins : (a b : Option (List ℕ)) (text more kept all : List ℕ) → MovesBytes a b text kept → text ++ more ≡ all → AppendsBeginning a b all
+moved_begins a b text more kept all p is = (p.0, kept ++ more, p.1, sym (append_assoc p.0 kept more) ∙ ap (λ l. l ++ more) p.2 ∙ is)
+
+pub moved_whole : (a b c : Option (List ℕ)) (text added kept grown all : List ℕ) → MovesBytes a b text kept → grown ≡ kept ++ added → text ++ added ≡ all → Appends b c grown → Appends a c all
+moved_whole a b c text added kept grown all p is whole q =
+    subst (Appends a c) (ap (λ l. p.0 ++ l) is ∙ sym (append_assoc p.0 kept added) ∙ ap (λ l. l ++ added) p.2 ∙ whole) (appends_both a b c p.0 grown p.1 q)

@@ -1,0 +1,58 @@
+-- The bytes of a table: lines of comma-separated values.
+--     cells_text name at kind      tick, microstep, component and kind
+--     record_row, item_row, word_row      the line of a record, of an item of one, of a word of one
+--     row_text rows name r      the lines of a record
+--     head_text rows      the first line
+--     table_text rows name_of rs      the whole table
+use Rattle.std.specs.Prelude.{◌==◌, ◌++◌, ◌+◌, ◌∷◌, [], ℕ, ℤ, List, codes, flat_map, if◌then◌else◌}
+use Rattle.std.specs.Fmt.{decimal, signed_decimal}
+use Rattle.tw_msgs.specs.declared.record.Record.{Record}
+use Rattle.tw_msgs.specs.declared.record_kind.RecordKind.{RecordKind}
+use Rattle.tw_texts.specs.Texts.{bag_text, kind_text, words_text}
+use Rattle.tw_vtime.specs.Stamps.{never, tick_of, micro_of}
+use Rattle.tw_record_lines.specs.declared.rows.Rows.{Rows}
+use Rattle.tw_record_lines.specs.declared.rows.Rows.TheVariants.{Records, Items, Words}
+
+abbrev pub time_cells : ℕ → List ℕ
+time_cells s = if s == never then codes "end,end" else (decimal (tick_of s) ++ codes "," ++ decimal (micro_of s))
+
+abbrev pub cells_text : List ℕ → ℕ → RecordKind → List ℕ
+cells_text name at kind = time_cells at ++ codes "," ++ name ++ codes "," ++ kind_text kind
+
+-- nothing where there is no item
+abbrev pub items_text : List (ℕ × ℤ) → List ℕ
+items_text [] = []
+items_text (x ∷ xs) = bag_text (x ∷ xs)
+
+abbrev pub record_row : List ℕ → ℕ → RecordKind → List (ℕ × ℤ) → List ℤ → List ℕ
+record_row name at kind bag words = cells_text name at kind ++ codes "," ++ items_text bag ++ codes "," ++ words_text words ++ codes "\n"
+
+abbrev pub item_row : List ℕ → ℕ → RecordKind → ℕ × ℤ → List ℕ
+item_row name at kind item = cells_text name at kind ++ codes "," ++ decimal item.0 ++ codes "," ++ signed_decimal item.1 ++ codes "\n"
+
+abbrev pub word_row : List ℕ → ℕ → RecordKind → ℕ → ℤ → List ℕ
+word_row name at kind place word = cells_text name at kind ++ codes "," ++ decimal place ++ codes "," ++ signed_decimal word ++ codes "\n"
+
+abbrev pub items_rows : List ℕ → ℕ → RecordKind → List (ℕ × ℤ) → List ℕ
+items_rows name at kind bag = flat_map (item_row name at kind) bag
+
+-- the words from a place on
+abbrev pub word_rows : List ℕ → ℕ → RecordKind → ℕ → List ℤ → List ℕ
+word_rows name at kind place [] = []
+word_rows name at kind place (word ∷ words) = word_row name at kind place word ++ word_rows name at kind (place + 1) words
+
+abbrev pub row_text : Rows → List ℕ → Record → List ℕ
+row_text Records name r = record_row name r.stamp r.kind r.bag r.words
+row_text Items name r = items_rows name r.stamp r.kind r.bag
+row_text Words name r = word_rows name r.stamp r.kind 0 r.words
+
+abbrev pub head_text : Rows → List ℕ
+head_text Records = codes "tick,microstep,component,kind,items,words\n"
+head_text Items = codes "tick,microstep,component,kind,port,value\n"
+head_text Words = codes "tick,microstep,component,kind,place,number\n"
+
+abbrev pub rows_text : Rows → (ℕ → List ℕ) → List Record → List ℕ
+rows_text rows name_of records = flat_map (λ r. row_text rows (name_of r.component) r) records
+
+abbrev pub table_text : Rows → (ℕ → List ℕ) → List Record → List ℕ
+table_text rows name_of records = head_text rows ++ rows_text rows name_of records

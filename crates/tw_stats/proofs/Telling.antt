@@ -1,0 +1,104 @@
+-- What is told of lists, one after another.
+use Rattle.std.proofs.Common.{◌≡◌, ◌∙◌, ℕ, zero, suc, ◌<◌, ◌+◌, ◌++◌, ◌∷◌, [], ℤ, List, take, length, map, get_or, ap, refl, sym, subst, arith}
+use Rattle.std.specs.Prelude.{Some, slice_get}
+use Rattle.std.specs.List.{All, AllZip}
+use Rattle.std.proofs.lemmas.List.{get_or_default, get_or-map, take_more}
+use Rattle.std.proofs.lemmas.Option.{get_or_from_slice_get, slice_get_within}
+use Rattle.std.proofs.lemmas.Slice.Zip.{AllZip-long}
+use Rattle.tw_figures.specs.Figures.{IsCourse, transitions}
+use Rattle.tw_figures.specs.Gathered.{IsGathered, measures_of}
+use Rattle.tw_figures.specs.Told.{IsTold}
+use Rattle.tw_figures.specs.declared.course.Course.{Course}
+use Rattle.tw_figures.specs.declared.figure.Figure.{Figure}
+use Rattle.tw_figures.specs.declared.figure.Measure.{Measure}
+use Rattle.tw_figures.specs.declared.gatherer.Gatherer.{Gatherer}
+use Rattle.tw_figures.specs.declared.member.Member.{Member}
+use Rattle.tw_figures.specs.declared.told.Told.{Told}
+use Rattle.tw_msgs.specs.declared.record.Record.{Record}
+use Rattle.tw_theory.specs.Traces.{of_component}
+use Rattle.tw_stats.specs.Gathering.{measures_in}
+use Rattle.tw_stats.specs.Reports.{AreTold, TellsFigure, TellsPart}
+use Rattle.tw_stats.specs.declared.gathering.Labels.{Labels}
+use Rattle.tw_stats.specs.declared.report.Part.{Part}
+
+zip_push : {X Y : Type 0} (R : X → Y → Type 0) (xs : List X) (ys : List Y) (x : X) (y : Y) → AllZip R xs ys → R x y → AllZip R (xs ++ x ∷ []) (ys ++ y ∷ [])
+zip_push R [] [] x y h r = (r, tt)
+zip_push R [] (b ∷ ys) x y h r = absurd h
+zip_push R (a ∷ xs) [] x y h r = absurd h
+zip_push R (a ∷ xs) (b ∷ ys) x y h r = (h.0, zip_push R xs ys x y h.1 r)
+
+-- one more of a list, of which something is told
+pub zip_more : {X Y : Type 0} (R : X → Y → Type 0) (xs : List X) (ys : List Y) (i : ℕ) (x : X) (y : Y) (more : List Y) → i < length xs → x ≡ get_or xs i x → more ≡ ys ++ y ∷ []
+    → AllZip R (take i xs) ys → R x y → AllZip R (take (i + 1) xs) more
+zip_more {X} {Y} R xs ys i x y more l is grown h r =
+    subst (λ (m : List Y). AllZip R (take (i + 1) xs) m) (sym grown)
+    (subst (λ (t : List X). AllZip R t (ys ++ y ∷ [])) (ap (λ z. take i xs ++ z ∷ []) is ∙ sym (take_more xs i x l)) (zip_push R (take i xs) ys x y h r))
+
+-- the same, of the element at a place as it is read
+pub zip_more_at : {X Y : Type 0} (R : X → Y → Type 0) (xs : List X) (ys : List Y) (i : ℕ) (d : X) (y : Y) (more : List Y) → i < length xs → more ≡ ys ++ y ∷ []
+    → AllZip R (take i xs) ys → R (get_or xs i d) y → AllZip R (take (i + 1) xs) more
+zip_more_at R xs ys i d y more l grown h r = zip_more R xs ys i (get_or xs i d) y more l (get_or_default xs i d (get_or xs i d) l) grown h r
+
+zip_at : {X Y : Type 0} (R : X → Y → Type 0) (xs : List X) (ys : List Y) (c : ℕ) (x : X) (y : Y) → AllZip R xs ys → slice_get xs c ≡ Some x → slice_get ys c ≡ Some y → R x y
+zip_at R [] [] c x y h p q = absurd (let l = slice_get_within [] c x p in omega (arith, l))
+zip_at R [] (b ∷ ys) c x y h p q = absurd h
+zip_at R (a ∷ xs) [] c x y h p q = absurd h
+zip_at {X} {Y} R (a ∷ xs) (b ∷ ys) zero x y h p q = (let e : a ≡ x = cc in let f : b ≡ y = cc in subst (λ (z : X). R z y) e (subst (λ (z : Y). R a z) f h.0))
+zip_at R (a ∷ xs) (b ∷ ys) (suc c) x y h p q = zip_at R xs ys c x y h.1 p q
+
+-- what is told of courses is told of the figures that tell the same
+told_by : (ticks : ℕ) (start : List ℤ) (moves : List Record) (courses : List Course) (figures : List Figure) (tolds : List Told)
+    → map (λ c. c.measure) courses ≡ map (λ f. f.measure) figures → AllZip (λ course told. IsTold course.measure start moves ticks told) courses tolds
+    → AllZip (λ figure told. IsTold figure.measure start moves ticks told) figures tolds
+told_by ticks start moves [] [] [] e h = tt
+told_by ticks start moves [] [] (t ∷ ts) e h = absurd h
+told_by ticks start moves [] (f ∷ fs) ts e h = absurd (let n = ap length e in omega (arith, n))
+told_by ticks start moves (c ∷ cs) [] ts e h = absurd (let n = ap length e in omega (arith, n))
+told_by ticks start moves (c ∷ cs) (f ∷ fs) [] e h = absurd h
+told_by ticks start moves (c ∷ cs) (f ∷ fs) (t ∷ ts) e h =
+    let here : c.measure ≡ f.measure = cc in
+    let rest : map (λ x. x.measure) cs ≡ map (λ x. x.measure) fs = cc in
+    (subst (λ (m : Measure). IsTold m start moves ticks t) here h.0, told_by ticks start moves cs fs ts rest h.1)
+
+-- ---- the components of a run
+
+same_measures : (members : List Member) (labels : List Labels) (c : ℕ) (member : Member) (label : Labels) → measures_of members ≡ measures_in labels
+    → slice_get members c ≡ Some member → slice_get labels c ≡ Some label → map (λ x. x.measure) member.courses.items ≡ map (λ f. f.measure) label.figures.items
+same_measures members labels c member label same at there =
+    let of_member = λ (m : Member). map (λ x. x.measure) m.courses.items in
+    let of_label = λ (l : Labels). map (λ f. f.measure) l.figures.items in
+    sym (get_or-map of_member members c member (of_member member) (slice_get_within members c member at) ∙ ap of_member (get_or_from_slice_get members c member member at))
+    ∙ ap (λ l. get_or l c (of_member member)) same
+    ∙ get_or-map of_label labels c label (of_member member) (slice_get_within labels c label there) ∙ ap of_label (get_or_from_slice_get labels c label label there)
+
+told_courses : (ticks : ℕ) (start : List ℤ) (moves : List Record) (courses : List Course) (tolds : List Told) → All (IsCourse start moves) courses
+    → AllZip (TellsFigure ticks) courses tolds → AllZip (λ course told. IsTold course.measure start moves ticks told) courses tolds
+told_courses ticks start moves [] [] all h = tt
+told_courses ticks start moves [] (t ∷ ts) all h = absurd h
+told_courses ticks start moves (c ∷ cs) [] all h = absurd h
+told_courses ticks start moves (c ∷ cs) (t ∷ ts) all h =
+    (h.0.tells start moves (all 0 c (omega arith)), told_courses ticks start moves cs ts (λ k d l. all (suc k) d (omega (arith, l))) h.1)
+
+member_at : (members : List Member) (c : ℕ) → c < length members → (m : Member) × (slice_get members c ≡ Some m)
+member_at [] c l = absurd (omega (arith, l))
+member_at (m ∷ ms) zero l = (m, refl)
+member_at (m ∷ ms) (suc c) l = member_at ms c (omega (arith, l))
+
+pub all_told : (labels : List Labels) (starts : List (List ℤ)) (rs : List Record) (ticks : ℕ) (gathered : Gatherer) (parts : List Part) → length labels ≡ length starts
+    → IsGathered starts rs gathered → measures_of gathered.members.items ≡ measures_in labels → AllZip (TellsPart ticks) gathered.members.items parts
+    → AreTold labels starts rs ticks parts
+all_told labels starts rs ticks gathered parts many h same tells = record {
+  size = (let long = AllZip-long (TellsPart ticks) gathered.members.items parts tells in let size = h.size in omega (arith, long, size, many));
+  each = λ c label start part p q r.
+      let within = slice_get_within starts c start q in
+      let size = h.size in
+      let some = member_at gathered.members.items c (omega (arith, within, size)) in
+      let is = h.members c start some.0 q some.1 in
+      let one = zip_at (TellsPart ticks) gathered.members.items parts c some.0 part tells some.1 r in
+      record {
+        counts = one.counts ∙ is.counts;
+        figures = told_by ticks start (transitions (of_component c rs)) some.0.courses.items label.figures.items part.figures.items
+            (same_measures gathered.members.items labels c some.0 label same some.1 p)
+            (told_courses ticks start (transitions (of_component c rs)) some.0.courses.items part.figures.items is.courses one.figures);
+      };
+}

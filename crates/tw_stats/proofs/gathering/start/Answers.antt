@@ -1,0 +1,20 @@
+use Rattle.std.proofs.Common.{◌∙◌, ◌++◌, ◌∷◌, [], take, map, ap, subst}
+use Rattle.tw_figures.specs.Gathered.{IsGathered}
+use Rattle.tw_network.specs.Contents.{network_of}
+use Rattle.tw_stats.specs.Gathering.{measures_in, start_words}
+use Rattle.tw_stats.proofs.Starting.{measures_more, starts_more}
+use Rattle.tw_stats.proofs.gathering.start.Goals as goal
+
+pub loop-component-preserved : goal.loop-component-preserved
+loop-component-preserved g c =
+    let inv = c.loop-component.invariant in
+    let at = c.loop-component.component in
+    let starts = start_words (network_of g.M.Atomic.meaning c.args.network.now) in
+    record {
+      gathered = subst (λ l. IsGathered l [] c.add.new.gathered)
+          (starts_more g.M.Atomic.meaning c.args.network.now at c.model-model.result.now c.model-model.ensures)
+          (c.in_ok-add.ensures.gathered (take at starts) inv.gathered);
+      measures = c.in_ok-add.ensures.measures ∙ ap (λ l. l ++ map (λ f. f.measure) c.as_slice.result.now ∷ []) inv.measures
+          ∙ ap (λ l. take at (measures_in c.args.labels.now) ++ map (λ f. f.measure) l ∷ []) c.as_slice.ensures.value
+          ∙ measures_more c.args.labels.now at c.index-labels-component.result c.loop-component-test.true c.index-labels-component.is;
+    }

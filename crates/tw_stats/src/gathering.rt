@@ -1,0 +1,178 @@
+//! Counts and figures, gathered while a network is simulated.
+
+ghost use Rattle.std.specs.Prelude.{◌≡◌, ◌≤◌, ◌<◌, ◌↔◌, ◌++◌, ◌∷◌, [], ℤ, List, IfOk, IsErrOf, OnOk, length, map};
+ghost use Rattle.std.specs.List.{All};
+ghost use Rattle.tw_figures.specs.Gathered.{IsGathered, measures_of};
+ghost use Rattle.tw_network.specs.Contents.{network_of};
+ghost use Rattle.tw_rounds.specs.Parts.{IsSimulating};
+ghost use Rattle.tw_rounds.specs.declared.refused.SeqRefused.TheVariants.{BadTick};
+ghost use Rattle.tw_theory.specs.Simulator.{sequential};
+ghost use Rattle.tw_stats.specs.Gathering.{BeforeEnd, measures_in, run_ticks, start_words};
+ghost use Rattle.tw_vtime.specs.Stamps.{max_tick};
+
+use std::alloc::{AllocError, Global};
+use tw_atomic::Atomic;
+use tw_figures::{Figure, Gatherer};
+use tw_listen::{Listener, Reached};
+use tw_msgs::{Record, Words};
+use tw_network::Network;
+use tw_rounds::{Advanced, Fault, SeqRefused, Simulation, advance, begin};
+use tw_vtime::Stamp;
+
+/// What a component's model is called, and its figures.
+#[derive(Debug, PartialEq, Eq, Drop)]
+pub struct Labels {
+    /// The name of its model.
+    pub model: String,
+    /// Its figures, in their order.
+    pub figures: Vec<Figure>,
+}
+
+/// What is gathered of a network's run.
+#[derive(Debug, Drop)]
+pub struct Gathering {
+    /// The counts and the courses of the figures of each component.
+    pub gathered: Gatherer,
+    /// The limit fault that ended the run.
+    pub fault: Option<Fault>,
+    /// How many ticks the run has: up to its end tick, or up to that of its fault.
+    pub ticks: u64,
+}
+
+/// Simulates a network up to the end tick `until` and gathers the counts of its components and the courses of their
+/// figures. After each round the listener hears how far the run is.
+///
+/// Refused by [`SeqRefused::BadTick`] (10) exactly where `until` is above 1,099,511,627,774, and by
+/// [`SeqRefused::OutOfMemory`] (4) where a growth of memory was refused, or a count or a sum would pass the range of its
+/// type.
+pub fn gather<M: Atomic, L: Listener>(
+    alloc: Global,
+    network: &Network<M>,
+    labels: &[Labels],
+    until: u64,
+    listener: &mut L,
+) -> Result<Gathering, SeqRefused>
+    requires { length labels.now ≡ length network.now.models }
+    ensures gathered { IfOk result (λ g. IsGathered (start_words (network_of M.meaning network.now)) (sequential (network_of M.meaning network.now) until).records g.gathered) }
+    ensures measures { IfOk result (λ g. measures_of g.gathered.members.items ≡ measures_in labels.now) }
+    ensures fault { IfOk result (λ g. g.fault ≡ (sequential (network_of M.meaning network.now) until).fault) }
+    ensures ticks { IfOk result (λ g. g.ticks ≡ run_ticks until (sequential (network_of M.meaning network.now) until).fault) }
+    ensures reached { IfOk result (λ g. All (λ m. All (λ c. c.since ≤ g.ticks) m.courses.items) g.gathered.members.items) }
+    ensures in_time { IfOk result (λ g. BeforeEnd g.fault) }
+    ensures bad_tick { IsErrOf result BadTick ↔ (max_tick < until) }
+{
+    network.facts();
+    let simulation = begin(alloc, network, until)?;
+    let mut gathered = start(alloc, network, labels)?;
+    let fault = follow(alloc, network, simulation, &mut gathered, listener)?;
+    Ok(ended(gathered, until, fault))
+}
+
+/// What is gathered of a run that ends so.
+fn ended(gathered: Gatherer, until: u64, fault: Option<Fault>) -> Gathering
+    requires { BeforeEnd fault }
+    ensures gathered { result.gathered ≡ gathered }
+    ensures fault { result.fault ≡ fault }
+    ensures ticks { result.ticks ≡ run_ticks until fault }
+{
+    let ticks = match &fault {
+        Some(fault) => fault.stamp.tick(),
+        None => until,
+    };
+    Gathering {
+        gathered,
+        fault,
+        ticks,
+    }
+}
+
+/// Makes the rounds of a run, each of whose records are gathered.
+fn follow<M: Atomic, L: Listener>(
+    alloc: Global,
+    network: &Network<M>,
+    mut simulation: Simulation<M::State>,
+    gathered: &mut Gatherer,
+    listener: &mut L,
+) -> Result<Option<Fault>, AllocError>
+    requires so_far { IsSimulating M.valid M.meaning network.now [] simulation }
+    requires gathered { (starts : List (List ℤ)) × IsGathered starts [] gathered.old }
+    ensures gathered { (starts : List (List ℤ)) → IsGathered starts [] gathered.old
+        → OnOk result (IsGathered starts (sequential (network_of M.meaning network.now) simulation.until).records gathered.new) }
+    ensures measures { measures_of gathered.new.members.items ≡ measures_of gathered.old.members.items }
+    ensures fault { IfOk result (λ fault. fault ≡ (sequential (network_of M.meaning network.now) simulation.until).fault) }
+{
+    network.facts();
+    let mut outputs = Vec::new(alloc);
+    let mut transitions = Vec::new(alloc);
+    loop {
+        let step = advance(
+            alloc,
+            network,
+            &mut simulation,
+            &mut outputs,
+            &mut transitions,
+        )?;
+        match step {
+            Advanced::Round => {
+                outputs.append(&mut transitions)?;
+                let records = outputs.as_slice();
+                gathered.take_all(records)?;
+                listener.hear(reached(records, gathered.records));
+                outputs.clear();
+            }
+            Advanced::End(fault) => {
+                gathered.take_all(outputs.as_slice())?;
+                return Ok(fault);
+            }
+        }
+    }
+}
+
+/// How far a run is whose latest round has these records, and which has so many in all.
+fn reached(round: &[Record], records: u64) -> Reached {
+    match round.last() {
+        Some(record) => Reached {
+            at: record.stamp,
+            records,
+        },
+        None => Reached {
+            at: Stamp::START,
+            records,
+        },
+    }
+}
+
+/// Nothing gathered yet of the components of a network.
+fn start<M: Atomic>(
+    alloc: Global,
+    network: &Network<M>,
+    labels: &[Labels],
+) -> Result<Gatherer, AllocError>
+    requires { length labels.now ≡ length network.now.models }
+    ensures gathered { IfOk result (IsGathered (start_words (network_of M.meaning network.now)) []) }
+    ensures measures { IfOk result (λ g. measures_of g.members.items ≡ measures_in labels.now) }
+{
+    let mut gathered = Gatherer::new(alloc);
+    for (component, label) in labels.iter().enumerate() {
+        let model = network.model(component);
+        add(alloc, model, label.figures.as_slice(), &mut gathered)?;
+    }
+    Ok(gathered)
+}
+
+/// One component more, in its start state.
+fn add<M: Atomic>(
+    alloc: Global,
+    model: &M,
+    figures: &[Figure],
+    gathered: &mut Gatherer,
+) -> Result<(), AllocError>
+    ensures gathered { (starts : List (List ℤ)) → IsGathered starts [] gathered.old
+        → OnOk result (IsGathered (starts ++ (M.meaning model.now).words (M.meaning model.now).start ∷ []) [] gathered.new) }
+    ensures measures { OnOk result (measures_of gathered.new.members.items ≡ measures_of gathered.old.members.items ++ map (λ f. f.measure) figures.now ∷ []) }
+{
+    let state = model.start(alloc)?;
+    let mut words = Vec::new(alloc);
+    model.words(alloc, &state, &mut words)?;
+    gathered.add(alloc, figures, &Words::from(words))
+}

@@ -1,0 +1,108 @@
+//! What is told of a run.
+
+ghost use Rattle.std.specs.Prelude.{◌≡◌, ◌≤◌, ◌<◌, ◌↔◌, IfOk, IsErrOf, length};
+ghost use Rattle.std.specs.List.{All, AllZip};
+ghost use Rattle.tw_figures.specs.Gathered.{IsAboveMicrosteps};
+ghost use Rattle.tw_network.specs.Contents.{network_of};
+ghost use Rattle.tw_rounds.specs.declared.refused.SeqRefused.TheVariants.{BadTick};
+ghost use Rattle.tw_theory.specs.Simulator.{sequential};
+ghost use Rattle.tw_stats.specs.Gathering.{BeforeEnd, run_ticks, start_words};
+ghost use Rattle.tw_stats.specs.Reports.{AreTold, TellsFigure, TellsPart};
+ghost use Rattle.tw_vtime.specs.Stamps.{max_tick};
+
+use crate::gathering::{Gathering, Labels, gather};
+use std::alloc::{AllocError, Global};
+use tw_atomic::Atomic;
+use tw_figures::{Counts, Course, Member, Told};
+use tw_listen::Listener;
+use tw_network::Network;
+use tw_rounds::{Fault, SeqRefused};
+
+/// What is told of a component.
+#[derive(Debug, Drop)]
+pub struct Part {
+    /// What it did.
+    pub counts: Counts,
+    /// Its figures, in their order.
+    pub figures: Vec<Told>,
+}
+
+/// What is told of a run.
+#[derive(Debug, Drop)]
+pub struct Report {
+    /// The components, in order.
+    pub parts: Vec<Part>,
+    /// How many records there are.
+    pub records: u64,
+    /// The greatest microstep of a record plus one; 0 where there is no record.
+    pub microsteps: u64,
+    /// The limit fault that ended the run.
+    pub fault: Option<Fault>,
+}
+
+/// Simulates a network up to the end tick `until` and tells the counts and the figures of its components: of the records of
+/// its sequential run, over its time, which is up to the end tick, or up to that of the fault that ended the run. After each
+/// round the listener hears how far the run is.
+///
+/// Refused by [`SeqRefused::BadTick`] (10) exactly where `until` is above 1,099,511,627,774, and by
+/// [`SeqRefused::OutOfMemory`] (4) where a growth of memory was refused, or a count or a sum would pass the range of its
+/// type.
+pub fn report_of<M: Atomic, L: Listener>(
+    alloc: Global,
+    network: &Network<M>,
+    labels: &[Labels],
+    until: u64,
+    listener: &mut L,
+) -> Result<Report, SeqRefused>
+    requires { length labels.now ≡ length network.now.models }
+    ensures parts { let run = sequential (network_of M.meaning network.now) until in
+        IfOk result (λ r. AreTold labels.now (start_words (network_of M.meaning network.now)) run.records (run_ticks until run.fault) r.parts.items) }
+    ensures records { IfOk result (λ r. r.records ≡ length (sequential (network_of M.meaning network.now) until).records) }
+    ensures microsteps { IfOk result (λ r. IsAboveMicrosteps r.microsteps (sequential (network_of M.meaning network.now) until).records) }
+    ensures fault { IfOk result (λ r. r.fault ≡ (sequential (network_of M.meaning network.now) until).fault) }
+    ensures in_time { IfOk result (λ r. BeforeEnd r.fault) }
+    ensures bad_tick { IsErrOf result BadTick ↔ (max_tick < until) }
+{
+    let Gathering {
+        gathered,
+        fault,
+        ticks,
+    } = gather(alloc, network, labels, until, listener)?;
+    let parts = tell_all(alloc, gathered.members.as_slice(), ticks)?;
+    Ok(Report {
+        parts,
+        records: gathered.records,
+        microsteps: gathered.microsteps,
+        fault,
+    })
+}
+
+/// What is told of each component over so many ticks.
+fn tell_all(alloc: Global, members: &[Member], ticks: u64) -> Result<Vec<Part>, AllocError>
+    requires { All (λ m. All (λ c. c.since ≤ ticks) m.courses.items) members.now }
+    ensures { IfOk result (λ parts. AllZip (TellsPart ticks) members.now parts.items) }
+{
+    let mut parts = Vec::new(alloc);
+    for member in members {
+        parts.push(Part {
+            counts: member.counts,
+            figures: tell(alloc, member.courses.as_slice(), ticks)?,
+        })?;
+    }
+    Ok(parts)
+}
+
+/// What is told of figures over so many ticks.
+fn tell(alloc: Global, courses: &[Course], ticks: u64) -> Result<Vec<Told>, AllocError>
+    requires { All (λ c. c.since ≤ ticks) courses.now }
+    ensures { IfOk result (λ figures. AllZip (TellsFigure ticks) courses.now figures.items) }
+{
+    let mut figures = Vec::new(alloc);
+    for course in courses {
+        let Some(told) = course.told(ticks) else {
+            return Err(AllocError);
+        };
+        figures.push(told)?;
+    }
+    Ok(figures)
+}

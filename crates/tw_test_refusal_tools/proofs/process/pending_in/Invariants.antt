@@ -1,0 +1,7 @@
+-- The index at which the list is read on has an item.
+use Rattle.std.specs.Prelude.{IfSome}
+use Rattle.tw_pool.specs.Lists.{IsLive}
+use Rattle.tw_test_refusal_tools.proofs.process.pending_in.Given as goal
+
+abbrev pub invariant-loop : goal.invariant-loop
+invariant-loop l = record { live : IfSome l.at (λ index. IsLive index l.pool.lists) }

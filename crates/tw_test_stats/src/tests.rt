@@ -1,0 +1,349 @@
+//! Views of a generator of period 2 and its tally until tick 5, and of two relays that send to each other without a pause, until
+//! one meets the limit of microsteps.
+
+ghost use Rattle.std.specs.Prelude.{◌==◌, if◌then◌else◌};
+
+use std::alloc::Global;
+use std::process::Abort;
+use tw_figure_names::labels_of;
+use tw_figures::mean;
+use tw_listen::Nobody;
+use tw_models::Model;
+use tw_network::Network;
+use tw_record_lines::{Rows, table};
+use tw_stats::{Labels, stats};
+use tw_texts::Names;
+
+/// The names of two components.
+#[derive(Drop)]
+struct TwoNames {
+    first: &'static str,
+    second: &'static str,
+}
+
+impl Names for TwoNames {
+    ghost name_of = { λ names component. if component == 0 then names.first.now else names.second.now };
+
+    fn name(&self, component: usize) -> &str {
+        if component == 0 {
+            self.first
+        } else {
+            self.second
+        }
+    }
+}
+
+/// A network of two components, and how far it runs.
+struct Scene {
+    names: TwoNames,
+    couplings: &'static [(usize, u8, usize, u8)],
+    inputs: &'static [(u64, usize, u8, i64)],
+    micro_limit: u64,
+    until: u64,
+}
+
+/// A generator and its tally.
+static COUNTED: Scene = Scene {
+    names: TwoNames {
+        first: "g",
+        second: "t",
+    },
+    couplings: &[(0, 0, 1, 0)],
+    inputs: &[],
+    micro_limit: 100,
+    until: 5,
+};
+
+/// Two relays that send to each other.
+static RELAYED: Scene = Scene {
+    names: TwoNames {
+        first: "a",
+        second: "b",
+    },
+    couplings: &[(0, 0, 1, 0), (1, 0, 0, 0)],
+    inputs: &[(3, 0, 0, 1)],
+    micro_limit: 3,
+    until: 10,
+};
+
+/// The views of a network.
+struct Wanted {
+    text: &'static str,
+    json: &'static str,
+    records: &'static str,
+    items: &'static str,
+    words: &'static str,
+}
+
+/// What a generator of period 2 and value 5 sends to a tally, until 5: at ticks 2 and 4.
+static GEN_TALLY: Wanted = Wanted {
+    text: "\
+until 5  components 2  records 6  microsteps 1
+
+component  model  outputs  sent  received  int  ext  con
+g          gen          2     2         0    2    0    0
+t          tally        0     0         2    0    2    0
+
+component  figure  least  greatest  last   mean   busy
+g          count       0         2     2  0.800  0.600
+t          count       0         2     2  0.800  0.600
+t          sum         0        10    10  4.000  0.600
+t          last        0         5     5  3.000  0.600
+",
+    json: "{\"until\":5,\"records\":6,\"microsteps\":1,\"components\":[\
+{\"name\":\"g\",\"model\":\"gen\",\"outputs\":2,\"sent\":2,\"received\":0,\"int\":2,\"ext\":0,\"con\":0,\"figures\":[\
+{\"name\":\"count\",\"least\":0,\"greatest\":2,\"last\":2,\"mean\":0.800,\"busy\":0.600}]},\
+{\"name\":\"t\",\"model\":\"tally\",\"outputs\":0,\"sent\":0,\"received\":2,\"int\":0,\"ext\":2,\"con\":0,\"figures\":[\
+{\"name\":\"count\",\"least\":0,\"greatest\":2,\"last\":2,\"mean\":0.800,\"busy\":0.600},\
+{\"name\":\"sum\",\"least\":0,\"greatest\":10,\"last\":10,\"mean\":4.000,\"busy\":0.600},\
+{\"name\":\"last\",\"least\":0,\"greatest\":5,\"last\":5,\"mean\":3.000,\"busy\":0.600}]}]}\n",
+    records: "\
+tick,microstep,component,kind,items,words
+2,0,g,out,0=5,
+2,0,g,int,,1
+2,0,t,ext,0=5,1 5 5
+4,0,g,out,0=5,
+4,0,g,int,,2
+4,0,t,ext,0=5,2 10 5
+",
+    items: "\
+tick,microstep,component,kind,port,value
+2,0,g,out,0,5
+2,0,t,ext,0,5
+4,0,g,out,0,5
+4,0,t,ext,0,5
+",
+    words: "\
+tick,microstep,component,kind,place,number
+2,0,g,int,0,1
+2,0,t,ext,0,1
+2,0,t,ext,1,5
+2,0,t,ext,2,5
+4,0,g,int,0,2
+4,0,t,ext,0,2
+4,0,t,ext,1,10
+4,0,t,ext,2,5
+",
+};
+
+/// Two relays without a delay that send one item to each other from tick 3 on, with no microstep past 3: b meets the limit at 3.3,
+/// and no tick of the run has an item held at its end.
+static RELAYS: Wanted = Wanted {
+    text: "\
+until 10  components 2  records 8  microsteps 4
+
+component  model  outputs  sent  received  int  ext  con
+a          relay        2     2         2    1    2    0
+b          relay        1     1         1    1    1    0
+
+component  figure   least  greatest  last   mean   busy
+a          dropped      0         0     0  0.000  0.000
+a          held         0         1     1  0.000  0.000
+b          dropped      0         0     0  0.000  0.000
+b          held         0         1     0  0.000  0.000
+",
+    json: "{\"until\":10,\"records\":8,\"microsteps\":4,\"components\":[\
+{\"name\":\"a\",\"model\":\"relay\",\"outputs\":2,\"sent\":2,\"received\":2,\"int\":1,\"ext\":2,\"con\":0,\"figures\":[\
+{\"name\":\"dropped\",\"least\":0,\"greatest\":0,\"last\":0,\"mean\":0.000,\"busy\":0.000},\
+{\"name\":\"held\",\"least\":0,\"greatest\":1,\"last\":1,\"mean\":0.000,\"busy\":0.000}]},\
+{\"name\":\"b\",\"model\":\"relay\",\"outputs\":1,\"sent\":1,\"received\":1,\"int\":1,\"ext\":1,\"con\":0,\"figures\":[\
+{\"name\":\"dropped\",\"least\":0,\"greatest\":0,\"last\":0,\"mean\":0.000,\"busy\":0.000},\
+{\"name\":\"held\",\"least\":0,\"greatest\":1,\"last\":0,\"mean\":0.000,\"busy\":0.000}]}],\
+\"fault\":{\"component\":\"b\",\"tick\":3,\"microstep\":3,\"limit\":\"microstep\"}}\n",
+    records: "\
+tick,microstep,component,kind,items,words
+3,0,a,ext,0=1,0 1
+3,1,a,out,0=1,
+3,1,a,int,,0
+3,1,b,ext,0=1,0 1
+3,2,b,out,0=1,
+3,2,a,ext,0=1,0 1
+3,2,b,int,,0
+3,3,a,out,0=1,
+",
+    items: "\
+tick,microstep,component,kind,port,value
+3,0,a,ext,0,1
+3,1,a,out,0,1
+3,1,b,ext,0,1
+3,2,b,out,0,1
+3,2,a,ext,0,1
+3,3,a,out,0,1
+",
+    words: "\
+tick,microstep,component,kind,place,number
+3,0,a,ext,0,0
+3,0,a,ext,1,1
+3,1,a,int,0,0
+3,1,b,ext,0,0
+3,1,b,ext,1,1
+3,2,a,ext,0,0
+3,2,a,ext,1,1
+3,2,b,int,0,0
+",
+};
+
+/// The network of a scene, with these models.
+fn network(
+    rt: &impl Abort,
+    alloc: Global,
+    scene: &Scene,
+    first: Model,
+    second: Model,
+) -> Network<Model> {
+    let mut components = Vec::new(alloc);
+    let name = String::from_str(alloc, scene.names.first).expect(rt, "memory");
+    components.push((name, first)).ok().expect(rt, "memory");
+    let name = String::from_str(alloc, scene.names.second).expect(rt, "memory");
+    components.push((name, second)).ok().expect(rt, "memory");
+    let couplings = Vec::from_slice(alloc, scene.couplings).expect(rt, "memory");
+    let inputs = Vec::from_slice(alloc, scene.inputs).expect(rt, "memory");
+    Network::new(alloc, components, couplings, inputs, scene.micro_limit)
+        .ok()
+        .expect(rt, "a network")
+}
+
+/// What the models of a network are called, and their figures.
+fn labels(rt: &impl Abort, alloc: Global, network: &Network<Model>) -> Vec<Labels> {
+    let mut labels = Vec::new(alloc);
+    for component in 0..network.len() {
+        let label = labels_of(alloc, network.model(component)).expect(rt, "memory");
+        labels.push(label).ok().expect(rt, "memory");
+    }
+    labels
+}
+
+/// Asserts what is written of counts and figures, and the component at whose fault the run ends.
+fn assert_stats(
+    rt: &impl Abort,
+    alloc: Global,
+    network: &Network<Model>,
+    scene: &Scene,
+    json: bool,
+    wanted: &str,
+    fault: Option<usize>,
+) {
+    let labels = labels(rt, alloc, network);
+    assert!(rt; labels.len() == network.len());
+    let mut out = Vec::new(alloc);
+    let ended = stats(
+        alloc,
+        network,
+        &scene.names,
+        labels.as_slice(),
+        scene.until,
+        json,
+        &mut Nobody,
+        &mut out,
+    );
+    let met = ended.ok().expect(rt, "a view");
+    assert!(rt; met.map(|met| met.component) == fault);
+    assert!(rt; out.as_slice() == wanted.as_bytes());
+}
+
+/// Asserts what is written of a table, and the component at whose fault the run ends.
+fn assert_table(
+    rt: &impl Abort,
+    alloc: Global,
+    network: &Network<Model>,
+    scene: &Scene,
+    rows: Rows,
+    wanted: &str,
+    fault: Option<usize>,
+) {
+    let mut out = Vec::new(alloc);
+    let ended = table(
+        alloc,
+        network,
+        &scene.names,
+        scene.until,
+        rows,
+        &mut Nobody,
+        &mut out,
+    );
+    let met = ended.ok().expect(rt, "a table");
+    assert!(rt; met.map(|met| met.component) == fault);
+    assert!(rt; out.as_slice() == wanted.as_bytes());
+}
+
+/// Asserts the three tables of a network.
+fn assert_tables(
+    rt: &impl Abort,
+    alloc: Global,
+    network: &Network<Model>,
+    scene: &Scene,
+    wanted: &Wanted,
+    fault: Option<usize>,
+) {
+    assert_table(
+        rt,
+        alloc,
+        network,
+        scene,
+        Rows::Records,
+        wanted.records,
+        fault,
+    );
+    assert_table(rt, alloc, network, scene, Rows::Items, wanted.items, fault);
+    assert_table(rt, alloc, network, scene, Rows::Words, wanted.words, fault);
+}
+
+#[test]
+fn shows_a_generator_and_its_tally(rt: HostRuntime) {
+    let first = Model::generator(2, 5).ok().expect(&rt, "a generator");
+    let network = network(&rt, rt.alloc(), &COUNTED, first, Model::Tally);
+    assert_stats(
+        &rt,
+        rt.alloc(),
+        &network,
+        &COUNTED,
+        false,
+        GEN_TALLY.text,
+        None,
+    );
+    assert_stats(
+        &rt,
+        rt.alloc(),
+        &network,
+        &COUNTED,
+        true,
+        GEN_TALLY.json,
+        None,
+    );
+    assert_tables(&rt, rt.alloc(), &network, &COUNTED, &GEN_TALLY, None);
+}
+
+#[test]
+fn shows_relays_up_to_a_fault(rt: HostRuntime) {
+    let first = Model::relay(0).ok().expect(&rt, "a relay");
+    let second = Model::relay(0).ok().expect(&rt, "a relay");
+    let network = network(&rt, rt.alloc(), &RELAYED, first, second);
+    assert_stats(
+        &rt,
+        rt.alloc(),
+        &network,
+        &RELAYED,
+        false,
+        RELAYS.text,
+        Some(1),
+    );
+    assert_stats(
+        &rt,
+        rt.alloc(),
+        &network,
+        &RELAYED,
+        true,
+        RELAYS.json,
+        Some(1),
+    );
+    assert_tables(&rt, rt.alloc(), &network, &RELAYED, &RELAYS, Some(1));
+}
+
+/// A half is rounded up, towards greater.
+#[test]
+fn rounds_means(rt: HostRuntime) {
+    assert!(rt; mean(-1, 0, 2) == Some(-500));
+    assert!(rt; mean(1, 0, 2000) == Some(1));
+    assert!(rt; mean(-1, 0, 2000) == Some(0));
+    assert!(rt; mean(0, 7, 0) == Some(7000));
+}

@@ -1,0 +1,123 @@
+//! A run by workers, its records and its fault.
+
+ghost use Rattle.std.specs.Prelude.{◌≡◌, ◌⊎◌, IfErr, IfOk};
+ghost use Rattle.tw_any_model.specs.AnyModel.{any_meaning};
+ghost use Rattle.tw_exchange.specs.Ends.{IsEnd};
+ghost use Rattle.tw_exchange.specs.Exchanged.{IsNotAhead};
+ghost use Rattle.tw_network.specs.Contents.{network_of};
+ghost use Rattle.tw_workers_progress.specs.Settings.{IsSet};
+ghost use Rattle.tw_theory.specs.Simulator.{sequential};
+ghost use Rattle.tw_vtime.specs.declared.refusal.Refusal.TheVariants as refusal;
+
+use std::alloc::Global;
+use std::sync::Wait;
+use std::thread::Threads;
+use std::time::Clock;
+use tw_actions::Fault;
+use tw_any_model::{AnyModel, AnyState};
+use tw_board::{Board, Publisher};
+use tw_exec::Executive;
+use tw_laws::endings::outcome_law;
+use tw_msgs::Record;
+use tw_progress::while_telling;
+use tw_vtime::Refusal;
+use tw_workers::{Effort, Open, Outcome, Setting, run_counted};
+
+/// The records and the fault of the sequential run of an executive's network, made by workers. With `progress` it tells how far it is, and at the end what it spent.
+pub fn worked<R: Threads + Wait + Clock + Eprint + Sync>(
+    rt: &R,
+    alloc: Global,
+    executive: Executive<AnyModel>,
+    setting: Setting,
+    progress: bool,
+) -> Result<(Vec<Record>, Option<Fault>), Refusal>
+    requires { IsSet setting }
+    ensures records { IfOk result (λ made. made.0.items ≡ (sequential (network_of any_meaning executive.network) executive.until).records) }
+    ensures fault { IfOk result (λ made. made.1 ≡ (sequential (network_of any_meaning executive.network) executive.until).fault) }
+    ensures err { IfErr result (λ why. (why ≡ refusal.OutOfMemory) ⊎ (why ≡ refusal.Full)) }
+{
+    executive.facts();
+    outcome_law::<AnyState>();
+    let (ended, effort) = outcome(rt, alloc, executive, setting, progress);
+    if progress {
+        tell_effort(rt, &ended, effort);
+    }
+    match ended {
+        Ok(Outcome::Complete(records)) => Ok((records, None)),
+        Ok(Outcome::Fault(records, fault)) => Ok((records, Some(fault))),
+        Err(why) => Err(why),
+    }
+}
+
+/// How the workers' run of an executive ends. It posts on a board of its own, and tells how far it is where that is asked for.
+fn outcome<R: Threads + Wait + Clock + Eprint + Sync>(
+    rt: &R,
+    alloc: Global,
+    executive: Executive<AnyModel>,
+    setting: Setting,
+    progress: bool,
+) -> (Result<Outcome, Refusal>, Effort)
+    requires { IsSet setting }
+    ensures outcome { IfOk result.0 (IsEnd any_meaning executive.network executive.until) }
+    ensures err { IfErr result.0 (λ why. (why ≡ refusal.OutOfMemory) ⊎ (why ≡ refusal.Full)) }
+{
+    let Ok((mut board, publisher)) = Board::new(alloc) else {
+        return (Err(Refusal::OutOfMemory), Effort::nothing());
+    };
+    if !progress {
+        return posted(rt, alloc, executive, setting, publisher);
+    }
+    let Ok(reader) = board.reader() else {
+        return (Err(Refusal::OutOfMemory), Effort::nothing());
+    };
+    let until = executive.until();
+    while_telling(
+        rt,
+        reader,
+        until,
+        move || -> (Result<Outcome, Refusal>, Effort)
+            requires not_ahead { IsNotAhead publisher executive }
+            requires set { IsSet setting }
+            ensures outcome { IfOk result.0 (IsEnd any_meaning executive.network executive.until) }
+            ensures err { IfErr result.0 (λ why. (why ≡ refusal.OutOfMemory) ⊎ (why ≡ refusal.Full)) }
+        { posted(rt, alloc, executive, setting, publisher) },
+    )
+}
+
+/// How the workers' run of an executive ends, which posts how far it is.
+fn posted<R: Threads + Wait + Sync>(
+    rt: &R,
+    alloc: Global,
+    executive: Executive<AnyModel>,
+    setting: Setting,
+    publisher: Publisher,
+) -> (Result<Outcome, Refusal>, Effort)
+    requires not_ahead { IsNotAhead publisher executive }
+    requires set { IsSet setting }
+    ensures outcome { IfOk result.0 (IsEnd any_meaning executive.network executive.until) }
+    ensures err { IfErr result.0 (λ why. (why ≡ refusal.OutOfMemory) ⊎ (why ≡ refusal.Full)) }
+{
+    let (ended, _, effort) = run_counted(rt, alloc, executive, setting, &Open, publisher);
+    match ended {
+        Ok(outcome) => (Ok(outcome), effort),
+        Err(fault) => (Err(Refusal::from(fault.why)), effort),
+    }
+}
+
+/// Tells on standard error what a run came to, and what it spent.
+fn tell_effort<R: Eprint>(rt: &R, ended: &Result<Outcome, Refusal>, effort: Effort) {
+    let records = match ended {
+        Ok(Outcome::Complete(trace) | Outcome::Fault(trace, ..)) => trace.len(),
+        Err(_) => return,
+    };
+    let Effort {
+        rollbacks,
+        slept,
+        stepped_back,
+        ..
+    } = effort;
+    let (ones, rest) = (effort.useful() / 1_000, effort.useful() % 1_000);
+    let _ = eprintln!(rt;
+        "twarp: {records} records, {ones}.{rest:03} of the steps useful, {rollbacks} rollbacks, workers slept {slept} times and stepped back {stepped_back} times"
+    );
+}

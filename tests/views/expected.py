@@ -18,12 +18,25 @@ def atoms(model, prefix=""):
             yield name, part
 
 
+def mixed(seed):
+    """The random number at the start: SplitMix64's number of a seed."""
+    z = (seed + 0x9E3779B97F4A7C15) % 2**64
+    z = (z ^ z >> 30) * 0xBF58476D1CE4E5B9 % 2**64
+    z = (z ^ z >> 27) * 0x94D049BB133111EB % 2**64
+    return z ^ z >> 31
+
+
+def seen(x):
+    """What a program sees of a random number: 32 bits, by PCG XSH RR."""
+    bits, by = ((x >> 18 ^ x) >> 27) % 2**32, x >> 59
+    return (bits >> by | bits << 32 - by) % 2**32
+
+
 def machine_figures(machine, part):
     """The names of its figures, each with what it is of the words, and the words of its start state."""
     registers, queues, start, figures, behind = machine.get("registers", {}), machine.get("queues", {}), [], [], []
     constant = lambda it: part[it] if isinstance(it, str) else it
-    # (the random number is one draw from `random`; `random(n)` is its upper 32 bits, modulo n)
-    random = (constant(machine.get("random", 0)) * 6364136223846793005 + 1442695040888963407) % 2**64 >> 32
+    random = seen(mixed(constant(machine.get("random", 0))))
     plain = 0
     for entry in machine["words"]:
         text = " ".join(str(entry).split())
@@ -44,7 +57,7 @@ def machine_figures(machine, part):
         elif drawn := re.fullmatch(r"(\w+)\[random\((\d+)\)\]", bare):
             table = machine["tables"][drawn[1]]
             table = part[table] if isinstance(table, str) else table
-            values, names = [table[random % int(drawn[2])]], [text]
+            values, names = [table[random * int(drawn[2]) >> 32]], [text]
         else:
             values, names = [None], [text]
         if not behind:

@@ -1,8 +1,6 @@
 -- Machines may go to another thread, and be seen from several at once: their programs, which call themselves by boxes, what they remember and what they keep.
-use denote.RattleType.{RattleType}
 use denote.Param.Send.{IsSend, IsSync, sendable}
 use denote.Param.SendFields.{declared_send, declared_sync, variants_send, variants_sync, VariantsHave}
-use denote.Hole.Fix.{holes}
 use denote.Hole.FixSend.{fix_send, fix_sync, Sends, Syncs}
 use Rattle.std.proofs.Crossing.{Arc-send, Arc-sync, Box-send, Box-sync, Vec-send, Vec-sync, crosses}
 use Rattle.tw_machine.proofs.language.Binary.TheSendSync as binary_sent

@@ -60,7 +60,7 @@ pub struct OutputText {
 #[derive(Drop)]
 pub struct Declaration {
     pub names: Vec<Named>,
-    /// The random number at the start is one draw from it, modulo 2^64.
+    /// From it, modulo 2^64, the random number at the start is mixed.
     pub random: Constant,
     /// The first wait; passive where it is left out or negative.
     pub first: Option<Constant>,

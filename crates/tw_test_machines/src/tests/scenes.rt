@@ -172,95 +172,98 @@ pub(crate) static POOL: Scene = Scene {
     lines: "\
              1.0 arrivals out 0=1\n\
              1.0 arrivals int | 1\n\
-             1.0 desk ext 0=1 | 0 0 0 0 14 1\n\
-             4.0 arrivals out 0=2\n\
-             4.0 arrivals int | 2\n\
-             4.0 desk ext 0=2 | 0 0 0 3 7 14 2 1\n\
+             1.0 desk ext 0=1 | 0 0 0 0 2 1\n\
+             2.0 arrivals out 0=2\n\
+             2.0 desk out 0=1\n\
+             2.0 arrivals int | 2\n\
+             2.0 desk con 0=2 | 1 0 0 1 7 2\n\
+             2.0 out ext 0=1 | 1 1\n\
              5.0 arrivals out 0=3\n\
              5.0 arrivals int | 3\n\
-             5.0 desk ext 0=3 | 0 0 0 5 7 10 14 2 3 1\n\
+             5.0 desk ext 0=3 | 1 0 0 4 7 27 2 3\n\
              6.0 arrivals out 0=4\n\
              6.0 arrivals int | 4\n\
-             6.0 desk ext 0=4 | 0 0 0 8 7 10 14 2 3 1 4\n\
-             7.0 arrivals out 0=5\n\
+             6.0 desk ext 0=4 | 1 0 0 6 7 19 27 2 4 3\n\
              7.0 desk out 0=2\n\
-             7.0 arrivals int | 5\n\
-             7.0 desk con 0=5 | 1 0 0 12 10 14 26 3 1 4 5\n\
-             7.0 out ext 0=2 | 1 2\n\
-             8.0 arrivals out 0=6\n\
-             8.0 arrivals int | 6\n\
-             8.0 desk ext 0=6 | 1 0 0 16 10 14 26 3 1 4 5 6\n\
-             9.0 desk ext 1=6 | 1 0 1 21 10 14 26 3 1 4 5\n\
-             10.0 desk out 0=3\n\
-             10.0 desk int | 2 0 1 25 14 17 26 1 5 4\n\
-             10.0 out ext 0=3 | 2 3\n\
+             7.0 desk int | 2 0 0 9 19 27 4 3\n\
+             7.0 out ext 0=2 | 2 2\n\
+             9.0 desk ext 1=6 | 2 0 0 13 19 27 4 3\n\
+             11.0 arrivals out 0=5\n\
+             11.0 arrivals int | 5\n\
+             11.0 desk ext 0=5 | 2 0 0 17 19 20 27 4 5 3\n\
+             12.0 arrivals out 0=6\n\
+             12.0 arrivals int | 6\n\
+             12.0 desk ext 0=6 | 2 0 0 20 19 20 27 4 5 3 6\n\
              13.0 arrivals out 0=7\n\
              13.0 arrivals int | 7\n\
-             13.0 desk ext 0=7 | 2 0 1 34 14 17 26 1 5 4 7\n\
+             13.0 desk ext 0=7 | 2 0 0 24 19 20 27 4 5 3 6 7\n\
              14.0 arrivals out 0=8\n\
-             14.0 desk out 0=1\n\
              14.0 arrivals int | 8\n\
-             14.0 desk con 0=8 | 3 0 1 38 17 20 26 5 7 4 8\n\
-             14.0 out ext 0=1 | 3 1\n\
+             14.0 desk ext 0=8 | 2 0 0 29 19 20 27 4 5 3 6 7 8\n\
              15.0 arrivals out 0=9\n\
              15.0 arrivals int | 9\n\
-             15.0 desk ext 0=9 | 3 0 1 42 17 20 26 5 7 4 8 9\n\
-             17.0 desk out 0=5\n\
-             17.0 desk int | 4 0 1 52 20 23 26 7 8 4 9\n\
-             17.0 out ext 0=5 | 4 5\n\
-             19.0 arrivals out 0=10\n\
-             19.0 arrivals int | 10\n\
-             19.0 desk ext 0=10 | 4 0 1 60 20 23 26 7 8 4 9 10\n\
-             20.0 desk out 0=7\n\
-             20.0 desk con 1=1 | 5 0 1 65 23 25 26 8 9 4 10\n\
-             20.0 out ext 0=7 | 5 7\n\
-             21.0 arrivals out 0=11\n\
-             21.0 arrivals int | 11\n\
-             21.0 desk ext 0=11 | 5 0 1 69 23 25 26 8 9 4 10 11\n\
-             22.0 arrivals out 0=12\n\
-             22.0 arrivals int | 12\n\
-             22.0 desk ext 0=12 | 5 0 1 74 23 25 26 8 9 4 10 11 12\n\
-             23.0 arrivals out 0=13\n\
-             23.0 desk out 0=8\n\
-             23.0 arrivals int | 13\n\
-             23.0 desk con 0=13 | 6 0 1 80 24 25 26 10 9 4 11 12 13\n\
-             23.0 out ext 0=8 | 6 8\n\
-             24.0 arrivals out 0=14\n\
-             24.0 desk out 0=10\n\
-             24.0 arrivals int | 14\n\
-             24.0 desk con 0=14 | 7 0 1 86 25 26 30 9 4 11 12 13 14\n\
-             24.0 out ext 0=10 | 7 10\n\
-             25.0 arrivals out 0=15\n\
-             25.0 desk out 0=9\n\
-             25.0 arrivals int | 15\n\
-             25.0 desk con 0=15 | 8 0 1 92 26 30 35 4 11 12 13 14 15\n\
-             25.0 out ext 0=9 | 8 9\n\
-             26.0 desk out 0=4\n\
-             26.0 desk int | 9 0 1 98 30 35 40 11 12 13 14 15\n\
-             26.0 out ext 0=4 | 9 4\n\
-             30.0 arrivals out 0=16\n\
-             30.0 desk out 0=11\n\
-             30.0 arrivals int | 16\n\
-             30.0 desk con 0=16 | 10 0 1 118 35 40 52 12 13 14 15 16\n\
-             30.0 out ext 0=11 | 10 11\n\
-             31.0 arrivals out 0=17\n\
-             31.0 arrivals int | 17\n\
-             31.0 desk ext 0=17 | 10 0 1 123 35 40 52 12 13 14 15 16 17\n\
-             32.0 arrivals out 0=18\n\
-             32.0 arrivals int | 18\n\
-             32.0 desk ext 0=18 | 10 1 1 129 35 40 52 12 13 14 15 16 17\n\
+             15.0 desk ext 0=9 | 2 1 0 35 19 20 27 4 5 3 6 7 8\n\
+             17.0 arrivals out 0=10\n\
+             17.0 arrivals int | 10\n\
+             17.0 desk ext 0=10 | 2 2 0 47 19 20 27 4 5 3 6 7 8\n\
+             18.0 arrivals out 0=11\n\
+             18.0 arrivals int | 11\n\
+             18.0 desk ext 0=11 | 2 3 0 53 19 20 27 4 5 3 6 7 8\n\
+             19.0 arrivals out 0=12\n\
+             19.0 desk out 0=4\n\
+             19.0 arrivals int | 12\n\
+             19.0 desk con 0=12 | 3 3 0 59 20 27 47 5 3 6 7 8 12\n\
+             19.0 out ext 0=4 | 3 4\n\
+             20.0 arrivals out 0=13\n\
+             20.0 desk out 0=5\n\
+             20.0 arrivals int | 13\n\
+             20.0 desk con 0=13 1=1 | 4 3 0 65 27 47 60 3 6 7 8 12 13\n\
+             20.0 out ext 0=5 | 4 5\n\
+             21.0 arrivals out 0=14\n\
+             21.0 arrivals int | 14\n\
+             21.0 desk ext 0=14 | 4 4 0 71 27 47 60 3 6 7 8 12 13\n\
+             22.0 arrivals out 0=15\n\
+             22.0 arrivals int | 15\n\
+             22.0 desk ext 0=15 | 4 5 0 77 27 47 60 3 6 7 8 12 13\n\
+             23.0 arrivals out 0=16\n\
+             23.0 arrivals int | 16\n\
+             23.0 desk ext 0=16 | 4 6 0 83 27 47 60 3 6 7 8 12 13\n\
+             24.0 arrivals out 0=17\n\
+             24.0 arrivals int | 17\n\
+             24.0 desk ext 0=17 | 4 7 0 89 27 47 60 3 6 7 8 12 13\n\
+             25.0 arrivals out 0=18\n\
+             25.0 arrivals int | 18\n\
+             25.0 desk ext 0=18 | 4 8 0 95 27 47 60 3 6 7 8 12 13\n\
+             26.0 arrivals out 0=19\n\
+             26.0 arrivals int | 19\n\
+             26.0 desk ext 0=19 | 4 9 0 101 27 47 60 3 6 7 8 12 13\n\
+             27.0 desk out 0=3\n\
+             27.0 desk int | 5 9 0 107 28 47 60 8 6 7 12 13\n\
+             27.0 out ext 0=3 | 5 3\n\
+             28.0 desk out 0=8\n\
+             28.0 desk int | 6 9 0 112 35 47 60 12 6 7 13\n\
+             28.0 out ext 0=8 | 6 8\n\
+             30.0 arrivals out 0=20\n\
+             30.0 arrivals int | 20\n\
+             30.0 desk ext 0=20 | 6 9 0 120 35 47 60 12 6 7 13 20\n\
+             31.0 arrivals out 0=21\n\
+             31.0 arrivals int | 21\n\
+             31.0 desk ext 0=21 | 6 9 0 125 35 47 60 12 6 7 13 20 21\n\
+             32.0 arrivals out 0=22\n\
+             32.0 arrivals int | 22\n\
+             32.0 desk ext 0=22 | 6 10 0 131 35 47 60 12 6 7 13 20 21\n\
+             34.0 arrivals out 0=23\n\
+             34.0 arrivals int | 23\n\
+             34.0 desk ext 0=23 | 6 11 0 143 35 47 60 12 6 7 13 20 21\n\
              35.0 desk out 0=12\n\
-             35.0 desk int | 11 1 1 147 38 40 52 15 13 14 16 17\n\
-             35.0 out ext 0=12 | 11 12\n\
-             37.0 arrivals out 0=19\n\
-             37.0 arrivals int | 19\n\
-             37.0 desk ext 0=19 | 11 1 1 157 38 40 52 15 13 14 16 17 19\n\
-             38.0 desk out 0=15\n\
-             38.0 desk int | 12 1 1 163 40 52 66 13 14 16 17 19\n\
-             38.0 out ext 0=15 | 12 15\n\
-             39.0 arrivals out 0=20\n\
-             39.0 arrivals int | 20\n\
-             39.0 desk ext 0=20 | 12 1 1 168 40 52 66 13 14 16 17 19 20\n",
+             35.0 desk int | 7 11 0 149 47 60 75 6 7 13 20 21\n\
+             35.0 out ext 0=12 | 7 12\n\
+             36.0 arrivals out 0=24\n\
+             36.0 arrivals int | 24\n\
+             36.0 desk ext 0=24 | 7 11 0 154 47 60 75 6 7 13 20 21 24\n\
+             37.0 arrivals out 0=25\n\
+             37.0 arrivals int | 25\n\
+             37.0 desk ext 0=25 | 7 12 0 160 47 60 75 6 7 13 20 21 24\n",
 };
 
 /// Loss in thousandths, and four ports by shares.
@@ -327,63 +330,76 @@ pub(crate) static ROUTER: Scene = Scene {
              1.0 s out 0=1\n\
              1.0 s int | 1\n\
              1.0 r ext 0=1 | 0 0 0 0 0 1\n\
-             3.0 r out 2=1\n\
-             3.0 r int | 0 0 0 1 0\n\
-             3.0 c ext 0=1 | 1 1\n\
-             5.0 s out 0=2\n\
-             5.0 s int | 2\n\
-             5.0 r ext 0=2 | 0 0 0 1 0 2\n\
-             7.0 r out 0=2\n\
-             7.0 r int | 0 1 0 1 0\n\
-             7.0 a ext 0=2 | 1 2\n\
-             11.0 s out 0=3\n\
-             11.0 s int | 3\n\
-             11.0 r ext 0=3 | 0 1 0 1 0 3\n\
-             13.0 r out 3=3\n\
-             13.0 r int | 0 1 0 1 1\n\
-             13.0 d ext 0=3 | 1 3\n\
-             17.0 s out 0=4\n\
-             17.0 s int | 4\n\
-             17.0 r ext 0=4 | 0 1 0 1 1 4\n\
-             19.0 s out 0=5\n\
-             19.0 r out 0=4\n\
-             19.0 s int | 5\n\
-             19.0 r con 0=5 | 0 2 0 1 1 5\n\
-             19.0 a ext 0=4 | 2 4\n\
-             20.0 s out 0=6\n\
-             20.0 s int | 6\n\
-             20.0 r ext 0=6 | 0 2 0 1 1 5 6\n\
-             21.0 r out 0=5\n\
-             21.0 r int | 0 3 0 1 1 6\n\
-             21.0 a ext 0=5 | 3 5\n\
-             23.0 r out 2=6\n\
-             23.0 r int | 0 3 0 2 1\n\
-             23.0 c ext 0=6 | 2 6\n\
-             26.0 s out 0=7\n\
-             26.0 s int | 7\n\
-             26.0 r ext 0=7 | 0 3 0 2 1 7\n\
-             28.0 r out 2=7\n\
-             28.0 r int | 0 3 0 3 1\n\
-             28.0 c ext 0=7 | 3 7\n\
-             30.0 s out 0=8\n\
-             30.0 s int | 8\n\
-             30.0 r ext 0=8 | 0 3 0 3 1 8\n\
-             32.0 s out 0=9\n\
-             32.0 r out 2=8\n\
-             32.0 s int | 9\n\
-             32.0 r con 0=9 | 0 3 0 4 1 9\n\
-             32.0 c ext 0=8 | 4 8\n\
-             34.0 s out 0=10\n\
-             34.0 r out 1=9\n\
-             34.0 s int | 10\n\
-             34.0 r con 0=10 | 1 3 1 4 1\n\
-             34.0 b ext 0=9 | 1 9\n\
-             36.0 s out 0=11\n\
-             36.0 s int | 11\n\
-             36.0 r ext 0=11 | 1 3 1 4 1 11\n\
-             38.0 r out 2=11\n\
-             38.0 r int | 1 3 1 5 1\n\
-             38.0 c ext 0=11 | 5 11\n",
+             3.0 s out 0=2\n\
+             3.0 r out 1=1\n\
+             3.0 s int | 2\n\
+             3.0 r con 0=2 | 0 0 1 0 0 2\n\
+             3.0 b ext 0=1 | 1 1\n\
+             5.0 r out 2=2\n\
+             5.0 r int | 0 0 1 1 0\n\
+             5.0 c ext 0=2 | 1 2\n\
+             7.0 s out 0=3\n\
+             7.0 s int | 3\n\
+             7.0 r ext 0=3 | 0 0 1 1 0 3\n\
+             8.0 s out 0=4\n\
+             8.0 s int | 4\n\
+             8.0 r ext 0=4 | 0 0 1 1 0 3 4\n\
+             9.0 r out 2=3\n\
+             9.0 r int | 0 0 1 2 0 4\n\
+             9.0 c ext 0=3 | 2 3\n\
+             11.0 r out 1=4\n\
+             11.0 r int | 0 0 2 2 0\n\
+             11.0 b ext 0=4 | 2 4\n\
+             12.0 s out 0=5\n\
+             12.0 s int | 5\n\
+             12.0 r ext 0=5 | 0 0 2 2 0 5\n\
+             14.0 s out 0=6\n\
+             14.0 r out 0=5\n\
+             14.0 s int | 6\n\
+             14.0 r con 0=6 | 0 1 2 2 0 6\n\
+             14.0 a ext 0=5 | 1 5\n\
+             15.0 s out 0=7\n\
+             15.0 s int | 7\n\
+             15.0 r ext 0=7 | 1 1 2 2 0 6\n\
+             16.0 r out 1=6\n\
+             16.0 r int | 1 1 3 2 0\n\
+             16.0 b ext 0=6 | 3 6\n\
+             21.0 s out 0=8\n\
+             21.0 s int | 8\n\
+             21.0 r ext 0=8 | 1 1 3 2 0 8\n\
+             23.0 s out 0=9\n\
+             23.0 r out 0=8\n\
+             23.0 s int | 9\n\
+             23.0 r con 0=9 | 1 2 3 2 0 9\n\
+             23.0 a ext 0=8 | 2 8\n\
+             25.0 r out 1=9\n\
+             25.0 r int | 1 2 4 2 0\n\
+             25.0 b ext 0=9 | 4 9\n\
+             27.0 s out 0=10\n\
+             27.0 s int | 10\n\
+             27.0 r ext 0=10 | 1 2 4 2 0 10\n\
+             29.0 s out 0=11\n\
+             29.0 r out 0=10\n\
+             29.0 s int | 11\n\
+             29.0 r con 0=11 | 1 3 4 2 0 11\n\
+             29.0 a ext 0=10 | 3 10\n\
+             31.0 r out 3=11\n\
+             31.0 r int | 1 3 4 2 1\n\
+             31.0 d ext 0=11 | 1 11\n\
+             35.0 s out 0=12\n\
+             35.0 s int | 12\n\
+             35.0 r ext 0=12 | 1 3 4 2 1 12\n\
+             37.0 s out 0=13\n\
+             37.0 r out 3=12\n\
+             37.0 s int | 13\n\
+             37.0 r con 0=13 | 1 3 4 2 2 13\n\
+             37.0 d ext 0=12 | 2 12\n\
+             38.0 s out 0=14\n\
+             38.0 s int | 14\n\
+             38.0 r ext 0=14 | 1 3 4 2 2 13 14\n\
+             39.0 r out 1=13\n\
+             39.0 r int | 1 3 5 2 2 14\n\
+             39.0 b ext 0=13 | 5 13\n",
 };
 
 /// A stock that is ordered anew below a level, with back orders and a lead time.
@@ -450,82 +466,83 @@ pub(crate) static INVENTORY: Scene = Scene {
     inputs: &[],
     until: 40,
     lines: "\
-             1.0 c out 0=3\n\
+             1.0 c out 0=2\n\
              1.0 c int | 3\n\
-             1.0 store ext 0=3 | 6 0 0 9 0\n\
+             1.0 store ext 0=2 | 7 0 0 9 0\n\
              2.0 c out 0=3\n\
-             2.0 c int | 2\n\
-             2.0 store ext 0=3 | 3 0 6 15 0\n\
-             2.1 store out 0=6\n\
-             2.1 store int | 3 0 6 15 0\n\
-             2.1 supplier ext 0=6 | 1 9 6\n\
-             7.0 c out 0=2\n\
-             7.0 c int | 4\n\
-             7.0 store ext 0=2 | 1 0 6 30 0\n\
-             9.0 supplier out 0=6\n\
-             9.0 store ext 1=6 | 7 0 0 32 0\n\
+             2.0 c int | 1\n\
+             2.0 store ext 0=3 | 4 0 5 16 0\n\
+             2.1 store out 0=5\n\
+             2.1 store int | 4 0 5 16 0\n\
+             2.1 supplier ext 0=5 | 1 9 5\n\
+             5.0 c out 0=1\n\
+             5.0 c int | 2\n\
+             5.0 store ext 0=1 | 3 0 5 28 0\n\
+             8.0 c out 0=2\n\
+             8.0 c int | 1\n\
+             8.0 store ext 0=2 | 1 0 5 37 0\n\
+             9.0 supplier out 0=5\n\
+             9.0 store ext 1=5 | 6 0 0 38 0\n\
              9.0 supplier int | 0\n\
-             12.0 c out 0=4\n\
-             12.0 c int | 1\n\
-             12.0 store ext 0=4 | 3 0 6 53 0\n\
-             12.1 store out 0=6\n\
-             12.1 store int | 3 0 6 53 0\n\
-             12.1 supplier ext 0=6 | 1 19 6\n\
-             14.0 c out 0=1\n\
-             14.0 c int | 4\n\
-             14.0 store ext 0=1 | 2 0 6 59 0\n\
-             16.0 c out 0=4\n\
-             16.0 c int | 1\n\
-             16.0 store ext 0=4 | 0 2 11 63 2\n\
-             16.1 store out 0=5\n\
-             16.1 store int | 0 2 11 63 2\n\
-             16.1 supplier ext 0=5 | 2 19 23 6 5\n\
-             19.0 c out 0=1\n\
-             19.0 supplier out 0=6\n\
-             19.0 c int | 3\n\
-             19.0 store ext 0=1 1=6 | 3 0 5 63 3\n\
-             19.0 supplier int | 1 23 5\n\
-             21.0 c out 0=3\n\
-             21.0 c int | 4\n\
-             21.0 store ext 0=3 | 0 0 5 69 3\n\
-             23.0 c out 0=4\n\
-             23.0 supplier out 0=5\n\
-             23.0 c int | 3\n\
-             23.0 store ext 0=4 1=5 | 1 0 8 69 7\n\
-             23.0 supplier int | 0\n\
-             23.1 store out 0=8\n\
-             23.1 store int | 1 0 8 69 7\n\
-             23.1 supplier ext 0=8 | 1 30 8\n\
+             11.0 c out 0=1\n\
+             11.0 c int | 2\n\
+             11.0 store ext 0=1 | 5 0 0 50 0\n\
+             14.0 c out 0=2\n\
+             14.0 c int | 3\n\
+             14.0 store ext 0=2 | 3 0 6 65 0\n\
+             14.1 store out 0=6\n\
+             14.1 store int | 3 0 6 65 0\n\
+             14.1 supplier ext 0=6 | 1 21 6\n\
+             17.0 c out 0=3\n\
+             17.0 c int | 4\n\
+             17.0 store ext 0=3 | 0 0 6 74 0\n\
+             18.0 c out 0=4\n\
+             18.0 c int | 3\n\
+             18.0 store ext 0=4 | 0 4 13 74 4\n\
+             18.1 store out 0=7\n\
+             18.1 store int | 0 4 13 74 4\n\
+             18.1 supplier ext 0=7 | 2 21 25 6 7\n\
+             21.0 supplier out 0=6\n\
+             21.0 store ext 1=6 | 2 0 7 74 4\n\
+             21.0 supplier int | 1 25 7\n\
+             23.0 c out 0=3\n\
+             23.0 c int | 2\n\
+             23.0 store ext 0=3 | 0 1 7 78 5\n\
+             24.0 c out 0=2\n\
+             24.0 c int | 3\n\
+             24.0 store ext 0=2 | 0 3 12 78 7\n\
+             24.1 store out 0=5\n\
+             24.1 store int | 0 3 12 78 7\n\
+             24.1 supplier ext 0=5 | 2 25 31 7 5\n\
+             25.0 supplier out 0=7\n\
+             25.0 store ext 1=7 | 4 0 5 78 7\n\
+             25.0 supplier int | 1 31 5\n\
              26.0 c out 0=3\n\
-             26.0 c int | 3\n\
-             26.0 store ext 0=3 | 0 2 8 72 9\n\
-             30.0 supplier out 0=8\n\
-             30.0 store ext 1=8 | 6 0 0 72 9\n\
-             30.0 supplier int | 0\n\
-             31.0 c out 0=3\n\
-             31.0 c int | 2\n\
-             31.0 store ext 0=3 | 3 0 6 78 9\n\
+             26.0 c int | 1\n\
+             26.0 store ext 0=3 | 1 0 5 82 7\n\
+             28.0 c out 0=1\n\
+             28.0 c int | 2\n\
+             28.0 store ext 0=1 | 0 0 5 84 7\n\
+             31.0 c out 0=2\n\
+             31.0 supplier out 0=5\n\
+             31.0 c int | 1\n\
+             31.0 store ext 0=2 1=5 | 3 0 6 84 9\n\
+             31.0 supplier int | 0\n\
              31.1 store out 0=6\n\
-             31.1 store int | 3 0 6 78 9\n\
+             31.1 store int | 3 0 6 84 9\n\
              31.1 supplier ext 0=6 | 1 38 6\n\
-             32.0 c out 0=2\n\
-             32.0 c int | 2\n\
-             32.0 store ext 0=2 | 1 0 6 81 9\n\
-             33.0 c out 0=2\n\
-             33.0 c int | 3\n\
-             33.0 store ext 0=2 | 0 1 6 82 10\n\
-             34.0 c out 0=3\n\
+             33.0 c out 0=1\n\
+             33.0 c int | 1\n\
+             33.0 store ext 0=1 | 2 0 6 90 9\n\
+             34.0 c out 0=1\n\
              34.0 c int | 2\n\
-             34.0 store ext 0=3 | 0 4 13 82 13\n\
-             34.1 store out 0=7\n\
-             34.1 store int | 0 4 13 82 13\n\
-             34.1 supplier ext 0=7 | 2 38 41 6 7\n\
+             34.0 store ext 0=1 | 1 0 6 92 9\n\
+             37.0 c out 0=2\n\
+             37.0 c int | 1\n\
+             37.0 store ext 0=2 | 0 1 6 95 10\n\
              38.0 supplier out 0=6\n\
-             38.0 store ext 1=6 | 2 0 7 82 13\n\
-             38.0 supplier int | 1 41 7\n\
-             39.0 c out 0=2\n\
-             39.0 c int | 3\n\
-             39.0 store ext 0=2 | 0 0 7 84 13\n",
+             38.0 store ext 1=6 | 5 0 0 95 10\n\
+             38.0 supplier int | 0\n",
 };
 
 /// A lathe that breaks down and is repaired.
@@ -593,56 +610,53 @@ pub(crate) static LATHE: Scene = Scene {
     lines: "\
              1.0 s out 0=1\n\
              1.0 s int | 1\n\
-             1.0 lathe ext 0=1 | 0 3 25 0 0 1\n\
-             4.0 lathe out 0=1\n\
-             4.0 lathe int | 0 0 22 1 0\n\
-             4.0 out ext 0=1 | 1 1\n\
+             1.0 lathe ext 0=1 | 0 4 25 0 0 1\n\
+             5.0 lathe out 0=1\n\
+             5.0 lathe int | 0 0 21 1 0\n\
+             5.0 out ext 0=1 | 1 1\n\
              11.0 s out 0=2\n\
              11.0 s int | 2\n\
-             11.0 lathe ext 0=2 | 0 6 22 1 0 2\n\
-             16.0 s out 0=3\n\
-             16.0 s int | 3\n\
-             16.0 lathe ext 0=3 | 0 1 17 1 0 2 3\n\
-             17.0 lathe out 0=2\n\
-             17.0 lathe int | 0 4 16 2 0 3\n\
-             17.0 out ext 0=2 | 2 2\n\
-             21.0 lathe out 0=3\n\
-             21.0 lathe int | 0 0 12 3 0\n\
-             21.0 out ext 0=3 | 3 3\n\
-             22.0 s out 0=4\n\
-             22.0 s int | 4\n\
-             22.0 lathe ext 0=4 | 0 3 12 3 0 4\n\
-             25.0 lathe out 0=4\n\
-             25.0 lathe int | 0 0 9 4 0\n\
-             25.0 out ext 0=4 | 4 4\n\
-             28.0 s out 0=5\n\
-             28.0 s int | 5\n\
-             28.0 lathe ext 0=5 | 0 6 9 4 0 5\n\
-             33.0 s out 0=6\n\
-             33.0 s int | 6\n\
-             33.0 lathe ext 0=6 | 0 1 4 4 0 5 6\n\
-             34.0 lathe out 0=5\n\
-             34.0 lathe int | 0 4 3 5 0 6\n\
-             34.0 out ext 0=5 | 5 5\n\
-             35.0 s out 0=7\n\
-             35.0 s int | 7\n\
-             35.0 lathe ext 0=7 | 0 3 2 5 0 6 7\n\
-             37.0 lathe out -\n\
-             37.0 lathe int | 1 1 0 5 1 6 7\n\
-             38.0 s out 0=8\n\
-             38.0 s int | 8\n\
-             38.0 lathe ext 0=8 | 1 1 0 5 1 6 7 8\n\
-             46.0 s out 0=9\n\
-             46.0 s int | 9\n\
-             46.0 lathe ext 0=9 | 1 1 0 5 1 6 7 8 9\n\
-             49.0 lathe out -\n\
-             49.0 lathe int | 0 1 30 5 1 6 7 8 9\n\
-             50.0 lathe out 0=6\n\
-             50.0 lathe int | 0 8 29 6 1 7 8 9\n\
-             50.0 out ext 0=6 | 6 6\n\
-             58.0 lathe out 0=7\n\
-             58.0 lathe int | 0 5 21 7 1 8 9\n\
-             58.0 out ext 0=7 | 7 7\n",
+             11.0 lathe ext 0=2 | 0 2 21 1 0 2\n\
+             13.0 lathe out 0=2\n\
+             13.0 lathe int | 0 0 19 2 0\n\
+             13.0 out ext 0=2 | 2 2\n\
+             21.0 s out 0=3\n\
+             21.0 s int | 3\n\
+             21.0 lathe ext 0=3 | 0 3 19 2 0 3\n\
+             24.0 lathe out 0=3\n\
+             24.0 lathe int | 0 0 16 3 0\n\
+             24.0 out ext 0=3 | 3 3\n\
+             35.0 s out 0=4\n\
+             35.0 s int | 4\n\
+             35.0 lathe ext 0=4 | 0 4 16 3 0 4\n\
+             39.0 s out 0=5\n\
+             39.0 lathe out 0=4\n\
+             39.0 s int | 5\n\
+             39.0 lathe con 0=5 | 0 2 12 4 0 5\n\
+             39.0 out ext 0=4 | 4 4\n\
+             41.0 lathe out 0=5\n\
+             41.0 lathe int | 0 0 10 5 0\n\
+             41.0 out ext 0=5 | 5 5\n\
+             43.0 s out 0=6\n\
+             43.0 s int | 6\n\
+             43.0 lathe ext 0=6 | 0 8 10 5 0 6\n\
+             46.0 s out 0=7\n\
+             46.0 s int | 7\n\
+             46.0 lathe ext 0=7 | 0 5 7 5 0 6 7\n\
+             51.0 lathe out 0=6\n\
+             51.0 lathe int | 0 5 2 6 0 7\n\
+             51.0 out ext 0=6 | 6 6\n\
+             52.0 s out 0=8\n\
+             52.0 s int | 8\n\
+             52.0 lathe ext 0=8 | 0 4 1 6 0 7 8\n\
+             53.0 lathe out -\n\
+             53.0 lathe int | 1 3 0 6 1 7 8\n\
+             55.0 s out 0=9\n\
+             55.0 s int | 9\n\
+             55.0 lathe ext 0=9 | 1 3 0 6 1 7 8 9\n\
+             59.0 s out 0=10\n\
+             59.0 s int | 10\n\
+             59.0 lathe ext 0=10 | 1 3 0 6 1 7 8 9 10\n",
 };
 
 /// Stations that send while they hold the token.
@@ -745,47 +759,44 @@ pub(crate) static TOKEN_RING: Scene = Scene {
              5.0 b out 1=0\n\
              5.0 b int | 0 1 1\n\
              5.0 c ext 1=0 | 1 0 1 1\n\
-             7.0 sb out 0=2\n\
-             7.0 b ext 0=2 | 0 1 1 2\n\
-             7.0 sb int | 2\n\
+             6.0 sc out 0=2\n\
+             6.0 c ext 0=2 | 1 0 1 1 2\n\
+             6.0 sc int | 2\n\
              8.0 c out 0=1\n\
-             8.0 c int | 0 1 1\n\
+             8.0 c int | 0 1 1 2\n\
              8.0 out ext 0=1 | 2 1\n\
              9.0 c out 1=0\n\
-             9.0 a ext 1=0 | 1 0 1 1\n\
-             9.0 c int | 0 1 1\n\
-             11.0 sc out 0=2\n\
-             11.0 c ext 0=2 | 0 1 1 2\n\
-             11.0 sc int | 2\n\
+             9.0 sa out 0=2\n\
+             9.0 a ext 0=2 1=0 | 2 0 1 1 2\n\
+             9.0 c int | 0 1 1 2\n\
+             9.0 sa int | 2\n\
              12.0 a out 0=1\n\
-             12.0 a int | 0 1 1\n\
+             12.0 a int | 1 1 1 2\n\
              12.0 out ext 0=1 | 3 1\n\
-             13.0 a out 1=0\n\
-             13.0 sa out 0=2\n\
-             13.0 a con 0=2 | 0 1 1 2\n\
-             13.0 b ext 1=0 | 1 1 2 2\n\
-             13.0 sa int | 2\n\
-             16.0 b out 0=2\n\
-             16.0 b int | 0 2 2\n\
-             16.0 out ext 0=2 | 4 2\n\
-             17.0 b out 1=0\n\
-             17.0 b int | 0 2 2\n\
-             17.0 c ext 1=0 | 1 1 2 2\n\
-             20.0 c out 0=2\n\
-             20.0 c int | 0 2 2\n\
-             20.0 out ext 0=2 | 5 2\n\
-             21.0 c out 1=0\n\
-             21.0 a ext 1=0 | 1 1 2 2\n\
-             21.0 c int | 0 2 2\n\
-             22.0 sb out 0=3\n\
-             22.0 b ext 0=3 | 0 2 2 3\n\
-             22.0 sb int | 3\n\
-             23.0 sa out 0=3\n\
-             23.0 a ext 0=3 | 1 1 2 2 3\n\
-             23.0 sa int | 3\n\
-             24.0 a out 0=2\n\
-             24.0 a int | 0 2 2 3\n\
-             24.0 out ext 0=2 | 6 2\n",
+             13.0 sb out 0=2\n\
+             13.0 b ext 0=2 | 0 1 1 2\n\
+             13.0 sb int | 2\n\
+             15.0 a out 0=2\n\
+             15.0 a int | 0 2 1\n\
+             15.0 out ext 0=2 | 4 2\n\
+             16.0 a out 1=0\n\
+             16.0 sc out 0=3\n\
+             16.0 a int | 0 2 1\n\
+             16.0 b ext 1=0 | 1 1 2 2\n\
+             16.0 c ext 0=3 | 0 1 1 2 3\n\
+             16.0 sc int | 3\n\
+             19.0 b out 0=2\n\
+             19.0 sc out 0=4\n\
+             19.0 b int | 0 2 2\n\
+             19.0 c ext 0=4 | 0 1 1 2 3 4\n\
+             19.0 sc int | 4\n\
+             19.0 out ext 0=2 | 5 2\n\
+             20.0 b out 1=0\n\
+             20.0 b int | 0 2 2\n\
+             20.0 c ext 1=0 | 2 1 2 2 3 4\n\
+             23.0 c out 0=2\n\
+             23.0 c int | 1 2 2 3 4\n\
+             23.0 out ext 0=2 | 6 2\n",
 };
 
 /// A server that goes round its lines.
@@ -882,50 +893,45 @@ pub(crate) static POLLING: Scene = Scene {
              1.0 server ext 0=1 1=1 2=1 3=1 | 0 0 0 0 0 0 0 1 1 1 1\n\
              2.0 server out -\n\
              2.0 server int | 1 1 0 0 0 0 0 1 1 1 1\n\
-             5.0 server out 1=1\n\
-             5.0 server int | 1 0 0 0 1 0 0 1 1 1\n\
-             5.0 out ext 1=1 | 1 1\n\
-             6.0 server out -\n\
-             6.0 server int | 2 1 0 0 1 0 0 1 1 1\n\
-             7.0 s1 out 0=2\n\
-             7.0 s3 out 0=2\n\
-             7.0 s1 int | 2\n\
-             7.0 s3 int | 2\n\
-             7.0 server ext 1=2 3=2 | 2 1 0 0 1 0 0 1 2 1 1 2\n\
-             10.0 server out 2=1\n\
-             10.0 server int | 2 0 0 0 1 1 0 1 2 1 2\n\
-             10.0 out ext 2=1 | 2 1\n\
-             11.0 server out -\n\
-             11.0 server int | 3 1 0 0 1 1 0 1 2 1 2\n\
-             13.0 s0 out 0=2\n\
-             13.0 s0 int | 2\n\
-             13.0 server ext 0=2 | 3 1 0 0 1 1 0 1 2 2 1 2\n\
-             15.0 s1 out 0=3\n\
-             15.0 s3 out 0=3\n\
-             15.0 server out 3=1\n\
-             15.0 s1 int | 3\n\
-             15.0 s3 int | 3\n\
-             15.0 server con 1=3 3=3 | 3 1 0 0 1 1 1 1 2 2 3 2 3\n\
-             15.0 out ext 3=1 | 3 1\n\
-             16.0 server out 3=2\n\
-             16.0 server int | 3 1 0 0 1 1 2 1 2 2 3 3\n\
-             16.0 out ext 3=2 | 4 2\n\
-             17.0 s2 out 0=2\n\
-             17.0 server out 3=3\n\
-             17.0 s2 int | 2\n\
-             17.0 server con 2=2 | 3 0 0 0 1 1 3 1 2 2 3 2\n\
-             17.0 out ext 3=3 | 5 3\n\
+             3.0 server out 1=1\n\
+             3.0 server int | 1 0 0 0 1 0 0 1 1 1\n\
+             3.0 out ext 1=1 | 1 1\n\
+             4.0 server out -\n\
+             4.0 server int | 2 1 0 0 1 0 0 1 1 1\n\
+             8.0 server out 2=1\n\
+             8.0 server int | 2 0 0 0 1 1 0 1 1\n\
+             8.0 out ext 2=1 | 2 1\n\
+             9.0 s2 out 0=2\n\
+             9.0 server out -\n\
+             9.0 s2 int | 2\n\
+             9.0 server con 2=2 | 3 1 0 0 1 1 0 1 2 1\n\
+             13.0 server out 3=1\n\
+             13.0 server int | 3 0 0 0 1 1 1 1 2\n\
+             13.0 out ext 3=1 | 3 1\n\
+             14.0 server out -\n\
+             14.0 server int | 0 1 0 0 1 1 1 1 2\n\
+             16.0 server out 0=1\n\
+             16.0 server int | 0 0 0 1 1 1 1 2\n\
+             16.0 out ext 0=1 | 4 1\n\
+             17.0 server out -\n\
+             17.0 server int | 1 0 0 1 1 1 1 2\n\
              18.0 server out -\n\
-             18.0 server int | 0 1 0 0 1 1 3 1 2 2 3 2\n\
-             20.0 server out 0=1\n\
-             20.0 server int | 0 1 0 1 1 1 3 2 2 3 2\n\
-             20.0 out ext 0=1 | 6 1\n\
-             21.0 s1 out 0=4\n\
-             21.0 s1 int | 4\n\
-             21.0 server ext 1=4 | 0 1 0 1 1 1 3 2 2 3 4 2\n\
-             23.0 server out 0=2\n\
-             23.0 server int | 0 0 0 2 1 1 3 2 3 4 2\n\
-             23.0 out ext 0=2 | 7 2\n\
+             18.0 server int | 2 1 0 1 1 1 1 2\n\
+             19.0 server out 2=2\n\
+             19.0 server int | 2 0 0 1 1 2 1\n\
+             19.0 out ext 2=2 | 5 2\n\
+             21.0 s0 out 0=2\n\
+             21.0 s2 out 0=3\n\
+             21.0 s3 out 0=2\n\
+             21.0 s0 int | 2\n\
+             21.0 s2 int | 3\n\
+             21.0 s3 int | 2\n\
+             21.0 server ext 0=2 2=3 3=2 | 2 0 0 1 1 2 1 2 3 2\n\
+             22.0 server out -\n\
+             22.0 server int | 3 1 0 1 1 2 1 2 3 2\n\
+             23.0 server out 3=2\n\
+             23.0 server int | 3 0 0 1 1 2 2 2 3\n\
+             23.0 out ext 3=2 | 6 2\n\
              24.0 server out -\n\
-             24.0 server int | 1 1 0 2 1 1 3 2 3 4 2\n",
+             24.0 server int | 0 1 0 1 1 2 2 2 3\n",
 };

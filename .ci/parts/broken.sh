@@ -32,7 +32,7 @@ with_byte() {
 }
 
 whole=$room/whole
-for net in tests/program/{gen-tally,straggler-of-three,coupled-to-itself,nested}/network.json; do
+for net in tests/program/{gen-tally,straggler-of-three,coupled-to-itself,nested,machine-tally}/network.json; do
     printf '%s' "$(<"$net")" >"$whole"
     length=$(wc -c <"$whole")
     for ((place = 0; place < length; place++)); do

@@ -33,4 +33,10 @@ tests/program/nested/network.json 3 2000
 tests/program/nested-two-paths/network.json 3 2000
 examples/ring-of-queues.json 16 4000
 tests/three-hops.json 12 3000
+examples/pool.json 12 8000
+examples/router.json 8 12000
+examples/inventory.json 12 6000
+examples/lathe.json 30 8000
+examples/token-ring.json 10 12000
+examples/polling.json 8 12000
 NETWORKS

@@ -79,7 +79,7 @@ if cc -shared -fPIC -O1 -o "$room/refuse.so" tests/refuse.c 2>"$err"; then
         (cd "$room/$case-drawn" && exec "$program" "${words[@]}" >"$room/$case-drawn/stdout")
     done
     for case in $PWD/tests/program/{gen-tally,microstep-fault,mutual-confluent,straggler-of-three,nested,check-whole,demonstration} \
-        $PWD/tests/program/{figures-of-gen-tally,items-of-a-microstep-fault,a-seed} "$room"/{gen-tally,straggler-of-three}-drawn; do
+        $PWD/tests/program/{figures-of-gen-tally,items-of-a-microstep-fault,a-seed,machine-tally} "$room"/{gen-tally,straggler-of-three}-drawn; do
         mapfile -t words <"$case/args"
         status=$(cat "$case/status" 2>/dev/null || echo 0)
         lines=("${words[*]}")

@@ -1,4 +1,5 @@
-# Runs by workers whose number, burst and window are drawn by seed: 2,000 of them, on six networks, for both ways of cancelling. Each
+# Runs by workers whose number, burst and window are drawn by seed, for both ways of cancelling: 2,600 of them, on nine networks, of which
+# three have machines. Each
 # writes the bytes of `seq` and ends as it does.
 
 # Draws the next number below another; it is in `drawn`.
@@ -33,4 +34,7 @@ tests/program/mutual-confluent/network.json 3 300
 tests/program/straggler-of-three/network.json 10 300
 tests/program/full-queue/network.json 500 300
 tests/eight-hops.json 60 500
+examples/pool.json 40 200
+examples/polling.json 25 200
+examples/inventory.json 40 200
 NETWORKS

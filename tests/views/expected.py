@@ -5,8 +5,12 @@ It is a second, independent way to the numbers: the trace is that of tests/progr
 program's own. Of machines it knows the start values of registers, queues, `length` and a table's number at `random`, which is what the networks here
 show."""
 import json
+import os
 import re
 import sys
+
+sys.path.insert(0, os.path.join(os.path.dirname(os.path.abspath(__file__)), "..", "reference"))
+from simulate import mixed, permuted
 
 
 def atoms(model, prefix=""):
@@ -18,25 +22,11 @@ def atoms(model, prefix=""):
             yield name, part
 
 
-def mixed(seed):
-    """The random number at the start: SplitMix64's number of a seed."""
-    z = (seed + 0x9E3779B97F4A7C15) % 2**64
-    z = (z ^ z >> 30) * 0xBF58476D1CE4E5B9 % 2**64
-    z = (z ^ z >> 27) * 0x94D049BB133111EB % 2**64
-    return z ^ z >> 31
-
-
-def seen(x):
-    """What a program sees of a random number: 32 bits, by PCG XSH RR."""
-    bits, by = ((x >> 18 ^ x) >> 27) % 2**32, x >> 59
-    return (bits >> by | bits << 32 - by) % 2**32
-
-
 def machine_figures(machine, part):
     """The names of its figures, each with what it is of the words, and the words of its start state."""
     registers, queues, start, figures, behind = machine.get("registers", {}), machine.get("queues", {}), [], [], []
     constant = lambda it: part[it] if isinstance(it, str) else it
-    random = seen(mixed(constant(machine.get("random", 0))))
+    random = permuted(mixed(constant(machine.get("random", 0)) % 2**64))
     plain = 0
     for entry in machine["words"]:
         text = " ".join(str(entry).split())

@@ -1,11 +1,12 @@
 //! What an executive is asked and what it answers: plain data, the same for the code and for the definitions.
 //!
-//! - [`Cancel`]: how the messages of undone steps are cancelled.
-//! - [`Action`], [`Done`], [`Received`]: what is asked, and what is answered where it is not refused.
-//! - [`Cause`]: why a chain, made apart from its process, has no more steps; [`Finished`], [`Stop`]: how many of them
-//!   its process made, and why no more.
-//! - [`Fault`]: the limit that ends a run, who met it, and when; [`RunState`]: how a run stands.
-//! - [`MAX_WORKERS`], [`MAX_BURST`]: what a run by workers may be set to.
+//! - `action`: [`Action`], what is asked; [`Done`] and [`Received`], what is answered where it is not refused.
+//! - `cancel`: [`Cancel`], how the messages of undone steps are cancelled.
+//! - `chain`: [`Cause`], why a chain, made apart from its process, has no more steps; [`Finished`] and [`Stop`], how many
+//!   of them its process made, and why no more.
+//! - `fault`: [`Fault`], the limit that ends a run, who met it, and when.
+//! - `run_state`: [`RunState`], how a run stands.
+//! - `setting`: [`MAX_WORKERS`] and [`MAX_BURST`], what a run by workers may be set to.
 #![tactic(auto)]
 
 mod action;

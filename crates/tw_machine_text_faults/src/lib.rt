@@ -1,14 +1,15 @@
 //! Where a machine's text goes wrong, in words: what it has there, and what it wants.
 //!
-//! The text is spelt out once more into words and read word by word up to the place where the reader of
-//! `tw_machine_text` stopped; what may stand there says what is wrong. Of the words nothing is proved but that they are
-//! made safely and that the search ends: they are shown by tests, one for each kind of fault.
+//! The text is spelt out once more into words and read word by word up to the place where the reader of `tw_machine_text`
+//! stopped; what may stand there says what is wrong. Of the words nothing is proved but that they are made safely and that
+//! the search ends: they are shown by tests, one for each kind of fault.
 //!
-//! - [`reason`]: why a text goes wrong at a place.
-//! - [`words_of`], [`Spelled`]: all words of a text, each with its place.
-//! - [`is_reserved`]: whether a word is one of the language that no name may be.
-//! - [`Nearest`]: the name that was meant, where one is misspelt.
-//! - [`quoted`], [`described`], [`listed`]: words of which a line is made.
+//! - `texts`: [`reason`], why a text goes wrong at a place; [`is_reserved`], whether a word is one of the language that no
+//!   name may be.
+//! - `spelling`: [`words_of`] and [`Spelled`], all words of a text, each with its place.
+//! - `reading`: what is open behind the words so far, and so what may stand next.
+//! - `nearest`: [`Nearest`], the name that was meant, where one is misspelt.
+//! - `words`: [`quoted`], [`described`] and [`listed`], of which a line is made.
 #![tactic(auto)]
 
 mod nearest;

@@ -1,14 +1,16 @@
 //! What components send, receive and record: messages, items in transit, bags and records.
 //!
-//! A [`Message`] is a value for a port of a component at a stamp; messages are ordered by stamp, port,
-//! value and receiver, and [`message_order_law`] says what that order is. An [`Item`] is a message with a
-//! [`Sign`]; [`signed_count`] counts a message among items, less its anti-messages. A [`Bag`] holds the
-//! items of an input or an output, which contracts see as a list, and sorts them by port, then value. A
-//! [`Record`] is one step of a component as a trace keeps it, with the [`Words`] of its state;
-//! [`equality_law`] says that records are equal exactly where their contents are.
+//! - `message`: [`Message`], a value for a port of a component at a stamp. Messages are ordered by stamp, port, value and
+//!   receiver; [`message_order_law`] says what that order is. [`Item`], a message in transit, with a [`Sign`].
+//! - `counting`: [`signed_count`], how often a message stands among items, less its anti-messages.
+//! - `bag`: [`Bag`], the items of an input or an output. Contracts see it as a list. It is sorted by port, then value.
+//! - `words`: [`Words`], the numbers that a state shows.
+//! - `record`: [`Record`], one step of a component as a trace keeps it, with the words of its state. [`equality_law`] says
+//!   that records are equal exactly where their contents are.
+//! - `record_kind`: [`RecordKind`], an output, or one of the three transitions.
 //!
-//! Only [`Bag::push`] and the copies of bags, words and records take memory. Where it is wanting they
-//! answer so (refusal 4), and what they were given stays as it was.
+//! Only [`Bag::push`], [`Words::of`], [`Words::append_to`] and the copies of bags, words and records take memory. Where
+//! there is none they answer so (refusal 4), and what they were given stays as it was.
 #![tactic(auto)]
 
 mod bag;

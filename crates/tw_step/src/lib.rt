@@ -1,16 +1,17 @@
 //! One step of one component: where it stands, what it outputs, and the transition that it makes.
 //!
-//! The sequential simulator, chains and processes all step a component by these calls, so each is proved once,
-//! against the definitions of one component by itself (`Transitions` of tw_theory). What an output sends is routed by
-//! one call for processes and chains; the simulator deals it into bags by a walk of its own.
+//! The sequential simulator, chains and processes all step a component by these calls, so each is proved once, against the
+//! definitions of one component by itself (`Transitions` of tw_theory). What an output sends is routed by one call for
+//! processes and chains; the simulator deals it into bags by a walk of its own.
 //!
-//! - [`Moment`]: where a component stands: its state, its last time, and its next own step; [`start_moment`]: at the start;
-//!   [`copy_moment`]: a copy.
-//! - [`output_bag`]: what a model sends in a state, sorted, or [`fill_output`], into a bag that is there; [`routed`]: the
-//!   messages that this makes.
-//! - [`Step`]: one step with what takes it back. [`output_step`] and [`transition_step`] make the steps of a component,
-//!   and [`take_back`] takes them back, the last one first. Where a transition is refused ([`TurnRefused`]), the
-//!   component stands where it stood. [`pass_turn`] makes a transition that is never taken back.
+//! - `moment`: [`Moment`], where a component stands: its state, its last time, and its next own step; [`start_moment`], at
+//!   the start; [`copy_moment`], a copy.
+//! - `outputs`: [`output_bag`], what a model sends in a state, sorted; [`fill_output`], the same, into a bag that is there;
+//!   [`routed`], the messages that this makes.
+//! - `step`: [`Step`], one step with what takes it back. [`output_step`] and [`transition_step`] make the steps of a
+//!   component, and [`take_back`] takes them back, the last one first.
+//! - `turns`: [`pass_turn`], a transition that is never taken back; [`turn_of`], which of the three transitions it is.
+//! - `refused`: [`TurnRefused`], why a transition is not made. The component then stands where it stood.
 #![tactic(auto)]
 
 mod moment;

@@ -1,14 +1,19 @@
-//! Scalable Vector Graphics, as pictures of runs need them: a text that grows, made of shapes, words and a style sheet for light
-//! and dark.
+//! Scalable Vector Graphics, as pictures of runs need them: a text that grows, made of shapes, words and a style sheet for
+//! light and dark.
 //!
-//! - [`Points`], [`Spot`]: lengths and places with one decimal, without floating point.
-//! - [`Svg`]: the text of a picture, element by element, with escaped words. [`Path`]: the outline of a shape.
-//! - [`Axis`], [`Unit`]: virtual time along a line: ticks with several microsteps open, long silences are cut.
-//! - [`Front`], [`Legend`]: what stands above a picture: title, facts, how to read it, faults, and the samples of what is in it.
-//! - [`cut`], [`short`], [`tick_text`], [`value_text`], [`many`], [`width_of`]: names, lines and numbers in little room.
+//! - `points`: [`Points`] and [`Spot`], lengths and places with one decimal, without floating point.
+//! - `svg`: [`Svg`], the text of a picture, element by element, with escaped words.
+//! - `sheet`: [`Sheet`], the style sheet.
+//! - `outline`: [`Path`], the outline of a shape. `shapes`: discs, corners, crosses and heads of arrows as such outlines.
+//! - `axis`: [`Axis`], virtual time along a line: ticks with several microsteps open, long silences are cut.
+//! - `unit`: [`Unit`], how many points a tick takes.
+//! - `front`: [`Front`], what stands above a picture: its title, facts, how to read it, and faults.
+//! - `legend`: [`Legend`], samples of what is in a picture, with words.
+//! - `words`: [`cut`], [`short`], [`tick_text`], [`value_text`], [`many`] and [`width_of`], names, lines and numbers in
+//!   little room.
 //!
-//! No call looks outside: the same calls give the same bytes. What grows a text can be refused for want of memory (4) alone, and
-//! then the text is of no more use.
+//! No call looks outside: the same calls give the same bytes. What grows a text can be refused for want of memory (4)
+//! alone, and then the text is of no more use.
 #![tactic(auto)]
 
 mod axis;

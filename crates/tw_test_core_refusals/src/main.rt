@@ -11,6 +11,7 @@
 //! | `mails` | mailboxes |
 //! | `columns` | columns of committed records, as one trace |
 //! | `networks` | networks in code, flat and as trees |
+//! | `messages` | nothing: messages, and how numbers and stamps of them are told |
 #![tactic(auto)]
 
 mod columns;

@@ -1,13 +1,15 @@
-//! The texts of the program: times, bags, words, messages, records and faults, each byte for byte, and
-//! a trace written line by line.
+//! The texts of the program: times, bags, words, messages, records and faults, each byte for byte, and a trace written line
+//! by line.
 //!
-//! [`push_time`], [`push_bag`], [`push_words`] and [`push_message`] add a part of a line to a text;
-//! [`kind_name`] and [`sign_name`] are the words for kinds of steps and the signs of items;
-//! [`push_record`] and [`push_fault`] add a whole line, which ends with one newline byte. Their
-//! contracts give the exact bytes. Where memory is wanting (refusal 4) the text stays as it was.
+//! - `texts`: [`push_time`], [`push_bag`] and [`push_words`] add a part of a line to a text; [`push_record`] and
+//!   [`push_fault`] add a whole line, which ends with one newline byte. [`kind_name`] is the word for a kind of step.
+//! - `items`: [`push_message`], and [`sign_name`], the word for the sign of an item.
+//! - `lines`: the parts of lines, of which the two above are made.
+//! - `gathered`: [`Lines`], lines of a trace that are gathered until they are written.
+//! - `traces`: [`write_trace`] writes the lines of many records to any writer, a portion at a time.
+//! - `names`: [`Names`], where names of components come from, so that this crate knows no network.
 //!
-//! [`write_trace`] writes the lines of many records to any writer, a portion at a time; [`Lines`] gathers them one by one. Names of
-//! components come from a [`Names`], so that this crate knows no network.
+//! The contracts give the exact bytes. Where there is no memory (refusal 4) the text that was handed in stays as it was.
 #![tactic(auto)]
 
 mod gathered;

@@ -37,7 +37,7 @@ pub enum Done {
     Harvested(u64),
 }
 
-/// What came of an item; the numbers are those of the steps taken back (Jefferson 1985).
+/// What became of a delivered item (Jefferson 1985). A number says how many steps were taken back.
 #[derive(Clone, Copy, Debug, PartialEq, Eq)]
 pub enum Received {
     /// The message is pending.

@@ -5,7 +5,7 @@
 pub enum Cancel {
     /// Their anti-messages are made at once (Jefferson 1985).
     Aggressive,
-    /// They are owed: their anti-messages are made only where the steps, made again, do not send them again (Gafni
-    /// 1988).
+    /// Their anti-messages are owed: they are made only once the sender has passed their time without sending the
+    /// same messages again (Gafni 1988).
     Lazy,
 }

@@ -7,8 +7,8 @@ use crate::fault::Fault;
 pub enum RunState {
     /// Every commit line is at the end tick or after it: all is committed.
     Complete,
-    /// Nothing is in transit, and the next step of this fault's component, the least such, is at its stamp, global
-    /// virtual time, and meets its limit.
+    /// It has met a limit: nothing is in transit, the fault's stamp is global virtual time, and its component is the
+    /// least whose next step is there and meets a limit.
     Fault(Fault),
     /// Neither.
     Going,

@@ -58,7 +58,7 @@ pub trait Atomic: Drop {
     /// its residue.
     ghost undone: { Self → Turn → Self.State → ℕ → Bag → Self.Residue → Self.State };
 
-    /// The start state. The only error is want of memory.
+    /// The start state. Refused for want of memory alone (4).
     fn start(&self, alloc: Global) -> Result<Self::State, AllocError>
         ensures start { IfOk result (λ s. s ≡ (meaning self.now).start) }
         ensures valid_state { IfOk result (valid self.now) };
@@ -67,9 +67,9 @@ pub trait Atomic: Drop {
     fn ta(&self, state: &Self::State) -> Option<u64>
         ensures { result ≡ (meaning self.now).ta state.now };
 
-    /// The greatest time advance, in ticks, of a model that is never due at once: at its start and after each
-    /// transition it waits for 1 to so many ticks, or is never due. `None` where that is not known, as where a model
-    /// does not write this call. It takes no memory.
+    /// The longest time advance of the model, in ticks, if it never has a time advance of 0: at its start and after
+    /// each transition it then waits 1 to so many ticks, or is passive. `None`: not known, as where a model does not
+    /// write this call. It takes no memory.
     ///
     /// A network of such models meets no limit in a run that ends so many ticks before the last tick.
     fn longest_wait(&self) -> Option<u64>
@@ -78,15 +78,16 @@ pub trait Atomic: Drop {
         None
     }
 
-    /// Puts into the empty box what the component sends just before an internal or a confluent
-    /// transition. It may be asked at any time, and takes no memory.
+    /// Fills the empty box with the output of this state, which is sent just before an internal or a confluent
+    /// transition. It may be asked of every valid state, and takes no memory.
     fn output(&self, state: &Self::State, outbox: &mut Outbox)
         requires empty { outbox.old.items ≡ [] }
         requires valid_state { valid self.now state.now }
         ensures { outbox.new.items ≡ (meaning self.now).out state.now };
 
-    /// Makes one transition, and answers what takes it back. The only error is want of memory, and
-    /// it leaves the state as it was.
+    /// Makes one transition and answers its residue, by which [`Atomic::back`] takes it back. `elapsed` is the ticks
+    /// since the last transition; `bag` is sorted by port, then value. Refused for want of memory alone (4); the
+    /// state then stays as it was.
     fn forward(
         &self,
         alloc: Global,
@@ -100,10 +101,10 @@ pub trait Atomic: Drop {
         ensures residue { IfOk result (λ residue. residue ≡ residue_of self.now turn state.old elapsed bag.now) }
         ensures err { OnErr result (state.new ≡ state.old) };
 
-    /// Makes one transition as [`Atomic::forward`] does, but keeps nothing that takes it back: for callers
-    /// who never take one back. The only error is want of memory, and it leaves the state as it was.
+    /// Makes one transition as [`Atomic::forward`] does, without a residue: for callers that never take one back.
+    /// Refused for want of memory alone (4); the state then stays as it was.
     ///
-    /// Where it is not written, it is `forward`, whose residue is let go.
+    /// A model that does not write it gets `forward`, and the residue is dropped.
     fn transition(
         &self,
         alloc: Global,
@@ -120,8 +121,8 @@ pub trait Atomic: Drop {
         Ok(())
     }
 
-    /// Takes back the transition that left this state and this residue for the same turn, elapsed
-    /// time and bag. It takes no memory and cannot fail.
+    /// Takes a transition back. `state` is the state after it; `turn`, `elapsed` and `bag` are those of the
+    /// transition, `residue` is what [`Atomic::forward`] answered. It takes no memory and cannot fail.
     fn back(
         &self,
         state: &mut Self::State,
@@ -132,8 +133,8 @@ pub trait Atomic: Drop {
     )
         ensures { state.new ≡ undone self.now turn state.old elapsed bag.now residue };
 
-    /// Appends the numbers by which the state is written. The only error is want of memory, and it
-    /// leaves the list with the numbers that it had.
+    /// Appends the words of the state: the numbers by which a trace writes it. Refused for want of memory alone (4);
+    /// the list then has the numbers that it had.
     fn words(
         &self,
         alloc: Global,
@@ -147,7 +148,7 @@ pub trait Atomic: Drop {
     fn same(&self, one: &Self::State, other: &Self::State) -> bool
         ensures { IsTrue result ↔ (one.now ≡ other.now) };
 
-    /// A copy of a state. The only error is want of memory.
+    /// A copy of a state. Refused for want of memory alone (4).
     fn copy(&self, alloc: Global, state: &Self::State) -> Result<Self::State, AllocError>
         ensures { IfOk result (λ copy. copy ≡ state.now) };
 

@@ -24,7 +24,8 @@ const GVT: usize = 0;
 /// The place of the word of committed records.
 const COMMITTED: usize = 1;
 
-/// What makes readers of one board. Contracts see which board it is.
+/// A board: global virtual time and a count of records, which one publisher posts and readers see while a run goes
+/// on. This value makes its readers. Contracts see which board it is.
 #[derive(Drop)]
 pub struct Board {
     table: Arc<Words>,
@@ -161,8 +162,8 @@ impl Reader {
         (stamp_of(number), committed)
     }
 
-    /// The greatest numbers that the publisher has posted, exactly, which this reader has then seen. The two are of
-    /// one board. What this reader saw before was not above them.
+    /// Exactly what the publisher has posted: the greatest global virtual time and the greatest count. The two ends
+    /// must be of one board. This reader has then seen these numbers, and what it saw before was not above them.
     ///
     /// It takes no memory and waits for nobody.
     pub fn meet(&mut self, publisher: &mut Publisher) -> (Stamp, u64)

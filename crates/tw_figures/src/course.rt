@@ -55,10 +55,11 @@ impl Course {
         }
     }
 
-    /// The sums over the ticks before this one, where no transition has come since the last.
+    /// The sums over all ticks before `tick`, which is not before `since`: from `since` on each tick counts the last
+    /// value.
     ///
-    /// `None` where a sum would pass the range of its type. Sums of numbers of 64 bits, with a sign or without, do not
-    /// ([`sums_fit_law`](crate::sums_fit_law)).
+    /// `None` where a sum would pass the range of its type. Sums of numbers of 64 bits, with a sign or without, do
+    /// not ([`sums_fit_law`](crate::sums_fit_law)).
     pub fn sums(&self, tick: u64) -> Option<Sums>
         requires { self.now.since ≤ tick }
         ensures sum { (start : List ℤ) (moves : List TheRecord) → IsCourse start moves self.now

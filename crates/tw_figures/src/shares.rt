@@ -26,10 +26,10 @@ fn twice(ticks: u64) -> i128
     i128::from(ticks) + i128::from(ticks)
 }
 
-/// The mean over so many ticks of a figure with this sum and this last value, in thousandths: a half is rounded up, towards
-/// greater. Over no ticks it is the last value.
+/// The mean of a figure over `ticks` ticks, in thousandths: `sum` by `ticks`, a half rounded up. Over no ticks it is
+/// `last`, the last value.
 ///
-/// `None` where 2,000 times the sum passes the range of its type.
+/// `None` where the computation passes 128 bits.
 pub fn mean(sum: i128, last: i128, ticks: u64) -> Option<i128>
     ensures { IfSome result (IsMean sum last ticks) }
 {

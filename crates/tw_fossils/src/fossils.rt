@@ -18,10 +18,10 @@ const LONG: usize = 64;
 
 const ROOM_OF_LONG: usize = 2_048;
 
-/// Moves the records of the steps strictly before a stamp from a process to the end of its column, frees their nodes, makes the
-/// stamp the commit line, and answers how many records they are.
+/// Commits all steps strictly before `line`: their records move from the process to the end of its column, their
+/// nodes are freed, and `line` becomes the commit line. Answers how many records they are.
 ///
-/// It is refused for want of memory alone (4), and then process and column are as they were.
+/// Refused for want of memory alone (4); process and column are then as they were.
 pub fn harvest<M: Atomic>(
     process: &mut Process<M>,
     column: &mut Column,

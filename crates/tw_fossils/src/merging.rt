@@ -21,10 +21,10 @@ use tw_vtime::Stamp;
 // For how many records there is room at least where some of it is given back.
 const LEAST_ROOM: usize = 64;
 
-/// Copies of the records before a stamp, of all columns, by stamp and then component.
+/// The trace of all columns up to a stamp: copies of the records before it, by stamp and then component. The column
+/// at place c must be component c's.
 ///
-/// It costs as many steps as there are records, times the logarithm of the number of columns, and is refused for want of memory
-/// alone (4).
+/// It costs the number of records times the logarithm of the number of columns. Refused for want of memory alone (4).
 pub fn merge(alloc: Global, columns: &[Column], line: Stamp) -> Result<Vec<Record>, AllocError>
     requires { AreColumns 0 columns.now }
     ensures trace { IfOk result (λ trace. IsTrace trace.items) }

@@ -12,7 +12,7 @@ use tw_msgs::Message;
 impl EventHeap {
     /// The index of an entry of this message, if there is one.
     ///
-    /// It looks at the entries up to the message's stamp, and at what lies between them in the heap: of a message at the front, at few.
+    /// It does not look below an entry of a later stamp, so a message near the front is found among few.
     pub fn find(&self, key: &Message) -> Option<usize>
         ensures there { IfSome result (λ index. entry_of index self.now.entries ≡ Some (record { key = key.now; index = index })) }
         ensures none { IfNone result (has key.now (map message_of self.now.entries) ≡ false) }

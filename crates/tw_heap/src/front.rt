@@ -15,8 +15,8 @@ use tw_vtime::Stamp;
 impl EventHeap {
     /// The messages that come before a stamp, in order.
     ///
-    /// It is refused for want of memory alone (refusal 4), and takes none where there is no such message. It looks at them, and at what
-    /// lies between them in the heap.
+    /// Refused for want of memory alone (4); where there is no such message it takes none. It looks at these entries
+    /// and at their children in the heap, and at no others.
     pub fn messages_before(&self, stamp: Stamp) -> Result<Vec<Message>, AllocError>
         ensures { IfOk result (λ messages. messages.items ≡ take_while (λ m. nat_lt m.stamp stamp) (map message_of self.now.entries)) }
     {

@@ -11,7 +11,8 @@ use std::alloc::{AllocError, Global};
 use std::marker::Model;
 use tw_msgs::Message;
 
-/// Messages in their order, each under an index of its own.
+/// A binary heap of messages, each under an index of its own. Contracts see its entries by message, then index, how
+/// many more fit without memory, and a bound on the indices.
 #[derive(Drop)]
 pub struct EventHeap {
     // A binary heap: no entry is before its parent.
@@ -100,7 +101,8 @@ impl EventHeap {
         self.entries.first().copied()
     }
 
-    /// Puts a message under an index that has none. It takes no memory: `reserve` has made room.
+    /// Puts a message under an index that has none and is below `top`. It takes no memory and cannot fail:
+    /// [`EventHeap::reserve`] has made the room.
     pub fn insert(&mut self, index: usize, key: Message)
         requires room { 0 < self.old.room }
         requires index { index < self.old.top }

@@ -2,9 +2,9 @@
 
 ghost use Rattle.tw_laws.specs.Chains.{ChainLaw, InstallLaw};
 
-/// The steps of a chain are the next steps of its component, where that stands at the chain's start and has its
-/// messages before the bound; and wherever a step of a chain agrees with its next one in stamp and bag, it is its
-/// next one.
+/// Where a component stands at a chain's start and has its messages before the bound, the chain's steps are its next
+/// steps. Whatever messages it has, a step of the chain that agrees with the component's next step in stamp and bag
+/// is that step.
 pub fn chain_law<S>()
     ensures { ChainLaw S }
 {}

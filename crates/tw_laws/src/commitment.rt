@@ -15,7 +15,8 @@ pub fn committed_law<S>()
     ensures { CommittedLaw S }
 {}
 
-/// No commit line passes the sequential simulator's fault: by whatever actions from the start, and of no executive that is sound.
+/// No commit line passes the sequential simulator's fault: in every sound executive, and so after any actions from
+/// the start.
 pub fn lines_law<S>()
     ensures start { LinesLaw S }
     ensures sound { SoundLines S }
@@ -27,8 +28,9 @@ pub fn gvt_law<S>()
     ensures { GvtLaw S }
 {}
 
-/// Where nothing is in transit at a stamp either, the least component that meets a limit there is the sequential
-/// simulator's fault; and a fault is of a component of the network, at a transition before the end of the run.
+/// If local runs are taken up to a stamp and nothing is in transit before it or at it, the least component that meets
+/// a limit there is the sequential simulator's fault. Every such fault is of a component of the network, at a
+/// transition before the end of the run.
 pub fn fault_law<S>()
     ensures stamp { FaultStamp S }
     ensures least { FaultLaw S }

@@ -6,18 +6,18 @@ ghost use Rattle.tw_laws.specs.Outcome.{OutcomeLaw};
 ghost use Rattle.tw_laws.specs.Sweeping.{WorkFalls, SweepEnds};
 ghost use Rattle.tw_laws.specs.Traces.{OneTrace, TraceLaw, MergingLaw, LeastLineLaw};
 
-/// Posting and delivering until nothing is in transit ends: with weight 3 for a message sent in a history, 2 for
-/// an outgoing item and 1 for one in a mailbox, each posted item and each delivery, with all that it undoes, lets
-/// the sum fall.
+/// Posting and delivering until nothing is in transit ends. The work is 3 for each message sent in a history, 2 for
+/// each outgoing item and each message owed, and 1 for each item in a mailbox. Each item posted and each delivery,
+/// with the steps that it takes back, makes it less.
 pub fn sweep_law<S>()
     ensures falls { WorkFalls S }
     ensures ends { SweepEnds S }
 {}
 
-/// Where a sound executive shows a fault at global virtual time, with nothing in transit, it is the sequential
-/// simulator's; and where every line is at the end of the run, the simulator has no fault and the columns are its
-/// records. The state of a run says just this: it is complete exactly where every line is at the end, and shows a
-/// fault exactly where the executive does.
+/// What the state of a run says is so. It is complete exactly where every line is at the end of the run or after it;
+/// in a sound executive the simulator then has no fault, and the columns are its records. It is a fault exactly where
+/// nothing is in transit and a next step at global virtual time meets a limit; in a sound executive this is the
+/// simulator's fault.
 pub fn state_law<S>()
     ensures ending { EndingLaw S }
     ensures state { StateLaw S }

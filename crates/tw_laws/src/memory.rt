@@ -2,7 +2,8 @@
 
 ghost use Rattle.tw_laws.specs.Memory.{MemoryLaw, ReplayLaw};
 
-/// What each action does to the number of nodes that its process holds: it needs at most so many as `need` says.
+/// How many nodes a process holds after an action: at most `need` more than before. Only a step and a delivery need
+/// any.
 pub fn memory_law<S>()
     ensures { MemoryLaw S }
 {}

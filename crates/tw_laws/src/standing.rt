@@ -4,8 +4,8 @@ ghost use Rattle.tw_laws.specs.Standing.{ReceiveLaw, RunningLaw, StandingLaw};
 
 use tw_atomic::Atomic;
 
-/// A component that is ready can make the turn that is due, and stays ready: by each step, by each cut, and by each
-/// message that comes not before its last step, or is withdrawn.
+/// A component that is ready can make the turn that is due. It stays ready after each step, each cut, each message
+/// that comes after its last step, and each message that is withdrawn.
 pub fn standing_law<M: Atomic>()
     ensures { (model : M) → StandingLaw (M.valid model) (M.meaning model) }
 {}

@@ -13,9 +13,9 @@ use tw_network::Network;
 use tw_rounds::{Advanced, Fault, SeqRefused, advance, begin, meets_no_limit};
 use tw_vtime::MAX_TICK;
 
-/// The limit fault that ends the run of a network up to an end tick, or none: no record is kept, and where the models tell
-/// beforehand that no limit can be met ([`meets_no_limit`]), no round is made. After each round the listener hears how far this
-/// first pass is; as nothing is written of it, with no record.
+/// The limit fault that ends the run of a network up to the end tick `until`, or `None`. No record is kept. After
+/// each round the listener hears the stamp that this pass has reached, with 0 records, since nothing is written yet.
+/// Where the models tell that no limit can be met ([`meets_no_limit`]), no round is made.
 ///
 /// Refused by [`SeqRefused::BadTick`] (10) exactly where `until` is above 1,099,511,627,774, and by
 /// [`SeqRefused::OutOfMemory`] (4) where a growth of memory was refused.

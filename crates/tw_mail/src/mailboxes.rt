@@ -83,9 +83,9 @@ impl Mailboxes {
         self.items(to).len()
     }
 
-    /// Takes the item at a place out of a mailbox, if there is one; later items close up.
+    /// Takes the item at a place, from 0, out of a mailbox, if there is one; later items close up.
     ///
-    /// The items of a mailbox taken from its front one by one cost as many steps in all as they are.
+    /// To take all items of a mailbox from its front costs as many steps as it has items.
     pub fn take(&mut self, to: usize, place: usize) -> Option<Item>
         requires { to < length self.old.boxes }
         ensures item { result ≡ slice_get (mail_of self.old.boxes to) place }
@@ -131,9 +131,10 @@ impl Mailboxes {
         Ok(())
     }
 
-    /// The least stamp of all items, or the end.
+    /// The least stamp of all items, or the end where there are none.
     ///
-    /// Each mailbox keeps its own, mostly; one that has lost its least item is looked through, until it has changed as often as it has items.
+    /// A mailbox keeps its least stamp. When its last item of that stamp has left, its items are looked through at
+    /// each call, until it has changed as often as it has items.
     pub fn least(&self) -> Stamp
         ensures { result ≡ least_mail self.now.boxes }
     {

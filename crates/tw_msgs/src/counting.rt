@@ -5,7 +5,7 @@ ghost use Rattle.tw_msgs.specs.Counting.{signed_count};
 
 use crate::message::{Item, Message, Sign};
 
-/// How often a message is among the items, less how often its anti-message is.
+/// How many times `message` is among the items as a positive item, minus how many times as an anti-message.
 ///
 /// It takes no memory, and is exact for every list.
 pub fn signed_count(items: &[Item], message: &Message) -> i64

@@ -23,7 +23,8 @@ use tw_vtime::Stamp;
 pub struct Message {
     /// When the receiver takes it: a stamp of phase 1.
     pub stamp: Stamp,
-    /// The receiver's port. A coupling leads to a port 0 to 15; what is no input of a network may name any.
+    /// The receiver's port. It is 0 to 15 if the message comes by a coupling or is an input of a network; else it may
+    /// be any.
     pub port: u8,
     /// What is sent.
     pub value: i64,
@@ -51,10 +52,9 @@ pub struct Item {
 
 /// What the order of messages is. It does nothing.
 ///
-/// A message is less than another exactly where its stamp is, or, at equal stamps, its port, then its
-/// value, then its receiver. The order is total, and ties equal messages alone; the definitions' tests
-/// `at_or_before` and `same_message` say what the order and equality say; and `sorted_messages` is the
-/// one list of the same messages in that order.
+/// Messages are ordered by stamp, then port, then value, then receiver. The order is total, and only equal messages
+/// compare as equal. `at_or_before` and `same_message` of the definitions agree with the order and with `==`, and
+/// `sorted_messages` is the only list of the same messages in that order.
 pub fn message_order_law()
     ensures order { (m n : Message) → (⟦<Message as Ord>⟧.cmp m n ≡ Less) ↔ ComesBefore m n }
     ensures ties { (m n : Message) → (⟦<Message as Ord>⟧.cmp m n ≡ Equal) ↔ (m ≡ n) }

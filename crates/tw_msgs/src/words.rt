@@ -16,7 +16,7 @@ enum Numbers {
     Many(Vec<i128>),
 }
 
-/// What a state tells of itself: a list of numbers.
+/// The words of a state: the numbers by which a trace writes it.
 ///
 /// Contracts see the words as that list. Up to three numbers of 64 bits take no memory.
 #[derive(Debug, Drop)]

@@ -21,7 +21,10 @@ pub struct Flat<M> {
     pub couplings: Vec<Coupling>,
 }
 
-/// Flattens a tree in which nothing is at fault.
+/// Flattens a tree in which nothing is at fault, of at most 2,048 parts and 1,024 atoms.
+///
+/// Refused by [`FlatRefused::TooMany`] only where more than 8,192 couplings of atoms would come of it, and by
+/// [`FlatRefused::OutOfMemory`] for want of memory. The tree is given up.
 pub fn flatten<M: Drop>(alloc: Global, nested: Nested<M>) -> Result<Flat<M>, FlatRefused>
     requires few { size (parts_of nested.parts.items) ≤ 2048 }
     requires atoms { length (atoms_from 1 (parts_of nested.parts.items)) ≤ 1024 }

@@ -26,8 +26,8 @@ pub enum Part<M> {
 
 /// A coupled model (Chow and Zeigler 1994): its parts, each with a name, and its couplings.
 ///
-/// As it stands it may be at fault; whoever makes a network of it says for what it is refused. It is let go
-/// part by part, so one of very many levels should be let go by [`dismantle`].
+/// It may be at fault: whoever makes a network of it is told so. Dropping it goes down by calls, so a tree of very
+/// many levels is dropped by [`dismantle`].
 #[cycle(nested)]
 #[derive(Drop)]
 pub struct Nested<M> {

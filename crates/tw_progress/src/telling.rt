@@ -13,12 +13,13 @@ use tw_board::Reader;
 // How long it is from one line to the next, in seconds.
 const PAUSE: u64 = 1;
 
-/// Does work on the calling thread, and tells on standard error how far a run that ends at a tick is, once a second and for as long
-/// as the work goes on: `twarp: tick 12 of 40, 345 records`, as the reader's board says. A thread of its own tells; it has ended when
-/// this returns. Answers what the work answers, whatever is told.
+/// Does `work` on the calling thread, and answers what it answers. Meanwhile a thread of its own writes on standard
+/// error, once a second, how far the run is, as the reader's board says: `twarp: tick 12 of 40, 345 records`. `until`
+/// is the run's end tick. That thread has ended when this returns.
 ///
-/// Work that takes less than a second tells nothing. Where no thread can be started, or standard error is gone, nothing is told
-/// (any more), and the work goes on; where the clock cannot be read, one line follows another without a pause.
+/// Work that takes less than a second tells nothing. Where no thread can be started, or standard error is gone,
+/// nothing more is told, and the work goes on. Where the clock cannot be read, one line follows another without a
+/// pause.
 pub fn while_telling<R: Threads + Wait + Clock + Eprint + Sync, F: FnOnce() -> T, T>(
     rt: &R,
     reader: Reader,

@@ -30,14 +30,20 @@ pub fn back_to<M: Atomic>(process: &mut Process<M>, stamp: Stamp) -> u64
     (before - process.history_len()) as u64
 }
 
-/// An item comes to this component: a transition's message, or its anti-message, not before a step that was committed.
+/// Receives an item: a message for a transition of this component, or its anti-message, not before a step that was
+/// committed.
 ///
-/// A message whose anti-message waits takes one such away. Else a message at or before the last step's stamp is a straggler: every
-/// step at or after it is taken back; and the message is pending. An anti-message takes one equal message away, of those that are
-/// pending; or, where a step consumed it, the steps from its stamp on are taken back first. Else it waits for its message.
+/// - A message whose anti-message waits: one of each is annihilated.
+/// - Else a message at or before the last step's stamp, a straggler: every step at or after its stamp is taken back,
+///   and it is pending.
+/// - Any other message is pending.
+/// - An anti-message whose message is pending: one of each is annihilated.
+/// - Else an anti-message whose message was consumed: the steps from its stamp on are taken back, and one of each is
+///   annihilated.
+/// - Any other anti-message waits for its message.
 ///
-/// Only an item that takes a node can be refused, and none that is annihilated: for want of memory (4), or exactly where the lists
-/// would have more than 1,048,576 nodes (12). Then it is handed back, and the process is as it was.
+/// Refused only where the item takes a node, so never where it is annihilated: for want of memory (4), or exactly
+/// where the lists would have more than 1,048,576 nodes (12). Then it is handed back, and the process is as it was.
 pub fn receive<M: Atomic>(
     process: &mut Process<M>,
     item: Item,

@@ -38,12 +38,14 @@ impl Schedule {
         }
     }
 
-    /// The next action for an executive as it stands; none where it has no components.
+    /// The next action for an executive as it stands; `None` where it has no components. Three numbers of 32 bits are
+    /// drawn. The first, modulo 6, chooses the action, the second, modulo their number, the component:
     ///
-    /// Of the three numbers, the second says the component, and the first the action, each the sixth part of all: a step, a
-    /// post, a delivery of the item that the third says (of the first place, where the mailbox is empty), a rollback to the
-    /// start of the tick that is 0 to 3 after that of global virtual time (never before global virtual time, nor after the
-    /// greatest tick), a rise of global virtual time, a harvest.
+    /// - 0: its step; 1: a post; 4: a rise of global virtual time; 5: a harvest.
+    /// - 2: a delivery of the item at the place that the third number says, modulo how many it has (place 0 of an
+    ///   empty mailbox).
+    /// - 3: a rollback to the start of the tick that is 0 to 3 (the third number modulo 4) after that of global
+    ///   virtual time, but never before global virtual time or after the greatest tick.
     pub fn next_action<M: Atomic>(&mut self, executive: &Executive<M>) -> Option<Action>
         ensures action { result ≡ action_drawn executive.now (drawn self.old) }
         ensures drawn { self.new ≡ after self.old }

@@ -11,8 +11,8 @@ use tw_msgs::{Bag, Message};
 use tw_network::Network;
 use tw_vtime::Stamp;
 
-/// What a model sends in a state, sorted by port, then value. It is refused for want of memory alone (4), and takes
-/// none for up to eight items.
+/// The output of a model in a state, sorted by port, then value. Refused for want of memory alone (4); up to two
+/// items take none.
 pub fn output_bag<M: Atomic>(alloc: Global, model: &M, state: &M::State) -> Result<Bag, AllocError>
     requires { M.valid model.now state.now }
     ensures { IfOk result (λ bag. bag ≡ sorted_bag ((M.meaning model.now).out state.now)) }
@@ -23,8 +23,8 @@ pub fn output_bag<M: Atomic>(alloc: Global, model: &M, state: &M::State) -> Resu
     Ok(bag)
 }
 
-/// Puts what a model sends in a state into a bag, sorted by port, then value, in the place of what is there; by way of
-/// an outbox, whose items are lost too. It is refused for want of memory alone (4), and takes none for up to eight items.
+/// Makes `bag` the output of a model in a state, sorted by port, then value. What was in the bag and in the outbox is
+/// lost. Refused for want of memory alone (4); up to two items take none.
 ///
 /// A caller with many outputs keeps bag and outbox, so that neither is made anew for each.
 pub fn fill_output<M: Atomic>(
@@ -46,8 +46,8 @@ pub fn fill_output<M: Atomic>(
     Ok(())
 }
 
-/// The messages of this stamp that an output bag of a component makes: for each item in order, one to each place to
-/// which its port is coupled, in the order of the routes. It is refused for want of memory alone (4).
+/// The messages that an output bag of a component sends, each with this stamp: for each item in order, one to each
+/// destination of its port, by component, then port. Refused for want of memory alone (4).
 pub fn routed<M: Atomic>(
     alloc: Global,
     network: &Network<M>,

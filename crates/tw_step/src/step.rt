@@ -38,8 +38,8 @@ pub struct Home {
     pub micro_limit: u32,
 }
 
-/// The output of a component at this stamp, as a step: then its transition of that time is due. It is refused for
-/// want of memory alone (4).
+/// The output of a component at this stamp, as a step. The component stands where it stood: whoever keeps the step
+/// moves it on by [`Moment::after_output`]. Refused for want of memory alone (4).
 pub fn output_step<M: Atomic>(
     alloc: Global,
     model: &M,
@@ -67,11 +67,12 @@ pub fn output_step<M: Atomic>(
     })
 }
 
-/// Makes the transition of this stamp with this bag: the component stands where it leads, and the step takes it back.
+/// Makes the transition at this stamp with this bag, which is sorted, and answers the step, which takes it back.
+/// `now` is then the moment after it.
 ///
 /// Refused by [`TurnRefused::OverLimit`] (2 or 3) only where the next own step would pass a limit, and by
-/// [`TurnRefused::OutOfMemory`] (4) where a growth was refused; then the component stands where it stood, taken back by
-/// the model.
+/// [`TurnRefused::OutOfMemory`] (4) where a growth was refused. The model then takes the transition back, and `now`
+/// is as it was.
 pub fn transition_step<M: Atomic>(
     alloc: Global,
     model: &M,

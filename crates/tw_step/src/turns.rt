@@ -14,7 +14,8 @@ use tw_atomic::{Atomic, Turn};
 use tw_msgs::{RecordKind, Words};
 use tw_vtime::{Limit, Stamp, advance};
 
-/// The turn of a component that is imminent or not, with an empty bag or not, and the kind of its record.
+/// Which turn a component makes, and the kind of its record: external where it is not imminent; else internal with an
+/// empty bag, confluent with any other.
 pub fn turn_of(imminent: bool, empty: bool) -> (Turn, RecordKind)
     ensures turn { (bag : _) → (empty ≡ true ↔ (bag ≡ [])) → result.0 ≡ turn imminent bag }
     ensures kind { result.1 ≡ kind_of result.0 }
@@ -53,11 +54,10 @@ pub(crate) fn due_turn<S: Drop>(now: &Moment<S>, stamp: Stamp, bag: &[(u8, i64)]
     }
 }
 
-/// Makes the transition of this stamp with this bag, and keeps nothing that takes it back: for a component whose
-/// transitions stand. Answers the kind of its record.
+/// Makes the transition at this stamp with this bag, and keeps nothing that takes it back: for a component whose
+/// transitions stand. Answers the kind of its record, or the limit (2 or 3) that its next own step would pass.
 ///
-/// Where its next own step would pass a limit (2 or 3) the limit is answered, and the state is of no more use; nor is it
-/// where memory was refused (4).
+/// Refused for want of memory alone (4). After a limit or a refusal `now` is of no more use.
 pub fn pass_turn<M: Atomic>(
     alloc: Global,
     model: &M,

@@ -4,7 +4,7 @@ use crate::points::Points;
 use crate::unit::{Unit, fine_of, points_of};
 use std::alloc::{AllocError, Global};
 
-/// How wide a silence is that is cut.
+/// How wide a silence that is cut is drawn, in points.
 pub const GAP: i64 = 44;
 
 /// A time at which something happens.
@@ -142,7 +142,8 @@ impl Labels {
 }
 
 impl Axis {
-    /// The axis of these times, in order, from a tick to a tick. It has to be laid before its stops have places.
+    /// An axis from tick `begin` to tick `end` with these times, which rise. Its stops have places once it is laid
+    /// ([`Axis::lay`]). Refused for want of memory alone (4).
     pub fn new(alloc: Global, times: &[Time], begin: u64, end: u64) -> Result<Axis, AllocError> {
         let mut axis = Axis {
             stops: Vec::new(alloc),

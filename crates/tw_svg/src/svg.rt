@@ -50,9 +50,9 @@ fn push_letter(text: &mut String, letter: char) -> Result<(), AllocError>
     }
 }
 
-/// Words that are taken into a picture cannot break it: but for four signs, which are told by their names, each letter is told as one
-/// that begins no element, ends neither words nor an attribute, and that a file may have (Extensible Markup Language 1.0, 2008). The
-/// call does nothing.
+/// No letter of words that are put into a picture can break it. `"`, `&`, `<` and `>` are written as entities; each
+/// other letter is written as one that begins no element, ends no attribute, and may stand in a file (Extensible
+/// Markup Language 1.0, 2008). The call does nothing.
 pub fn plain_law()
     ensures { (c : ℕ) → c ≢ 34 → c ≢ 38 → c ≢ 60 → c ≢ 62 → IsPlain (plain_of c) }
 {}

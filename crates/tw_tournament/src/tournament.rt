@@ -11,8 +11,8 @@ use std::alloc::{AllocError, Global};
 use std::marker::Model;
 use tw_vtime::Stamp;
 
-/// So many times, in a tournament (Knuth 1973): of each two that meet the earlier goes on, so the first of all is at the top, and a
-/// time that changes plays again only against those that it meets on its way there.
+/// A tournament tree (Knuth 1973) of as many times, by numbers from 0: the earlier of each two goes up, so the least
+/// is at the top. Another time costs the logarithm of how many there are.
 #[derive(Drop)]
 pub struct Tournament {
     // How many times there are.
@@ -36,7 +36,7 @@ impl Model for Tournament {
 }
 
 impl Tournament {
-    /// So many times, each of them the end.
+    /// A tournament of `count` times, each of them the end.
     ///
     /// Refused for want of memory alone (4).
     pub fn new(alloc: Global, count: usize) -> Result<Tournament, AllocError>
@@ -53,7 +53,7 @@ impl Tournament {
         })
     }
 
-    /// The first of all times; the end where there is none.
+    /// The least of all times; the end where there is none before it.
     pub fn least(&self) -> Stamp
         ensures first { (c s : ℕ) → slice_get self.now.times c ≡ Some s → result ≤ s }
         ensures there { (result ≡ never) ⊎ ((c : ℕ) × (slice_get self.now.times c ≡ Some result)) }
@@ -62,8 +62,8 @@ impl Tournament {
         winners[1]
     }
 
-    /// The first of all times and the least number that is at it, where that is before the end. In time logarithmic in how many
-    /// there are.
+    /// The least time, and the least number that has it; `None` where that time is the end. It costs the logarithm of
+    /// how many times there are.
     pub fn first(&self) -> Option<(Stamp, usize)>
         ensures first { IfSome result (λ first. IsFirst self.now.times first.0 first.1) }
         ensures none { result ≡ None → NoneFirst self.now.times }
@@ -85,9 +85,9 @@ impl Tournament {
         play(self.winners.as_mut_slice(), self.row, place, time);
     }
 
-    /// Lists the numbers of the first time, where it is before the end, behind those that are listed.
+    /// Appends to `numbers`, in rising order, all numbers that have this time: the least of all, and not the end.
     ///
-    /// Refused for want of memory (4); then a part of them may be listed.
+    /// Refused for want of memory (4); a part of them may then be appended.
     pub fn collect(&self, time: Stamp, numbers: &mut Vec<usize>) -> Result<(), AllocError>
         requires first { (c s : ℕ) → slice_get self.now.times c ≡ Some s → time ≤ s }
         requires before_end { time < never }

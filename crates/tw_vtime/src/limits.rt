@@ -31,12 +31,14 @@ impl From<Limit> for Refusal {
     }
 }
 
-/// The next own step of a component after its transition at `at`, where its time advance is `ta` ticks:
-/// none for a passive component, the output of the next microstep for an advance of zero, and else the
-/// output of microstep 0 of the tick `ta` later.
+/// When a component has its next own step after its transition at `at`. `ta` is its time advance in ticks:
 ///
-/// Refused by [`Limit::Microstep`] (2) where that microstep is above `micro_limit`, and by
-/// [`Limit::Tick`] (3) where that tick is above [`MAX_TICK`].
+/// - `None` (passive): it has none.
+/// - 0: the output of the next microstep of the same tick.
+/// - d > 0: the output of microstep 0 of the tick d later.
+///
+/// Refused by [`Limit::Microstep`] (2) where that microstep is above `micro_limit`, and by [`Limit::Tick`] (3) where
+/// that tick is above [`MAX_TICK`].
 pub fn advance(at: Stamp, ta: Option<u64>, micro_limit: u32) -> Result<Option<Stamp>, Limit>
     requires not_end { at ≢ never }
     requires after_transition { phase_of at ≡ 1 }

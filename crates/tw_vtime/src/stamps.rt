@@ -141,7 +141,7 @@ impl Stamp {
         number
     }
 
-    /// What is true of every stamp. It does nothing.
+    /// Hands the caller what holds of every stamp: its tick is in range, or it is the end. The call does nothing.
     pub fn facts(self)
         ensures { IsStamp self }
     {
@@ -203,8 +203,8 @@ impl Stamp {
         self.number % 2 == 0
     }
 
-    /// Whether a message of this stamp is overdue where its sender's next step is at `next`: the output of this time, which
-    /// would send it, stands before that.
+    /// Whether an owed message of this stamp is overdue: whether the output that would send it, which is phase 0 of
+    /// the same time, comes before `next`, the next step of its sender.
     pub fn is_overdue(self, next: Stamp) -> bool
         ensures { result ≡ is_overdue self next }
     {

@@ -50,14 +50,16 @@ find_contracts() {
     )
 }
 
-# Sets `sum` to the sum of a crate's code, definitions and proofs, of its wrong bodies here, and of the contracts of all crates below it.
+# Sets `sum` to the sum of a crate's code but for comments, of its definitions and proofs, of its wrong bodies here, and of the contracts of all
+# crates below it.
 find_sum() {
     local below name
-    below=$(crates_below "$1")
+    below=$(crates_below "$1" | LC_ALL=C sort)
     for name in $below; do find_contracts "$name"; done
     sum=$(
         {
-            (cd "crates/$1" && find src specs proofs -type f -print0 2>/dev/null | LC_ALL=C sort -z | xargs -0 sha256sum)
+            (cd "crates/$1" && find src -type f -print0 | LC_ALL=C sort -z | xargs -0 grep -hv '^ *//')
+            (cd "crates/$1" && find specs proofs -type f -print0 2>/dev/null | LC_ALL=C sort -z | xargs -0 sha256sum)
             (cd "tests/wrong-bodies/$1" && find . -type f -print0 | LC_ALL=C sort -z | xargs -0 sha256sum)
             for name in $below; do echo "$name ${contract_sums[$name]}"; done
         } | sha256sum | cut -d' ' -f1

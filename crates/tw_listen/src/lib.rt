@@ -1,10 +1,11 @@
 //! How far a sequential run is, told while it is made.
 //!
-//! - [`Listener`]: who hears it, after each round. [`Nobody`] does not listen.
-//! - [`Reached`]: how far a run is: the stamp of its latest record, and how many records there are.
-//! - [`advance_telling`]: a round, as [`tw_rounds::advance`] makes it, of which the listener hears then; the receivers count ([`Counting`]).
-//! - [`try_out`]: the first rounds of a run, for as long as a [`Judge`] wants more of them; nothing of them is kept.
-//! - [`outcome_telling`]: the fault that ends a run, told while its rounds are made; no record of them is kept.
+//! - `listener`: [`Listener`], who hears it, after each round. [`Nobody`] does not listen.
+//! - `reached`: [`Reached`], how far a run is: the stamp of its latest record, and how many records there are.
+//! - `advancing`: [`advance_telling`], a round, as [`tw_rounds::advance`] makes it, of which the listener hears then; the
+//!   receivers count ([`Counting`]).
+//! - `trial`: [`try_out`], the first rounds of a run, for as long as a [`Judge`] wants more of them; nothing of them is kept.
+//! - `outcome`: [`outcome_telling`], the fault that ends a run, told while its rounds are made; no record of them is kept.
 #![tactic(auto)]
 
 mod advancing;

@@ -1,6 +1,7 @@
 -- What a contract sees of an `EventHeap`: its entries in rising order.
 --     is_before a b      a's message comes before b's, or the two are equal and a's index is less
 --     entry_of index es      the entry under an index
+--     IsKeyOf key index es      the entry under an index has this message
 --     without index es      the entries without it
 --     IsRising es, AreDistinct es, AreBelow es top      rising order, no index twice, each index below a bound
 use Rattle.std.specs.Prelude.{◌≡◌, ℕ, ◌<◌, ◌==◌, Bool, true, List, [], ◌∷◌, Option, Some, None, if◌then◌else◌}
@@ -31,6 +32,9 @@ message_of e = e.key
 abbrev pub entry_of : ℕ → List Entry → Option Entry
 entry_of index [] = None
 entry_of index (e ∷ es) = if e.index == index then Some e else entry_of index es
+
+abbrev pub IsKeyOf : Message → ℕ → List Entry → Type 0
+IsKeyOf key index es = entry_of index es ≡ Some (record { key = key; index = index })
 
 -- without that entry
 abbrev pub without : ℕ → List Entry → List Entry

@@ -1,7 +1,7 @@
 //! A message looked for in a heap.
 
-ghost use Rattle.std.specs.Prelude.{◌≡◌, ◌≢◌, ℕ, ◌<◌, IfNone, IfSome, Some, false, length, map};
-ghost use Rattle.tw_heap.specs.Entries.{entry_of, message_of};
+ghost use Rattle.std.specs.Prelude.{◌≡◌, ◌≢◌, ℕ, ◌<◌, IfNone, IfSome, false, length, map};
+ghost use Rattle.tw_heap.specs.Entries.{message_of, IsKeyOf};
 ghost use Rattle.tw_heap.specs.Heap.{IsHeap, at};
 ghost use Rattle.tw_msgs.specs.Messages.{has};
 
@@ -14,7 +14,7 @@ impl EventHeap {
     ///
     /// It does not look below an entry of a later stamp, so a message near the front is found among few.
     pub fn find(&self, key: &Message) -> Option<usize>
-        ensures there { IfSome result (λ index. entry_of index self.now.entries ≡ Some (record { key = key.now; index = index })) }
+        ensures there { IfSome result (λ index. IsKeyOf key.now index self.now.entries) }
         ensures none { IfNone result (has key.now (map message_of self.now.entries) ≡ false) }
     {
         let entries = self.entries.as_slice();
@@ -30,7 +30,8 @@ fn find_place(entries: &[Entry], key: &Message) -> Option<usize>
     requires { IsHeap entries.now }
     ensures within { IfSome result (λ place. place < length entries.now) }
     ensures there { IfSome result (λ place. (at entries.now place).key ≡ key.now) }
-    ensures none { IfNone result ((k : ℕ) → k < length entries.now → (at entries.now k).key ≢ key.now) }
+    ensures none { IfNone result
+        ((k : ℕ) → k < length entries.now → (at entries.now k).key ≢ key.now) }
 {
     // From this place on there is none that is no child of one found later.
     let mut end = 1usize;

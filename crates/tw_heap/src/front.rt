@@ -18,7 +18,8 @@ impl EventHeap {
     /// Refused for want of memory alone (4); where there is no such message it takes none. It looks at these entries
     /// and at their children in the heap, and at no others.
     pub fn messages_before(&self, stamp: Stamp) -> Result<Vec<Message>, AllocError>
-        ensures { IfOk result (λ messages. messages.items ≡ take_while (λ m. nat_lt m.stamp stamp) (map message_of self.now.entries)) }
+        ensures { let all = map message_of self.now.entries in
+            IfOk result (λ front. front.items ≡ take_while (λ m. nat_lt m.stamp stamp) all) }
     {
         let alloc = *self.entries.allocator();
         let mut messages = gather(alloc, self.entries.as_slice(), stamp)?;
@@ -41,7 +42,8 @@ fn sort(messages: &mut [Message])
 // The messages of a heap that come before a stamp, as they lie there.
 fn gather(alloc: Global, entries: &[Entry], stamp: Stamp) -> Result<Vec<Message>, AllocError>
     requires { IsHeap entries.now }
-    ensures { IfOk result (λ messages. messages.items ≡ filter (λ m. nat_lt m.stamp stamp) (map message_of entries.now)) }
+    ensures { let all = map message_of entries.now in
+        IfOk result (λ early. early.items ≡ filter (λ m. nat_lt m.stamp stamp) all) }
 {
     let mut messages = Vec::new(alloc);
     // From this place on there is none that is no child of one found later.

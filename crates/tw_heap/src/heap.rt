@@ -3,7 +3,7 @@
 ghost use Rattle.std.specs.Prelude.{◌≡◌, ◌≢◌, ℕ, ◌+◌, ◌<◌, ◌≤◌, [], map, Some, None, IfOk, IfSome, IsSome, IsOk, OnOk};
 ghost use Rattle.tw_msgs.specs.Messages.{Sorted};
 ghost use Rattle.tw_heap.specs.Order.{insert_by};
-ghost use Rattle.tw_heap.specs.Entries.{is_before, message_of, entry_of, without, first_of, IsRising, AreDistinct, AreBelow};
+ghost use Rattle.tw_heap.specs.Entries.{is_before, message_of, entry_of, without, first_of, IsRising, AreDistinct, AreBelow, IsKeyOf};
 
 use crate::entries::Entry;
 use crate::sifting::{exchange, settle, sift_up};
@@ -96,7 +96,8 @@ impl EventHeap {
     /// The entry that comes first, in constant time.
     pub fn first(&self) -> Option<Entry>
         ensures value { result ≡ first_of self.now.entries }
-        ensures there { IfSome result (λ entry. entry_of entry.index self.now.entries ≡ Some entry) }
+        ensures there { IfSome result
+            (λ entry. entry_of entry.index self.now.entries ≡ Some entry) }
     {
         self.entries.first().copied()
     }
@@ -109,7 +110,7 @@ impl EventHeap {
         requires vacant { entry_of index self.old.entries ≡ None }
         ensures entries { self.new.entries ≡
             insert_by is_before (record { key = key; index = index }) self.old.entries }
-        ensures there { entry_of index self.new.entries ≡ Some (record { key = key; index = index }) }
+        ensures there { IsKeyOf key index self.new.entries }
         ensures others { (other : ℕ) → other ≢ index
             → entry_of other self.new.entries ≡ entry_of other self.old.entries }
         ensures room { self.new.room + 1 ≡ self.old.room }

@@ -1,7 +1,7 @@
 //! Entries that move up and down a binary heap. Places count from 0, the root, and the children of place k are 2k + 1 and 2k + 2.
 //! With each entry that moves, the place that is kept under its index changes.
 
-ghost use Rattle.std.specs.Prelude.{◌≡◌, ℕ, ◌+◌, ◌<◌, length};
+ghost use Rattle.std.specs.Prelude.{ℕ, ◌+◌, ◌<◌, length};
 ghost use Rattle.std.specs.List.{SwappedAt};
 ghost use Rattle.std.specs.List.Sorted.{IsPermutation};
 ghost use Rattle.tw_heap.specs.Heap.{IsChild, InOrder, IsHeap, IsHeapAbove, IsHeapBelow, IsHeapAround, IsPlaced};
@@ -49,7 +49,8 @@ fn first_child(entries: &[Entry], place: usize) -> usize
     requires { place + place + 1 < length entries.now }
     ensures child { IsChild place result }
     ensures within { result < length entries.now }
-    ensures first { (c : ℕ) → IsChild place c → c < length entries.now → InOrder entries.now result c }
+    ensures first { (c : ℕ) → IsChild place c
+        → c < length entries.now → InOrder entries.now result c }
 {
     let left = place + place + 1;
     let right = left + 1;

@@ -1,11 +1,8 @@
 //! A round that is told of.
 
-ghost use Rattle.std.specs.Prelude.{◌≡◌, ◌<◌, ◌-◌, List, IfOk};
-ghost use Rattle.tw_msgs.specs.declared.record.Record.{Record};
-ghost use Rattle.tw_rounds.specs.Parts.{IsSimulating};
+ghost use Rattle.std.specs.Prelude.{◌≡◌, IfOk};
 ghost use Rattle.tw_rounds.specs.Stepping.{IsAdvanced};
-ghost use Rattle.tw_theory.specs.Simulator.{round_time};
-ghost use Rattle.tw_vtime.specs.Stamps.{stamp};
+ghost use Rattle.tw_rounds.specs.Parts.{IsRunning, ComesNearer};
 
 use crate::listener::Listener;
 use crate::reached::Reached;
@@ -32,9 +29,11 @@ pub fn advance_telling<M: Atomic, R: Receiver + Counting, L: Listener>(
     transitions: &mut R,
     listener: &mut L,
 ) -> Result<Advanced, AllocError>
-    requires { (done : List Record) × IsSimulating M.valid M.meaning network.now done simulation.old }
-    ensures step { IfOk result (IsAdvanced R.takes M.valid M.meaning network.now simulation.old simulation.new outputs.old outputs.new transitions.old transitions.new) }
-    ensures sooner { IfOk result (λ step. step ≡ Advanced.Round → stamp simulation.old.until 0 0 - round_time simulation.new.run.at < stamp simulation.old.until 0 0 - round_time simulation.old.run.at) }
+    requires { IsRunning M.valid M.meaning network.now simulation.old }
+    ensures step { IfOk result (IsAdvanced R.takes M.valid M.meaning network.now
+        simulation.old simulation.new outputs.old outputs.new transitions.old transitions.new) }
+    ensures sooner { IfOk result
+        (λ step. step ≡ Advanced.Round → ComesNearer simulation.old simulation.new) }
     ensures until { simulation.new.until ≡ simulation.old.until }
 {
     let step = advance(alloc, network, simulation, outputs, transitions)?;

@@ -25,7 +25,8 @@ pub fn outcome_telling<M: Atomic, L: Listener>(
     until: u64,
     listener: &mut L,
 ) -> Result<Option<Fault>, SeqRefused>
-    ensures fault { IfOk result (λ fault. fault ≡ (sequential (network_of M.meaning network.now) until).fault) }
+    ensures fault { IfOk result
+        (λ fault. fault ≡ (sequential (network_of M.meaning network.now) until).fault) }
     ensures bad_tick { IsErrOf result SeqRefused.BadTick ↔ (max_tick < until) }
 {
     if until <= MAX_TICK && meets_no_limit(network, until) {

@@ -1,7 +1,5 @@
 //! How far a run is.
 
-ghost use Rattle.std.specs.Prelude.{◌≡◌};
-
 use std::alloc::AllocError;
 use tw_msgs::{Bag, RecordKind};
 use tw_rounds::Receiver;

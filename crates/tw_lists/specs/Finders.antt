@@ -5,6 +5,7 @@ use Rattle.std.specs.HashMap.{get, HashMap}
 use Rattle.tw_msgs.specs.Counting.{total, one_at}
 use Rattle.tw_msgs.specs.Messages.{same_message}
 use Rattle.tw_msgs.specs.declared.message.Message.{Message}
+use Rattle.tw_msgs.specs.declared.message.Item.{Item}
 use Rattle.tw_lists.specs.declared.finder.Key.{Key}
 use Rattle.tw_lists.specs.declared.finder.Equals.{Equals}
 use Rattle.tw_lists.specs.declared.finder.Finder.{Finder}
@@ -40,6 +41,15 @@ module _ {S : Type 0} where
     pub split : nodes ≡ front ++ back
     pub late_is : length back ≡ late
     pub knows : Knows known front
+
+  -- one more node at the end is known, of this message
+  abbrev pub Learns : ℕ → Message → HashMap Key Equals S → HashMap Key Equals S → Type 0
+  Learns index m old new = (nodes : Nodes) (item : Item) → item.message ≡ m → Knows old nodes → Knows new (nodes ++ (index, item) ∷ [])
+
+  -- a list is found without its last node, of this message
+  abbrev pub LosesLast : Message → HashMap Key Equals S → ℕ → HashMap Key Equals S → ℕ → Type 0
+  LosesLast m old late new late' =
+      (nodes : Nodes) (node : ℕ × Item) → node.1.message ≡ m → Finds old late (nodes ++ node ∷ []) → Finds new late' nodes
 
 -- the waiting and the owed messages are found
 abbrev pub AreFound : Finder → Finder → List Nodes → Type 0

@@ -5,7 +5,10 @@
 --     cancelled way n, with_overdue_posted s      the last n sent messages taken back; what was owed for too long
 --     with_pending m, without_pending m, with_orphan m, without_orphan m      messages and anti-messages come and go
 --     forgotten n k, without_outgoing      the oldest consumed and sent messages, and what was outgoing, are gone
+--     SameButRoom was now      the same contents, with whatever room there is
+--     but_last n xs, last_ones n xs      all but the last n, and the last n
 --     Nodes, AreSame      the nodes of the pool and the entries of the heap, as they are lent
+--     AreHeldIn lists nodes      the lists of the pool hold these contents
 --     PoolHolds pending consumed sent outgoing waiting owed nodes      what the lists of the pool hold, each item with its sign
 use Rattle.std.specs.Prelude.{ℕ, ◌+◌, ◌-◌, List, [], ◌∷◌, ◌++◌, length, map, take, drop, Option, Some, None, ◌≡◌, ◌==◌, IsPermutation}
 use Rattle.std.specs.Map.{lookup}
@@ -63,6 +66,15 @@ cancelled way n c = record c {
 
 abbrev pub with_room : ℕ → ℕ → Lists → Lists
 with_room room spare c = record c { room = room; spare = spare }
+
+abbrev pub SameButRoom : Lists → Lists → Type 0
+SameButRoom was now = now ≡ with_room now.room now.spare was
+
+abbrev pub but_last : {A : Type 0} → ℕ → List A → List A
+but_last n xs = take (length xs - n) xs
+
+abbrev pub last_ones : {A : Type 0} → ℕ → List A → List A
+last_ones n xs = drop (length xs - n) xs
 
 -- a message is sent: it goes out, and is kept
 abbrev pub with_sent : Message → Lists → Lists
@@ -131,3 +143,6 @@ pub record PoolHolds (pending consumed sent : List Message) (outgoing : List Ite
   pub outgoing_is : map item_at (list_at lists 3) ≡ outgoing
   pub waiting_is : map item_at (list_at lists 4) ≡ antis waiting
   pub owed_is : map item_at (list_at lists 5) ≡ antis owed
+
+abbrev pub AreHeldIn : Lists → List Nodes → Type 0
+AreHeldIn c nodes = PoolHolds c.pending c.consumed c.sent c.outgoing c.waiting c.owed nodes

@@ -1,11 +1,11 @@
 //! Messages of a list found without a walk through it.
 
 ghost use Rattle.std.specs.HashMap.{get};
-ghost use Rattle.std.specs.Prelude.{◌≡◌, ℕ, ◌+◌, ◌-◌, ◌<◌, ◌≤◌, ◌^◌, IfSome, IsTrue, Some, [], ◌∷◌, ◌++◌, drop, take, false, length};
+ghost use Rattle.std.specs.Prelude.{◌≡◌, ◌+◌, ◌<◌, ◌≤◌, ◌^◌, IfSome, IsTrue, Some, [], false, length};
 ghost use Rattle.tw_pool.specs.Lists.{IsLive, first_of, list_at, without};
 ghost use Rattle.tw_lists.specs.Falling.{AreOverdue, IsLastTimely};
-ghost use Rattle.tw_lists.specs.Finders.{Finds, Knows, behind, key_of, same_key};
-ghost use Rattle.tw_lists.specs.Lists.{Nodes};
+ghost use Rattle.tw_lists.specs.Finders.{Finds, Knows, behind, key_of, same_key, Learns, LosesLast};
+ghost use Rattle.tw_lists.specs.Lists.{Nodes, but_last, last_ones};
 ghost use Rattle.tw_lists.specs.Nodes.{index_of};
 
 use crate::searching::find;
@@ -148,9 +148,10 @@ impl Finder {
         requires list { list < 6 }
         requires finds { Finds self.old.known self.old.late (list_at pool.now.lists list) }
         ensures within { result ≤ length (list_at pool.now.lists list) }
-        ensures finds { Finds self.new.known self.new.late (take (length (list_at pool.now.lists list) - result) (list_at pool.now.lists list)) }
-        ensures overdue { AreOverdue next (drop (length (list_at pool.now.lists list) - result) (list_at pool.now.lists list)) }
-        ensures last { IsLastTimely next (take (length (list_at pool.now.lists list) - result) (list_at pool.now.lists list)) }
+        ensures finds { Finds self.new.known self.new.late
+            (but_last result (list_at pool.now.lists list)) }
+        ensures overdue { AreOverdue next (last_ones result (list_at pool.now.lists list)) }
+        ensures last { IsLastTimely next (but_last result (list_at pool.now.lists list)) }
     {
         pool.lists_law();
         let mut at = pool.last(list);
@@ -170,7 +171,7 @@ impl Finder {
 
     /// The last node of the list, which has this message, is about to leave it.
     fn leave_last(&mut self, message: &Message)
-        ensures { (nodes : Nodes) (node : ℕ × Item) → node.1.message ≡ message.now → Finds self.old.known self.old.late (nodes ++ node ∷ []) → Finds self.new.known self.new.late nodes }
+        ensures { LosesLast message.now self.old.known self.old.late self.new.known self.new.late }
     {
         if self.late > 0 {
             self.late -= 1;
@@ -213,7 +214,7 @@ fn look_up(known: &HashMap<Key, Equals>, message: &Message) -> Option<Equals>
 
 /// One more node at the end of what is known, or memory was refused.
 fn learn_one(known: &mut HashMap<Key, Equals>, index: usize, message: &Message) -> bool
-    ensures yes { IsTrue result → (nodes : Nodes) (item : Item) → item.message ≡ message.now → Knows known.old nodes → Knows known.new (nodes ++ (index, item) ∷ []) }
+    ensures yes { IsTrue result → Learns index message.now known.old known.new }
     ensures no { result ≡ false → (nodes : Nodes) → Knows known.old nodes → Knows known.new nodes }
 {
     let equals = match look_up(known, message) {
@@ -239,7 +240,7 @@ fn learn_one(known: &mut HashMap<Key, Equals>, index: usize, message: &Message) 
 fn first_of_last(pool: &Pool<Item, 6>, list: usize, n: usize) -> Option<usize>
     requires list { list < 6 }
     requires n { n ≤ length (list_at pool.now.lists list) }
-    ensures first { result ≡ first_of (drop (length (list_at pool.now.lists list) - n) (list_at pool.now.lists list)) }
+    ensures first { result ≡ first_of (last_ones n (list_at pool.now.lists list)) }
     ensures live { IfSome result (λ index. IsLive index pool.now.lists) }
 {
     pool.lists_law();

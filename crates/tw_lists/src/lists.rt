@@ -3,7 +3,7 @@
 ghost use Rattle.std.specs.Prelude.{◌≡◌, ◌+◌, ◌<◌, ◌≤◌, ◌↔◌, [], Err, IsOk, OnOk};
 ghost use Rattle.tw_msgs.specs.Messages.{Sorted};
 ghost use Rattle.tw_pool.specs.declared.refused.PoolRefused.TheVariants.{Full};
-ghost use Rattle.tw_lists.specs.Lists.{first_of, with_room, node_count};
+ghost use Rattle.tw_lists.specs.Lists.{first_of, node_count, SameButRoom};
 
 use crate::finder::Finder;
 use std::alloc::{AllocError, Global};
@@ -67,7 +67,8 @@ impl Model for EventLists {
     ghost view = { λ s. contents s.pool.lists s.pool.room
         (spare_of s.pool.top s.heap (length (list_at s.pool.lists 1))) s.heap.entries };
 
-    ghost invariant = { λ s. IsKept s.pool.lists s.heap × AreFound s.waiting s.owed s.pool.lists × FallIf s.falling (list_at s.pool.lists 5) };
+    ghost invariant = { λ s. IsKept s.pool.lists s.heap
+        × AreFound s.waiting s.owed s.pool.lists × FallIf s.falling (list_at s.pool.lists 5) };
 }
 
 impl EventLists {
@@ -120,7 +121,7 @@ impl EventLists {
     /// It is refused as full exactly where the nodes would be more than [`LIVE_LIMIT`], before anything grows, and for
     /// want of memory (4) only where there was not room enough.
     pub fn reserve(&mut self, n: usize) -> Result<(), PoolRefused>
-        ensures contents { self.new ≡ with_room self.new.room self.new.spare self.old }
+        ensures contents { SameButRoom self.old self.new }
         ensures room { OnOk result (n ≤ self.new.room) }
         ensures room_grows { self.old.room ≤ self.new.room }
 
@@ -137,7 +138,7 @@ impl EventLists {
     ///
     /// It is refused as [`reserve`](EventLists::reserve) is for one node.
     pub fn reserve_pending(&mut self) -> Result<(), PoolRefused>
-        ensures contents { self.new ≡ with_room self.new.room self.new.spare self.old }
+        ensures contents { SameButRoom self.old self.new }
         ensures room { OnOk result (1 ≤ self.new.room) }
         ensures spare { OnOk result (1 ≤ self.new.spare) }
 

@@ -1,11 +1,11 @@
 //! Messages consumed and pending again, coming and going.
 
-ghost use Rattle.std.specs.Prelude.{◌≡◌, ◌≢◌, ◌↔◌, ◌+◌, ◌-◌, ◌<◌, ◌≤◌, [], ◌∷◌, ◌++◌, length, drop, true, false, Err, OnOk, OnErr, IfOk, IsOk, IsTrue};
+ghost use Rattle.std.specs.Prelude.{◌≡◌, ◌≢◌, ◌↔◌, ◌+◌, ◌<◌, ◌≤◌, [], ◌∷◌, ◌++◌, length, false, Err, OnOk, OnErr, IfOk, IsTrue};
 ghost use Rattle.tw_msgs.specs.Bags.{Bag as BagItems};
 ghost use Rattle.tw_msgs.specs.Messages.{Sorted, has};
 ghost use Rattle.tw_pool.specs.declared.refused.PoolRefused.TheVariants.{Full};
 ghost use Rattle.tw_theory.specs.Bundles.{front, items_of};
-ghost use Rattle.tw_lists.specs.Lists.{first_consumed, front_consumed, restored, with_room, with_pending, without_pending, with_orphan, without_orphan, forgotten, node_count, without_outgoing};
+ghost use Rattle.tw_lists.specs.Lists.{first_consumed, front_consumed, restored, with_pending, without_pending, with_orphan, without_orphan, forgotten, node_count, without_outgoing, SameButRoom, last_ones};
 ghost use Rattle.tw_lists.specs.Nodes.{IsNext};
 
 use crate::lists::{CONSUMED, EventLists, OUTGOING, PENDING, SENT, WAITING, signed};
@@ -31,7 +31,7 @@ impl EventLists {
     /// The last consumed message is pending again.
     fn restore_last(&mut self)
         requires some { self.old.consumed ≢ [] }
-        requires sorted { Sorted (drop (length self.old.consumed - 1) self.old.consumed ++ self.old.pending) }
+        requires sorted { Sorted (last_ones 1 self.old.consumed ++ self.old.pending) }
         ensures { self.new ≡ restored 1 self.old }
     {
         self.pool.lists_law();
@@ -46,7 +46,7 @@ impl EventLists {
     /// The last `n` consumed messages are pending again.
     pub fn restore(&mut self, n: usize)
         requires n { n ≤ length self.old.consumed }
-        requires sorted { Sorted (drop (length self.old.consumed - n) self.old.consumed ++ self.old.pending) }
+        requires sorted { Sorted (last_ones n self.old.consumed ++ self.old.pending) }
         ensures { self.new ≡ restored n self.old }
     {
         for _ in 0..n {
@@ -78,8 +78,10 @@ impl EventLists {
     /// All pending messages of this stamp become consumed, if they are the first and carry exactly this bag, in its order; else
     /// nothing changes. It takes no memory.
     pub fn consume_equal(&mut self, stamp: Stamp, bag: &[(u8, i64)]) -> bool
-        ensures yes { IsTrue result → (items_of (front stamp self.old.pending) ≡ bag.now) × (self.new ≡ front_consumed stamp self.old) }
-        ensures no { result ≡ false → (items_of (front stamp self.old.pending) ≢ bag.now) × (self.new ≡ self.old) }
+        ensures yes { let carried = items_of (front stamp self.old.pending) in
+            IsTrue result → (carried ≡ bag.now) × (self.new ≡ front_consumed stamp self.old) }
+        ensures no { let carried = items_of (front stamp self.old.pending) in
+            result ≡ false → (carried ≢ bag.now) × (self.new ≡ self.old) }
     {
         self.order_law();
         let mut taken = 0;
@@ -112,7 +114,8 @@ impl EventLists {
     /// Whether the first pending message has this stamp, port and value.
     fn is_next(&self, stamp: Stamp, item: (u8, i64)) -> bool
         ensures yes { IsTrue result → IsNext stamp item self.now.pending }
-        ensures no { result ≡ false → (rest : BagItems) → items_of (front stamp self.now.pending) ≢ item ∷ rest }
+        ensures no { let carried = items_of (front stamp self.now.pending) in
+            result ≡ false → (rest : BagItems) → carried ≢ item ∷ rest }
     {
         match self.first() {
             Some(message) => message.stamp == stamp && (message.port, message.value) == item,
@@ -124,7 +127,7 @@ impl EventLists {
     pub fn put_reserved(&mut self, message: &Message)
         requires room { 1 ≤ self.old.room }
         requires spare { 1 ≤ self.old.spare }
-        ensures { self.new ≡ with_room self.new.room self.new.spare (with_pending message.now self.old) }
+        ensures { SameButRoom (with_pending message.now self.old) self.new }
     {
         self.pool.lists_law();
         self.heap.entries_law();
@@ -140,7 +143,7 @@ impl EventLists {
     /// An equal pending message goes, or the answer is that there is none.
     pub fn withdraw(&mut self, message: &Message) -> bool
         ensures answer { result ≡ has message.now self.old.pending }
-        ensures contents { self.new ≡ with_room self.new.room self.new.spare (without_pending message.now self.old) }
+        ensures contents { SameButRoom (without_pending message.now self.old) self.new }
     {
         self.pool.lists_law();
         self.heap.entries_law();
@@ -163,7 +166,7 @@ impl EventLists {
     /// The first equal message that waits goes, or the answer is that there is none.
     pub fn clear_orphan(&mut self, message: &Message) -> bool
         ensures answer { result ≡ has message.now self.old.waiting }
-        ensures contents { self.new ≡ with_room self.new.room self.new.spare (without_orphan message.now self.old) }
+        ensures contents { SameButRoom (without_orphan message.now self.old) self.new }
     {
         self.pool.lists_law();
         let Some(index) = self.waiting.first(&self.pool, WAITING, message) else {
@@ -176,8 +179,8 @@ impl EventLists {
 
     /// One more message waits.
     pub fn note_orphan(&mut self, message: Message) -> Result<(), PoolRefused>
-        ensures noted { OnOk result (self.new ≡ with_room self.new.room self.new.spare (with_orphan message self.old)) }
-        ensures stays { OnErr result (self.new ≡ with_room self.new.room self.new.spare self.old) }
+        ensures noted { OnOk result (SameButRoom (with_orphan message self.old) self.new) }
+        ensures stays { OnErr result (SameButRoom self.old self.new) }
         ensures limit { LIVE_LIMIT < node_count self.old + 1 ↔ result ≡ Err Full }
     {
         self.pool.lists_law();
@@ -195,7 +198,7 @@ impl EventLists {
     pub fn forget(&mut self, consumed: usize, sent: usize)
         requires consumed { consumed ≤ length self.old.consumed }
         requires sent { sent ≤ length self.old.sent }
-        ensures { self.new ≡ with_room self.new.room self.new.spare (forgotten consumed sent self.old) }
+        ensures { SameButRoom (forgotten consumed sent self.old) self.new }
     {
         self.pool.lists_law();
         self.pool.cut_front(CONSUMED, consumed);
@@ -204,7 +207,7 @@ impl EventLists {
 
     /// The outgoing items are dropped.
     pub fn clear_outgoing(&mut self)
-        ensures { self.new ≡ with_room self.new.room self.new.spare (without_outgoing self.old) }
+        ensures { SameButRoom (without_outgoing self.old) self.new }
     {
         self.pool.lists_law();
         let count = self.pool.len(OUTGOING);

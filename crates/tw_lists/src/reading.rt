@@ -1,12 +1,11 @@
 //! What is read of the lists: lengths, copies, least stamps, and the pool and the heap themselves.
 
 ghost use Rattle.std.specs.Prelude.{◌≡◌, ◌<◌, IfOk, length, map, nat_lt, take_while};
-ghost use Rattle.std.specs.Map.{lookup};
 ghost use Rattle.tw_heap.specs.Entries.{message_of};
 ghost use Rattle.tw_pool.specs.Lists.{list_at};
 ghost use Rattle.tw_theory.specs.Bundles.{least_owed, least_stamp, overdue};
 ghost use Rattle.tw_lists.specs.Falling.{IsFalling, NoneBefore};
-ghost use Rattle.tw_lists.specs.Lists.{item_at, message_at, AreSame, PoolHolds};
+ghost use Rattle.tw_lists.specs.Lists.{item_at, message_at, AreSame, AreHeldIn};
 
 use crate::lists::{EventLists, OUTGOING, OWED, PENDING, WAITING};
 use std::alloc::{AllocError, Global};
@@ -59,7 +58,8 @@ impl EventLists {
 
     /// The pending messages at the front that come before a stamp, in order. Where there are none, it takes no memory.
     pub fn pending_before(&self, stamp: Stamp) -> Result<Vec<Message>, AllocError>
-        ensures { IfOk result (λ messages. messages.items ≡ take_while (λ m. nat_lt m.stamp stamp) self.now.pending) }
+        ensures { let early = take_while (λ m. nat_lt m.stamp stamp) self.now.pending in
+            IfOk result (λ messages. messages.items ≡ early) }
     {
         self.heap.messages_before(stamp)
     }
@@ -119,7 +119,7 @@ impl EventLists {
     /// The pool: lists of pending (in any order), consumed, sent, outgoing, waiting and owed messages, numbered from 0.
     /// A sent, a waiting and an owed message is there as its anti-message.
     pub fn pool(&self) -> &Pool<Item, 6>
-        ensures holds { PoolHolds self.now.pending self.now.consumed self.now.sent self.now.outgoing self.now.waiting self.now.owed result.now.lists }
+        ensures holds { AreHeldIn self.now result.now.lists }
         ensures room { result.now.room ≡ self.now.room }
     {
         self.pool.lists_law();
@@ -137,7 +137,7 @@ impl EventLists {
     /// The pool and the heap, as [`pool`](EventLists::pool) and [`heap`](EventLists::heap) lend them: the heap's entries
     /// are exactly the nodes of list 0, each under its own message.
     pub fn nodes(&self) -> (&Pool<Item, 6>, &EventHeap)
-        ensures holds { PoolHolds self.now.pending self.now.consumed self.now.sent self.now.outgoing self.now.waiting self.now.owed result.0.now.lists }
+        ensures holds { AreHeldIn self.now result.0.now.lists }
         ensures room { result.0.now.room ≡ self.now.room }
         ensures heap { map message_of result.1.now.entries ≡ self.now.pending }
         ensures same { AreSame (list_at result.0.now.lists 0) result.1.now.entries }
@@ -169,7 +169,8 @@ fn items_in(alloc: Global, pool: &Pool<Item, 6>, list: usize) -> Result<Vec<Item
 /// The messages of a list, in order.
 fn messages_in(alloc: Global, pool: &Pool<Item, 6>, list: usize) -> Result<Vec<Message>, AllocError>
     requires { list < 6 }
-    ensures { IfOk result (λ messages. messages.items ≡ map message_at (list_at pool.now.lists list)) }
+    ensures { IfOk result
+        (λ messages. messages.items ≡ map message_at (list_at pool.now.lists list)) }
 {
     pool.lists_law();
     let mut messages = Vec::new(alloc);
@@ -212,7 +213,8 @@ fn overdue_from(
     next: Stamp,
 ) -> Result<Vec<Message>, AllocError>
     requires { NoneBefore next from (list_at pool.now.lists 5) }
-    ensures { IfOk result (λ messages. messages.items ≡ overdue next (map message_at (list_at pool.now.lists 5))) }
+    ensures { let owed = map message_at (list_at pool.now.lists 5) in
+        IfOk result (λ messages. messages.items ≡ overdue next owed) }
 {
     pool.lists_law();
     let mut messages = Vec::new(alloc);

@@ -7,7 +7,7 @@ ghost use Rattle.tw_pool.specs.Lists.{list_at};
 ghost use Rattle.tw_pool.specs.declared.refused.PoolRefused.TheVariants.{Full};
 ghost use Rattle.tw_theory.specs.Bundles.{sent_anew};
 ghost use Rattle.tw_theory.specs.Contents.{Aggressive, Lazy, sent_out};
-ghost use Rattle.tw_lists.specs.Lists.{node_count, with_room, with_sent, with_all_sent, with_sent_again};
+ghost use Rattle.tw_lists.specs.Lists.{node_count, with_sent, with_all_sent, with_sent_again, SameButRoom};
 ghost use Rattle.tw_lists.specs.Lists.{message_at};
 
 use crate::lists::{EventLists, OUTGOING, OWED, SENT, signed};
@@ -21,9 +21,11 @@ impl EventLists {
     /// It is refused as [`reserve`](EventLists::reserve) is for so many nodes. The messages are compared with those owed only where there is
     /// no room for all of them.
     pub fn reserve_to_send(&mut self, messages: &[Message], way: Cancel) -> Result<(), PoolRefused>
-        ensures contents { self.new ≡ with_room self.new.room self.new.spare self.old }
-        ensures room { OnOk result (2 * length (sent_out way self.old.owed messages.now) ≤ self.new.room) }
-        ensures limit { LIVE_LIMIT < node_count self.old + 2 * length (sent_out way self.old.owed messages.now) ↔ result ≡ Err Full }
+        ensures contents { SameButRoom self.old self.new }
+        ensures room { let nodes = 2 * length (sent_out way self.old.owed messages.now) in
+            OnOk result (nodes ≤ self.new.room) }
+        ensures limit { let nodes = 2 * length (sent_out way self.old.owed messages.now) in
+            LIVE_LIMIT < node_count self.old + nodes ↔ result ≡ Err Full }
     {
         match way {
             Cancel::Aggressive => self.reserve(2 * messages.len()),
@@ -33,9 +35,11 @@ impl EventLists {
 
     /// Makes room for all these messages, or at least for those that no owed one matches.
     fn reserve_anew(&mut self, messages: &[Message]) -> Result<(), PoolRefused>
-        ensures contents { self.new ≡ with_room self.new.room self.new.spare self.old }
-        ensures room { OnOk result (2 * length (sent_anew self.old.owed messages.now) ≤ self.new.room) }
-        ensures limit { LIVE_LIMIT < node_count self.old + 2 * length (sent_anew self.old.owed messages.now) ↔ result ≡ Err Full }
+        ensures contents { SameButRoom self.old self.new }
+        ensures room { let nodes = 2 * length (sent_anew self.old.owed messages.now) in
+            OnOk result (nodes ≤ self.new.room) }
+        ensures limit { let nodes = 2 * length (sent_anew self.old.owed messages.now) in
+            LIVE_LIMIT < node_count self.old + nodes ↔ result ≡ Err Full }
     {
         self.owed.learn(&self.pool, OWED);
         match self.reserve(2 * messages.len()) {
@@ -50,7 +54,7 @@ impl EventLists {
     /// All messages are sent, in order. One that an owed message matches does not go out: it is owed no more.
     pub fn send_all(&mut self, messages: &[Message], way: Cancel)
         requires { 2 * length (sent_out way self.old.owed messages.now) ≤ self.old.room }
-        ensures { self.new ≡ with_room self.new.room self.new.spare (with_all_sent way messages.now self.old) }
+        ensures { SameButRoom (with_all_sent way messages.now self.old) self.new }
     {
         match way {
             Cancel::Aggressive => self.send_each(messages),
@@ -61,7 +65,7 @@ impl EventLists {
     /// All messages go out.
     fn send_each(&mut self, messages: &[Message])
         requires { 2 * length messages.now ≤ self.old.room }
-        ensures { self.new ≡ with_room self.new.room self.new.spare (with_all_sent Aggressive messages.now self.old) }
+        ensures { SameButRoom (with_all_sent Aggressive messages.now self.old) self.new }
     {
         for message in messages {
             self.send(message);
@@ -71,7 +75,7 @@ impl EventLists {
     /// Those go out that no owed message matches.
     fn send_anew(&mut self, messages: &[Message])
         requires { 2 * length (sent_anew self.old.owed messages.now) ≤ self.old.room }
-        ensures { self.new ≡ with_room self.new.room self.new.spare (with_all_sent Lazy messages.now self.old) }
+        ensures { SameButRoom (with_all_sent Lazy messages.now self.old) self.new }
     {
         for message in messages {
             self.send_once(message);
@@ -81,8 +85,9 @@ impl EventLists {
     /// A message is sent again if an equal one is owed, and else it goes out.
     fn send_once(&mut self, message: &Message)
         requires { 2 * length (sent_anew self.old.owed (message.now ∷ [])) ≤ self.old.room }
-        ensures contents { self.new ≡ with_room self.new.room self.new.spare (with_all_sent Lazy (message.now ∷ []) self.old) }
-        ensures room { self.old.room ≤ self.new.room + 2 * length (sent_anew self.old.owed (message.now ∷ [])) }
+        ensures contents { SameButRoom (with_all_sent Lazy (message.now ∷ []) self.old) self.new }
+        ensures room { let nodes = 2 * length (sent_anew self.old.owed (message.now ∷ [])) in
+            self.old.room ≤ self.new.room + nodes }
     {
         if !self.send_again(message) {
             self.send(message);
@@ -92,7 +97,7 @@ impl EventLists {
     /// The first equal owed message is sent again, or the answer is that there is none.
     fn send_again(&mut self, message: &Message) -> bool
         ensures answer { result ≡ has message.now self.old.owed }
-        ensures yes { IsTrue result → self.new ≡ with_room self.new.room self.new.spare (with_sent_again message.now self.old) }
+        ensures yes { IsTrue result → SameButRoom (with_sent_again message.now self.old) self.new }
         ensures no { result ≡ false → self.new ≡ self.old }
         ensures room { self.new.room ≡ self.old.room }
     {
@@ -108,7 +113,7 @@ impl EventLists {
     /// A message is sent: it is kept as its anti-message, and goes out.
     pub fn send(&mut self, message: &Message)
         requires { 2 ≤ self.old.room }
-        ensures contents { self.new ≡ with_room self.new.room self.new.spare (with_sent message.now self.old) }
+        ensures contents { SameButRoom (with_sent message.now self.old) self.new }
         ensures room { self.old.room ≤ self.new.room + 2 }
     {
         self.pool.lists_law();
@@ -121,7 +126,8 @@ impl EventLists {
 
 /// How many of these messages no owed one matches: those that come as often before as they are owed.
 fn fresh_count(pool: &Pool<Item, 6>, messages: &[Message]) -> usize
-    ensures count { result ≡ length (sent_anew (map message_at (list_at pool.now.lists 5)) messages.now) }
+    ensures count { let owed = map message_at (list_at pool.now.lists 5) in
+        result ≡ length (sent_anew owed messages.now) }
     ensures within { result ≤ length messages.now }
 {
     let mut count = 0;

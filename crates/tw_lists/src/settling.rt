@@ -1,10 +1,10 @@
 //! Messages taken back: as anti-messages, or owed, and what is owed for too long.
 
-ghost use Rattle.std.specs.Prelude.{Some, ◌≡◌, ℕ, ◌-◌, ◌<◌, ◌≤◌, ◌++◌, IfSome, IsTrue, drop, length};
+ghost use Rattle.std.specs.Prelude.{Some, ◌≡◌, ℕ, ◌<◌, ◌≤◌, ◌++◌, IfSome, IsTrue, length};
 ghost use Rattle.tw_pool.specs.Lists.{list_at, item_of, IsLive};
 ghost use Rattle.tw_theory.specs.Contents.{Aggressive, Lazy};
 ghost use Rattle.tw_lists.specs.Falling.{AreUpTo, IsFalling};
-ghost use Rattle.tw_lists.specs.Lists.{cancelled, with_overdue_posted};
+ghost use Rattle.tw_lists.specs.Lists.{cancelled, with_overdue_posted, last_ones};
 ghost use Rattle.tw_lists.specs.Nodes.{IsSettled, IsPosted};
 
 use crate::lists::{EventLists, OUTGOING, OWED, SENT};
@@ -78,7 +78,8 @@ impl EventLists {
 /// Whether the last `n` sent nodes, behind the owed ones, fall, as those do.
 fn falls_behind(pool: &Pool<Item, 6>, n: usize) -> bool
     requires { n ≤ length (list_at pool.now.lists 2) }
-    ensures { IsTrue result → IsFalling (list_at pool.now.lists 5) → IsFalling (list_at pool.now.lists 5 ++ drop (length (list_at pool.now.lists 2) - n) (list_at pool.now.lists 2)) }
+    ensures { let owed = list_at pool.now.lists 5 in
+        IsTrue result → IsFalling owed → IsFalling (owed ++ last_ones n (list_at pool.now.lists 2)) }
 {
     pool.lists_law();
     let Some(top) = top_of_last(pool, SENT, n) else {
@@ -94,8 +95,8 @@ fn falls_behind(pool: &Pool<Item, 6>, n: usize) -> bool
 fn top_of_last(pool: &Pool<Item, 6>, list: usize, n: usize) -> Option<Stamp>
     requires list { list < 6 }
     requires n { n ≤ length (list_at pool.now.lists list) }
-    ensures falling { IfSome result (λ top. IsFalling (drop (length (list_at pool.now.lists list) - n) (list_at pool.now.lists list))) }
-    ensures top { IfSome result (λ top. AreUpTo top (drop (length (list_at pool.now.lists list) - n) (list_at pool.now.lists list))) }
+    ensures falling { IfSome result (λ top. IsFalling (last_ones n (list_at pool.now.lists list))) }
+    ensures top { IfSome result (λ top. AreUpTo top (last_ones n (list_at pool.now.lists list))) }
 {
     pool.lists_law();
     let mut top = Stamp::START;
@@ -115,7 +116,8 @@ fn top_of_last(pool: &Pool<Item, 6>, list: usize, n: usize) -> Option<Stamp>
 
 /// Each owed node that was sent before the next step goes to the outgoing list.
 fn post_overdue(pool: &mut Pool<Item, 6>, next: Stamp)
-    ensures lists { IsSettled next (length (list_at pool.old.lists 5)) pool.old.lists pool.new.lists }
+    ensures lists { IsSettled next
+        (length (list_at pool.old.lists 5)) pool.old.lists pool.new.lists }
     ensures room { pool.new.room ≡ pool.old.room }
     ensures top { pool.new.top ≡ pool.old.top }
 {
@@ -133,7 +135,8 @@ fn post_overdue(pool: &mut Pool<Item, 6>, next: Stamp)
 /// An owed node that was sent before the next step goes to the outgoing list.
 fn post_one(pool: &mut Pool<Item, 6>, index: usize, next: Stamp)
     requires { IsLive index pool.old.lists }
-    ensures lists { (item : Item) → item_of index pool.old.lists ≡ Some item → IsPosted next index item pool.old.lists pool.new.lists }
+    ensures lists { (item : Item) → item_of index pool.old.lists ≡ Some item
+        → IsPosted next index item pool.old.lists pool.new.lists }
     ensures items { (each : ℕ) → item_of each pool.new.lists ≡ item_of each pool.old.lists }
     ensures room { pool.new.room ≡ pool.old.room }
     ensures top { pool.new.top ≡ pool.old.top }

@@ -11,7 +11,7 @@ use Rattle.tw_nested.specs.declared.tree.Part.{Part, Atom, roll-Part, out-Part, 
 use Rattle.tw_nested.specs.declared.tree.Part as part_type
 use Rattle.tw_nested.specs.declared.tree.Part.TheOpen.{Part-F}
 use Rattle.tw_nested.specs.Tree.{Parts, Link, no_parts, atom, coupled, size, numbers, flat_names, atoms_from, models_in, coupled_from, model_at, part_view, parts_of, part_step, nested_step}
-use Rattle.tw_nested.specs.Taken.{Taken, model_of}
+use Rattle.tw_nested.specs.Taken.{Taken, TakenModel, model_of}
 use Rattle.tw_nested.proofs.TreeViews.{part_view-atom, part_view-coupled}
 
 -- what stands in the tables, and the parts still to come, are together all
@@ -135,22 +135,18 @@ module _ {M : Type 0} (prefix name : List ℕ) (part : Part M) (before after : T
       (record { count = ce; names = ne; models = me; atoms = ae; coupled = ke ∙ sym (append-nil (map model_of before.coupled.items)) })
 
   pub taken_coupled : (n : Nested M) → part ≡ part_type.Coupled n → (result : Result Unit FlatRefused)
-      → OnOk result (map string_bytes after.names.items ≡ map string_bytes before.names.items ++ flat_names (prefix ++ name ++ 46 ∷ []) (parts_of {M = M} n.parts.items))
-      → OnOk result (after.count ≡ before.count + 1 + size (parts_of {M = M} n.parts.items))
-      → OnOk result (after.models.items ≡ before.models.items ++ models_in (parts_of {M = M} n.parts.items))
-      → OnOk result (after.atoms.items ≡ before.atoms.items ++ atoms_from (before.count + 1) (parts_of {M = M} n.parts.items))
-      → OnOk result (map model_of after.coupled.items ≡ map model_of before.coupled.items ++ coupled_from (before.count + 1) (parts_of {M = M} n.parts.items) ++ model_at before.count (before.count + 1) (parts_of {M = M} n.parts.items) n.couplings.items ∷ [])
+      → OnOk result (TakenModel before.count (prefix ++ name ++ 46 ∷ []) n (record before { count = before.count + 1 }) after)
       → OnOk result (Taken prefix (part_view {M = M} part name no_parts) before after)
-  taken_coupled n is (Err e) ne ce me ae ke = tt
-  taken_coupled n is (Ok u) ne ce me ae ke =
+  taken_coupled n is (Err e) t = tt
+  taken_coupled n is (Ok u) t =
       let inner = parts_of {M = M} n.parts.items in
       subst (λ (f : List ℕ → Parts M → Parts M). Taken prefix (f name no_parts) before after) (sym (ap (part_view {M = M}) is ∙ part_view-coupled {M = M} n))
       (record {
-        count = omega (arith, ce);
-        names = ne ∙ ap (λ l. map string_bytes before.names.items ++ l) (sym (append-nil (flat_names (prefix ++ name ++ 46 ∷ []) inner)));
-        models = me ∙ ap (λ l. before.models.items ++ l) (sym (append-nil (models_in inner)));
-        atoms = ae ∙ ap (λ l. before.atoms.items ++ l) (sym (append-nil (atoms_from (before.count + 1) inner)));
-        coupled = ke ∙ append_assoc (map model_of before.coupled.items) (coupled_from (before.count + 1) inner) (model_at before.count (before.count + 1) inner n.couplings.items ∷ []);
+        count = omega (arith, t.count);
+        names = t.names ∙ ap (λ l. map string_bytes before.names.items ++ l) (sym (append-nil (flat_names (prefix ++ name ++ 46 ∷ []) inner)));
+        models = t.models ∙ ap (λ l. before.models.items ++ l) (sym (append-nil (models_in inner)));
+        atoms = t.atoms ∙ ap (λ l. before.atoms.items ++ l) (sym (append-nil (atoms_from (before.count + 1) inner)));
+        coupled = t.coupled ∙ append_assoc (map model_of before.coupled.items) (coupled_from (before.count + 1) inner) (model_at before.count (before.count + 1) inner n.couplings.items ∷ []);
       })
 
 -- ---- what is in a part

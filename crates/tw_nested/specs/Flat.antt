@@ -2,7 +2,7 @@
 --     IsFlat count edges atoms k      k leads from an atom's port to an atom's port that is reached from it
 --     IsFlatSet count edges atoms flat      flat is exactly these, none twice, and not too many
 --     IsTooMany count edges atoms      there are more than 8,192
-use Rattle.std.specs.Prelude.{ℕ, ◌≡◌, ◌≢◌, ◌<◌, ◌≤◌, ◌+◌, ◌-◌, ◌*◌, ◌⊎◌, List, length, slice_index}
+use Rattle.std.specs.Prelude.{ℕ, ◌≡◌, ◌≢◌, ◌<◌, ◌≤◌, ◌+◌, ◌-◌, ◌*◌, ◌/◌, ◌%◌, ◌⊎◌, List, length, slice_index}
 use Rattle.std.specs.List.{All, AllPairs, Contains}
 use Rattle.tw_nested.specs.Reach.{Edge, Reaches}
 
@@ -15,6 +15,10 @@ out_of count part port = 16 * (count - (part + 1)) + port
 
 abbrev pub in_of : ℕ → ℕ → ℕ → ℕ
 in_of count part port = 16 * (count + part) + port
+
+-- the number of an output port of all atoms, each of which has 16
+abbrev pub port_out_of : ℕ → List ℕ → ℕ → ℕ
+port_out_of count atoms port = out_of count (slice_index atoms (port / 16)) (port % 16)
 
 pub record IsFlat (count : ℕ) (edges : List Edge) (atoms : List ℕ) (k : Coupling) : Type 0 where
   pub source : k.0 < length atoms

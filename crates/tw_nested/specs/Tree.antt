@@ -1,4 +1,5 @@
 -- The tree of a network, as contracts see it.
+--     tree_of nested, links_of nested      the parts of a coupled model, and its couplings
 --     parts_of parts      the parts that a vector of named parts shows
 --     flat_names [] parts, models_in parts      the names and the models of all atoms, depth first
 --     atoms_from 1 parts, coupled_from 1 parts      their numbers, and the coupled models, where the first part has number 1
@@ -6,6 +7,7 @@
 use Rattle.std.specs.Prelude.{ℕ, ◌+◌, List, [], ◌∷◌, ◌++◌, String, string_bytes, map, length, max, suc}
 use Rattle.std.specs.declared.alloc.Global.{Global}
 use Rattle.tw_nested.specs.declared.tree.End.{End}
+use Rattle.tw_nested.specs.declared.tree.Nested.{Nested}
 use Rattle.tw_nested.specs.declared.tree.Part.{Part, fold-Part}
 use Rattle.tw_nested.specs.declared.tree.Part.TheOpen.{Part-F, Nested-F}
 
@@ -38,6 +40,17 @@ part_view {M} = fold-Part M (List ℕ → Parts M → Parts M) (Parts M × List 
 -- the parts that a vector of named parts shows
 abbrev pub parts_of : {M : Type 0} → List (String Global × Part M) → Parts M
 parts_of {M} ps = parts_in (map (λ p. (p.0, part_view {M = M} p.1)) ps)
+
+-- a part of this name alone
+abbrev pub only_part : {M : Type 0} → List ℕ → Part M → Parts M
+only_part {M} name part = part_view {M = M} part name no_parts
+
+-- the parts of a coupled model, and its couplings
+abbrev pub tree_of : {M : Type 0} → Nested M → Parts M
+tree_of {M} nested = parts_of {M = M} nested.parts.items
+
+abbrev pub links_of : {M : Type 0} → Nested M → List Link
+links_of nested = nested.couplings.items
 
 -- ---- numbers: each part has one, depth first, in order of parts
 

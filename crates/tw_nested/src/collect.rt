@@ -1,9 +1,10 @@
 //! The flat couplings: from each port of an atom to each that is reached from it.
 
-ghost use Rattle.std.specs.Prelude.{◌≡◌, ◌≢◌, ◌<◌, ◌≤◌, ◌+◌, ◌*◌, ℕ, true, false, IfOk, IfErr, OnOk, ◌↔◌, ◌-◌, ◌/◌, ◌%◌, length, slice_index, slice_index_or};
+ghost use Rattle.std.specs.Prelude.{◌≡◌, ◌≢◌, ◌<◌, ◌≤◌, ◌+◌, ◌-◌, ◌*◌, IfOk, IfErr, OnOk, length};
 ghost use Rattle.std.specs.List.{All};
-ghost use Rattle.tw_nested.specs.Reach.{Reaches, Rises, IsWithin};
-ghost use Rattle.tw_nested.specs.Flat.{IsFlat, IsFlatSet, IsTooMany, IsCollected};
+ghost use Rattle.tw_nested.specs.Reach.{IsWithin, MarksReached, Rises};
+ghost use Rattle.tw_nested.specs.Flat.{IsCollected, IsFlatSet, IsTooMany, in_of, out_of, port_out_of};
+ghost use Rattle.tw_nested.specs.declared.collect.FlatRefused.TheVariants.{OutOfMemory};
 
 use crate::limits::{MAX_COUPLINGS, PORTS};
 use crate::reach::{Edge, reached, sources};
@@ -43,22 +44,22 @@ impl<T: Drop> From<AllocFailed<T>> for FlatRefused {
     }
 }
 
-// The number of a port of a part, on its outer side: what the part puts out.
-pub fn out_of(count: usize, part: usize, port: usize) -> usize
+/// The number of a port of a part, on its outer side: what the part puts out.
+pub(crate) fn out_of(count: usize, part: usize, port: usize) -> usize
     requires few { count ≤ 4096 }
     requires known { part < count }
     requires port { port < 16 }
-    ensures { result ≡ 16 * (count - (part + 1)) + port }
+    ensures { result ≡ out_of count part port }
 {
     PORTS * (count - (part + 1)) + port
 }
 
-// The number of a port of a part where it takes in.
-pub fn in_of(count: usize, part: usize, port: usize) -> usize
+/// The number of a port of a part where it takes in.
+pub(crate) fn in_of(count: usize, part: usize, port: usize) -> usize
     requires few { count ≤ 4096 }
     requires known { part < count }
     requires port { port < 16 }
-    ensures { result ≡ 16 * (count + part) + port }
+    ensures { result ≡ in_of count part port }
 {
     PORTS * (count + part) + port
 }
@@ -77,10 +78,11 @@ fn collect(
     requires atoms { All (λ n. n < count) atoms.now }
     requires from { from < 16 * length atoms.now }
     requires long { length seen.now ≡ 32 * count }
-    requires seen { (v : ℕ) → v < 32 * count → (slice_index_or seen.now v false ≡ true) ↔ Reaches edges.now (16 * (count - (slice_index atoms.now (from / 16) + 1)) + from % 16) v }
+    requires seen { MarksReached edges.now (32 * count)
+        (port_out_of count atoms.now from) seen.now }
     requires before { IsCollected count edges.now atoms.now flat.old.items from 0 }
     ensures ok { OnOk result (IsCollected count edges.now atoms.now flat.new.items (from + 1) 0) }
-    ensures err { IfErr result (λ e. e ≢ FlatRefused.OutOfMemory → IsTooMany count edges.now atoms.now) }
+    ensures err { IfErr result (λ e. e ≢ OutOfMemory → IsTooMany count edges.now atoms.now) }
 {
     let ports = PORTS * atoms.len();
     for to in 0..ports {
@@ -100,7 +102,7 @@ fn collect(
 }
 
 /// The flat couplings of parts whose ports are coupled so.
-pub fn flat_couplings(
+pub(crate) fn flat_couplings(
     alloc: Global,
     count: usize,
     edges: &[Edge],
@@ -112,7 +114,7 @@ pub fn flat_couplings(
     requires within { All (IsWithin (32 * count)) edges.now }
     requires rises { Rises edges.now }
     ensures ok { IfOk result (λ flat. IsFlatSet count edges.now atoms.now flat.items) }
-    ensures err { IfErr result (λ e. e ≢ FlatRefused.OutOfMemory → IsTooMany count edges.now atoms.now) }
+    ensures err { IfErr result (λ e. e ≢ OutOfMemory → IsTooMany count edges.now atoms.now) }
 {
     let mut flat = Vec::new(alloc);
     let leads = sources(alloc, 2 * PORTS * count, edges)?;

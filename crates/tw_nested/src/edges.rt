@@ -3,7 +3,7 @@
 ghost use Rattle.std.specs.Prelude.{◌≡◌, ◌<◌, ◌≤◌, ◌*◌, ◌++◌, IfOk, OnOk, map};
 ghost use Rattle.std.specs.List.{All};
 ghost use Rattle.std.specs.List.Sorted.{IsPermutation, IsSorted};
-ghost use Rattle.tw_nested.specs.Edges.{AreEdges, edge_cmp, edges_in};
+ghost use Rattle.tw_nested.specs.Edges.{AreEdges, edge_cmp, edges_of};
 ghost use Rattle.tw_nested.specs.Paths.{IsLink, IsModel, edge_of};
 ghost use Rattle.tw_nested.specs.Taken.{model_of};
 
@@ -36,7 +36,8 @@ fn edge(count: usize, model: &Coupled, link: Link) -> Edge
 fn add_edges(edges: &mut Vec<Edge>, count: usize, model: &Coupled) -> Result<(), AllocError>
     requires few { count ≤ 4096 }
     requires model { IsModel count (model_of model.now) }
-    ensures { OnOk result (edges.new.items ≡ edges.old.items ++ map (edge_of count (model_of model.now)) model.now.links.items) }
+    ensures { OnOk result
+        (edges.new.items ≡ edges.old.items ++ edges_of count (model_of model.now)) }
 {
     for link in &model.links {
         edges.push(edge(count, model, *link))?;
@@ -45,7 +46,11 @@ fn add_edges(edges: &mut Vec<Edge>, count: usize, model: &Coupled) -> Result<(),
 }
 
 /// The couplings of all models, in the order of their sources.
-pub fn edges(alloc: Global, count: usize, coupled: &[Coupled]) -> Result<Vec<Edge>, AllocError>
+pub(crate) fn edges(
+    alloc: Global,
+    count: usize,
+    coupled: &[Coupled],
+) -> Result<Vec<Edge>, AllocError>
     requires few { count ≤ 4096 }
     requires models { All (IsModel count) (map model_of coupled.now) }
     ensures { IfOk result (λ edges. AreEdges count (map model_of coupled.now) edges.items) }

@@ -1,8 +1,9 @@
 //! The atoms of a tree and its flat couplings.
 
 ghost use Rattle.std.specs.Prelude.{◌≡◌, ◌≢◌, ◌<◌, ◌≤◌, [], map, string_bytes, IfErr, IfOk, length};
-ghost use Rattle.tw_nested.specs.Tree.{parts_of, size, flat_names, models_in, atoms_from};
+ghost use Rattle.tw_nested.specs.Tree.{atoms_from, flat_names, links_of, models_in, size, tree_of};
 ghost use Rattle.tw_nested.specs.Whole.{AreCouplings, AreLinked, AreTooMany};
+ghost use Rattle.tw_nested.specs.declared.collect.FlatRefused.TheVariants.{OutOfMemory};
 
 use crate::collect::{Coupling, FlatRefused, flat_couplings};
 use crate::edges::edges;
@@ -26,13 +27,16 @@ pub struct Flat<M> {
 /// Refused by [`FlatRefused::TooMany`] only where more than 8,192 couplings of atoms would come of it, and by
 /// [`FlatRefused::OutOfMemory`] for want of memory. The tree is given up.
 pub fn flatten<M: Drop>(alloc: Global, nested: Nested<M>) -> Result<Flat<M>, FlatRefused>
-    requires few { size (parts_of nested.parts.items) ≤ 2048 }
-    requires atoms { length (atoms_from 1 (parts_of nested.parts.items)) ≤ 1024 }
-    requires linked { AreLinked (parts_of nested.parts.items) nested.couplings.items }
-    ensures names { IfOk result (λ flat. map string_bytes flat.names.items ≡ flat_names [] (parts_of nested.parts.items)) }
-    ensures models { IfOk result (λ flat. flat.models.items ≡ models_in (parts_of nested.parts.items)) }
-    ensures couplings { IfOk result (λ flat. AreCouplings (parts_of nested.parts.items) nested.couplings.items flat.couplings.items) }
-    ensures too_many { IfErr result (λ e. e ≢ FlatRefused.OutOfMemory → AreTooMany (parts_of nested.parts.items) nested.couplings.items) }
+    requires few { size (tree_of nested) ≤ 2048 }
+    requires atoms { length (atoms_from 1 (tree_of nested)) ≤ 1024 }
+    requires linked { AreLinked (tree_of nested) (links_of nested) }
+    ensures names { IfOk result
+        (λ f. map string_bytes f.names.items ≡ flat_names [] (tree_of nested)) }
+    ensures models { IfOk result (λ f. f.models.items ≡ models_in (tree_of nested)) }
+    ensures couplings { IfOk result
+        (λ f. AreCouplings (tree_of nested) (links_of nested) f.couplings.items) }
+    ensures too_many { IfErr result
+        (λ e. e ≢ OutOfMemory → AreTooMany (tree_of nested) (links_of nested)) }
 {
     let mut tables = Tables {
         count: 1,

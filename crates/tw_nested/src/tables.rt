@@ -1,24 +1,24 @@
 //! A tree taken apart: each part by its number, depth first.
 
 ghost use Rattle.std.specs.Prelude.{◌≡◌, ◌<◌, ◌+◌, ◌++◌, ◌∷◌, [], map, string_bytes, IfErr, IfOk, OnOk};
-ghost use Rattle.tw_nested.specs.Tree.{parts_of, part_view, no_parts, size, flat_names, models_in, atoms_from, coupled_from, model_at};
-ghost use Rattle.tw_nested.specs.Taken.{Taken, model_of};
+ghost use Rattle.tw_nested.specs.Tree.{only_part, size, tree_of};
+ghost use Rattle.tw_nested.specs.Taken.{Taken, TakenModel};
 
 use crate::collect::FlatRefused;
 use crate::tree::{Link, Nested, Part};
 use std::alloc::{AllocError, Global};
 
-// A coupled model among all of a tree: its number, the numbers of its parts in order, its couplings.
+/// A coupled model among all of a tree: its number, the numbers of its parts in order, its couplings.
 #[derive(Drop)]
-pub struct Coupled {
+pub(crate) struct Coupled {
     pub number: usize,
     pub parts: Vec<usize>,
     pub links: Vec<Link>,
 }
 
-// How many parts there are so far, the root among them; the atoms' names, models and numbers; the coupled models.
+/// How many parts there are so far, the root among them; the atoms' names, models and numbers; the coupled models.
 #[derive(Drop)]
-pub struct Tables<M> {
+pub(crate) struct Tables<M> {
     pub count: usize,
     pub names: Vec<String>,
     pub models: Vec<M>,
@@ -44,21 +44,17 @@ fn prefix_within(alloc: Global, prefix: &str, name: &str) -> Result<String, Allo
     Ok(within)
 }
 
-// Adds a coupled model and all in it, each atom's name after this prefix.
+/// Adds a coupled model and all in it, each atom's name after this prefix.
 #[cycle(take)]
-pub fn take<M: Drop>(
+pub(crate) fn take<M: Drop>(
     alloc: Global,
     nested: Nested<M>,
     number: usize,
     prefix: &str,
     tables: &mut Tables<M>,
 ) -> Result<(), FlatRefused>
-    requires fits { tables.old.count + size (parts_of nested.parts.items) < 4096 }
-    ensures count { OnOk result (tables.new.count ≡ tables.old.count + size (parts_of nested.parts.items)) }
-    ensures names { OnOk result (map string_bytes tables.new.names.items ≡ map string_bytes tables.old.names.items ++ flat_names prefix.now (parts_of nested.parts.items)) }
-    ensures models { OnOk result (tables.new.models.items ≡ tables.old.models.items ++ models_in (parts_of nested.parts.items)) }
-    ensures atoms { OnOk result (tables.new.atoms.items ≡ tables.old.atoms.items ++ atoms_from tables.old.count (parts_of nested.parts.items)) }
-    ensures coupled { OnOk result (map model_of tables.new.coupled.items ≡ map model_of tables.old.coupled.items ++ coupled_from tables.old.count (parts_of nested.parts.items) ++ model_at number tables.old.count (parts_of nested.parts.items) nested.couplings.items ∷ []) }
+    requires fits { tables.old.count + size (tree_of nested) < 4096 }
+    ensures taken { OnOk result (TakenModel number prefix.now nested tables.old tables.new) }
     ensures memory { IfErr result (λ e. e ≡ FlatRefused.OutOfMemory) }
 {
     let mut parts = Vec::new(alloc);
@@ -84,8 +80,8 @@ fn take_part<M: Drop>(
     prefix: &str,
     tables: &mut Tables<M>,
 ) -> Result<(), FlatRefused>
-    requires fits { tables.old.count + size (part_view part name.now no_parts) < 4096 }
-    ensures taken { OnOk result (Taken prefix.now (part_view part name.now no_parts) tables.old tables.new) }
+    requires fits { tables.old.count + size (only_part name.now part) < 4096 }
+    ensures taken { OnOk result (Taken prefix.now (only_part name.now part) tables.old tables.new) }
     ensures memory { IfErr result (λ e. e ≡ FlatRefused.OutOfMemory) }
 {
     let number = tables.count;

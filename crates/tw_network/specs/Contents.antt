@@ -50,6 +50,10 @@ network_of meaning n = record {
 
 -- ---- what a network is made of
 
+-- texts as their bytes
+abbrev pub texts_of : List (String Global) → List (List ℕ)
+texts_of texts = map string_bytes texts
+
 -- components with the bytes of their names
 abbrev pub named : {M : Type 0} → List (String Global × M) → List (List ℕ × M)
 named components = map (λ c. (string_bytes c.0, c.1)) components

@@ -1,18 +1,26 @@
 -- For what a network is refused, by what is handed in.
 --     first_fault meaning components couplings inputs micro_limit      the first fault, if there is one
 --     fault_of meaning components couplings inputs micro_limit      the same, of what the maker is handed
+--     FailsBy result fault      where there is a refusal, and not for want of memory, it is this fault
 --     counts_fault components couplings inputs      its first part: too many of anything
-use Rattle.std.specs.Prelude.{ℕ, String, List, [], ◌∷◌, ◌++◌, length, Bool, true, false, not, ◌&&◌, ◌==◌, nat_le, nat_lt, Option, None, Some}
+use Rattle.std.specs.Prelude.{ℕ, ◌≡◌, ◌≢◌, String, string_bytes, List, [], ◌∷◌, ◌++◌, length, Bool, true, false, not, ◌&&◌, ◌==◌, nat_le, nat_lt, Option, None, Some, Result, IfErr}
 use Rattle.std.specs.Global.{Global, Vec}
 use Rattle.std.specs.List.{list_any}
 use Rattle.std.specs.Option.{option_or, option_map_or}
 use Rattle.std.specs.Str.{bytes_eq}
 use Rattle.tw_atomic.specs.Atomic.{Meaning}
-use Rattle.tw_network.specs.Contents.{Input, is_name, named, names_of}
+use Rattle.tw_network.specs.Contents.{Input, is_name, named, names_of, texts_of}
 use Rattle.tw_network.specs.declared.refused.NetworkRefused.{NetworkRefused}
-use Rattle.tw_network.specs.declared.refused.NetworkRefused.TheVariants.{UnknownComponent, BadPort, SelfCoupling, DuplicateRoute, TooMany, BadTick, BadLimit, BadName, DuplicateName}
+use Rattle.tw_network.specs.declared.refused.NetworkRefused.TheVariants.{OutOfMemory, UnknownComponent, BadPort, SelfCoupling, DuplicateRoute, TooMany, BadTick, BadLimit, BadName, DuplicateName}
 use Rattle.tw_theory.specs.Network.{Coupling}
 use Rattle.tw_vtime.specs.Stamps.{max_tick, max_microstep}
+
+-- what is true of a refusal, but for want of memory
+abbrev pub IfRefused : {A : Type 0} → Result A NetworkRefused → (NetworkRefused → Type 0) → Type 0
+IfRefused result P = IfErr result (λ e. e ≢ OutOfMemory → P e)
+
+abbrev pub FailsBy : {A : Type 0} → Result A NetworkRefused → Option NetworkRefused → Type 0
+FailsBy result fault = IfErr result (λ e. e ≢ OutOfMemory → fault ≡ Some e)
 
 -- no fault where the test holds
 abbrev pub unless : Bool → NetworkRefused → Option NetworkRefused
@@ -52,6 +60,10 @@ component_fault meaning names c =
     (option_or (unless (not (has_name names c.0)) DuplicateName)
     (unless (starts_in_time (meaning c.1)) BadTick))
 
+-- the same of a name and a model, after these names
+abbrev pub component_fault_of : {M S : Type 0} → (M → Meaning S) → List (String Global) → String Global → M → Option NetworkRefused
+component_fault_of meaning names name model = component_fault meaning (texts_of names) (string_bytes name, model)
+
 -- ---- couplings and inputs, among count components
 
 -- of a coupling alone: its ends, its ports, and its ends again
@@ -88,6 +100,10 @@ couplings_fault count couplings = first_of (coupling_fault count) [] couplings
 
 abbrev pub inputs_fault : ℕ → List Input → Option NetworkRefused
 inputs_fault count inputs = first_of (λ before i. input_fault count i) [] inputs
+
+-- of the couplings, and then of the inputs
+abbrev pub ends_fault : ℕ → List Coupling → List Input → Option NetworkRefused
+ends_fault count couplings inputs = option_or (couplings_fault count couplings) (inputs_fault count inputs)
 
 abbrev pub first_fault : {M S : Type 0} → (M → Meaning S) → List (List ℕ × M) → List Coupling → List Input → ℕ → Option NetworkRefused
 first_fault meaning components couplings inputs micro_limit =

@@ -23,8 +23,16 @@ pub record IsStart (couplings : List Coupling) (part start : ℕ) : Type 0 where
   pub before : (i : ℕ) (d : Coupling) → i < start → part_of (slice_index_or couplings i d).0 (slice_index_or couplings i d).1 < part
   pub after : (i : ℕ) (d : Coupling) → start ≤ i → i < length couplings → part ≤ part_of (slice_index_or couplings i d).0 (slice_index_or couplings i d).1
 
+-- where each part begins, of count components, and the last ends
+abbrev pub AreStarts : List Coupling → ℕ → List ℕ → Type 0
+AreStarts couplings count starts = (part : ℕ) → part < 16 * count + 1 → IsStart couplings part (slice_index starts part)
+
+-- the places of a part
+abbrev pub places_of_part : List Destination → List ℕ → ℕ → List Destination
+places_of_part places starts part = slice_range places (slice_index starts part) (slice_index starts (part + 1))
+
 pub record IsRouteIndex (couplings : List Coupling) (count : ℕ) (places : List Destination) (starts : List ℕ) : Type 0 where
   pub parts : length starts ≡ 16 * count + 1
   pub in_order : (part : ℕ) → part < 16 * count → slice_index starts part ≤ slice_index starts (part + 1)
   pub within : (part : ℕ) → part < 16 * count → slice_index starts (part + 1) ≤ length places
-  pub routes : (component port : ℕ) → component < count → port < 16 → slice_range places (slice_index starts (part_of component port)) (slice_index starts (part_of component port + 1)) ≡ destinations_of component port couplings
+  pub routes : (component port : ℕ) → component < count → port < 16 → places_of_part places starts (part_of component port) ≡ destinations_of component port couplings

@@ -1,15 +1,19 @@
 -- For what a tree of coupled models is refused.
 --     IsTreeFault meaning parts links inputs micro_limit e      e is the first fault
+--     IsTreeFaultOf meaning root inputs micro_limit e      the same of the root of a tree
 --     tree_fault meaning parts links inputs micro_limit      the same, as far as it is found in the tree itself
-use Rattle.std.specs.Prelude.{ℕ, ◌≡◌, List, [], ◌∷◌, ◌++◌, ◌+◌, length, Bool, true, false, not, ◌&&◌, ◌==◌, nat_le, nat_lt, Option, None, Some}
+use Rattle.std.specs.Prelude.{ℕ, ◌≡◌, List, [], ◌∷◌, ◌++◌, ◌+◌, length, Bool, true, false, not, ◌&&◌, ◌==◌, nat_le, nat_lt, Option, None, Some, String}
+use Rattle.std.specs.Global.{Global}
 use Rattle.std.specs.List.{list_any}
 use Rattle.std.specs.Option.{option_or}
 use Rattle.tw_atomic.specs.Atomic.{Meaning}
 use Rattle.tw_nested.specs.declared.tree.End.{End}
+use Rattle.tw_nested.specs.declared.tree.Nested.{Nested}
+use Rattle.tw_nested.specs.declared.tree.Part as part_type
 use Rattle.tw_nested.specs.declared.tree.End.TheVariants.{Here, Part}
-use Rattle.tw_nested.specs.Tree.{Parts, Link, no_parts, atom, coupled, levels, coupled_count, link_count, part_count, models_in}
+use Rattle.tw_nested.specs.Tree.{Parts, Link, no_parts, atom, coupled, levels, coupled_count, link_count, links_of, models_in, only_part, part_count, tree_of}
 use Rattle.tw_nested.specs.Whole.{AreCouplings, AreTooMany}
-use Rattle.tw_network.specs.Contents.{Input}
+use Rattle.tw_network.specs.Contents.{Input, texts_of}
 use Rattle.tw_network.specs.Faults.{unless, first_of, limit_fault, name_fault, has_name, starts_in_time, inputs_fault}
 use Rattle.tw_network.specs.declared.refused.NetworkRefused.{NetworkRefused}
 use Rattle.tw_network.specs.declared.refused.NetworkRefused.TheVariants.{UnknownComponent, BadPort, SelfCoupling, DuplicateRoute, TooMany, BadTick, DuplicateName}
@@ -99,3 +103,28 @@ pub data IsTreeFault {M S : Type 0} (meaning : M → Meaning S) (parts : Parts M
   in_tree : (e : NetworkRefused) → tree_fault meaning parts links inputs micro_limit ≡ Some e → IsTreeFault meaning parts links inputs micro_limit e
   in_couplings : tree_fault meaning parts links inputs micro_limit ≡ None → AreTooMany parts links → IsTreeFault meaning parts links inputs micro_limit TooMany
   in_inputs : (flat : List Coupling) (e : NetworkRefused) → tree_fault meaning parts links inputs micro_limit ≡ None → AreCouplings parts links flat → inputs_fault (length (models_in parts)) inputs ≡ Some e → IsTreeFault meaning parts links inputs micro_limit e
+
+-- ---- of what the code has: a coupled model, or the root of a tree
+
+-- of a part of this name, after names as the code has them
+abbrev pub part_fault_of : {M S : Type 0} → (M → Meaning S) → List (String Global) → List ℕ → part_type.Part M → Option NetworkRefused
+part_fault_of {M} meaning names name part = parts_fault meaning (texts_of names) (only_part {M = M} name part)
+
+abbrev pub own_fault_of : {M S : Type 0} → (M → Meaning S) → Bool → Nested M → Option NetworkRefused
+own_fault_of {M} meaning is_root nested = own_fault meaning is_root (tree_of {M = M} nested) (links_of {M = M} nested)
+
+abbrev pub models_fault_of : {M S : Type 0} → (M → Meaning S) → Nested M → Option NetworkRefused
+models_fault_of {M} meaning root = models_fault meaning (tree_of {M = M} root) (links_of {M = M} root)
+
+abbrev pub tree_count_fault_of : {M : Type 0} → Nested M → ℕ → Option NetworkRefused
+tree_count_fault_of {M} root inputs = tree_count_fault (tree_of {M = M} root) (links_of {M = M} root) inputs
+
+-- of inputs of the atoms
+abbrev pub inputs_fault_of : {M : Type 0} → Nested M → List Input → Option NetworkRefused
+inputs_fault_of {M} root inputs = inputs_fault (length (models_in (tree_of {M = M} root))) inputs
+
+abbrev pub tree_fault_of : {M S : Type 0} → (M → Meaning S) → Nested M → List Input → ℕ → Option NetworkRefused
+tree_fault_of {M} meaning root inputs micro_limit = tree_fault meaning (tree_of {M = M} root) (links_of {M = M} root) inputs micro_limit
+
+abbrev pub IsTreeFaultOf : {M S : Type 0} → (M → Meaning S) → Nested M → List Input → ℕ → NetworkRefused → Type 0
+IsTreeFaultOf {M} meaning root inputs micro_limit e = IsTreeFault meaning (tree_of {M = M} root) (links_of {M = M} root) inputs micro_limit e

@@ -1,51 +1,24 @@
 //! The faults of what is handed in: counts and the greatest microstep, components, couplings and inputs.
 
-ghost use Rattle.std.specs.Prelude.{
-  ◌≡◌,
-  ◌≢◌,
-  ◌++◌,
-  ◌∷◌,
-  ◌≤◌,
-  [],
-  IfOk,
-  IfErr,
-  OnOk,
-  None,
-  Some,
-  map,
-  string_bytes,
-};
+ghost use Rattle.std.specs.Prelude.{◌≡◌, ◌++◌, ◌∷◌, ◌≤◌, [], IfOk, OnOk, None};
 ghost use Rattle.std.specs.List.{list_all};
-ghost use Rattle.std.specs.Option.{option_or};
 ghost use Rattle.std.specs.Result.{result_err};
-ghost use Rattle.tw_network.specs.Contents.{is_name_byte, named, names_of, models_of};
-ghost use Rattle.tw_network.specs.Faults.{
-  count_fault,
-  limit_fault,
-  name_fault,
-  starts_in_time,
-  component_fault,
-  components_fault,
-  end_fault,
-  coupling_fault,
-  couplings_fault,
-  input_fault,
-  inputs_fault,
-};
+ghost use Rattle.tw_network.specs.Contents.{is_name_byte, named, names_of, models_of, texts_of};
+ghost use Rattle.tw_network.specs.Faults.{count_fault, limit_fault, name_fault, starts_in_time, components_fault, end_fault, coupling_fault, couplings_fault, input_fault, inputs_fault, FailsBy, component_fault_of, ends_fault};
 ghost use Rattle.tw_network.specs.RouteIndex.{IsRouteIndex};
 
 use crate::limits::{MAX_COMPONENTS, MAX_INPUTS, MAX_NAME, MAX_PORT};
-use crate::network::{Coupling, Input};
 use crate::refused::NetworkRefused;
 use crate::routes::Routes;
+use crate::wiring::{Coupling, Input};
 use indexmap::IndexSet;
 use std::alloc::{AllocError, Global};
 use tw_atomic::Atomic;
 use tw_nested::MAX_COUPLINGS;
 use tw_vtime::{MAX_MICROSTEP, MAX_TICK};
 
-// Refuses too many of anything.
-pub fn check_counts(
+/// Refuses too many of anything.
+pub(crate) fn check_counts(
     components: usize,
     couplings: usize,
     inputs: usize,
@@ -58,8 +31,8 @@ pub fn check_counts(
     Ok(())
 }
 
-// The greatest microstep, where it is one.
-pub fn checked_limit(micro_limit: u64) -> Result<u32, NetworkRefused>
+/// The greatest microstep, where it is one.
+pub(crate) fn checked_limit(micro_limit: u64) -> Result<u32, NetworkRefused>
     ensures same { IfOk result (λ limit. limit ≡ micro_limit) }
     ensures fault { result_err result ≡ limit_fault micro_limit }
 {
@@ -81,8 +54,8 @@ fn has_bytes_of_name(text: &str) -> bool
     text.bytes().all(is_byte_of_name)
 }
 
-// Refuses a text that is not one to 32 of ASCII letters, digits, `_` and `-`.
-pub fn check_name(text: &str) -> Result<(), NetworkRefused>
+/// Refuses a text that is not one to 32 of ASCII letters, digits, `_` and `-`.
+pub(crate) fn check_name(text: &str) -> Result<(), NetworkRefused>
     ensures { result_err result ≡ name_fault text.now }
 {
     if text.is_empty() || text.len() > MAX_NAME || !has_bytes_of_name(text) {
@@ -91,8 +64,8 @@ pub fn check_name(text: &str) -> Result<(), NetworkRefused>
     Ok(())
 }
 
-// Whether the start state is passive, or its time advance no later than the last tick.
-pub fn has_start_in_time<M: Atomic>(alloc: Global, model: &M) -> Result<bool, AllocError>
+/// Whether the start state is passive, or its time advance no later than the last tick.
+pub(crate) fn has_start_in_time<M: Atomic>(alloc: Global, model: &M) -> Result<bool, AllocError>
     ensures { IfOk result (λ in_time. in_time ≡ starts_in_time (M.meaning model.now)) }
 {
     let start = model.start(alloc)?;
@@ -111,8 +84,8 @@ fn take_name<M: Atomic>(
     model: &M,
 ) -> Result<(), NetworkRefused>
     ensures names { OnOk result (names.new.keys ≡ names.old.keys ++ name ∷ []) }
-    ensures ok { OnOk result (component_fault M.meaning (map string_bytes names.old.keys) (string_bytes name, model.now) ≡ None) }
-    ensures err { IfErr result (λ e. e ≢ NetworkRefused.OutOfMemory → component_fault M.meaning (map string_bytes names.old.keys) (string_bytes name, model.now) ≡ Some e) }
+    ensures ok { OnOk result (component_fault_of M.meaning names.old.keys name model.now ≡ None) }
+    ensures err { FailsBy result (component_fault_of M.meaning names.old.keys name model.now) }
 {
     check_name(name.as_str())?;
     let (_, is_new) = names.insert_full(name)?;
@@ -125,15 +98,16 @@ fn take_name<M: Atomic>(
     Ok(())
 }
 
-// The names and the models of the components, in order, where none of them is at fault.
-pub fn take_components<M: Atomic>(
+/// The names and the models of the components, in order, where none of them is at fault.
+pub(crate) fn take_components<M: Atomic>(
     alloc: Global,
     components: Vec<(String, M)>,
 ) -> Result<(IndexSet<String>, Vec<M>), NetworkRefused>
-    ensures names { IfOk result (λ taken. map string_bytes taken.0.keys ≡ names_of (named components.items)) }
+    ensures names { IfOk result
+        (λ taken. texts_of taken.0.keys ≡ names_of (named components.items)) }
     ensures models { IfOk result (λ taken. taken.1.items ≡ models_of (named components.items)) }
     ensures ok { OnOk result (components_fault M.meaning (named components.items) ≡ None) }
-    ensures err { IfErr result (λ e. e ≢ NetworkRefused.OutOfMemory → components_fault M.meaning (named components.items) ≡ Some e) }
+    ensures err { FailsBy result (components_fault M.meaning (named components.items)) }
 {
     let mut models = Vec::with_capacity(alloc, components.len())?;
     let mut names = IndexSet::new(alloc);
@@ -152,8 +126,10 @@ fn take_component<M: Atomic>(
 ) -> Result<(), NetworkRefused>
     ensures names { OnOk result (names.new.keys ≡ names.old.keys ++ component.0 ∷ []) }
     ensures models { OnOk result (models.new.items ≡ models.old.items ++ component.1 ∷ []) }
-    ensures ok { OnOk result (component_fault M.meaning (map string_bytes names.old.keys) (string_bytes component.0, component.1) ≡ None) }
-    ensures err { IfErr result (λ e. e ≢ NetworkRefused.OutOfMemory → component_fault M.meaning (map string_bytes names.old.keys) (string_bytes component.0, component.1) ≡ Some e) }
+    ensures ok { let fault = component_fault_of M.meaning names.old.keys component.0 component.1 in
+        OnOk result (fault ≡ None) }
+    ensures err { FailsBy result
+        (component_fault_of M.meaning names.old.keys component.0 component.1) }
 {
     let (name, model) = component;
     take_name(alloc, names, name, &model)?;
@@ -186,7 +162,7 @@ fn take_coupling(
 ) -> Result<(), NetworkRefused>
     ensures seen { OnOk result (seen.new.keys ≡ seen.old.keys ++ coupling ∷ []) }
     ensures ok { OnOk result (coupling_fault count seen.old.keys coupling ≡ None) }
-    ensures err { IfErr result (λ e. e ≢ NetworkRefused.OutOfMemory → coupling_fault count seen.old.keys coupling ≡ Some e) }
+    ensures err { FailsBy result (coupling_fault count seen.old.keys coupling) }
 {
     check_ends(count, coupling)?;
     let (_, is_new) = seen.insert_full(coupling)?;
@@ -203,7 +179,7 @@ fn check_couplings(
     couplings: &[Coupling],
 ) -> Result<(), NetworkRefused>
     ensures ok { OnOk result (couplings_fault count couplings.now ≡ None) }
-    ensures err { IfErr result (λ e. e ≢ NetworkRefused.OutOfMemory → couplings_fault count couplings.now ≡ Some e) }
+    ensures err { FailsBy result (couplings_fault count couplings.now) }
 {
     let mut seen = IndexSet::new(alloc);
     for coupling in couplings {
@@ -229,8 +205,8 @@ fn check_input(count: usize, input: Input) -> Result<(), NetworkRefused>
     Ok(())
 }
 
-// Refuses inputs of which one is at fault.
-pub fn check_inputs(count: usize, inputs: &[Input]) -> Result<(), NetworkRefused>
+/// Refuses inputs of which one is at fault.
+pub(crate) fn check_inputs(count: usize, inputs: &[Input]) -> Result<(), NetworkRefused>
     ensures { result_err result ≡ inputs_fault count inputs.now }
 {
     for input in inputs {
@@ -239,18 +215,19 @@ pub fn check_inputs(count: usize, inputs: &[Input]) -> Result<(), NetworkRefused
     Ok(())
 }
 
-// Where each output of `count` components goes, where no coupling and no input is at fault.
-pub fn checked_routes(
+/// Where each output of `count` components goes, where no coupling and no input is at fault.
+pub(crate) fn checked_routes(
     alloc: Global,
     count: usize,
     couplings: &[Coupling],
     inputs: &[Input],
 ) -> Result<Routes, NetworkRefused>
     requires few { count ≤ 1024 }
-    ensures routes { IfOk result (λ r. IsRouteIndex couplings.now count r.places.items r.starts.items) }
+    ensures routes { IfOk result
+        (λ r. IsRouteIndex couplings.now count r.places.items r.starts.items) }
     ensures couplings { OnOk result (couplings_fault count couplings.now ≡ None) }
     ensures inputs { OnOk result (inputs_fault count inputs.now ≡ None) }
-    ensures err { IfErr result (λ e. e ≢ NetworkRefused.OutOfMemory → option_or (couplings_fault count couplings.now) (inputs_fault count inputs.now) ≡ Some e) }
+    ensures err { FailsBy result (ends_fault count couplings.now inputs.now) }
 {
     check_couplings(alloc, count, couplings)?;
     check_inputs(count, inputs)?;

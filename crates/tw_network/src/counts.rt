@@ -1,26 +1,26 @@
 //! Whether a tree is small enough to be a network.
 
-ghost use Rattle.std.specs.Prelude.{◌≡◌, ◌≤◌, ◌+◌, ◌&&◌, IfNone, IfSome, [], length, nat_le};
+ghost use Rattle.std.specs.Prelude.{◌≡◌, IfNone, IfSome, []};
 ghost use Rattle.std.specs.Result.{result_err};
-ghost use Rattle.tw_nested.specs.Tree.{no_parts, part_view, parts_of};
-ghost use Rattle.tw_network.specs.Counts.{AreFewCounts, FitsAfter, IsCounted};
-ghost use Rattle.tw_network.specs.TreeFaults.{is_few, tree_count_fault};
+ghost use Rattle.tw_network.specs.Counts.{AreFewCounts, FitsAfter, IsCounted, ModelFits, IsModelCounted};
+ghost use Rattle.tw_network.specs.TreeFaults.{is_few, tree_count_fault_of};
+ghost use Rattle.tw_nested.specs.Tree.{tree_of, links_of, only_part};
 
 use crate::limits::{MAX_COMPONENTS, MAX_COUPLED, MAX_INPUTS, MAX_LEVELS};
 use crate::refused::NetworkRefused;
 use tw_nested::{MAX_COUPLINGS, Nested, Part};
 
-// What was met so far.
+/// What was met so far.
 #[derive(Clone, Copy)]
-pub struct Counts {
+pub(crate) struct Counts {
     atoms: usize,
     coupled: usize,
     couplings: usize,
 }
 
-// Refuses a tree of too many levels, parts or couplings, or too many inputs.
-pub fn check_tree_counts<M>(root: &Nested<M>, inputs: usize) -> Result<(), NetworkRefused>
-    ensures { result_err result ≡ tree_count_fault (parts_of root.now.parts.items) root.now.couplings.items inputs }
+/// Refuses a tree of too many levels, parts or couplings, or too many inputs.
+pub(crate) fn check_tree_counts<M>(root: &Nested<M>, inputs: usize) -> Result<(), NetworkRefused>
+    ensures { result_err result ≡ tree_count_fault_of root.now inputs }
 {
     if !is_few(root) || inputs > MAX_INPUTS {
         return Err(NetworkRefused::TooMany);
@@ -31,7 +31,7 @@ pub fn check_tree_counts<M>(root: &Nested<M>, inputs: usize) -> Result<(), Netwo
 /// Whether a tree has no more than 16 levels, 1,024 atoms, 1,024 coupled parts and 8,192 couplings. It goes no
 /// deeper than 16 levels, and stops at the first part that is one too many.
 fn is_few<M>(root: &Nested<M>) -> bool
-    ensures { result ≡ is_few (parts_of root.now.parts.items) root.now.couplings.items }
+    ensures { result ≡ is_few (tree_of root.now) (links_of root.now) }
 {
     let none = Counts {
         atoms: 0,
@@ -45,9 +45,9 @@ fn is_few<M>(root: &Nested<M>) -> bool
 #[cycle(counts)]
 fn with_model<M>(nested: &Nested<M>, room: usize, before: Counts) -> Option<Counts>
     requires few { AreFewCounts before }
-    ensures counted { IfSome result (λ after. IsCounted before after (parts_of nested.now.parts.items) (length nested.now.couplings.items)) }
-    ensures fits { IfSome result (λ after. FitsAfter room before (parts_of nested.now.parts.items) (length nested.now.couplings.items)) }
-    ensures too_many { IfNone result (¬ FitsAfter room before (parts_of nested.now.parts.items) (length nested.now.couplings.items)) }
+    ensures counted { IfSome result (λ after. IsModelCounted before after nested.now) }
+    ensures fits { IfSome result (λ after. ModelFits room before nested.now) }
+    ensures too_many { IfNone result (¬ ModelFits room before nested.now) }
 {
     let mut counts = before;
     let couplings = nested.couplings.len();
@@ -65,9 +65,9 @@ fn with_model<M>(nested: &Nested<M>, room: usize, before: Counts) -> Option<Coun
 #[cycle(counts)]
 fn with_part<M>(part: &Part<M>, room: usize, before: Counts) -> Option<Counts>
     requires few { AreFewCounts before }
-    ensures counted { IfSome result (λ after. IsCounted before after (part_view part.now [] no_parts) 0) }
-    ensures fits { IfSome result (λ after. FitsAfter room before (part_view part.now [] no_parts) 0) }
-    ensures too_many { IfNone result (¬ FitsAfter room before (part_view part.now [] no_parts) 0) }
+    ensures counted { IfSome result (λ after. IsCounted before after (only_part [] part.now) 0) }
+    ensures fits { IfSome result (λ after. FitsAfter room before (only_part [] part.now) 0) }
+    ensures too_many { IfNone result (¬ FitsAfter room before (only_part [] part.now) 0) }
 {
     if room == 0 {
         return None;

@@ -4,7 +4,7 @@ ghost use Rattle.std.specs.Prelude.{◌≡◌, ◌≤◌};
 ghost use Rattle.tw_network.specs.Contents.{message_of};
 ghost use Rattle.tw_vtime.specs.Stamps.{max_tick};
 
-use crate::network::Input;
+use crate::wiring::Input;
 use tw_msgs::Message;
 use tw_vtime::Stamp;
 

@@ -7,8 +7,8 @@ ghost use Rattle.tw_network.specs.Faults.{has_name};
 use indexmap::IndexSet;
 use std::alloc::{AllocError, AllocFailed, Global};
 
-// The set of these names, no two of which are the same, in their order.
-pub fn name_set(alloc: Global, names: Vec<String>) -> Result<IndexSet<String>, AllocError>
+/// The set of these names, no two of which are the same, in their order.
+pub(crate) fn name_set(alloc: Global, names: Vec<String>) -> Result<IndexSet<String>, AllocError>
     requires distinct { AllPairs (λ a b. a ≢ b) (map string_bytes names.items) }
     ensures { IfOk result (λ set. map string_bytes set.keys ≡ map string_bytes names.items) }
 {

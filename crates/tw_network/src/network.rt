@@ -1,35 +1,27 @@
 //! The network, its maker and its readers.
 
-ghost use Rattle.std.specs.Prelude.{ℕ, List, ◌≡◌, ◌≢◌, ◌↔◌, ◌<◌, ◌≤◌, [], Contains, IsTrue, IsErrOf, IfOk, IfErr, IfSome, OnOk, IfNone, None, Some, length, slice_get};
+ghost use Rattle.std.specs.Prelude.{◌≡◌, ◌↔◌, ◌<◌, ◌≤◌, [], Contains, IsTrue, IsErrOf, IfOk, IfSome, OnOk, IfNone, None, Some, length, slice_get};
 ghost use Rattle.std.specs.List.{AllByRecursion as Each};
 ghost use Rattle.tw_network.specs.Contents.{handed_in, made_of, network_of, IsPlace, IsWhole};
-ghost use Rattle.tw_network.specs.Faults.{counts_fault, fault_of, first_fault, inputs_fault, limit_fault};
-ghost use Rattle.tw_network.specs.FlatTrees.{IsFlatTree, IsFlattened, IsSameNetwork};
-ghost use Rattle.tw_network.specs.TreeFaults.{IsTreeFault, tree_count_fault, tree_fault};
-ghost use Rattle.tw_nested.specs.Tree.{flat_names, models_in, parts_of};
+ghost use Rattle.tw_network.specs.Faults.{counts_fault, fault_of, first_fault, limit_fault, FailsBy, IfRefused};
+ghost use Rattle.tw_network.specs.FlatTrees.{IsFlattened, IsSameNetwork, IfFlat};
+ghost use Rattle.tw_nested.specs.Tree.{flat_names, models_in, tree_of, links_of};
 ghost use Rattle.tw_nested.specs.Whole.{AreCouplings};
-ghost use Rattle.tw_network.specs.declared.refused.NetworkRefused.TheVariants.{OutOfMemory, TooMany, BadLimit};
+ghost use Rattle.tw_network.specs.declared.refused.NetworkRefused.TheVariants.{TooMany, BadLimit};
 ghost use Rattle.tw_theory.specs.Network.{routes};
+ghost use Rattle.tw_network.specs.TreeFaults.{inputs_fault_of, tree_fault_of, tree_count_fault_of, IsTreeFaultOf};
 
 use crate::checks::{check_counts, check_inputs, checked_limit, checked_routes, take_components};
 use crate::naming::name_set;
 use crate::refused::NetworkRefused;
 use crate::routes::Routes;
 use crate::tree_checks::checked_tree;
+use crate::wiring::{Coupling, Input, Place};
 use indexmap::IndexSet;
 use std::alloc::Global;
 use std::marker::Model;
 use tw_atomic::Atomic;
 use tw_nested::{Flat, Nested, PORTS, dismantle, flatten};
-
-/// A coupling: source, its port, destination, its port.
-pub type Coupling = (usize, u8, usize, u8);
-
-/// What comes from outside: tick, component, port, value.
-pub type Input = (u64, usize, u8, i64);
-
-/// Where an output arrives: component and port.
-pub type Place = (usize, u8);
 
 /// A flat Parallel DEVS network (Chow and Zeigler 1994).
 ///
@@ -66,9 +58,13 @@ impl<M: Atomic> Model for Network<M> {
 
     ghost Value = { Contents M };
 
-    ghost view = { λ n. contents_of n.names.keys n.models.items n.couplings.items n.inputs.items n.micro_limit };
+    ghost view = { λ n. contents_of
+        n.names.keys n.models.items n.couplings.items n.inputs.items n.micro_limit };
 
-    ghost invariant = { λ n. IsWhole M.meaning (contents_of n.names.keys n.models.items n.couplings.items n.inputs.items n.micro_limit) × IsRouteIndex n.couplings.items (length n.models.items) n.routes.places.items n.routes.starts.items };
+    ghost invariant = { λ n. IsWhole M.meaning (contents_of
+        n.names.keys n.models.items n.couplings.items n.inputs.items n.micro_limit)
+        × IsRouteIndex n.couplings.items (length n.models.items)
+        n.routes.places.items n.routes.starts.items };
 }
 
 impl<M: Atomic> Network<M> {
@@ -89,12 +85,16 @@ impl<M: Atomic> Network<M> {
         inputs: Vec<Input>,
         micro_limit: u64,
     ) -> Result<Network<M>, NetworkRefused>
-        ensures as_handed_in { IfOk result (λ n. n ≡ made_of components couplings inputs micro_limit) }
-        ensures no_fault { OnOk result (fault_of M.meaning components couplings inputs micro_limit ≡ None) }
-        ensures first_fault { let fault = fault_of M.meaning components couplings inputs micro_limit in
-            IfErr result (λ e. e ≢ OutOfMemory → fault ≡ Some e) }
-        ensures counts { counts_fault components couplings inputs ≡ Some TooMany → IsErrOf result TooMany }
-        ensures limit { counts_fault components couplings inputs ≡ None → limit_fault micro_limit ≡ Some BadLimit → IsErrOf result BadLimit }
+        ensures as_handed_in { IfOk result
+            (λ n. n ≡ made_of components couplings inputs micro_limit) }
+        ensures no_fault { OnOk result
+            (fault_of M.meaning components couplings inputs micro_limit ≡ None) }
+        ensures first_fault { FailsBy result
+            (fault_of M.meaning components couplings inputs micro_limit) }
+        ensures counts { counts_fault components couplings inputs ≡ Some TooMany
+            → IsErrOf result TooMany }
+        ensures limit { counts_fault components couplings inputs ≡ None
+            → limit_fault micro_limit ≡ Some BadLimit → IsErrOf result BadLimit }
     {
         check_counts(components.len(), couplings.len(), inputs.len())?;
         let micro_limit = checked_limit(micro_limit)?;
@@ -130,25 +130,29 @@ impl<M: Atomic> Network<M> {
         inputs: Vec<Input>,
         micro_limit: u64,
     ) -> Result<Network<M>, NetworkRefused>
-        ensures names { IfOk result (λ n. n.names ≡ flat_names [] (parts_of root.parts.items)) }
-        ensures models { IfOk result (λ n. n.models ≡ models_in (parts_of root.parts.items)) }
-        ensures couplings { IfOk result (λ n. AreCouplings (parts_of root.parts.items) root.couplings.items n.couplings) }
+        ensures names { IfOk result (λ n. n.names ≡ flat_names [] (tree_of root)) }
+        ensures models { IfOk result (λ n. n.models ≡ models_in (tree_of root)) }
+        ensures couplings { IfOk result
+            (λ n. AreCouplings (tree_of root) (links_of root) n.couplings) }
         ensures inputs { IfOk result (λ n. n.inputs ≡ inputs.items) }
         ensures micro_limit { IfOk result (λ n. n.micro_limit ≡ micro_limit) }
-        ensures tree_sound { OnOk result (tree_fault M.meaning (parts_of root.parts.items) root.couplings.items inputs.items micro_limit ≡ None) }
-        ensures inputs_sound { OnOk result (inputs_fault (length (models_in (parts_of root.parts.items))) inputs.items ≡ None) }
-        ensures first_fault { IfErr result (λ e. e ≢ OutOfMemory → IsTreeFault M.meaning (parts_of root.parts.items) root.couplings.items inputs.items micro_limit e) }
-        ensures counts { tree_count_fault (parts_of root.parts.items) root.couplings.items (length inputs.items) ≡ Some TooMany → IsErrOf result TooMany }
-        ensures made_as_new { (components : List (List ℕ × M)) (couplings : List (ℕ × ℕ × ℕ × ℕ))
-            → IsFlatTree (parts_of root.parts.items) root.couplings.items components couplings
-            → IfOk result (λ n. IsSameNetwork n (handed_in components couplings inputs.items micro_limit)) }
-        ensures sound_as_new { (components : List (List ℕ × M)) (couplings : List (ℕ × ℕ × ℕ × ℕ))
-            → IsFlatTree (parts_of root.parts.items) root.couplings.items components couplings
-            → OnOk result (first_fault M.meaning components couplings inputs.items micro_limit ≡ None) }
-        ensures refused_as_new { (components : List (List ℕ × M)) (couplings : List (ℕ × ℕ × ℕ × ℕ))
-            → IsFlatTree (parts_of root.parts.items) root.couplings.items components couplings
-            → IfErr result (λ e. e ≢ OutOfMemory → first_fault M.meaning components couplings inputs.items micro_limit ≡ Some e) }
-        ensures limit { tree_count_fault (parts_of root.parts.items) root.couplings.items (length inputs.items) ≡ None → limit_fault micro_limit ≡ Some BadLimit → IsErrOf result BadLimit }
+        ensures tree_sound { OnOk result
+            (tree_fault_of M.meaning root inputs.items micro_limit ≡ None) }
+        ensures inputs_sound { OnOk result (inputs_fault_of root inputs.items ≡ None) }
+        ensures first_fault { IfRefused result
+            (IsTreeFaultOf M.meaning root inputs.items micro_limit) }
+        ensures counts { tree_count_fault_of root (length inputs.items) ≡ Some TooMany
+            → IsErrOf result TooMany }
+        ensures made_as_new { IfFlat root (λ components couplings.
+            let same = handed_in components couplings inputs.items micro_limit in
+            IfOk result (λ n. IsSameNetwork n same)) }
+        ensures sound_as_new { IfFlat root (λ components couplings.
+            let fault = first_fault M.meaning components couplings inputs.items micro_limit in
+            OnOk result (fault ≡ None)) }
+        ensures refused_as_new { IfFlat root (λ components couplings.
+            FailsBy result (first_fault M.meaning components couplings inputs.items micro_limit)) }
+        ensures limit { tree_count_fault_of root (length inputs.items) ≡ None
+            → limit_fault micro_limit ≡ Some BadLimit → IsErrOf result BadLimit }
     {
         match checked_tree(alloc, &root, inputs.as_slice(), micro_limit) {
             Ok(micro_limit) => Network::of_sound_tree(alloc, root, inputs, micro_limit),
@@ -166,10 +170,12 @@ impl<M: Atomic> Network<M> {
         inputs: Vec<Input>,
         micro_limit: u32,
     ) -> Result<Network<M>, NetworkRefused>
-        requires sound { tree_fault M.meaning (parts_of root.parts.items) root.couplings.items inputs.items micro_limit ≡ None }
-        ensures flattened { IfOk result (IsFlattened (parts_of root.parts.items) root.couplings.items inputs.items micro_limit) }
-        ensures inputs_sound { OnOk result (inputs_fault (length (models_in (parts_of root.parts.items))) inputs.items ≡ None) }
-        ensures first_fault { IfErr result (λ e. e ≢ OutOfMemory → IsTreeFault M.meaning (parts_of root.parts.items) root.couplings.items inputs.items micro_limit e) }
+        requires sound { tree_fault_of M.meaning root inputs.items micro_limit ≡ None }
+        ensures flattened { IfOk result
+            (IsFlattened (tree_of root) (links_of root) inputs.items micro_limit) }
+        ensures inputs_sound { OnOk result (inputs_fault_of root inputs.items ≡ None) }
+        ensures first_fault { IfRefused result
+            (IsTreeFaultOf M.meaning root inputs.items micro_limit) }
     {
         let Flat {
             names,
@@ -214,7 +220,8 @@ impl<M: Atomic> Network<M> {
 
     /// The component that has a name, found without a scan.
     pub fn find(&self, name: &str) -> Option<usize>
-        ensures found { IfSome result (λ component. slice_get self.now.names component ≡ Some name.now) }
+        ensures found { IfSome result
+            (λ component. slice_get self.now.names component ≡ Some name.now) }
         ensures known { IfSome result (λ component. component < length self.now.models) }
         ensures absent { IfNone result (¬ Contains self.now.names name.now) }
     {

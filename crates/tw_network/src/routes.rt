@@ -1,29 +1,30 @@
 //! Where each output goes: an index of the couplings by source and port.
 
-ghost use Rattle.std.specs.Prelude.{◌≡◌, ◌<◌, ◌≤◌, ◌+◌, ◌*◌, ℕ, IfOk, length, map, slice_index, slice_range};
+ghost use Rattle.std.specs.Prelude.{◌≡◌, ◌<◌, ◌≤◌, ◌+◌, ◌*◌, IfOk, length, map, slice_index};
 ghost use Rattle.std.specs.List.{All};
 ghost use Rattle.std.specs.List.Sorted.{IsPermutation, IsSorted};
 ghost use Rattle.tw_network.specs.Contents.{IsCoupling};
-ghost use Rattle.tw_network.specs.RouteIndex.{IsRouteIndex, IsStart, coupling_cmp, part_of, place_of};
+ghost use Rattle.tw_network.specs.RouteIndex.{IsRouteIndex, IsStart, coupling_cmp, part_of, place_of, AreStarts, places_of_part};
 
-use crate::network::{Coupling, Place};
+use crate::wiring::{Coupling, Place};
 use std::alloc::{AllocError, Global};
 use tw_nested::PORTS;
 
-// The places of all couplings, by source, port, destination and port, and where those of each source and
-// port begin.
+/// The places of all couplings, by source, port, destination and port, and where those of each source and
+/// port begin.
 #[derive(Drop)]
-pub struct Routes {
+pub(crate) struct Routes {
     places: Vec<Place>,
     starts: Vec<usize>,
 }
 
 impl Routes {
-    // The index of these couplings of `count` components.
+    /// The index of these couplings of `count` components.
     pub fn new(alloc: Global, count: usize, couplings: &[Coupling]) -> Result<Routes, AllocError>
         requires few { count ≤ 1024 }
         requires couplings { All (IsCoupling count) couplings.now }
-        ensures { IfOk result (λ r. IsRouteIndex couplings.now count r.places.items r.starts.items) }
+        ensures { IfOk result
+            (λ r. IsRouteIndex couplings.now count r.places.items r.starts.items) }
     {
         let sorted = in_order(alloc, couplings)?;
         let starts = starts_of(alloc, count, sorted.as_slice())?;
@@ -31,12 +32,14 @@ impl Routes {
         Ok(Routes { places, starts })
     }
 
-    // The places of a part.
+    /// The places of a part.
     pub fn part(&self, part: usize) -> &[Place]
         requires known { part + 1 < length self.now.starts.items }
-        requires in_order { slice_index self.now.starts.items part ≤ slice_index self.now.starts.items (part + 1) }
-        requires within { slice_index self.now.starts.items (part + 1) ≤ length self.now.places.items }
-        ensures { result.now ≡ slice_range self.now.places.items (slice_index self.now.starts.items part) (slice_index self.now.starts.items (part + 1)) }
+        requires in_order { let starts = self.now.starts.items in
+            slice_index starts part ≤ slice_index starts (part + 1) }
+        requires within { let starts = self.now.starts.items in
+            slice_index starts (part + 1) ≤ length self.now.places.items }
+        ensures { result.now ≡ places_of_part self.now.places.items self.now.starts.items part }
     {
         let start = self.starts[part];
         let end = self.starts[part + 1];
@@ -70,7 +73,7 @@ fn starts_of(alloc: Global, count: usize, sorted: &[Coupling]) -> Result<Vec<usi
     requires couplings { All (IsCoupling count) sorted.now }
     requires in_order { IsSorted coupling_cmp sorted.now }
     ensures parts { IfOk result (λ starts. length starts.items ≡ 16 * count + 1) }
-    ensures starts { IfOk result (λ starts. (part : ℕ) → part < 16 * count + 1 → IsStart sorted.now part (slice_index starts.items part)) }
+    ensures starts { IfOk result (λ starts. AreStarts sorted.now count starts.items) }
 {
     let parts = PORTS * count;
     let mut starts = Vec::with_capacity(alloc, parts + 1)?;

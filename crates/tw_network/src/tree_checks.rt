@@ -1,47 +1,37 @@
 //! The faults of a tree of coupled models: its parts' and its couplings', a model before the models in it.
 
-ghost use Rattle.std.specs.Prelude.{◌≡◌, ◌≢◌, ◌++◌, ◌∷◌, [], true, IfErr, IfOk, IsErrOf, OnOk, None, Some, length, map, string_bytes};
+ghost use Rattle.std.specs.Prelude.{◌≡◌, ◌++◌, ◌∷◌, [], IfOk, IsErrOf, OnOk, None, Some, length, string_bytes};
 ghost use Rattle.std.specs.Result.{result_err};
-ghost use Rattle.tw_nested.specs.Tree.{no_parts, part_count, part_view, parts_of};
-ghost use Rattle.tw_network.specs.Faults.{limit_fault};
-ghost use Rattle.tw_network.specs.TreeFaults.{
-  inner_fault,
-  is_end,
-  link_end_fault,
-  link_fault,
-  links_fault,
-  models_fault,
-  own_fault,
-  part_name_fault,
-  parts_fault,
-  same_end,
-  start_fault,
-  tree_count_fault,
-  tree_fault,
-};
+ghost use Rattle.tw_nested.specs.Tree.{parts_of, tree_of, only_part};
+ghost use Rattle.tw_network.specs.Faults.{limit_fault, FailsBy};
+ghost use Rattle.tw_network.specs.TreeFaults.{inner_fault, is_end, link_end_fault, link_fault, links_fault, part_name_fault, parts_fault, same_end, start_fault, own_fault_of, models_fault_of, part_fault_of, tree_fault_of, tree_count_fault_of};
+ghost use Rattle.tw_network.specs.Contents.{texts_of};
+ghost use Rattle.tw_network.specs.declared.refused.NetworkRefused.TheVariants.{TooMany, BadLimit};
 
 use crate::checks::{check_name, checked_limit, has_start_in_time};
 use crate::counts::check_tree_counts;
 use crate::limits::MAX_PORT;
-use crate::network::Input;
 use crate::refused::NetworkRefused;
+use crate::wiring::Input;
 use indexmap::IndexSet;
 use std::alloc::Global;
 use tw_atomic::Atomic;
 use tw_nested::{End, Link, Nested, Part};
 
-// The greatest microstep, where it is one and nothing of the tree is at fault, nor are its inputs too many.
-pub fn checked_tree<M: Atomic>(
+/// The greatest microstep, where it is one and nothing of the tree is at fault, nor are its inputs too many.
+pub(crate) fn checked_tree<M: Atomic>(
     alloc: Global,
     root: &Nested<M>,
     inputs: &[Input],
     micro_limit: u64,
 ) -> Result<u32, NetworkRefused>
     ensures same { IfOk result (λ limit. limit ≡ micro_limit) }
-    ensures ok { OnOk result (tree_fault M.meaning (parts_of root.now.parts.items) root.now.couplings.items inputs.now micro_limit ≡ None) }
-    ensures err { IfErr result (λ e. e ≢ NetworkRefused.OutOfMemory → tree_fault M.meaning (parts_of root.now.parts.items) root.now.couplings.items inputs.now micro_limit ≡ Some e) }
-    ensures counts { tree_count_fault (parts_of root.now.parts.items) root.now.couplings.items (length inputs.now) ≡ Some NetworkRefused.TooMany → IsErrOf result NetworkRefused.TooMany }
-    ensures limit { tree_count_fault (parts_of root.now.parts.items) root.now.couplings.items (length inputs.now) ≡ None → limit_fault micro_limit ≡ Some NetworkRefused.BadLimit → IsErrOf result NetworkRefused.BadLimit }
+    ensures ok { OnOk result (tree_fault_of M.meaning root.now inputs.now micro_limit ≡ None) }
+    ensures err { FailsBy result (tree_fault_of M.meaning root.now inputs.now micro_limit) }
+    ensures counts { tree_count_fault_of root.now (length inputs.now) ≡ Some TooMany
+        → IsErrOf result TooMany }
+    ensures limit { tree_count_fault_of root.now (length inputs.now) ≡ None
+        → limit_fault micro_limit ≡ Some BadLimit → IsErrOf result BadLimit }
 {
     check_tree_counts(root, inputs.len())?;
     let micro_limit = checked_limit(micro_limit)?;
@@ -51,8 +41,8 @@ pub fn checked_tree<M: Atomic>(
 
 /// Refuses a tree in which a model is at fault.
 fn check_models<M: Atomic>(alloc: Global, root: &Nested<M>) -> Result<(), NetworkRefused>
-    ensures ok { OnOk result (models_fault M.meaning (parts_of root.now.parts.items) root.now.couplings.items ≡ None) }
-    ensures err { IfErr result (λ e. e ≢ NetworkRefused.OutOfMemory → models_fault M.meaning (parts_of root.now.parts.items) root.now.couplings.items ≡ Some e) }
+    ensures ok { OnOk result (models_fault_of M.meaning root.now ≡ None) }
+    ensures err { FailsBy result (models_fault_of M.meaning root.now) }
 {
     check_own(alloc, true, root)?;
     check_inner(alloc, root)
@@ -61,8 +51,8 @@ fn check_models<M: Atomic>(alloc: Global, root: &Nested<M>) -> Result<(), Networ
 /// Refuses a model among or in whose parts a model is at fault.
 #[cycle(models)]
 fn check_inner<M: Atomic>(alloc: Global, nested: &Nested<M>) -> Result<(), NetworkRefused>
-    ensures ok { OnOk result (inner_fault M.meaning (parts_of nested.now.parts.items) ≡ None) }
-    ensures err { IfErr result (λ e. e ≢ NetworkRefused.OutOfMemory → inner_fault M.meaning (parts_of nested.now.parts.items) ≡ Some e) }
+    ensures ok { OnOk result (inner_fault M.meaning (tree_of nested.now) ≡ None) }
+    ensures err { FailsBy result (inner_fault M.meaning (tree_of nested.now)) }
 {
     for (_, part) in &nested.parts {
         check_part(alloc, part)?;
@@ -73,8 +63,8 @@ fn check_inner<M: Atomic>(alloc: Global, nested: &Nested<M>) -> Result<(), Netwo
 /// Refuses a part that is a model at fault, or has one in it.
 #[cycle(models)]
 fn check_part<M: Atomic>(alloc: Global, part: &Part<M>) -> Result<(), NetworkRefused>
-    ensures ok { OnOk result (inner_fault M.meaning (part_view part.now [] no_parts) ≡ None) }
-    ensures err { IfErr result (λ e. e ≢ NetworkRefused.OutOfMemory → inner_fault M.meaning (part_view part.now [] no_parts) ≡ Some e) }
+    ensures ok { OnOk result (inner_fault M.meaning (only_part [] part.now) ≡ None) }
+    ensures err { FailsBy result (inner_fault M.meaning (only_part [] part.now)) }
 {
     match part {
         Part::Atom(_) => Ok(()),
@@ -91,8 +81,8 @@ fn check_own<M: Atomic>(
     is_root: bool,
     nested: &Nested<M>,
 ) -> Result<(), NetworkRefused>
-    ensures ok { OnOk result (own_fault M.meaning is_root (parts_of nested.now.parts.items) nested.now.couplings.items ≡ None) }
-    ensures err { IfErr result (λ e. e ≢ NetworkRefused.OutOfMemory → own_fault M.meaning is_root (parts_of nested.now.parts.items) nested.now.couplings.items ≡ Some e) }
+    ensures ok { OnOk result (own_fault_of M.meaning is_root nested.now ≡ None) }
+    ensures err { FailsBy result (own_fault_of M.meaning is_root nested.now) }
 {
     check_parts(alloc, nested.parts.as_slice())?;
     check_links(
@@ -106,7 +96,7 @@ fn check_own<M: Atomic>(
 /// Refuses parts of which one is at fault, alone or beside those before it.
 fn check_parts<M: Atomic>(alloc: Global, parts: &[(String, Part<M>)]) -> Result<(), NetworkRefused>
     ensures ok { OnOk result (parts_fault M.meaning [] (parts_of parts.now) ≡ None) }
-    ensures err { IfErr result (λ e. e ≢ NetworkRefused.OutOfMemory → parts_fault M.meaning [] (parts_of parts.now) ≡ Some e) }
+    ensures err { FailsBy result (parts_fault M.meaning [] (parts_of parts.now)) }
 {
     let mut names = IndexSet::new(alloc);
     for (name, part) in parts {
@@ -122,9 +112,10 @@ fn take_part<M: Atomic>(
     name: &str,
     part: &Part<M>,
 ) -> Result<(), NetworkRefused>
-    ensures names { OnOk result (map string_bytes names.new.keys ≡ map string_bytes names.old.keys ++ name.now ∷ []) }
-    ensures ok { OnOk result (parts_fault M.meaning (map string_bytes names.old.keys) (part_view part.now name.now no_parts) ≡ None) }
-    ensures err { IfErr result (λ e. e ≢ NetworkRefused.OutOfMemory → parts_fault M.meaning (map string_bytes names.old.keys) (part_view part.now name.now no_parts) ≡ Some e) }
+    ensures names { OnOk result
+        (texts_of names.new.keys ≡ texts_of names.old.keys ++ name.now ∷ []) }
+    ensures ok { OnOk result (part_fault_of M.meaning names.old.keys name.now part.now ≡ None) }
+    ensures err { FailsBy result (part_fault_of M.meaning names.old.keys name.now part.now) }
 {
     take_part_name(names, String::from_str(alloc, name)?)?;
     match part {
@@ -137,8 +128,9 @@ fn take_part<M: Atomic>(
 #[tactic(auto, using(crate::proofs::Names::has_name_of_keys))]
 fn take_part_name(names: &mut IndexSet<String>, name: String) -> Result<(), NetworkRefused>
     ensures names { OnOk result (names.new.keys ≡ names.old.keys ++ name ∷ []) }
-    ensures ok { OnOk result (part_name_fault (map string_bytes names.old.keys) (string_bytes name) ≡ None) }
-    ensures err { IfErr result (λ e. e ≢ NetworkRefused.OutOfMemory → part_name_fault (map string_bytes names.old.keys) (string_bytes name) ≡ Some e) }
+    ensures ok { OnOk result
+        (part_name_fault (texts_of names.old.keys) (string_bytes name) ≡ None) }
+    ensures err { FailsBy result (part_name_fault (texts_of names.old.keys) (string_bytes name)) }
 {
     check_name(name.as_str())?;
     let (_, is_new) = names.insert_full(name)?;
@@ -151,7 +143,7 @@ fn take_part_name(names: &mut IndexSet<String>, name: String) -> Result<(), Netw
 /// Refuses a model whose start state has a time advance above the last tick.
 fn check_start<M: Atomic>(alloc: Global, model: &M) -> Result<(), NetworkRefused>
     ensures ok { OnOk result (start_fault (M.meaning model.now) ≡ None) }
-    ensures err { IfErr result (λ e. e ≢ NetworkRefused.OutOfMemory → start_fault (M.meaning model.now) ≡ Some e) }
+    ensures err { FailsBy result (start_fault (M.meaning model.now)) }
 {
     if !has_start_in_time(alloc, model)? {
         return Err(NetworkRefused::BadTick);
@@ -167,7 +159,7 @@ fn check_links(
     links: &[Link],
 ) -> Result<(), NetworkRefused>
     ensures ok { OnOk result (links_fault is_root count links.now ≡ None) }
-    ensures err { IfErr result (λ e. e ≢ NetworkRefused.OutOfMemory → links_fault is_root count links.now ≡ Some e) }
+    ensures err { FailsBy result (links_fault is_root count links.now) }
 {
     let mut seen = IndexSet::new(alloc);
     for link in links {
@@ -185,7 +177,7 @@ fn take_link(
 ) -> Result<(), NetworkRefused>
     ensures seen { OnOk result (seen.new.keys ≡ seen.old.keys ++ link ∷ []) }
     ensures ok { OnOk result (link_fault is_root count seen.old.keys link ≡ None) }
-    ensures err { IfErr result (λ e. e ≢ NetworkRefused.OutOfMemory → link_fault is_root count seen.old.keys link ≡ Some e) }
+    ensures err { FailsBy result (link_fault is_root count seen.old.keys link) }
 {
     check_ends(is_root, count, link)?;
     let (_, is_new) = seen.insert_full(link)?;

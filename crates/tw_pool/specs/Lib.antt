@@ -1,3 +1,4 @@
 pub mod Lists
 pub mod Links
 pub mod Refused
+pub mod Inserted

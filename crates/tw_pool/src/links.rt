@@ -108,7 +108,8 @@ pub(crate) fn unlink<T>(nodes: &mut Slab<Node<T>>, ends: &mut [Ends], index: usi
     ensures free { IsFree index (lists_of nodes.new ends.new) }
     ensures item { stored nodes.new index ≡ item_of index (lists_of nodes.old ends.old) }
     ensures there { IsThere nodes.new (Some index) }
-    ensures fewer { live_count (lists_of nodes.new ends.new) + 1 ≡ live_count (lists_of nodes.old ends.old) }
+    ensures fewer { live_count (lists_of nodes.new ends.new) + 1
+        ≡ live_count (lists_of nodes.old ends.old) }
     ensures same { SameItems nodes.old nodes.new }
 {
     let node = &nodes[index];
@@ -151,8 +152,10 @@ pub(crate) fn link_last<T>(nodes: &mut Slab<Node<T>>, ends: &mut [Ends], list: u
     requires len_fits { live_count (lists_of nodes.old ends.old) < 2 ^ 63 }
     ensures linked { IsLinked nodes.new ends.new }
     ensures lists { IfSome (stored nodes.old index) (λ item.
-        lists_of nodes.new ends.new ≡ with_item_last (lists_of nodes.old ends.old) list (index, item)) }
-    ensures more { live_count (lists_of nodes.new ends.new) ≡ live_count (lists_of nodes.old ends.old) + 1 }
+        lists_of nodes.new ends.new
+        ≡ with_item_last (lists_of nodes.old ends.old) list (index, item)) }
+    ensures more { live_count (lists_of nodes.new ends.new)
+        ≡ live_count (lists_of nodes.old ends.old) + 1 }
     ensures same { SameItems nodes.old nodes.new }
 {
     let last = ends[list].last;
@@ -168,8 +171,10 @@ pub(crate) fn link_before<T>(nodes: &mut Slab<Node<T>>, ends: &mut [Ends], at: u
     requires len_fits { live_count (lists_of nodes.old ends.old) < 2 ^ 63 }
     ensures linked { IsLinked nodes.new ends.new }
     ensures lists { IfSome (stored nodes.old index) (λ item.
-        lists_of nodes.new ends.new ≡ with_item_before at (index, item) (lists_of nodes.old ends.old)) }
-    ensures more { live_count (lists_of nodes.new ends.new) ≡ live_count (lists_of nodes.old ends.old) + 1 }
+        lists_of nodes.new ends.new
+        ≡ with_item_before at (index, item) (lists_of nodes.old ends.old)) }
+    ensures more { live_count (lists_of nodes.new ends.new)
+        ≡ live_count (lists_of nodes.old ends.old) + 1 }
     ensures same { SameItems nodes.old nodes.new }
 {
     let node = &nodes[at];

@@ -1,8 +1,9 @@
 //! The lists of a pool, and what can be done with them.
 
-ghost use Rattle.std.specs.Prelude.{◌≡◌, ◌≢◌, ℕ, ◌+◌, ◌<◌, ◌≤◌, [], length, replicate, Some, None, Err, ◌↔◌, IfOk, IfErr, IfSome, OnOk, OnErr, IsOk};
+ghost use Rattle.std.specs.Prelude.{◌≡◌, ◌≢◌, ℕ, ◌+◌, ◌<◌, ◌≤◌, [], length, replicate, Some, None, Err, ◌↔◌, IfOk, IfSome, OnOk, IsOk};
 ghost use Rattle.tw_pool.specs.Lists.{list_at, live_count, item_of, IsLive, AreBelow, AreDistinct, first_of, next_of, backward, without, without_first, with_item_last, with_item_before, with_last_moved};
 ghost use Rattle.tw_pool.specs.declared.refused.PoolRefused.TheVariants.{Full};
+ghost use Rattle.tw_pool.specs.Inserted.{IsInserted};
 
 use crate::links::{Ends, Node, link_before, link_last, unlink};
 use crate::refused::PoolRefused;
@@ -165,25 +166,9 @@ impl<T, const L: usize> Pool<T, L> {
     /// left. The item is handed back, and the lists stay.
     pub fn push_back(&mut self, list: usize, item: T) -> Result<usize, (T, PoolRefused)>
         requires { list < L }
-
         ensures added { IfOk result (λ index.
             self.new.lists ≡ with_item_last self.old.lists list (index, item)) }
-        ensures fresh { IfOk result (λ index. item_of index self.old.lists ≡ None) }
-        ensures there { IfOk result (λ index. item_of index self.new.lists ≡ Some item) }
-        ensures others { IfOk result (λ index. (other : ℕ) → other ≢ index
-            → item_of other self.new.lists ≡ item_of other self.old.lists) }
-        ensures below { IfOk result (λ index. index < self.new.top) }
-        ensures room { OnOk result (self.old.room ≤ self.new.room + 1) }
-
-        ensures succeeds { 0 < self.old.room → IsOk result }
-        ensures had_room { 0 < self.old.room → self.new.room + 1 ≡ self.old.room }
-        ensures had_top { 0 < self.old.room → self.new.top ≡ self.old.top }
-        ensures top_grows { self.old.top ≤ self.new.top }
-
-        ensures limit { LIVE_LIMIT ≤ live_count self.old.lists ↔ result ≡ Err (item, Full) }
-        ensures handed_back { IfErr result (λ refused. refused.0 ≡ item) }
-        ensures unchanged { OnErr result (self.new.lists ≡ self.old.lists) }
-        ensures room_kept { OnErr result (self.old.room ≤ self.new.room) }
+        ensures inserted { IsInserted self.old self.new item result }
     {
         if let Err(refused) = self.reserve(1) {
             return Err((item, refused));
@@ -204,25 +189,9 @@ impl<T, const L: usize> Pool<T, L> {
     /// It is refused as [`push_back`](Pool::push_back) is.
     pub fn insert_before(&mut self, at: usize, item: T) -> Result<usize, (T, PoolRefused)>
         requires { IsLive at self.old.lists }
-
         ensures added { IfOk result (λ index.
             self.new.lists ≡ with_item_before at (index, item) self.old.lists) }
-        ensures fresh { IfOk result (λ index. item_of index self.old.lists ≡ None) }
-        ensures there { IfOk result (λ index. item_of index self.new.lists ≡ Some item) }
-        ensures others { IfOk result (λ index. (other : ℕ) → other ≢ index
-            → item_of other self.new.lists ≡ item_of other self.old.lists) }
-        ensures below { IfOk result (λ index. index < self.new.top) }
-        ensures room { OnOk result (self.old.room ≤ self.new.room + 1) }
-
-        ensures succeeds { 0 < self.old.room → IsOk result }
-        ensures had_room { 0 < self.old.room → self.new.room + 1 ≡ self.old.room }
-        ensures had_top { 0 < self.old.room → self.new.top ≡ self.old.top }
-        ensures top_grows { self.old.top ≤ self.new.top }
-
-        ensures limit { LIVE_LIMIT ≤ live_count self.old.lists ↔ result ≡ Err (item, Full) }
-        ensures handed_back { IfErr result (λ refused. refused.0 ≡ item) }
-        ensures unchanged { OnErr result (self.new.lists ≡ self.old.lists) }
-        ensures room_kept { OnErr result (self.old.room ≤ self.new.room) }
+        ensures inserted { IsInserted self.old self.new item result }
     {
         if let Err(refused) = self.reserve(1) {
             return Err((item, refused));

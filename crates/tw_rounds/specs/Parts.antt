@@ -4,8 +4,10 @@
 --     IsPart valid meaning contents until done run      these records were handed over, and the rest of the whole run is to come
 --     IsEnd meaning contents until done fault      these are all records of the whole run, and its fault
 --     Stage      what a simulation keeps between two rounds
+--     IsRunning valid meaning contents stage      so it stands, after some records
+--     time_left until stage      how far the next round is from the end tick
 --     IsSimulating valid meaning contents done stage      so it stands between two rounds, after these records
-use Rattle.std.specs.Prelude.{◌≡◌, ℕ, ◌+◌, ◌≤◌, List, [], Option, None, length, replicate}
+use Rattle.std.specs.Prelude.{◌≡◌, ℕ, ◌+◌, ◌-◌, ◌<◌, ◌≤◌, List, [], Option, None, length, replicate}
 use Rattle.tw_atomic.specs.Atomic.{Meaning}
 use Rattle.tw_msgs.specs.Bags.{Bag}
 use Rattle.tw_msgs.specs.declared.record.Record.{Record}
@@ -13,7 +15,7 @@ use Rattle.tw_network.specs.Contents.{Contents, network_of}
 use Rattle.tw_rounds.specs.Agenda.{dues}
 use Rattle.tw_rounds.specs.InOrder.{rounds_in_order}
 use Rattle.tw_rounds.specs.Invariant.{IsUnderway}
-use Rattle.tw_theory.specs.Simulator.{Fault, Run, rounds_from, sequential}
+use Rattle.tw_theory.specs.Simulator.{Fault, Run, round_time, rounds_from, sequential}
 use Rattle.tw_vtime.specs.Stamps.{max_tick, never, stamp}
 
 -- at most `left` rounds more, from a run in which nothing is due before `from`
@@ -49,6 +51,16 @@ pub record IsSimulating {M S : Type 0} (valid : M → S → Type 0) (meaning : M
   pub part : IsPart valid meaning contents stage.until done stage.run
   pub agenda : stage.times ≡ dues stage.run.at.moments
   pub empty : stage.bags ≡ replicate (length stage.run.at.moments) []
+
+abbrev pub IsRunning : {M S : Type 0} → (M → S → Type 0) → (M → Meaning S) → Contents M → Stage S → Type 0
+IsRunning valid meaning contents stage = (done : List Record) × IsSimulating valid meaning contents done stage
+
+abbrev pub time_left : {S : Type 0} → ℕ → Stage S → ℕ
+time_left until stage = stamp until 0 0 - round_time stage.run.at
+
+-- the next round is nearer to the end tick than it was
+abbrev pub ComesNearer : {S : Type 0} → Stage S → Stage S → Type 0
+ComesNearer old new = time_left old.until new < time_left old.until old
 
 abbrev pub stage_of : {S : Type 0} → ℕ → Run S → List ℕ → List Bag → Stage S
 stage_of until run times bags = record { until = until; run = run; times = times; bags = bags }

@@ -19,7 +19,7 @@ use tw_vtime::Stamp;
 
 /// What comes to the components in a round.
 #[derive(Drop)]
-pub struct Arrivals {
+pub(crate) struct Arrivals {
     /// The bag of each component.
     pub(crate) bags: Vec<Bag>,
     /// The components that have something to do in the round.
@@ -45,7 +45,8 @@ impl Arrivals {
     pub(crate) fn deliver(&mut self, message: &Message) -> Result<(), AllocError>
         requires to { message.now.to < length self.old.bags.items }
         requires awake { WakesAll self.old.bags.items self.old.awake.items }
-        ensures bags { OnOk result (self.new.bags.items ≡ dealt 0 self.old.bags.items (message.now ∷ [])) }
+        ensures bags { OnOk result
+            (self.new.bags.items ≡ dealt 0 self.old.bags.items (message.now ∷ [])) }
         ensures awake { OnOk result (WakesAll self.new.bags.items self.new.awake.items) }
     {
         if self.bags[message.to].is_empty() {
@@ -67,8 +68,10 @@ impl Arrivals {
         requires order { Ascending (drop given inputs.now) }
         requires from { Each (λ m. at ≤ m.stamp) (drop given inputs.now) }
         requires awake { WakesAll self.old.bags.items self.old.awake.items }
-        ensures bags { OnOk result (self.new.bags.items ≡ dealt 0 self.old.bags.items (with_stamp at (drop given inputs.now))) }
-        ensures given { IfOk result (λ next. drop next inputs.now ≡ past_stamp at (drop given inputs.now)) }
+        ensures bags { let due = with_stamp at (drop given inputs.now) in
+            OnOk result (self.new.bags.items ≡ dealt 0 self.old.bags.items due) }
+        ensures given { IfOk result
+            (λ next. drop next inputs.now ≡ past_stamp at (drop given inputs.now)) }
         ensures awake { OnOk result (WakesAll self.new.bags.items self.new.awake.items) }
     {
         let mut next = given;
@@ -107,7 +110,8 @@ pub(crate) fn route<M: Atomic>(
     requires source { source < length network.now.models }
     requires size { length arrivals.old.bags.items ≡ length network.now.models }
     requires awake { WakesAll arrivals.old.bags.items arrivals.old.awake.items }
-    ensures bags { OnOk result (arrivals.new.bags.items ≡ dealt 0 arrivals.old.bags.items (routed (network_of M.meaning network.now) source at items.now)) }
+    ensures bags { let sent = routed (network_of M.meaning network.now) source at items.now in
+        OnOk result (arrivals.new.bags.items ≡ dealt 0 arrivals.old.bags.items sent) }
     ensures awake { OnOk result (WakesAll arrivals.new.bags.items arrivals.new.awake.items) }
 {
     network.facts();

@@ -3,14 +3,13 @@
 ghost use Rattle.std.specs.Prelude.{◌≡◌, ◌<◌, ℕ, OnOk, length};
 ghost use Rattle.std.specs.List.{All, Contains};
 ghost use Rattle.std.specs.List.Sorted.{IsStrictlyIncreasing};
-ghost use Rattle.tw_network.specs.Contents.{network_of};
 ghost use Rattle.tw_rounds.specs.Agenda.{IsDueAt};
 ghost use Rattle.tw_rounds.specs.Dealing.{dealt};
-ghost use Rattle.tw_rounds.specs.Invariant.{AllStand};
 ghost use Rattle.tw_rounds.specs.Receiving.{Receives};
 ghost use Rattle.tw_rounds.specs.Waking.{WakesAll};
-ghost use Rattle.tw_theory.specs.Simulator.{outputs, all_sent};
 ghost use Rattle.tw_vtime.specs.Stamps.{max_tick, tick_of, phase_of};
+ghost use Rattle.tw_rounds.specs.Invariant.{AllStandIn};
+ghost use Rattle.tw_rounds.specs.Turning.{outputs_in, sent_in};
 
 use crate::bags::{Arrivals, route};
 use crate::receiver::Receiver;
@@ -22,7 +21,7 @@ use tw_step::{Moment, fill_output};
 
 /// What an output is put into, kept from one output to the next.
 #[derive(Drop)]
-pub struct Sending {
+pub(crate) struct Sending {
     outbox: Outbox,
     bag: Bag,
 }
@@ -49,14 +48,16 @@ pub(crate) fn make_outputs<M: Atomic, R: Receiver>(
 ) -> Result<(), AllocError>
     requires time { tick_of round.now.time < max_tick }
     requires even { phase_of round.now.time ≡ 0 }
-    requires moments { AllStand M.valid M.meaning round.now.network.now.models round.now.time moments.now }
+    requires moments { AllStandIn M.valid M.meaning round.now round.now.time moments.now }
     requires rising { IsStrictlyIncreasing imminent.now }
     requires each { All (λ c. IsDueAt moments.now c round.now.time) imminent.now }
     requires all { (c : ℕ) → IsDueAt moments.now c round.now.time → Contains imminent.now c }
     requires bags { length arrivals.old.bags.items ≡ length round.now.network.now.models }
     requires awake { WakesAll arrivals.old.bags.items arrivals.old.awake.items }
-    ensures received { OnOk result (Receives R.takes receiver.old (outputs (network_of M.meaning round.now.network.now) round.now.time 0 moments.now) receiver.new) }
-    ensures bags { OnOk result (arrivals.new.bags.items ≡ dealt 0 arrivals.old.bags.items (all_sent (network_of M.meaning round.now.network.now) (outputs (network_of M.meaning round.now.network.now) round.now.time 0 moments.now))) }
+    ensures received { let made = outputs_in M.meaning round.now moments.now in
+        OnOk result (Receives R.takes receiver.old made receiver.new) }
+    ensures bags { let sent = sent_in M.meaning round.now moments.now in
+        OnOk result (arrivals.new.bags.items ≡ dealt 0 arrivals.old.bags.items sent) }
     ensures awake { OnOk result (WakesAll arrivals.new.bags.items arrivals.new.awake.items) }
 {
     let at = round.time.transition();

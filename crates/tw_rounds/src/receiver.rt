@@ -1,6 +1,7 @@
 //! What takes the parts of a run.
 
 ghost use Rattle.std.specs.Prelude.{◌≡◌, ◌++◌, ◌∷◌, [], OnOk};
+ghost use Rattle.tw_rounds.specs.Receiving.{record_of};
 
 use std::alloc::AllocError;
 use tw_msgs::{Bag, Record, RecordKind, Words};
@@ -25,7 +26,8 @@ pub trait Receiver {
         bag: &Bag,
         words: &[i128],
     ) -> Result<(), AllocError>
-        ensures { OnOk result (takes self.old (record { component = component; stamp = stamp; kind = kind; bag = bag.now; words = words.now }) self.new) };
+        ensures { let taken = record_of component stamp kind bag.now words.now in
+            OnOk result (takes self.old taken self.new) };
 }
 
 /// Keeps the parts as records, in their order.

@@ -1,35 +1,21 @@
 //! Rounds: all outputs of a time, their routing, and then all transitions of that time.
 
-ghost use Rattle.std.specs.Prelude.{
-  ◌≡◌,
-  ◌<◌,
-  ◌≤◌,
-  ◌+◌,
-  [],
-  None,
-  drop,
-  length,
-  replicate,
-  IfOk,
-  IfNone,
-  IfSome,
-  OnOk,
-};
+ghost use Rattle.std.specs.Prelude.{◌≡◌, ◌<◌, ◌≤◌, ◌+◌, [], None, drop, length, replicate, IfOk, IfNone, IfSome, OnOk};
 ghost use Rattle.std.specs.List.{AllByRecursion as Each};
 ghost use Rattle.tw_network.specs.Contents.{network_of};
 ghost use Rattle.tw_msgs.specs.Messages.{sorted_messages};
 ghost use Rattle.tw_rounds.specs.Agenda.{dues};
 ghost use Rattle.tw_rounds.specs.Dealing.{Carried};
 ghost use Rattle.tw_rounds.specs.InOrder.{start_in_order};
-ghost use Rattle.tw_rounds.specs.Invariant.{IsUnderway};
-ghost use Rattle.tw_rounds.specs.Parts.{after};
+ghost use Rattle.tw_rounds.specs.Invariant.{IsUnderway, HaveTimes};
 ghost use Rattle.tw_rounds.specs.Receiving.{Receives};
-ghost use Rattle.tw_rounds.specs.Turning.{all_outputs, all_turns};
 ghost use Rattle.tw_theory.specs.Bundles.{Ascending};
-ghost use Rattle.tw_theory.specs.Simulator.{first_stop, least_input, round_time, round as after_round, turn_records};
-ghost use Rattle.tw_vtime.specs.Stamps.{max_tick, never, tick_of, phase_of};
+ghost use Rattle.tw_theory.specs.Simulator.{first_stop, least_input, round_time, turn_records};
+ghost use Rattle.tw_vtime.specs.Stamps.{max_tick, tick_of};
+ghost use Rattle.tw_rounds.specs.Turning.{outputs_in, turns_of, past, IfGoing};
 
 use crate::bags::Arrivals;
+use crate::bench::Bench;
 use crate::outputs::{Sending, make_outputs};
 use crate::receiver::Receiver;
 use crate::round::Round;
@@ -46,33 +32,10 @@ use tw_vtime::{Limit, Stamp};
 /// A run between two rounds: where each component stands, the inputs in order, of which those from place
 /// `given` on are to come.
 #[derive(Drop)]
-pub struct Running<S: Drop> {
+pub(crate) struct Running<S: Drop> {
     moments: Vec<Moment<S>>,
     inputs: Vec<Message>,
     given: usize,
-}
-
-/// What a round works with, kept from round to round: the agenda, which is a tournament of the components' next own
-/// steps; what comes to the components; which of them are imminent; what an output is put into; and the words of a state.
-pub struct Bench {
-    pub(crate) agenda: Tournament,
-    pub(crate) arrivals: Arrivals,
-    imminent: Vec<usize>,
-    sending: Sending,
-    pub(crate) words: Vec<i128>,
-}
-
-// Written out, since a derived one is spelt field by field, and proved, wherever one is let go.
-impl Drop for Bench {
-    fn drop(self) {
-        let Bench {
-            agenda: _,
-            arrivals: _,
-            imminent: _,
-            sending: _,
-            words: _,
-        } = self;
-    }
 }
 
 impl<S: Drop> Model for Running<S> {
@@ -81,14 +44,18 @@ impl<S: Drop> Model for Running<S> {
 
     ghost Value = { Run S };
 
-    ghost view = { λ r. record { at = record { moments = r.moments.items; inputs = drop r.given r.inputs.items }; records = []; fault = None } };
+    ghost view = { λ r. record {
+      at = record { moments = r.moments.items; inputs = drop r.given r.inputs.items };
+      records = [];
+      fault = None;
+    } };
 }
 
 impl<S: Drop> Running<S> {
     /// The time of the next round, if it is before `end`.
     pub(crate) fn next_time(&self, agenda: &Tournament, end: Stamp) -> Option<Stamp>
         requires agenda { agenda.now.times ≡ dues self.now.at.moments }
-        requires inputs { Each (λ m. (m.stamp < never) × (phase_of m.stamp ≡ 1)) self.now.at.inputs }
+        requires inputs { HaveTimes self.now.at.inputs }
         requires order { Ascending self.now.at.inputs }
         ensures none { IfNone result (end ≤ round_time self.now.at) }
         ensures time { IfSome result (λ time. time ≡ round_time self.now.at) }
@@ -103,7 +70,7 @@ impl<S: Drop> Running<S> {
 
 /// The least time of an input from place `given` on, as the stamp of its output.
 fn next_input(inputs: &[Message], given: usize) -> Stamp
-    requires inputs { Each (λ m. (m.stamp < never) × (phase_of m.stamp ≡ 1)) (drop given inputs.now) }
+    requires inputs { HaveTimes (drop given inputs.now) }
     requires order { Ascending (drop given inputs.now) }
     ensures { result ≡ least_input (drop given inputs.now) }
 {
@@ -115,7 +82,8 @@ fn next_input(inputs: &[Message], given: usize) -> Stamp
 
 /// The network inputs as messages, in order.
 fn start_inputs<M: Atomic>(alloc: Global, network: &Network<M>) -> Result<Vec<Message>, AllocError>
-    ensures inputs { IfOk result (λ inputs. inputs.items ≡ sorted_messages (network_of M.meaning network.now).inputs) }
+    ensures inputs { let inputs = (network_of M.meaning network.now).inputs in
+        IfOk result (λ sorted. sorted.items ≡ sorted_messages inputs) }
     ensures carried { IfOk result (λ inputs. Each Carried inputs.items) }
 {
     network.facts();
@@ -168,7 +136,8 @@ fn start_agenda<S: Drop>(alloc: Global, moments: &[Moment<S>]) -> Result<Tournam
 pub(crate) fn start_bench<S: Drop>(alloc: Global, run: &Running<S>) -> Result<Bench, AllocError>
     requires { length run.now.at.moments ≤ 4294967296 }
     ensures agenda { IfOk result (λ bench. bench.agenda.times ≡ dues run.now.at.moments) }
-    ensures bags { IfOk result (λ bench. bench.arrivals.bags.items ≡ replicate (length run.now.at.moments) []) }
+    ensures bags { let count = length run.now.at.moments in
+        IfOk result (λ bench. bench.arrivals.bags.items ≡ replicate count []) }
 {
     Ok(Bench {
         agenda: start_agenda(alloc, &run.moments)?,
@@ -194,13 +163,18 @@ pub(crate) fn make_round<M: Atomic, R: Receiver>(
     requires underway { IsUnderway M.valid M.meaning round.now.network.now round.now.time run.old }
     requires agenda { bench.old.agenda.times ≡ dues run.old.at.moments }
     requires bags { bench.old.arrivals.bags.items ≡ replicate (length run.old.at.moments) [] }
-    ensures outputs { OnOk result (Receives R.takes outputs.old (all_outputs (network_of M.meaning round.now.network.now) round.now.time run.old) outputs.new) }
-    ensures transitions { IfOk result (λ stop. stop ≡ None → Receives R.takes transitions.old (turn_records (all_turns (network_of M.meaning round.now.network.now) round.now.time run.old)) transitions.new) }
-    ensures stop { IfOk result (λ stop. stop ≡ first_stop 0 (all_turns (network_of M.meaning round.now.network.now) round.now.time run.old)) }
-    ensures going { IfOk result (λ stop. stop ≡ None → run.new ≡ after [] (after_round (network_of M.meaning round.now.network.now) run.old round.now.time)) }
-    ensures underway { IfOk result (λ stop. stop ≡ None → IsUnderway M.valid M.meaning round.now.network.now (round.now.time + 2) run.new) }
-    ensures agenda { IfOk result (λ stop. stop ≡ None → bench.new.agenda.times ≡ dues run.new.at.moments) }
-    ensures bags { IfOk result (λ stop. stop ≡ None → bench.new.arrivals.bags.items ≡ replicate (length run.new.at.moments) []) }
+    ensures outputs { let made = outputs_in M.meaning round.now run.old.at.moments in
+        OnOk result (Receives R.takes outputs.old made outputs.new) }
+    ensures transitions { let turns = turns_of M.meaning round.now run.old in
+        IfGoing result (Receives R.takes transitions.old (turn_records turns) transitions.new) }
+    ensures stop { IfOk result
+        (λ stop. stop ≡ first_stop 0 (turns_of M.meaning round.now run.old)) }
+    ensures going { IfGoing result (run.new ≡ past M.meaning round.now run.old) }
+    ensures underway { let next = round.now.time + 2 in
+        IfGoing result (IsUnderway M.valid M.meaning round.now.network.now next run.new) }
+    ensures agenda { IfGoing result (bench.new.agenda.times ≡ dues run.new.at.moments) }
+    ensures bags { let count = length run.new.at.moments in
+        IfGoing result (bench.new.arrivals.bags.items ≡ replicate count []) }
 {
     round.network.facts();
     bench.arrivals.awake.clear();

@@ -1,16 +1,15 @@
 //! A run that is made a round at a time, for callers that hand its records on.
 
-ghost use Rattle.std.specs.Prelude.{◌≡◌, ◌<◌, ◌-◌, ◌↔◌, [], List, IfOk, IsErrOf};
-ghost use Rattle.tw_msgs.specs.declared.record.Record.{Record as TheRecord};
-ghost use Rattle.tw_rounds.specs.Parts.{IsSimulating};
+ghost use Rattle.std.specs.Prelude.{◌≡◌, ◌<◌, ◌↔◌, [], IfOk, IsErrOf};
+ghost use Rattle.tw_rounds.specs.Parts.{IsSimulating, IsRunning, ComesNearer};
 ghost use Rattle.tw_rounds.specs.Stepping.{IsAdvanced};
-ghost use Rattle.tw_theory.specs.Simulator.{round_time};
-ghost use Rattle.tw_vtime.specs.Stamps.{max_tick, stamp};
+ghost use Rattle.tw_vtime.specs.Stamps.{max_tick};
 
+use crate::bench::Bench;
 use crate::receiver::Receiver;
 use crate::refused::SeqRefused;
 use crate::round::Round;
-use crate::rounds::{Bench, Running, make_round, start, start_bench};
+use crate::rounds::{Running, make_round, start, start_bench};
 use std::alloc::{AllocError, Global};
 use std::marker::Model;
 use tw_actions::Fault;
@@ -87,9 +86,11 @@ pub fn advance<M: Atomic, R: Receiver>(
     outputs: &mut R,
     transitions: &mut R,
 ) -> Result<Advanced, AllocError>
-    requires { (done : List TheRecord) × IsSimulating M.valid M.meaning network.now done simulation.old }
-    ensures step { IfOk result (IsAdvanced R.takes M.valid M.meaning network.now simulation.old simulation.new outputs.old outputs.new transitions.old transitions.new) }
-    ensures sooner { IfOk result (λ step. step ≡ Advanced.Round → stamp simulation.old.until 0 0 - round_time simulation.new.run.at < stamp simulation.old.until 0 0 - round_time simulation.old.run.at) }
+    requires { IsRunning M.valid M.meaning network.now simulation.old }
+    ensures step { IfOk result (IsAdvanced R.takes M.valid M.meaning network.now
+        simulation.old simulation.new outputs.old outputs.new transitions.old transitions.new) }
+    ensures sooner { IfOk result
+        (λ step. step ≡ Advanced.Round → ComesNearer simulation.old simulation.new) }
     ensures until { simulation.new.until ≡ simulation.old.until }
 {
     let end = Stamp::new(simulation.until, 0, 0).unwrap();

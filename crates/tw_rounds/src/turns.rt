@@ -1,21 +1,19 @@
 //! The transitions of a round.
 
-ghost use Rattle.std.specs.Prelude.{◌≡◌, ◌==◌, ◌<◌, ◌+◌, IfOk, length, [], Some, None, slice_get, replicate, true, false};
+ghost use Rattle.std.specs.Prelude.{◌≡◌, ◌==◌, ◌<◌, ◌+◌, IfOk, length, [], replicate, true, false};
 ghost use Rattle.std.specs.List.{AllByRecursion as Each};
 ghost use Rattle.tw_atomic.specs.Atomic.{FitsBag};
-ghost use Rattle.tw_msgs.specs.Bags.{sorted_bag};
-ghost use Rattle.tw_network.specs.Contents.{network_of};
 ghost use Rattle.tw_rounds.specs.Agenda.{dues};
-ghost use Rattle.tw_rounds.specs.Invariant.{AllStand, IsBetween};
 ghost use Rattle.tw_rounds.specs.Receiving.{Receives};
-ghost use Rattle.tw_rounds.specs.Turning.{seen, part_of, past_output, CanGoOn, turns_with};
+ghost use Rattle.tw_rounds.specs.Turning.{part_of, past_output, CanGoOn, IsTurn, turns_in, IfGoing};
 ghost use Rattle.tw_rounds.specs.Waking.{IsInTurn};
-ghost use Rattle.tw_theory.specs.Simulator.{take_turn, after_output, turn_records, turned_moments, first_stop};
+ghost use Rattle.tw_theory.specs.Simulator.{turn_records, turned_moments, first_stop};
 ghost use Rattle.tw_vtime.specs.Stamps.{max_tick, tick_of, phase_of};
+ghost use Rattle.tw_rounds.specs.Invariant.{StandsIn, AllStandIn};
 
+use crate::bench::Bench;
 use crate::receiver::Receiver;
 use crate::round::Round;
-use crate::rounds::Bench;
 use std::alloc::{AllocError, Global};
 use tw_atomic::Atomic;
 use tw_msgs::{Bag, RecordKind};
@@ -24,7 +22,7 @@ use tw_vtime::{Limit, Stamp};
 
 /// What a component did at the transition of a round.
 #[derive(Clone, Copy, Debug)]
-pub enum Taken {
+pub(crate) enum Taken {
     /// Nothing: it is not imminent, and nothing came.
     Stays,
     /// A transition of this kind.
@@ -68,13 +66,14 @@ fn take_turn<M: Atomic>(
     requires component { component < length round.now.network.now.models }
     requires time { tick_of round.now.time < max_tick }
     requires even { phase_of round.now.time ≡ 0 }
-    requires standing { (model : M) → slice_get round.now.network.now.models component ≡ Some model → IsBetween (M.valid model) (M.meaning model) round.now.time now.old }
+    requires standing { StandsIn M.valid M.meaning round.now component round.now.time now.old }
     requires fits { FitsBag bag.old }
-    ensures turn { IfOk result (λ taken. seen (part_of component (round.now.time + 1) bag.new words.new.items taken) now.new
-        ≡ take_turn (network_of M.meaning round.now.network.now) component (after_output (network_of M.meaning round.now.network.now) component now.old round.now.time) (round.now.time + 1) (now.old.due == round.now.time) (sorted_bag bag.old)) }
+    ensures turn { IfOk result (λ taken.
+        let part = part_of component (round.now.time + 1) bag.new words.new.items taken in
+        IsTurn M.meaning round.now component now.old bag.old part now.new) }
     ensures kept { IfOk result (λ taken. taken ≡ Taken.Stays → now.new ≡ now.old) }
     ensures standing { IfOk result (λ taken. CanGoOn taken →
-        (model : M) → slice_get round.now.network.now.models component ≡ Some model → IsBetween (M.valid model) (M.meaning model) (round.now.time + 2) now.new) }
+        StandsIn M.valid M.meaning round.now component (round.now.time + 2) now.new) }
 {
     bag.sort();
     let imminent = pass_output(now, round.time);
@@ -107,19 +106,25 @@ pub(crate) fn make_turns<M: Atomic, R: Receiver>(
 ) -> Result<Option<(usize, Limit)>, AllocError>
     requires time { tick_of round.now.time < max_tick }
     requires even { phase_of round.now.time ≡ 0 }
-    requires moments { AllStand M.valid M.meaning round.now.network.now.models round.now.time moments.old }
+    requires moments { AllStandIn M.valid M.meaning round.now round.now.time moments.old }
     requires bags { length bench.old.arrivals.bags.items ≡ length round.now.network.now.models }
     requires fits { Each FitsBag bench.old.arrivals.bags.items }
-    requires awake { IsInTurn round.now.time moments.old bench.old.arrivals.bags.items bench.old.arrivals.awake.items }
+    requires awake { let arrivals = bench.old.arrivals in
+        IsInTurn round.now.time moments.old arrivals.bags.items arrivals.awake.items }
     requires agenda { bench.old.agenda.times ≡ dues moments.old }
-    ensures stop { IfOk result (λ stop. stop ≡ first_stop 0 (turns_with (network_of M.meaning round.now.network.now) round.now.time 0 moments.old bench.old.arrivals.bags.items)) }
-    ensures received { IfOk result (λ stop. stop ≡ None →
-        Receives R.takes receiver.old (turn_records (turns_with (network_of M.meaning round.now.network.now) round.now.time 0 moments.old bench.old.arrivals.bags.items)) receiver.new) }
-    ensures moments { IfOk result (λ stop. stop ≡ None →
-        moments.new ≡ turned_moments moments.old (turns_with (network_of M.meaning round.now.network.now) round.now.time 0 moments.old bench.old.arrivals.bags.items)) }
-    ensures standing { IfOk result (λ stop. stop ≡ None → AllStand M.valid M.meaning round.now.network.now.models (round.now.time + 2) moments.new) }
-    ensures bags { IfOk result (λ stop. stop ≡ None → bench.new.arrivals.bags.items ≡ replicate (length round.now.network.now.models) []) }
-    ensures agenda { IfOk result (λ stop. stop ≡ None → bench.new.agenda.times ≡ dues moments.new) }
+    ensures stop { let bags = bench.old.arrivals.bags.items in
+        IfOk result (λ stop. stop ≡ first_stop 0 (turns_in M.meaning round.now moments.old bags)) }
+    ensures received { let bags = bench.old.arrivals.bags.items in
+        let turns = turns_in M.meaning round.now moments.old bags in
+        IfGoing result (Receives R.takes receiver.old (turn_records turns) receiver.new) }
+    ensures moments { let bags = bench.old.arrivals.bags.items in
+        let turns = turns_in M.meaning round.now moments.old bags in
+        IfGoing result (moments.new ≡ turned_moments moments.old turns) }
+    ensures standing { let next = round.now.time + 2 in
+        IfGoing result (AllStandIn M.valid M.meaning round.now next moments.new) }
+    ensures bags { let count = length round.now.network.now.models in
+        IfGoing result (bench.new.arrivals.bags.items ≡ replicate count []) }
+    ensures agenda { IfGoing result (bench.new.agenda.times ≡ dues moments.new) }
 {
     let at = round.time.transition();
     let agenda = &mut bench.agenda;

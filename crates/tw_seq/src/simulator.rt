@@ -5,13 +5,12 @@ ghost use Rattle.tw_network.specs.Contents.{network_of};
 ghost use Rattle.tw_theory.specs.Simulator.{sequential};
 ghost use Rattle.tw_vtime.specs.Stamps.{max_tick};
 
-use crate::silent::Silent;
 use std::alloc::Global;
 use tw_atomic::Atomic;
+use tw_listen::{Nobody, outcome_telling};
 use tw_msgs::Record;
 use tw_network::Network;
-use tw_rounds::{Advanced, Fault, SeqRefused, advance, begin, meets_no_limit};
-use tw_vtime::MAX_TICK;
+use tw_rounds::{Advanced, Fault, SeqRefused, advance, begin};
 
 /// What a network does up to an end tick.
 #[derive(Debug, Drop)]
@@ -33,8 +32,10 @@ pub fn simulate<M: Atomic>(
     network: &Network<M>,
     until: u64,
 ) -> Result<Seq, SeqRefused>
-    ensures records { IfOk result (λ seq. seq.records.items ≡ (sequential (network_of M.meaning network.now) until).records) }
-    ensures fault { IfOk result (λ seq. seq.fault ≡ (sequential (network_of M.meaning network.now) until).fault) }
+    ensures records { IfOk result
+        (λ seq. seq.records.items ≡ (sequential (network_of M.meaning network.now) until).records) }
+    ensures fault { IfOk result
+        (λ seq. seq.fault ≡ (sequential (network_of M.meaning network.now) until).fault) }
     ensures bad_tick { IsErrOf result SeqRefused.BadTick ↔ (max_tick < until) }
 {
     let mut simulation = begin(alloc, network, until)?;
@@ -57,7 +58,7 @@ pub fn simulate<M: Atomic>(
 
 /// The limit fault that ends the run of a network up to an end tick, or none: as [`simulate`] gives it, but no record
 /// is kept, so that it takes no more memory for a longer run. Where the models tell beforehand that no limit can be met
-/// ([`Atomic::longest_wait`]), no round is made.
+/// ([`Atomic::longest_wait`]), no round is made. It is [`outcome_telling`] to which nobody listens.
 ///
 /// Refused as [`simulate`] is: by [`SeqRefused::BadTick`] (10) exactly where `until` is above 1,099,511,627,774, and by
 /// [`SeqRefused::OutOfMemory`] (4) where a growth of memory was refused.
@@ -66,26 +67,9 @@ pub fn outcome<M: Atomic>(
     network: &Network<M>,
     until: u64,
 ) -> Result<Option<Fault>, SeqRefused>
-    ensures fault { IfOk result (λ fault. fault ≡ (sequential (network_of M.meaning network.now) until).fault) }
+    ensures fault { IfOk result
+        (λ fault. fault ≡ (sequential (network_of M.meaning network.now) until).fault) }
     ensures bad_tick { IsErrOf result SeqRefused.BadTick ↔ (max_tick < until) }
 {
-    if until <= MAX_TICK && meets_no_limit(network, until) {
-        return Ok(None);
-    }
-    let mut simulation = begin(alloc, network, until)?;
-    let mut outputs = Silent;
-    let mut transitions = Silent;
-    loop {
-        let step = advance(
-            alloc,
-            network,
-            &mut simulation,
-            &mut outputs,
-            &mut transitions,
-        )?;
-        match step {
-            Advanced::Round => {}
-            Advanced::End(fault) => return Ok(fault),
-        }
-    }
+    outcome_telling(alloc, network, until, &mut Nobody)
 }

@@ -36,7 +36,8 @@ impl<S: Drop> Model for Moment<S> {
 pub fn start_moment<M: Atomic>(alloc: Global, model: &M) -> Result<Moment<M::State>, AllocError>
     requires { StartsInTime (M.meaning model.now) }
     ensures moment { IfOk result (λ now. now ≡ start_moment (M.meaning model.now)) }
-    ensures standing { IfOk result (λ now. IsStanding (M.valid model.now) (M.meaning model.now) now 0) }
+    ensures standing { IfOk result
+        (λ now. IsStanding (M.valid model.now) (M.meaning model.now) now 0) }
 {
     let state = model.start(alloc)?;
     let due = match model.ta(&state) {

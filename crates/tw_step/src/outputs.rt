@@ -56,7 +56,8 @@ pub fn routed<M: Atomic>(
     bag: &Bag,
 ) -> Result<Vec<Message>, AllocError>
     requires { component < length network.now.models }
-    ensures { IfOk result (λ messages. messages.items ≡ routed (network_of M.meaning network.now) component stamp bag.now) }
+    ensures { IfOk result (λ messages. messages.items ≡ routed
+        (network_of M.meaning network.now) component stamp bag.now) }
 {
     let mut messages = Vec::new(alloc);
     for (port, value) in bag.as_slice() {

@@ -86,7 +86,8 @@ pub fn transition_step<M: Atomic>(
     requires last { now.old.last < never }
     requires limit { home.micro_limit ≤ max_microstep }
     requires can_move { CanMove (M.valid model.now) (M.meaning model.now) now.old stamp bag }
-    ensures step { IfOk result (λ step. IsTransition (M.meaning model.now) home now.old stamp bag step now.new) }
+    ensures step { IfOk result
+        (λ step. IsTransition (M.meaning model.now) home now.old stamp bag step now.new) }
     ensures linked { IfOk result (λ step. Linked (M.undone model.now) step now.new.state) }
     ensures valid { OnOk result (M.valid model.now now.new.state) }
     ensures stays { OnErr result (now.new ≡ now.old) }

@@ -2,9 +2,8 @@
 
 ghost use Rattle.std.specs.Prelude.{◌≡◌, ◌↔◌, ◌-◌, ◌<◌, ◌≤◌, ◌==◌, [], true, Err, IfOk, IfErr, IsOk};
 ghost use Rattle.tw_step.specs.Steps.{CanMove, IsPassedAs};
-ghost use Rattle.tw_step.specs.Turns.{IsDueBy, IsRefusedBy};
+ghost use Rattle.tw_step.specs.Turns.{IsDueBy, IsRefusedBy, next_own};
 ghost use Rattle.tw_theory.specs.Transitions.{turn, kind_of};
-ghost use Rattle.tw_vtime.specs.Advance.{advanced};
 ghost use Rattle.tw_vtime.specs.Stamps.{max_microstep, never, phase_of, tick_of};
 
 use crate::moment::Moment;
@@ -71,7 +70,8 @@ pub fn pass_turn<M: Atomic>(
     requires last { now.old.last < never }
     requires limit { micro_limit ≤ max_microstep }
     requires can_move { CanMove (M.valid model.now) (M.meaning model.now) now.old stamp bag.now }
-    ensures passed { IfOk result (IsPassedAs (M.meaning model.now) micro_limit now.old stamp bag.now now.new) }
+    ensures passed { IfOk result
+        (IsPassedAs (M.meaning model.now) micro_limit now.old stamp bag.now now.new) }
     ensures valid { IfOk result (λ passed. IsOk passed → M.valid model.now now.new.state) }
 {
     let DueTurn {
@@ -100,8 +100,10 @@ fn next_due<M: Atomic>(
     requires is_due { stamp < never }
     requires is_transition { phase_of stamp ≡ 1 }
     requires limit { micro_limit ≤ max_microstep }
-    ensures due { IfOk result (IsDueBy (advanced stamp ((M.meaning model.now).ta state.now) micro_limit)) }
-    ensures met { IfErr result (λ limit. advanced stamp ((M.meaning model.now).ta state.now) micro_limit ≡ Err limit) }
+    ensures due { IfOk result
+        (IsDueBy (next_own (M.meaning model.now) state.now stamp micro_limit)) }
+    ensures met { IfErr result
+        (λ limit. next_own (M.meaning model.now) state.now stamp micro_limit ≡ Err limit) }
 {
     let due = advance(stamp, model.ta(state), micro_limit)?;
     Ok(due.unwrap_or(Stamp::END))
@@ -119,8 +121,10 @@ pub(crate) fn told<M: Atomic>(
     requires is_transition { phase_of stamp ≡ 1 }
     requires limit { micro_limit ≤ max_microstep }
     ensures words { IfOk result (λ told. told.0 ≡ (M.meaning model.now).words state.now) }
-    ensures due { IfOk result (λ told. IsDueBy (advanced stamp ((M.meaning model.now).ta state.now) micro_limit) told.1) }
-    ensures refused { IfErr result (IsRefusedBy (advanced stamp ((M.meaning model.now).ta state.now) micro_limit)) }
+    ensures due { IfOk result
+        (λ told. IsDueBy (next_own (M.meaning model.now) state.now stamp micro_limit) told.1) }
+    ensures refused { IfErr result
+        (IsRefusedBy (next_own (M.meaning model.now) state.now stamp micro_limit)) }
 {
     let due = next_due(model, state, stamp, micro_limit)?;
     let mut words = Vec::new(alloc);

@@ -20,13 +20,15 @@ pub take-returns : goal.take-returns
 take-returns g t c =
     let all = all_taken (parts_of c.args.nested.parts.items) c.args.prefix.now c.args.tables.now c.loop-name.tables c.loop-name.parts.items (into_iter_items c.loop-name.name-iterator) (sym c.loop-name.name-iterator.rest.ok.0 ∙ c.in-None.ensures.steps.0) c.loop-name.invariant.3 in
     record {
-      count = all.count;
-      names = all.names;
-      models = all.models;
-      atoms = all.atoms;
-      coupled = rw c.in_ok-push-2.ensures.items
-          (all_coupled (parts_of c.args.nested.parts.items) c.args.prefix.now c.args.tables.now c.loop-name.tables c.loop-name.parts.items (into_iter_items c.loop-name.name-iterator) (sym c.loop-name.name-iterator.rest.ok.0 ∙ c.in-None.ensures.steps.0) c.loop-name.invariant.3
-          (record { number = c.args.number; parts = c.loop-name.parts; links = c.args.nested.couplings }) refl);
+      taken = record {
+        count = all.count;
+        names = all.names;
+        models = all.models;
+        atoms = all.atoms;
+        coupled = rw c.in_ok-push-2.ensures.items
+            (all_coupled (parts_of c.args.nested.parts.items) c.args.prefix.now c.args.tables.now c.loop-name.tables c.loop-name.parts.items (into_iter_items c.loop-name.name-iterator) (sym c.loop-name.name-iterator.rest.ok.0 ∙ c.in-None.ensures.steps.0) c.loop-name.invariant.3
+            (record { number = c.args.number; parts = c.loop-name.parts; links = c.args.nested.couplings }) refl);
+      };
       memory = tt;
     }
 
@@ -40,7 +42,7 @@ take_part-returns-in_ok-push-in-Atom-3-clause-taken g t c =
 pub take_part-returns-in_ok-prefix-in-Coupled-clause-taken : goal.take_part-returns-in_ok-prefix-in-Coupled-clause-taken
 take_part-returns-in_ok-prefix-in-Coupled-clause-taken g t c =
     taken_coupled c.args.prefix.now c.args.name.now c.args.part c.args.tables.now c.take.new.tables c.in-Coupled.inner c.in-Coupled.is c.take.result
-    (rw (c.as_str.ensures.value, c.in_ok-prefix-in-Coupled.ensures) at c.take.ensures.names) c.take.ensures.count c.take.ensures.models c.take.ensures.atoms c.take.ensures.coupled
+    (rw (c.as_str.ensures.value, c.in_ok-prefix-in-Coupled.ensures) at c.take.ensures.taken)
 
 pub take-take_part-requires : goal.take-take_part-requires
 take-take_part-requires g t c κs within =

@@ -44,7 +44,7 @@ count c =
 pub returns-in-Ok-clause-limit : goal.returns-in-Ok-clause-limit
 returns-in-Ok-clause-limit c =
     let same = count (goal.at.returns-in-Ok-clause-limit c).After-push_back in
-    (λ many. let full = c.in-Ok.ensures.limit.0 (omega (arith, many, same)) in absurd (cc full), λ full. absurd (cc full))
+    (λ many. let full = c.in-Ok.ensures.inserted.limit.0 (omega (arith, many, same)) in absurd (cc full), λ full. absurd (cc full))
 
 -- why it was refused, and what was handed back besides
 abbrev reason : Result ℕ (Item × PoolRefused) → Result (Unit {0}) PoolRefused
@@ -58,6 +58,6 @@ handed item (Err refused) = Err (item, refused)
 pub returns-in-Err-clause-limit : goal.returns-in-Err-clause-limit
 returns-in-Err-clause-limit c =
     let same = count (goal.at.returns-in-Err-clause-limit c).After-push_back in (
-      λ many. let full = c.in-Err.ensures.limit.0 (omega (arith, many, same)) in ap reason full,
-      λ full. let all = c.in-Err.ensures.limit.1 (λ i. handed (c.in-Err.ensures.handed_back i) (full i)) in omega (arith, all, same),
+      λ many. let full = c.in-Err.ensures.inserted.limit.0 (omega (arith, many, same)) in ap reason full,
+      λ full. let all = c.in-Err.ensures.inserted.limit.1 (λ i. handed (c.in-Err.ensures.inserted.handed_back i) (full i)) in omega (arith, all, same),
     )

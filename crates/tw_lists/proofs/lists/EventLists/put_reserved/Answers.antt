@@ -22,7 +22,7 @@ insert-requires c =
     let room = ap (λ v. v.room) c.self.view_is in
     record {
       room = omega (arith, spare.room);
-      index = omega (arith, spare.below, c.in-Ok.ensures.below, c.in-Ok.ensures.had_top (omega (arith, c.requires.room, room)));
+      index = omega (arith, spare.below, c.in-Ok.ensures.inserted.below, c.in-Ok.ensures.inserted.had_top (omega (arith, c.requires.room, room)));
       vacant = c.self.invariant.0.same c.in-Ok.index ∙ ap (event c.in-Ok.index) (push at).vacant;
     }
 
@@ -50,4 +50,4 @@ not_err (Err x) e ok is = absurd (cc)
 pub invariant_of-self-in_default : goal.invariant_of-self-in_default
 invariant_of-self-in_default c =
     let room = ap (λ v. v.room) c.self.view_is in
-    absurd (not_err c.push_back.result c.in_default.field-0 (c.push_back.ensures.succeeds (omega (arith, c.requires.room, room))) c.in_default.is)
+    absurd (not_err c.push_back.result c.in_default.field-0 (c.push_back.ensures.inserted.succeeds (omega (arith, c.requires.room, room))) c.in_default.is)

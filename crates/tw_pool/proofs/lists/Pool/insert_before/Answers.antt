@@ -1,4 +1,4 @@
-use Rattle.std.proofs.Common.{◌≡◌, ◌+◌, ◌-◌, min, arith, sym, ap, ◌∙◌}
+use Rattle.std.proofs.Common.{◌≡◌, ◌+◌, ◌-◌, min, arith, rules, sym, ap, ◌∙◌}
 use Rattle.slab.specs.Slab.{slab_len}
 use Rattle.tw_pool.specs.Lists.{live_count, item_of, AreDistinct, with_item_before, IsLive}
 use Rattle.tw_pool.proofs.LinkChanges.{inserted}
@@ -40,26 +40,11 @@ returns-clause-added g c =
     let was = ap (λ p. p.lists) c.self.view_is ∙ c.reserve.ensures.lists in
     lists ∙ ap (λ ls. with_item_before c.args.at (c.insert_reserved-index.result, c.args.item) ls) (new.lists ∙ was)
 
-pub returns-clause-fresh : goal.returns-clause-fresh
-returns-clause-fresh g c =
-    let was = ap (λ p. p.lists) c.self.view_is ∙ c.reserve.ensures.lists in
-    ap (item_of c.insert_reserved-index.result) (sym was) ∙ (inserted _ _ _ _ _ c.insert_reserved-index.ensures.was_vacant c.insert_reserved-index.ensures.updates c.self.invariant).fresh
-
 pub link_before-requires-clause-live : goal.link_before-requires-clause-live
 link_before-requires-clause-live g c =
     let was = ap (λ p. p.lists) c.self.view_is ∙ c.reserve.ensures.lists in
     let live : IsLive c.args.at (lists_of c.self.inside.nodes c.self.inside.ends) = rw was c.requires in
     rw (inserted _ _ _ _ _ c.insert_reserved-index.ensures.was_vacant c.insert_reserved-index.ensures.updates c.self.invariant).lists live
-
-pub returns-clause-there : goal.returns-clause-there
-returns-clause-there g c =
-    let was = ap (λ p. p.lists) c.self.view_is ∙ c.reserve.ensures.lists in
-    let distinct : AreDistinct c.args.self.now.lists = rw (← was) (linked_distinct _ _ c.self.invariant.linked) in
-    item_of-with_item_before c.args.at _ _ c.args.self.now.lists _ distinct c.requires (returns-clause-added g c) (linked_distinct _ _ c.link_before.ensures.linked)
-
-pub returns-clause-others : goal.returns-clause-others
-returns-clause-others g c = λ other differs.
-    ap (item_of other) (returns-clause-added g c) ∙ item_of-with_item_before_other c.args.at other _ c.args.self.now.lists (λ same. differs (sym same))
 
 -- the slab has as many slots as the pool had once there was room, and one more of them is used
 top_is : (g : Over) (c : After-link_before g) → c.link_before.new.nodes.capacity ≡ c.reserve.new.self.top
@@ -69,14 +54,23 @@ room_is : (g : Over) (c : After-link_before g) → (min c.link_before.new.nodes.
 room_is g c =
     omega (arith, c.link_before.ensures.same.len, c.link_before.ensures.same.capacity, c.insert_reserved-index.ensures.capacity, c.insert_reserved-index.ensures.len, ap (λ p. p.room) c.self.view_is, c.in_default.ensures.room)
 
-pub returns-clause-had_room : goal.returns-clause-had_room
-returns-clause-had_room g c = λ some. room_is g (goal.at.returns-clause-had_room g c).After-link_before ∙ ap (λ p. p.room) (c.reserve.ensures.had_room some)
-
-pub returns-clause-had_top : goal.returns-clause-had_top
-returns-clause-had_top g c = λ some. top_is g (goal.at.returns-clause-had_top g c).After-link_before ∙ ap (λ p. p.top) (c.reserve.ensures.had_room some)
-
-pub returns-clause-room : goal.returns-clause-room
-returns-clause-room g c = omega (arith, c.reserve.ensures.room_grows, room_is g (goal.at.returns-clause-room g c).After-link_before)
-
-pub returns-clause-top_grows : goal.returns-clause-top_grows
-returns-clause-top_grows g c = omega (arith, c.reserve.ensures.top_grows, top_is g (goal.at.returns-clause-top_grows g c).After-link_before)
+pub returns-clause-inserted : goal.returns-clause-inserted
+returns-clause-inserted g c =
+    let at = (goal.at.returns-clause-inserted g c).After-link_before in
+    let was = ap (λ p. p.lists) c.self.view_is ∙ c.reserve.ensures.lists in
+    let distinct : AreDistinct c.args.self.now.lists = rw (← was) (linked_distinct _ _ c.self.invariant.linked) in
+    record {
+      fresh = ap (item_of c.insert_reserved-index.result) (sym was) ∙ (inserted _ _ _ _ _ c.insert_reserved-index.ensures.was_vacant c.insert_reserved-index.ensures.updates c.self.invariant).fresh;
+      there = item_of-with_item_before c.args.at _ _ c.args.self.now.lists _ distinct c.requires (returns-clause-added g c) (linked_distinct _ _ c.link_before.ensures.linked);
+      others = λ other differs. ap (item_of other) (returns-clause-added g c) ∙ item_of-with_item_before_other c.args.at other _ c.args.self.now.lists (λ same. differs (sym same));
+      below = search rules;
+      room = omega (arith, c.reserve.ensures.room_grows, room_is g at);
+      succeeds = search rules;
+      had_room = λ some. room_is g at ∙ ap (λ p. p.room) (c.reserve.ensures.had_room some);
+      had_top = λ some. top_is g at ∙ ap (λ p. p.top) (c.reserve.ensures.had_room some);
+      top_grows = omega (arith, c.reserve.ensures.top_grows, top_is g at);
+      limit = search rules;
+      handed_back = search rules;
+      unchanged = search rules;
+      room_kept = search rules;
+    }

@@ -1,4 +1,4 @@
-use Rattle.std.proofs.Common.{◌<◌, length, arith, sym, ap, ◌∙◌}
+use Rattle.std.proofs.Common.{◌<◌, length, arith, rules, sym, ap, ◌∙◌}
 use Rattle.tw_pool.specs.Lists.{live_count, item_of, with_item_last}
 use Rattle.tw_pool.proofs.LinkChanges.{inserted}
 use Rattle.tw_pool.proofs.ListsByIndex.{item_of-with_item_last, item_of-with_item_last_other}
@@ -36,18 +36,23 @@ returns-clause-added g c =
     let was = ap (λ p. p.lists) c.self.view_is ∙ c.reserve.ensures.lists in
     lists ∙ ap (λ ls. with_item_last ls c.args.list (c.insert_reserved-index.result, c.args.item)) (new.lists ∙ was)
 
-pub returns-clause-fresh : goal.returns-clause-fresh
-returns-clause-fresh g c =
+pub returns-clause-inserted : goal.returns-clause-inserted
+returns-clause-inserted g c =
     let was = ap (λ p. p.lists) c.self.view_is ∙ c.reserve.ensures.lists in
-    ap (item_of c.insert_reserved-index.result) (sym was) ∙ (inserted _ _ _ _ _ c.insert_reserved-index.ensures.was_vacant c.insert_reserved-index.ensures.updates c.self.invariant).fresh
-
-pub returns-clause-there : goal.returns-clause-there
-returns-clause-there g c =
     let within = within_lists c.self.inside.nodes c.self.inside.ends c.args.list (omega arith) in
-    let was = ap (λ p. p.lists) c.self.view_is ∙ c.reserve.ensures.lists in
     let now : c.args.list < length c.args.self.now.lists = rw (← was) within in
-    item_of-with_item_last _ c.args.list _ c.args.self.now.lists _ now (returns-clause-added g c) (linked_distinct _ _ c.link_last.ensures.linked)
-
-pub returns-clause-others : goal.returns-clause-others
-returns-clause-others g c = λ other differs.
-    ap (item_of other) (returns-clause-added g c) ∙ item_of-with_item_last_other other c.args.list _ c.args.self.now.lists (λ same. differs (sym same))
+    record {
+      fresh = ap (item_of c.insert_reserved-index.result) (sym was) ∙ (inserted _ _ _ _ _ c.insert_reserved-index.ensures.was_vacant c.insert_reserved-index.ensures.updates c.self.invariant).fresh;
+      there = item_of-with_item_last _ c.args.list _ c.args.self.now.lists _ now (returns-clause-added g c) (linked_distinct _ _ c.link_last.ensures.linked);
+      others = λ other differs. ap (item_of other) (returns-clause-added g c) ∙ item_of-with_item_last_other other c.args.list _ c.args.self.now.lists (λ same. differs (sym same));
+      below = search rules;
+      room = search rules;
+      succeeds = search rules;
+      had_room = search rules;
+      had_top = search rules;
+      top_grows = search rules;
+      limit = search rules;
+      handed_back = search rules;
+      unchanged = search rules;
+      room_kept = search rules;
+    }

@@ -45,12 +45,12 @@ find_contracts() {
     contract_sums[$1]=$(
         {
             (cd "crates/$1" && find specs -type f -print0 2>/dev/null | LC_ALL=C sort -z | xargs -0r sha256sum)
-            find "crates/$1/src" -type f -name '*.rt' -print0 | LC_ALL=C sort -z | xargs -0 cat | contracts_in
+            find "crates/$1/src" -type f -name '*.rt' -print0 | LC_ALL=C sort -z | xargs -0 cat | contracts_in | tr -s '[:space:]' ' '
         } | sha256sum
     )
 }
 
-# Sets `sum` to the sum of a crate's code but for comments, of its definitions and proofs, of its wrong bodies here, and of the contracts of all
+# Sets `sum` to the sum of a crate's code but for comments and layout, of its definitions and proofs, of its wrong bodies here, and of the contracts of all
 # crates below it.
 find_sum() {
     local below name
@@ -58,7 +58,7 @@ find_sum() {
     for name in $below; do find_contracts "$name"; done
     sum=$(
         {
-            (cd "crates/$1" && find src -type f -print0 | LC_ALL=C sort -z | xargs -0 grep -hv '^ *//')
+            (cd "crates/$1" && find src -type f -print0 | LC_ALL=C sort -z | xargs -0 grep -hv '^ *//' | tr -s '[:space:]' ' ')
             (cd "crates/$1" && find specs proofs -type f -print0 2>/dev/null | LC_ALL=C sort -z | xargs -0 sha256sum)
             (cd "tests/wrong-bodies/$1" && find . -type f -print0 | LC_ALL=C sort -z | xargs -0 sha256sum)
             for name in $below; do echo "$name ${contract_sums[$name]}"; done

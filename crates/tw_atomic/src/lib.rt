@@ -97,8 +97,10 @@ pub trait Atomic: Drop {
         bag: &[(u8, i64)],
     ) -> Result<Self::Residue, AllocError>
         requires { CanTurn (valid self.now) (meaning self.now) turn state.old elapsed bag.now }
-        ensures state { OnOk result (state.new ≡ turned (meaning self.now) turn state.old elapsed bag.now) }
-        ensures residue { IfOk result (λ residue. residue ≡ residue_of self.now turn state.old elapsed bag.now) }
+        ensures state { OnOk result
+            (state.new ≡ turned (meaning self.now) turn state.old elapsed bag.now) }
+        ensures residue { IfOk result
+            (λ residue. residue ≡ residue_of self.now turn state.old elapsed bag.now) }
         ensures err { OnErr result (state.new ≡ state.old) };
 
     /// Makes one transition as [`Atomic::forward`] does, without a residue: for callers that never take one back.
@@ -114,7 +116,8 @@ pub trait Atomic: Drop {
         bag: &[(u8, i64)],
     ) -> Result<(), AllocError>
         requires { CanTurn (valid self.now) (meaning self.now) turn state.old elapsed bag.now }
-        ensures state { OnOk result (state.new ≡ turned (meaning self.now) turn state.old elapsed bag.now) }
+        ensures state { OnOk result
+            (state.new ≡ turned (meaning self.now) turn state.old elapsed bag.now) }
         ensures err { OnErr result (state.new ≡ state.old) }
     {
         self.forward(alloc, state, turn, elapsed, bag)?;
@@ -141,7 +144,8 @@ pub trait Atomic: Drop {
         state: &Self::State,
         words: &mut Vec<i128>,
     ) -> Result<(), AllocError>
-        ensures ok { OnOk result (words.new.items ≡ words.old.items ++ (meaning self.now).words state.now) }
+        ensures ok { OnOk result
+            (words.new.items ≡ words.old.items ++ (meaning self.now).words state.now) }
         ensures err { OnErr result (words.new.items ≡ words.old.items) };
 
     /// Whether two states are equal. It takes no memory.

@@ -61,6 +61,8 @@ pub fn message_order_law()
     ensures total { IsTotalOrder ⟦<Message as Ord>⟧.cmp }
     ensures not_after { (m n : Message) → at_or_before m n ≡ is_le (⟦<Message as Ord>⟧.cmp m n) }
     ensures same { (m n : Message) → (same_message m n ≡ true) ↔ (m ≡ n) }
-    ensures sorted { (ms : List Message) → IsPermutation ms (sorted_messages ms) × Sorted (sorted_messages ms) }
-    ensures only_sorted { (ms ns : List Message) → IsPermutation ms ns → Sorted ns → ns ≡ sorted_messages ms }
+    ensures sorted { (ms : List Message) → IsPermutation ms (sorted_messages ms)
+        × Sorted (sorted_messages ms) }
+    ensures only_sorted { (ms ns : List Message) → IsPermutation ms ns → Sorted ns
+        → ns ≡ sorted_messages ms }
 {}

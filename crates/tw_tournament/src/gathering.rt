@@ -24,7 +24,8 @@ pub(crate) fn gather(
     requires below { PlayFor place width (row + first) }
     requires within { first + width ≤ row }
     requires least { (p : ℕ) → 1 ≤ p → p < row + row → time ≤ at winners.now p }
-    ensures { OnOk result (numbers.new.items ≡ numbers.old.items ++ numbers_at time first (take width (drop (row + first) winners.now))) }
+    ensures { OnOk result (numbers.new.items ≡ numbers.old.items
+        ++ numbers_at time first (take width (drop (row + first) winners.now))) }
 {
     if winners[place] != time {
         return Ok(());

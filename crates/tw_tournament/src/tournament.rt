@@ -91,7 +91,8 @@ impl Tournament {
     pub fn collect(&self, time: Stamp, numbers: &mut Vec<usize>) -> Result<(), AllocError>
         requires first { (c s : ℕ) → slice_get self.now.times c ≡ Some s → time ≤ s }
         requires before_end { time < never }
-        ensures { OnOk result (numbers.new.items ≡ numbers.old.items ++ numbers_at time 0 self.now.times) }
+        ensures { OnOk result
+            (numbers.new.items ≡ numbers.old.items ++ numbers_at time 0 self.now.times) }
     {
         gather(
             self.winners.as_slice(),

@@ -122,7 +122,8 @@ impl Stamp {
     /// Refused by [`Range`] (1) where one of them is out of its range.
     pub fn new(tick: u64, micro: u32, phase: u8) -> Result<Stamp, Range>
         ensures is_stamp { IfOk result (λ made. made ≡ stamp tick micro phase) }
-        ensures in_range { IsOk result ↔ ((tick ≤ max_tick) × (micro ≤ max_microstep) × (phase ≤ 1)) }
+        ensures in_range { IsOk result
+            ↔ ((tick ≤ max_tick) × (micro ≤ max_microstep) × (phase ≤ 1)) }
     {
         if tick > MAX_TICK || micro > MAX_MICROSTEP || phase > 1 {
             return Err(Range);
@@ -254,9 +255,11 @@ impl fmt::Display for Stamp {
 /// from its number, and each stamp that is not the end is the number of a moment; and the end is after
 /// every moment.
 pub fn order_law()
-    ensures order { (a b : Parts) → IsInRange a → IsInRange b → ((number_of a < number_of b) ↔ ComesBefore a b) }
+    ensures order { (a b : Parts) → IsInRange a → IsInRange b
+        → ((number_of a < number_of b) ↔ ComesBefore a b) }
     ensures read_back { (a : Parts) → IsInRange a → parts_of (number_of a) ≡ a }
     ensures each_stamp { (a : Parts) → IsInRange a → IsStamp (number_of a) }
-    ensures each_moment { (s : _) → IsStamp s → s ≢ never → IsInRange (parts_of s) × (number_of (parts_of s) ≡ s) }
+    ensures each_moment { (s : _) → IsStamp s → s ≢ never → IsInRange (parts_of s)
+        × (number_of (parts_of s) ≡ s) }
     ensures end_is_last { (a : Parts) → IsInRange a → number_of a < never }
 {}

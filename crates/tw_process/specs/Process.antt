@@ -4,6 +4,7 @@
 --     IsStepped, IsStop      its next step was made; why it was not
 --     IsFullBy n p      n more nodes would be too many
 --     CanCome p m      a message that can be pending now
+--     SameButSpare was now      the same, with room for whatever many more messages
 --     with_.., without_..      the same process, changed in one part
 --     consumed_in step, sent_in step      how many messages a step consumed and sent
 --     IsPoolOf p nodes      what the lists of its pool hold
@@ -76,6 +77,9 @@ with_settled p = record p { process = settle p.process }
 -- with room for so many more messages
 abbrev pub with_spare : {M S : Type 0} → ℕ → Held M S → Held M S
 with_spare spare p = record p { spare = spare }
+
+abbrev pub SameButSpare : {M S : Type 0} → Held M S → Held M S → Type 0
+SameButSpare was now = now ≡ with_spare now.spare was
 
 abbrev pub with_placed : {M S : Type 0} → Message → Held M S → Held M S
 with_placed m p = record p { process = placed p.process m }

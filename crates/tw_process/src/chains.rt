@@ -2,8 +2,8 @@
 
 ghost use Rattle.std.specs.Prelude.{◌≡◌, ◌≤◌, IfOk, Some, slice_get};
 ghost use Rattle.tw_process.specs.Process.{start_of};
-ghost use Rattle.tw_theory.specs.Standing.{IsReady};
 ghost use Rattle.tw_vtime.specs.Stamps.{max_microstep};
+ghost use Rattle.tw_chain.specs.Kept.{IsReadyStart};
 
 use crate::process::Process;
 use std::alloc::AllocError;
@@ -18,8 +18,9 @@ impl<M: Atomic> Process<M> {
     pub fn start(&self, before: Stamp, burst: usize) -> Result<Start<M::State>, AllocError>
         ensures start { IfOk result (λ start. start ≡ start_of before burst self.now) }
         ensures limit { IfOk result (λ start. start.micro_limit ≤ max_microstep) }
-        ensures ready { IfOk result (λ start. (m : M) → slice_get self.now.network.models self.now.component ≡ Some m
-            → IsReady (M.valid m) (M.meaning m) start.component start.now start.messages) }
+        ensures ready { IfOk result (λ start. (m : M)
+            → slice_get self.now.network.models self.now.component ≡ Some m
+            → IsReadyStart (M.valid m) (M.meaning m) start) }
     {
         let network = &*self.network;
         network.facts();

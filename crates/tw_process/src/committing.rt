@@ -1,7 +1,7 @@
 //! The oldest step leaves the history.
 
 ghost use Rattle.std.specs.Prelude.{◌≡◌, ◌≤◌, length};
-ghost use Rattle.tw_process.specs.Process.{oldest_of, with_line, with_spare, without_oldest};
+ghost use Rattle.tw_process.specs.Process.{oldest_of, with_line, without_oldest, SameButSpare};
 ghost use Rattle.tw_theory.specs.Contents.{steps_before};
 
 use crate::entry::{Entry, entries_before};
@@ -23,7 +23,7 @@ impl<M: Atomic> Process<M> {
     /// The oldest step leaves the history, and its nodes are freed; its record is answered. It takes no memory.
     pub fn commit_oldest(&mut self) -> Option<Record>
         ensures value { result ≡ oldest_of self.old.process.history }
-        ensures contents { self.new ≡ with_spare self.new.spare (without_oldest self.old) }
+        ensures contents { SameButSpare (without_oldest self.old) self.new }
     {
         let Some(entry) = self.history.pop_front() else {
             return None;

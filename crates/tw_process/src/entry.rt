@@ -8,7 +8,7 @@ use tw_vtime::Stamp;
 
 /// A step that is not committed.
 #[derive(Drop)]
-pub struct Entry<S, R> {
+pub(crate) struct Entry<S, R> {
     /// The step, with what takes it back on the state.
     pub(crate) step: Step<S, R>,
     /// How many messages it consumed, and how many it sent.

@@ -1,6 +1,6 @@
 //! A chain installed: its steps that are the process's own next ones are made.
 
-ghost use Rattle.std.specs.Prelude.{◌≡◌, ◌↔◌, ◌+◌, ◌≤◌, ◌++◌, IsTrue, Some, length, slice_get, vec_len};
+ghost use Rattle.std.specs.Prelude.{◌≡◌, ◌↔◌, ◌+◌, ◌≤◌, ◌++◌, IsTrue, Some, slice_get, vec_len};
 ghost use Rattle.std.specs.VecDeque.{deque_capacity, deque_len};
 ghost use Rattle.tw_atomic.specs.Atomic.{AreAlike};
 ghost use Rattle.tw_network.specs.Contents.{network_of};
@@ -26,9 +26,12 @@ impl<M: Atomic> Process<M> {
     pub fn install(&mut self, chain: Prepared<M>) -> Finished
         requires component { chain.run.start.component ≡ self.old.component }
         requires limit { chain.run.start.micro_limit ≡ self.old.network.micro_limit }
-        requires alike { (m : M) → slice_get self.old.network.models self.old.component ≡ Some m → AreAlike M.meaning M.undone m chain.model }
-        ensures installed { IsInstalled (network_of M.meaning self.old.network) chain.run chain.cause self.old.process self.new.process result }
-        ensures others { self.new ≡ record self.old { process = self.new.process; spare = self.new.spare } }
+        requires alike { (m : M) → slice_get self.old.network.models self.old.component ≡ Some m
+            → AreAlike M.meaning M.undone m chain.model }
+        ensures installed { IsInstalled (network_of M.meaning self.old.network)
+            chain.run chain.cause self.old.process self.new.process result }
+        ensures others { self.new ≡ record self.old
+            { process = self.new.process; spare = self.new.spare } }
     {
         chain.facts();
         let network = &*self.network;

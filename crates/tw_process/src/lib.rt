@@ -13,11 +13,16 @@
 //! | `reading` | all other contents; the lists, their pool and their heap |
 //! | `chains` | `start`: what a chain is worked out from |
 //! | `installing` | `install`: the steps of a chain made here ([`Finished`]) |
+//! | `taking` | what `install` does to the lists, one step of a chain after another |
 //! | `stepping` | `step`: the next step, or why it is not made ([`StepRefused`]) |
 //! | `undoing` | `undo_last` |
 //! | `receiving` | messages and anti-messages that come and go |
 //! | `posting` | what goes out, and what is owed |
 //! | `committing` | the oldest step leaves the history |
+//! | `starting` | the lists at the start |
+//! | `entry` | a step of the history |
+//! | `marked` | whether steps since a mark stand before a stamp |
+//! | `refused` | [`StepRefused`] |
 #![tactic(auto)]
 
 mod chains;

@@ -1,7 +1,7 @@
 //! What goes out, and what is owed.
 
-ghost use Rattle.std.specs.Prelude.{◌≡◌, length};
-ghost use Rattle.tw_process.specs.Process.{with_posted, with_settled, with_spare};
+ghost use Rattle.std.specs.Prelude.{◌≡◌};
+ghost use Rattle.tw_process.specs.Process.{with_posted, with_settled, SameButSpare};
 
 use crate::process::Process;
 use tw_actions::Cancel;
@@ -24,7 +24,7 @@ impl<M: Atomic> Process<M> {
 
     /// Nothing is outgoing any more: all has been posted. It takes no memory.
     pub fn clear_outgoing(&mut self)
-        ensures { self.new ≡ with_spare self.new.spare (with_posted self.old) }
+        ensures { SameButSpare (with_posted self.old) self.new }
     {
         self.lists.clear_outgoing();
     }

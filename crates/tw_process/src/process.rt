@@ -146,7 +146,9 @@ impl<M: Atomic> Process<M> {
 
     /// The record of the `i`th step that is not committed, the oldest first, if there are so many.
     pub fn record_at(&self, i: usize) -> Option<&Record>
-        ensures { MatchOption result (length self.now.process.history ≤ i) (λ done. slice_get (records_of self.now.process.history) i ≡ Some done.now) }
+        ensures { let history = self.now.process.history in
+            MatchOption result (length history ≤ i)
+            (λ done. slice_get (records_of history) i ≡ Some done.now) }
     {
         match self.history.get(i) {
             Some(entry) => Some(&entry.step.done),

@@ -3,7 +3,7 @@
 ghost use Rattle.std.specs.Prelude.{◌≡◌, ◌↔◌, ◌≤◌, Err, IfErr, IsOk, IsTrue, OnErr, OnOk};
 ghost use Rattle.tw_msgs.specs.Messages.{has};
 ghost use Rattle.tw_pool.specs.declared.refused.PoolRefused.TheVariants.{Full};
-ghost use Rattle.tw_process.specs.Process.{CanCome, IsFullBy, with_cleared, with_noted, with_placed, with_removed, with_spare};
+ghost use Rattle.tw_process.specs.Process.{CanCome, IsFullBy, with_cleared, with_noted, with_placed, with_removed, SameButSpare};
 ghost use Rattle.tw_theory.specs.Contents.{consumed_by};
 ghost use Rattle.tw_theory.specs.Standing.{CanTake, floor_after};
 
@@ -37,9 +37,9 @@ impl<M: Atomic> Process<M> {
     /// as it was.
     pub fn put(&mut self, message: Message) -> Result<(), (Message, PoolRefused)>
         requires { CanCome self.old message }
-        ensures placed { OnOk result (self.new ≡ with_spare self.new.spare (with_placed message self.old)) }
+        ensures placed { OnOk result (SameButSpare (with_placed message self.old) self.new) }
         ensures succeeds { 1 ≤ self.old.spare → IsOk result }
-        ensures stays { OnErr result (self.new ≡ with_spare self.new.spare self.old) }
+        ensures stays { OnErr result (SameButSpare self.old self.new) }
         ensures handed_back { IfErr result (λ refused. refused.0 ≡ message) }
         ensures limit { IsFullBy 1 self.old.process ↔ result ≡ Err (message, Full) }
     {
@@ -54,7 +54,7 @@ impl<M: Atomic> Process<M> {
 
     /// Makes room for one more pending message. It is refused as [`put`](Process::put) is.
     pub fn reserve(&mut self) -> Result<(), PoolRefused>
-        ensures contents { self.new ≡ with_spare self.new.spare self.old }
+        ensures contents { SameButSpare self.old self.new }
         ensures room { OnOk result (1 ≤ self.new.spare) }
         ensures succeeds { 1 ≤ self.old.spare → IsOk result }
         ensures limit { IsFullBy 1 self.old.process ↔ result ≡ Err Full }
@@ -66,7 +66,7 @@ impl<M: Atomic> Process<M> {
     pub fn put_reserved(&mut self, message: &Message)
         requires room { 1 ≤ self.old.spare }
         requires come { CanCome self.old message.now }
-        ensures { self.new ≡ with_spare self.new.spare (with_placed message.now self.old) }
+        ensures { SameButSpare (with_placed message.now self.old) self.new }
     {
         self.lists.put_reserved(message);
     }
@@ -74,7 +74,7 @@ impl<M: Atomic> Process<M> {
     /// One equal pending message goes; the answer is whether there was one. It takes no memory.
     pub fn withdraw(&mut self, message: &Message) -> bool
         ensures answer { result ≡ has message.now self.old.process.pending }
-        ensures contents { self.new ≡ with_spare self.new.spare (with_removed message.now self.old) }
+        ensures contents { SameButSpare (with_removed message.now self.old) self.new }
     {
         self.lists.withdraw(message)
     }
@@ -89,15 +89,15 @@ impl<M: Atomic> Process<M> {
     /// The first equal waiting anti-message goes; the answer is whether there was one. It takes no memory.
     pub fn clear_orphan(&mut self, message: &Message) -> bool
         ensures answer { result ≡ has message.now self.old.process.waiting }
-        ensures contents { self.new ≡ with_spare self.new.spare (with_cleared message.now self.old) }
+        ensures contents { SameButSpare (with_cleared message.now self.old) self.new }
     {
         self.lists.clear_orphan(message)
     }
 
     /// An anti-message waits for its message, the last of those that wait. It is refused as [`put`](Process::put) is.
     pub fn note_orphan(&mut self, message: Message) -> Result<(), PoolRefused>
-        ensures noted { OnOk result (self.new ≡ with_spare self.new.spare (with_noted message self.old)) }
-        ensures stays { OnErr result (self.new ≡ with_spare self.new.spare self.old) }
+        ensures noted { OnOk result (SameButSpare (with_noted message self.old) self.new) }
+        ensures stays { OnErr result (SameButSpare self.old self.new) }
         ensures limit { IsFullBy 1 self.old.process ↔ result ≡ Err Full }
     {
         self.lists.note_orphan(message)

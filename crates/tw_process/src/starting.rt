@@ -1,9 +1,9 @@
 //! The lists of a process at its start.
 
-ghost use Rattle.std.specs.Prelude.{◌≡◌, ◌<◌, ◌≤◌, [], map, length, IfOk, OnOk, FitsSigned};
+ghost use Rattle.std.specs.Prelude.{◌≡◌, ◌≤◌, [], IfOk, OnOk, FitsSigned};
 ghost use Rattle.std.specs.Int.{w64};
 ghost use Rattle.std.specs.List.{AllByRecursion as Each};
-ghost use Rattle.tw_lists.specs.Lists.{with_room, with_pending};
+ghost use Rattle.tw_lists.specs.Lists.{with_pending, SameButRoom};
 ghost use Rattle.tw_msgs.specs.Messages.{sorted_messages};
 ghost use Rattle.tw_network.specs.Contents.{message_of, network_of};
 ghost use Rattle.tw_theory.specs.Bundles.{addressed};
@@ -21,7 +21,8 @@ pub(crate) fn start_lists<M: Atomic>(
     network: &Network<M>,
     component: usize,
 ) -> Result<EventLists, AllocError>
-    ensures pending { IfOk result (λ lists. lists.pending ≡ sorted_messages (addressed component (network_of M.meaning network.now).inputs)) }
+    ensures pending { let inputs = (network_of M.meaning network.now).inputs in
+        IfOk result (λ lists. lists.pending ≡ sorted_messages (addressed component inputs)) }
     ensures fit { IfOk result (λ lists. Each (CanTake component) lists.pending) }
     ensures consumed { IfOk result (λ lists. lists.consumed ≡ []) }
     ensures sent { IfOk result (λ lists. lists.sent ≡ []) }
@@ -42,7 +43,8 @@ pub(crate) fn start_lists<M: Atomic>(
 /// A network input is pending.
 fn put_input(lists: &mut EventLists, input: &Input) -> Result<(), AllocError>
     requires { input.now.0 ≤ max_tick }
-    ensures contents { OnOk result (lists.new ≡ with_room lists.new.room lists.new.spare (with_pending (message_of input.now) lists.old)) }
+    ensures contents { OnOk result
+        (SameButRoom (with_pending (message_of input.now) lists.old) lists.new) }
     ensures fits { OnOk result (FitsSigned w64 input.now.3) }
 {
     let message = message_of(input);

@@ -1,7 +1,7 @@
 //! The next step of a process.
 
 ghost use Rattle.std.specs.Prelude.{◌≡◌, ◌≢◌, ◌↔◌, ◌<◌, Err, IfErr, IfOk, OnErr, OnOk};
-ghost use Rattle.tw_process.specs.Process.{IsStepped, IsStop, with_spare};
+ghost use Rattle.tw_process.specs.Process.{IsStepped, IsStop, SameButSpare};
 ghost use Rattle.tw_process.specs.declared.refused.StepRefused.TheVariants.{NothingDue};
 ghost use Rattle.tw_theory.specs.Contents.{next};
 ghost use Rattle.tw_vtime.specs.Stamps.{never, phase_of};
@@ -21,8 +21,9 @@ impl<M: Atomic> Process<M> {
     /// the lists would have too many nodes (12), or memory was refused (4). The last can come in place of 2, 3 and 12,
     /// never of 16.
     pub fn step(&mut self) -> Result<(Stamp, RecordKind), StepRefused>
-        ensures stepped { IfOk result (λ done. IsStepped M.meaning self.old self.new done.0 done.1) }
-        ensures stays { OnErr result (self.new ≡ with_spare self.new.spare self.old) }
+        ensures stepped { IfOk result
+            (λ done. IsStepped M.meaning self.old self.new done.0 done.1) }
+        ensures stays { OnErr result (SameButSpare self.old self.new) }
         ensures stop { IfErr result (IsStop M.meaning self.old) }
         ensures nothing_due { next self.old.process ≡ never ↔ result ≡ Err NothingDue }
     {
@@ -44,7 +45,7 @@ impl<M: Atomic> Process<M> {
         requires is_due { stamp < never }
         requires is_output { phase_of stamp ≡ 0 }
         ensures stepped { OnOk result (IsStepped M.meaning self.old self.new stamp RecordKind.Out) }
-        ensures stays { OnErr result (self.new ≡ with_spare self.new.spare self.old) }
+        ensures stays { OnErr result (SameButSpare self.old self.new) }
         ensures stop { IfErr result (IsStop M.meaning self.old) }
         ensures due { result ≢ Err NothingDue }
     {
@@ -77,7 +78,7 @@ impl<M: Atomic> Process<M> {
         requires is_due { stamp < never }
         requires is_transition { phase_of stamp ≡ 1 }
         ensures stepped { IfOk result (λ kind. IsStepped M.meaning self.old self.new stamp kind) }
-        ensures stays { OnErr result (self.new ≡ with_spare self.new.spare self.old) }
+        ensures stays { OnErr result (SameButSpare self.old self.new) }
         ensures stop { IfErr result (IsStop M.meaning self.old) }
         ensures due { result ≢ Err NothingDue }
     {

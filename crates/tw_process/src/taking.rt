@@ -1,12 +1,10 @@
 //! The steps of a chain on the lists of a process, one after another.
 
-ghost use Rattle.std.specs.Prelude.{◌≡◌, ◌+◌, ◌<◌, ◌≤◌, ◌++◌, ◌∷◌, ◌⊎◌, [], Err, IfErr, IfNone, IfSome, IsTrue, OnErr, OnOk, Some, length, min, slice_get, take, vec_capacity, vec_len};
+ghost use Rattle.std.specs.Prelude.{◌≡◌, ◌+◌, ◌<◌, ◌≤◌, ◌++◌, ◌∷◌, ◌⊎◌, [], Err, IfErr, IfNone, IfSome, IsTrue, OnErr, OnOk, length, min, vec_capacity, vec_len};
 ghost use Rattle.std.specs.VecDeque.{deque_capacity, deque_len};
-ghost use Rattle.tw_lists.specs.Lists.{front_consumed, with_room};
-ghost use Rattle.tw_network.specs.Contents.{network_of};
-ghost use Rattle.tw_process.specs.Installing.{AreNext, IsNext, WhyNot, after_record, after_steps, sent_counts};
+ghost use Rattle.tw_lists.specs.Lists.{front_consumed, SameButRoom};
+ghost use Rattle.tw_process.specs.Installing.{IsNext, IsTakenAt, MakesRoom, IsStoppedAt, after_steps_at, AreNextAt, sent_counts_at, made_of};
 ghost use Rattle.tw_theory.specs.Bundles.{first_stamp};
-ghost use Rattle.tw_theory.specs.Chains.{sent_at};
 ghost use Rattle.tw_vtime.specs.Stamps.{phase_of};
 
 use crate::entry::Entry;
@@ -46,13 +44,16 @@ pub(crate) fn take_steps<M: Atomic>(
 ) -> Taken
     requires known { place.now.component < length place.now.network.now.models }
     ensures within { length result.counts.items ≤ length steps.now }
-    ensures counts { result.counts.items ≡ sent_counts (network_of M.meaning place.now.network.now) place.now.component (take (length result.counts.items) steps.now) }
-    ensures lists { lists.new ≡ with_room lists.new.room lists.new.spare (after_steps (network_of M.meaning place.now.network.now) place.now.component place.now.cancel (take (length result.counts.items) steps.now) lists.old) }
-    ensures next { AreNext (network_of M.meaning place.now.network.now) place.now.component place.now.cancel (take (length result.counts.items) steps.now) lists.old }
+    ensures counts { result.counts.items
+        ≡ sent_counts_at M.meaning place.now (made_of result steps.now) }
+    ensures lists { SameButRoom
+        (after_steps_at M.meaning place.now (made_of result steps.now) lists.old) lists.new }
+    ensures next { AreNextAt M.meaning place.now (made_of result steps.now) lists.old }
     ensures history { history.new.items ≡ history.old.items }
     ensures room { deque_len history.new + length result.counts.items ≤ deque_capacity history.new }
     ensures all { IfNone result.stop (length result.counts.items ≡ length steps.now) }
-    ensures stop { IfSome result.stop (λ stop. (e : _) → slice_get steps.now (length result.counts.items) ≡ Some e → WhyNot (network_of M.meaning place.now.network.now) place.now.component place.now.cancel e lists.new stop) }
+    ensures stop { IfSome result.stop
+        (IsStoppedAt M.meaning place.now steps.now result lists.new) }
     ensures short { IfSome result.stop (λ stop. length result.counts.items < length steps.now) }
 {
     let mut taken = Taken {
@@ -78,15 +79,9 @@ fn take_step<M: Atomic>(
     counts: &mut Vec<usize>,
 ) -> Result<(), Stop>
     requires known { place.now.component < length place.now.network.now.models }
-    ensures taken { OnOk result (lists.new ≡ with_room lists.new.room lists.new.spare (after_record (network_of M.meaning place.now.network.now) place.now.component place.now.cancel step.now.done lists.old)) }
-    ensures next { OnOk result (IsNext step.now lists.old) }
-    ensures counted { OnOk result (counts.new.items ≡ counts.old.items ++ length (sent_at (network_of M.meaning place.now.network.now) place.now.component step.now.done) ∷ []) }
-    ensures stays { OnErr result (lists.new ≡ with_room lists.new.room lists.new.spare lists.old) }
-    ensures none { OnErr result (counts.new.items ≡ counts.old.items) }
-    ensures stop { IfErr result (WhyNot (network_of M.meaning place.now.network.now) place.now.component place.now.cancel step.now lists.old) }
-    ensures history { history.new.items ≡ history.old.items }
-    ensures room { OnOk result (deque_len history.new + (vec_len counts.old + 1) ≤ deque_capacity history.new) }
-    ensures kept { deque_len history.old + vec_len counts.old ≤ deque_capacity history.old → deque_len history.new + vec_len counts.old ≤ deque_capacity history.new }
+    ensures taken { IsTakenAt M.meaning place.now step.now
+        lists.old lists.new counts.old counts.new result }
+    ensures room { MakesRoom history.old history.new counts.old result }
 {
     if next_stamp(lists, step.due) != step.done.stamp {
         return Err(Stop::Stale);
@@ -120,15 +115,9 @@ fn take_output<M: Atomic>(
     requires known { place.now.component < length place.now.network.now.models }
     requires comes { min step.now.due (first_stamp lists.old.pending) ≡ step.now.done.stamp }
     requires is_output { phase_of step.now.done.stamp ≡ 0 }
-    ensures taken { OnOk result (lists.new ≡ with_room lists.new.room lists.new.spare (after_record (network_of M.meaning place.now.network.now) place.now.component place.now.cancel step.now.done lists.old)) }
-    ensures next { OnOk result (IsNext step.now lists.old) }
-    ensures counted { OnOk result (counts.new.items ≡ counts.old.items ++ length (sent_at (network_of M.meaning place.now.network.now) place.now.component step.now.done) ∷ []) }
-    ensures stays { OnErr result (lists.new ≡ with_room lists.new.room lists.new.spare lists.old) }
-    ensures none { OnErr result (counts.new.items ≡ counts.old.items) }
-    ensures stop { IfErr result (WhyNot (network_of M.meaning place.now.network.now) place.now.component place.now.cancel step.now lists.old) }
-    ensures history { history.new.items ≡ history.old.items }
-    ensures room { OnOk result (deque_len history.new + (vec_len counts.old + 1) ≤ deque_capacity history.new) }
-    ensures kept { deque_len history.old + vec_len counts.old ≤ deque_capacity history.old → deque_len history.new + vec_len counts.old ≤ deque_capacity history.new }
+    ensures taken { IsTakenAt M.meaning place.now step.now
+        lists.old lists.new counts.old counts.new result }
+    ensures room { MakesRoom history.old history.new counts.old result }
 {
     let Ok(sent) = routed(
         alloc,
@@ -169,9 +158,7 @@ fn take_transition<S: Drop, R: Drop>(
     ensures stale { result ≡ Err Stop.Stale → IsNext step.now lists.old → ⊥ }
     ensures refused { result ≡ Err Stop.OutOfMemory → IsNext step.now lists.old }
     ensures others { IfErr result (λ stop. (stop ≡ Stop.Stale) ⊎ (stop ≡ Stop.OutOfMemory)) }
-    ensures history { history.new.items ≡ history.old.items }
-    ensures room { OnOk result (deque_len history.new + (vec_len counts.old + 1) ≤ deque_capacity history.new) }
-    ensures kept { deque_len history.old + vec_len counts.old ≤ deque_capacity history.old → deque_len history.new + vec_len counts.old ≤ deque_capacity history.new }
+    ensures room { MakesRoom history.old history.new counts.old result }
 {
     let room = has_room(history, counts);
     lists.order_law();
@@ -193,7 +180,8 @@ fn has_room<S: Drop, R: Drop>(history: &mut VecDeque<Entry<S, R>>, counts: &mut 
     ensures capacity { deque_capacity history.old ≤ deque_capacity history.new }
     ensures counts { counts.new.items ≡ counts.old.items }
     ensures counts_len { vec_len counts.new ≡ vec_len counts.old }
-    ensures room { IsTrue result → deque_len history.new + (vec_len counts.old + 1) ≤ deque_capacity history.new }
+    ensures room { IsTrue result
+        → deque_len history.new + (vec_len counts.old + 1) ≤ deque_capacity history.new }
     ensures counts_room { IsTrue result → vec_len counts.new < vec_capacity counts.new }
 {
     history.reserve(counts.len() + 1).is_ok() && counts.reserve(1).is_ok()

@@ -1,4 +1,4 @@
-use Rattle.std.proofs.Common.{◌≤◌, ◌-◌, ◌++◌, drop, length, ap, sym, subst, ◌∙◌, arith}
+use Rattle.std.proofs.Common.{◌≤◌, ◌-◌, ◌++◌, drop, length, ap, sym, subst, ◌∙◌, arith, rules}
 use Rattle.tw_msgs.specs.Messages.{Sorted}
 use Rattle.tw_theory.specs.Bundles.{front}
 use Rattle.tw_lists.specs.Lists.{restored}
@@ -30,4 +30,4 @@ pub push_reserved-requires : goal.push_reserved-requires
 push_reserved-requires g c = c.has_room-room.ensures.counts_room c.if-not-room.false
 
 pub returns-clause-room : goal.returns-clause-room
-returns-clause-room g c = c.has_room-room.ensures.room c.if-not-room.false
+returns-clause-room g c = record { same = search rules; room = c.has_room-room.ensures.room c.if-not-room.false; kept = search rules }

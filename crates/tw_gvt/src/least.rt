@@ -12,7 +12,8 @@ use tw_vtime::Stamp;
 /// The least of the next stamps of all processes, of the stamps of all items that are outgoing or in a mailbox, positive and anti, and
 /// of all messages owed; or the end, where there is none. It takes no memory.
 pub fn least_of<M: Atomic>(processes: &[Process<M>], mail: &Mailboxes) -> Stamp
-    ensures { result ≡ min (least_next (map (λ p. p.process) processes.now)) (least_mail mail.now.boxes) }
+    ensures { result ≡ min (least_next (map (λ p. p.process) processes.now))
+        (least_mail mail.now.boxes) }
 {
     let mut least = Stamp::END;
     for process in processes {

@@ -8,9 +8,9 @@ ghost use Rattle.tw_theory.specs.Bundles.{least_stamp};
 use tw_msgs::Item;
 use tw_vtime::Stamp;
 
-// The least stamp of some items, as far as it is known.
+/// The least stamp of some items, as far as it is known.
 #[derive(Drop)]
-pub struct Least {
+pub(crate) struct Least {
     pub stamp: Stamp,
     // Of how many items, at least, it is the stamp. Where of none, the least stamp is not known.
     pub count: usize,
@@ -18,8 +18,8 @@ pub struct Least {
     pub changes: usize,
 }
 
-// The least stamp of the items, or the end.
-pub fn least_stamp(items: &[Item]) -> Stamp
+/// The least stamp of the items, or the end.
+pub(crate) fn least_stamp(items: &[Item]) -> Stamp
     ensures { result ≡ least_stamp items.now }
 {
     items
@@ -27,15 +27,15 @@ pub fn least_stamp(items: &[Item]) -> Stamp
         .fold(Stamp::END, |least, item| least.min(item.message.stamp))
 }
 
-// The stamp of an item.
-pub fn stamp_of(item: &Item) -> Stamp
+/// The stamp of an item.
+pub(crate) fn stamp_of(item: &Item) -> Stamp
     ensures { result ≡ item.now.message.stamp }
 {
     item.message.stamp
 }
 
 impl Least {
-    // Nothing is known.
+    /// Nothing is known.
     pub fn unknown() -> Least
         ensures { (items : List SeenItem) → IsLeastOf result.stamp result.count items }
     {
@@ -46,16 +46,17 @@ impl Least {
         }
     }
 
-    // Nothing is known any more.
+    /// Nothing is known any more.
     pub fn forget(&mut self)
         ensures { self.new.count ≡ 0 }
     {
         self.count = 0;
     }
 
-    // An item of this stamp came. Told is whether it is the only one.
+    /// An item of this stamp came. Told is whether it is the only one.
     pub fn add(&mut self, only: bool, stamp: Stamp)
-        ensures { (items more : List SeenItem) → IsWith stamp items more → (IsTrue only → items ≡ []) → IsLeastOf self.old.stamp self.old.count items
+        ensures { (items more : List SeenItem) → IsWith stamp items more
+            → (IsTrue only → items ≡ []) → IsLeastOf self.old.stamp self.old.count items
             → IsLeastOf self.new.stamp self.new.count more }
     {
         if only {
@@ -73,9 +74,10 @@ impl Least {
         self.count = self.count.saturating_add(1);
     }
 
-    // An item of this stamp left.
+    /// An item of this stamp left.
     pub fn remove(&mut self, stamp: Stamp)
-        ensures { (items fewer : List SeenItem) → IsWith stamp fewer items → IsLeastOf self.old.stamp self.old.count items
+        ensures { (items fewer : List SeenItem) → IsWith stamp fewer items
+            → IsLeastOf self.old.stamp self.old.count items
             → IsLeastOf self.new.stamp self.new.count fewer }
     {
         if self.count > 0 && stamp == self.stamp {
@@ -83,10 +85,11 @@ impl Least {
         }
     }
 
-    // The items have changed. Where the least stamp is not known, they are looked through, but not before they have
-    // changed as often as there are items: so each change costs one look on the whole.
+    /// The items have changed. Where the least stamp is not known, they are looked through, but not before they have
+    /// changed as often as there are items: so each change costs one look on the whole.
     pub fn keep_up(&mut self, items: &[Item])
-        ensures { IsLeastOf self.old.stamp self.old.count items.now → IsLeastOf self.new.stamp self.new.count items.now }
+        ensures { IsLeastOf self.old.stamp self.old.count items.now
+            → IsLeastOf self.new.stamp self.new.count items.now }
     {
         if self.count == 0 && self.changes >= items.len() {
             self.look_through(items);

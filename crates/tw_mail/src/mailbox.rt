@@ -1,24 +1,6 @@
 //! One mailbox.
 
-ghost use Rattle.std.specs.Prelude.{
-  ◌≡◌,
-  ◌<◌,
-  ◌≤◌,
-  ◌-◌,
-  ◌+◌,
-  ◌++◌,
-  ◌∷◌,
-  [],
-  Some,
-  OnOk,
-  OnErr,
-  drop,
-  length,
-  take,
-  remove,
-  insert,
-  slice_get,
-};
+ghost use Rattle.std.specs.Prelude.{◌≡◌, ◌<◌, ◌≤◌, ◌-◌, ◌+◌, ◌++◌, ◌∷◌, [], Some, OnOk, OnErr, drop, length, take, remove, insert, slice_get};
 ghost use Rattle.tw_mail.specs.Mail.{HasRoom};
 ghost use Rattle.tw_theory.specs.Bundles.{least_stamp};
 
@@ -28,9 +10,9 @@ use std::marker::Model;
 use tw_msgs::Item;
 use tw_vtime::Stamp;
 
-// The items of a mailbox, behind those that left it at the front. It has spare places where an item has left.
+/// The items of a mailbox, behind those that left it at the front. It has spare places where an item has left.
 #[derive(Drop)]
-pub struct Mailbox {
+pub(crate) struct Mailbox {
     items: Vec<Item>,
     first: usize,
     least: Least,
@@ -42,13 +24,18 @@ impl Model for Mailbox {
 
     ghost Value = { Held };
 
-    ghost view = { λ b. record { items = drop b.first b.items.items; before = b.first; behind = vec_capacity b.items - length b.items.items } };
+    ghost view = { λ b. record {
+      items = drop b.first b.items.items;
+      before = b.first;
+      behind = vec_capacity b.items - length b.items.items;
+    } };
 
-    ghost invariant = { λ b. (b.first ≤ length b.items.items) × IsLeastOf b.least.stamp b.least.count (drop b.first b.items.items) };
+    ghost invariant = { λ b. (b.first ≤ length b.items.items)
+        × IsLeastOf b.least.stamp b.least.count (drop b.first b.items.items) };
 }
 
 impl Mailbox {
-    // An empty mailbox.
+    /// An empty mailbox.
     pub fn new(alloc: Global) -> Mailbox
         ensures { result.items ≡ [] }
     {
@@ -59,14 +46,14 @@ impl Mailbox {
         }
     }
 
-    // The items, in order.
+    /// The items, in order.
     pub fn as_slice(&self) -> &[Item]
         ensures { result.now ≡ self.now.items }
     {
         behind(self.items.as_slice(), self.first)
     }
 
-    // The least stamp of the items, or the end.
+    /// The least stamp of the items, or the end.
     pub fn least(&self) -> Stamp
         ensures { result ≡ least_stamp self.now.items }
     {
@@ -76,7 +63,7 @@ impl Mailbox {
         least_stamp(self.as_slice())
     }
 
-    // Adds an item at the end.
+    /// Adds an item at the end.
     pub fn push(&mut self, item: Item) -> Result<(), AllocError>
         ensures ok { OnOk result (self.new.items ≡ self.old.items ++ item ∷ []) }
         ensures err { OnErr result (self.new.items ≡ self.old.items) }
@@ -90,7 +77,7 @@ impl Mailbox {
         Ok(())
     }
 
-    // Drops the last item.
+    /// Drops the last item.
     pub fn pop(&mut self)
         requires { 0 < length self.old.items }
         ensures { self.new.items ≡ take (length self.old.items - 1) self.old.items }
@@ -99,7 +86,7 @@ impl Mailbox {
         self.items.pop();
     }
 
-    // Takes an item out; the items on its shorter side close up. The places in front are given up where they are more than the items.
+    /// Takes an item out; the items on its shorter side close up. The places in front are given up where they are more than the items.
     pub fn take(&mut self, place: usize) -> Item
         requires { place < length self.old.items }
         ensures item { slice_get self.old.items place ≡ Some result }
@@ -128,7 +115,7 @@ impl Mailbox {
         item
     }
 
-    // Puts an item at a place that has become free.
+    /// Puts an item at a place that has become free.
     pub fn put_back(&mut self, place: usize, item: Item)
         requires place { place ≤ length self.old.items }
         requires room { HasRoom self.old }

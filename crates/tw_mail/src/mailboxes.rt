@@ -1,29 +1,6 @@
 //! A mailbox for each receiver.
 
-ghost use Rattle.std.specs.Prelude.{
-  ◌≡◌,
-  ◌<◌,
-  ◌≤◌,
-  ◌-◌,
-  ◌++◌,
-  ◌∷◌,
-  [],
-  None,
-  Some,
-  IsOk,
-  IfOk,
-  OnOk,
-  OnErr,
-  OnSome,
-  IfNone,
-  length,
-  take,
-  remove,
-  insert,
-  replicate,
-  slice_get,
-  slice_set,
-};
+ghost use Rattle.std.specs.Prelude.{◌≡◌, ◌<◌, ◌-◌, ◌++◌, ◌∷◌, [], None, Some, IsOk, IfOk, OnOk, OnErr, OnSome, IfNone, length, take, remove, insert, replicate, slice_get, slice_set};
 ghost use Rattle.std.specs.List.{AllByRecursion as Each};
 ghost use Rattle.tw_mail.specs.Mail.{mail, mail_after};
 ghost use Rattle.tw_theory.specs.Executive.{mail_of, posted, least_mail};
@@ -89,7 +66,8 @@ impl Mailboxes {
     pub fn take(&mut self, to: usize, place: usize) -> Option<Item>
         requires { to < length self.old.boxes }
         ensures item { result ≡ slice_get (mail_of self.old.boxes to) place }
-        ensures taken { OnSome result (self.new ≡ mail_after to place (slice_set self.old.boxes to (remove (mail_of self.old.boxes to) place))) }
+        ensures taken { let left = remove (mail_of self.old.boxes to) place in
+            OnSome result (self.new ≡ mail_after to place (slice_set self.old.boxes to left)) }
         ensures stays { IfNone result (self.new ≡ self.old) }
         ensures as_many { length self.new.boxes ≡ length self.old.boxes }
     {
@@ -103,7 +81,8 @@ impl Mailboxes {
     /// Puts an item into the place that one has just left. It takes no memory.
     pub fn put_back(&mut self, to: usize, place: usize, item: Item)
         requires { self.old.taken ≡ Some (to, place) }
-        ensures { self.new ≡ mail (slice_set self.old.boxes to (insert (mail_of self.old.boxes to) place item)) }
+        ensures { let all = insert (mail_of self.old.boxes to) place item in
+            self.new ≡ mail (slice_set self.old.boxes to all) }
     {
         self.taken = None;
         self.boxes[to].put_back(place, item);
@@ -147,7 +126,8 @@ impl Mailboxes {
     fn push(&mut self, item: Item) -> Result<(), AllocError>
         requires known { item.message.to < length self.old.boxes }
         requires free { self.old.taken ≡ None }
-        ensures ok { OnOk result (self.new ≡ mail (slice_set self.old.boxes item.message.to (mail_of self.old.boxes item.message.to ++ item ∷ []))) }
+        ensures ok { let all = mail_of self.old.boxes item.message.to ++ item ∷ [] in
+            OnOk result (self.new ≡ mail (slice_set self.old.boxes item.message.to all)) }
         ensures err { OnErr result (self.new ≡ self.old) }
     {
         self.boxes[item.message.to].push(item)
@@ -158,7 +138,9 @@ impl Mailboxes {
         requires known { to < length self.old.boxes }
         requires some { 0 < length (mail_of self.old.boxes to) }
         requires free { self.old.taken ≡ None }
-        ensures { self.new ≡ mail (slice_set self.old.boxes to (take (length (mail_of self.old.boxes to) - 1) (mail_of self.old.boxes to))) }
+        ensures { let items = mail_of self.old.boxes to in
+            let left = take (length items - 1) items in
+            self.new ≡ mail (slice_set self.old.boxes to left) }
     {
         self.boxes[to].pop();
     }

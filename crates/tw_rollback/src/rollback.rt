@@ -2,7 +2,7 @@
 
 ghost use Rattle.std.specs.Prelude.{◌≡◌, ◌≤◌, ◌↔◌, Err, IfOk, IfErr, IsOk, OnErr};
 ghost use Rattle.tw_pool.specs.declared.refused.PoolRefused.TheVariants.{Full};
-ghost use Rattle.tw_process.specs.Process.{IsFullBy, with_cut, with_spare};
+ghost use Rattle.tw_process.specs.Process.{IsFullBy, with_cut, SameButSpare};
 ghost use Rattle.tw_rollback.specs.Received.{IsCame, need};
 ghost use Rattle.tw_theory.specs.Contents.{steps_from, receive, receive_message, receive_anti};
 ghost use Rattle.tw_theory.specs.Memory.{need_of_received};
@@ -50,10 +50,12 @@ pub fn receive<M: Atomic>(
 ) -> Result<Received, (Item, PoolRefused)>
     requires fits { CanTake process.old.component item.message }
     requires after { process.old.floor ≤ item.message.stamp }
-    ensures received { IfOk result (IsCame process.old process.new (receive process.old.process item)) }
-    ensures stays { OnErr result (process.new ≡ with_spare process.new.spare process.old) }
+    ensures received { IfOk result
+        (IsCame process.old process.new (receive process.old.process item)) }
+    ensures stays { OnErr result (SameButSpare process.old process.new) }
     ensures handed_back { IfErr result (λ refused. refused.0 ≡ item) }
-    ensures limit { IsFullBy (need process.old.process item) process.old.process ↔ result ≡ Err (item, Full) }
+    ensures limit { IsFullBy (need process.old.process item) process.old.process
+        ↔ result ≡ Err (item, Full) }
     ensures succeeds { need process.old.process item ≡ 0 → IsOk result }
 {
     let came = match item.sign {
@@ -73,10 +75,13 @@ fn receive_message<M: Atomic>(
 ) -> Result<Received, PoolRefused>
     requires fits { CanTake process.old.component message.now }
     requires after { process.old.floor ≤ message.now.stamp }
-    ensures received { IfOk result (IsCame process.old process.new (receive_message process.old.process message.now)) }
-    ensures stays { OnErr result (process.new ≡ with_spare process.new.spare process.old) }
-    ensures limit { IsFullBy (need_of_received (receive_message process.old.process message.now).0) process.old.process ↔ result ≡ Err Full }
-    ensures succeeds { need_of_received (receive_message process.old.process message.now).0 ≡ 0 → IsOk result }
+    ensures received { IfOk result
+        (IsCame process.old process.new (receive_message process.old.process message.now)) }
+    ensures stays { OnErr result (SameButSpare process.old process.new) }
+    ensures limit { let came = (receive_message process.old.process message.now).0 in
+        IsFullBy (need_of_received came) process.old.process ↔ result ≡ Err Full }
+    ensures succeeds { let came = (receive_message process.old.process message.now).0 in
+        need_of_received came ≡ 0 → IsOk result }
 {
     process.count_law();
     if process.clear_orphan(message) {
@@ -96,10 +101,13 @@ fn receive_anti<M: Atomic>(
     process: &mut Process<M>,
     message: &Message,
 ) -> Result<Received, PoolRefused>
-    ensures received { IfOk result (IsCame process.old process.new (receive_anti process.old.process message.now)) }
-    ensures stays { OnErr result (process.new ≡ with_spare process.new.spare process.old) }
-    ensures limit { IsFullBy (need_of_received (receive_anti process.old.process message.now).0) process.old.process ↔ result ≡ Err Full }
-    ensures succeeds { need_of_received (receive_anti process.old.process message.now).0 ≡ 0 → IsOk result }
+    ensures received { IfOk result
+        (IsCame process.old process.new (receive_anti process.old.process message.now)) }
+    ensures stays { OnErr result (SameButSpare process.old process.new) }
+    ensures limit { let came = (receive_anti process.old.process message.now).0 in
+        IsFullBy (need_of_received came) process.old.process ↔ result ≡ Err Full }
+    ensures succeeds { let came = (receive_anti process.old.process message.now).0 in
+        need_of_received came ≡ 0 → IsOk result }
 {
     process.count_law();
     if process.withdraw(message) {

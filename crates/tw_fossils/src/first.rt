@@ -1,6 +1,6 @@
 //! The first records of columns, and how many records there are before a stamp.
 
-ghost use Rattle.std.specs.Prelude.{◌≡◌, ℕ, List, IfOk, map};
+ghost use Rattle.std.specs.Prelude.{◌≡◌, List, IfOk, map};
 ghost use Rattle.std.specs.Slice.{IsItemAt};
 ghost use Rattle.tw_fossils.specs.Columns.{AreColumns};
 ghost use Rattle.tw_fossils.specs.Merging.{head_before, to_take};
@@ -17,7 +17,8 @@ const MOST: usize = 4294967296;
 
 /// The stamp of the first of some records, where it is before the line; else the end.
 pub(crate) fn stamp_before(first: Option<&Record>, line: Stamp) -> Stamp
-    ensures { (records : List Record) → IsItemAt records 0 first.entry → result ≡ head_before line records }
+    ensures { (records : List Record) → IsItemAt records 0 first.entry
+        → result ≡ head_before line records }
 {
     match first {
         Some(record) if record.stamp < line => record.stamp,

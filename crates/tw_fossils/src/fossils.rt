@@ -1,7 +1,7 @@
 //! Fossil collection, by the calls of a process alone.
 
 ghost use Rattle.std.specs.Prelude.{◌≡◌, ◌≤◌, ◌+◌, ◌++◌, IfOk, IsOk, OnOk, OnErr, length, take, vec_len, vec_capacity};
-ghost use Rattle.tw_process.specs.Process.{with_harvested, with_spare, without_first};
+ghost use Rattle.tw_process.specs.Process.{with_harvested, without_first, SameButSpare};
 ghost use Rattle.tw_theory.specs.Contents.{steps_before, records_of};
 
 use crate::column::Column;
@@ -27,7 +27,7 @@ pub fn harvest<M: Atomic>(
     column: &mut Column,
     line: Stamp,
 ) -> Result<u64, AllocError>
-    ensures harvested { OnOk result (process.new ≡ with_spare process.new.spare (with_harvested line process.old)) }
+    ensures harvested { OnOk result (SameButSpare (with_harvested line process.old) process.new) }
     ensures column { let steps = process.old.process.history in
         OnOk result (column.new ≡ column.old ++ records_of (take (steps_before line steps) steps)) }
     ensures count { IfOk result (λ n. n ≡ steps_before line process.old.process.history) }
@@ -63,8 +63,9 @@ fn move_oldest<M: Atomic>(
     count: usize,
 ) -> Result<(), AllocError>
     requires { count ≤ length process.old.process.history }
-    ensures process { OnOk result (process.new ≡ with_spare process.new.spare (without_first count process.old)) }
-    ensures records { OnOk result (records.new.items ≡ records.old.items ++ records_of (take count process.old.process.history)) }
+    ensures process { OnOk result (SameButSpare (without_first count process.old) process.new) }
+    ensures records { let moved = records_of (take count process.old.process.history) in
+        OnOk result (records.new.items ≡ records.old.items ++ moved) }
     ensures stays { OnErr result (process.new ≡ process.old) }
     ensures records_stay { OnErr result (records.new.items ≡ records.old.items) }
     ensures succeeds { count ≡ 0 → IsOk result }

@@ -1,10 +1,9 @@
 //! Columns as one trace: of the columns' first records that are left the earliest comes next, and a tournament knows which it is
 //! (Knuth 1973).
 
-ghost use Rattle.std.specs.Prelude.{◌≡◌, ◌<◌, ◌≤◌, ◌+◌, ℕ, List, [], IfOk, IfErr, OnOk, length, map, vec_len, vec_capacity};
+ghost use Rattle.std.specs.Prelude.{◌≡◌, ◌≤◌, ◌+◌, ℕ, List, [], IfOk, IfErr, OnOk, length, map, vec_len, vec_capacity};
 ghost use Rattle.tw_fossils.specs.Columns.{AreColumns};
 ghost use Rattle.tw_fossils.specs.Merging.{IsMerging, IsReady, to_take};
-ghost use Rattle.tw_fossils.specs.declared.merging.Room.{Room};
 ghost use Rattle.tw_msgs.specs.declared.record.Record.{Record};
 ghost use Rattle.tw_theory.specs.Traces.{IsTrace, before, of_component};
 ghost use Rattle.tw_theory.specs.Executive.{column_of};
@@ -28,7 +27,8 @@ const LEAST_ROOM: usize = 64;
 pub fn merge(alloc: Global, columns: &[Column], line: Stamp) -> Result<Vec<Record>, AllocError>
     requires { AreColumns 0 columns.now }
     ensures trace { IfOk result (λ trace. IsTrace trace.items) }
-    ensures records { IfOk result (λ trace. (c : ℕ) → of_component c trace.items ≡ before line (column_of columns.now c)) }
+    ensures records { IfOk result (λ trace. (c : ℕ)
+        → of_component c trace.items ≡ before line (column_of columns.now c)) }
 {
     line.facts();
     let mut heads = first_stamps(alloc, columns, line)?;
@@ -50,7 +50,8 @@ pub fn into_trace(
 ) -> Result<Vec<Record>, AllocFailed<Vec<Column>>>
     requires { AreColumns 0 columns.items }
     ensures trace { IfOk result (λ trace. IsTrace trace.items) }
-    ensures records { IfOk result (λ trace. (c : ℕ) → of_component c trace.items ≡ before line (column_of columns.items c)) }
+    ensures records { IfOk result (λ trace. (c : ℕ)
+        → of_component c trace.items ≡ before line (column_of columns.items c)) }
     ensures handed_back { IfErr result (λ failed. failed.value ≡ columns) }
 {
     match room_for(alloc, columns.as_slice(), line) {
@@ -70,7 +71,8 @@ struct Room {
 /// The room for columns.
 fn room_for(alloc: Global, columns: &[Column], line: Stamp) -> Result<Room, AllocError>
     requires { AreColumns 0 columns.now }
-    ensures heads { IfOk result (λ room. IsReady line columns.now room.heads.times 0 (vec_capacity room.trace)) }
+    ensures heads { IfOk result
+        (λ room. IsReady line columns.now room.heads.times 0 (vec_capacity room.trace)) }
     ensures none_taken { IfOk result (λ room. room.trace.items ≡ []) }
     ensures none_left { IfOk result (λ room. room.left.items ≡ []) }
     ensures places { IfOk result (λ room. length columns.now ≤ vec_capacity room.left) }
@@ -90,7 +92,8 @@ fn move_all(columns: Vec<Column>, line: Stamp, room: Room) -> Vec<Record>
     requires none_left { room.left.items ≡ [] }
     requires places { length columns.items ≤ vec_capacity room.left }
     ensures trace { IsTrace result.items }
-    ensures records { (c : ℕ) → of_component c result.items ≡ before line (column_of columns.items c) }
+    ensures records { (c : ℕ)
+        → of_component c result.items ≡ before line (column_of columns.items c) }
 {
     line.facts();
     let Room {
@@ -139,11 +142,18 @@ fn copy_first(
     trace: &mut Vec<Record>,
 ) -> Result<(), AllocError>
     requires first { (t : ℕ) × IsFirst heads.old.times t next }
-    requires ready { IsReady line (map (λ rs. rs.now) left.old.items) heads.old.times (vec_len trace.old) (vec_capacity trace.old) }
-    ensures ready { OnOk result (IsReady line (map (λ rs. rs.now) left.new.items) heads.new.times (vec_len trace.new) (vec_capacity trace.new)) }
-    ensures fewer { OnOk result (to_take line (map (λ rs. rs.now) left.new.items) + 1 ≡ to_take line (map (λ rs. rs.now) left.old.items)) }
-    ensures merging { OnOk result ((columns : List (List Record)) → IsMerging line columns (map (λ rs. rs.now) left.old.items) trace.old.items
-        → IsMerging line columns (map (λ rs. rs.now) left.new.items) trace.new.items) }
+    requires ready { let old = map (λ rs. rs.now) left.old.items in
+        IsReady line old heads.old.times (vec_len trace.old) (vec_capacity trace.old) }
+    ensures ready { let new = map (λ rs. rs.now) left.new.items in
+        let room = vec_capacity trace.new in
+        OnOk result (IsReady line new heads.new.times (vec_len trace.new) room) }
+    ensures fewer { let old = map (λ rs. rs.now) left.old.items in
+        let new = map (λ rs. rs.now) left.new.items in
+        OnOk result (to_take line new + 1 ≡ to_take line old) }
+    ensures merging { let old = map (λ rs. rs.now) left.old.items in
+        let new = map (λ rs. rs.now) left.new.items in
+        OnOk result ((columns : List (List Record)) → IsMerging line columns old trace.old.items
+        → IsMerging line columns new trace.new.items) }
 {
     if let Some((record, later)) = left[next].split_first() {
         trace.push_reserved(record.clone()?);
@@ -162,11 +172,17 @@ fn move_first(
     trace: &mut Vec<Record>,
 )
     requires first { (t : ℕ) × IsFirst heads.old.times t next }
-    requires ready { IsReady line (map (λ rs. rs.items) left.old.items) heads.old.times (vec_len trace.old) (vec_capacity trace.old) }
-    ensures ready { IsReady line (map (λ rs. rs.items) left.new.items) heads.new.times (vec_len trace.new) (vec_capacity trace.new) }
-    ensures fewer { to_take line (map (λ rs. rs.items) left.new.items) + 1 ≡ to_take line (map (λ rs. rs.items) left.old.items) }
-    ensures merging { (columns : List (List Record)) → IsMerging line columns (map (λ rs. rs.items) left.old.items) trace.old.items
-        → IsMerging line columns (map (λ rs. rs.items) left.new.items) trace.new.items }
+    requires ready { let old = map (λ rs. rs.items) left.old.items in
+        IsReady line old heads.old.times (vec_len trace.old) (vec_capacity trace.old) }
+    ensures ready { let new = map (λ rs. rs.items) left.new.items in
+        IsReady line new heads.new.times (vec_len trace.new) (vec_capacity trace.new) }
+    ensures fewer { let old = map (λ rs. rs.items) left.old.items in
+        let new = map (λ rs. rs.items) left.new.items in
+        to_take line new + 1 ≡ to_take line old }
+    ensures merging { let old = map (λ rs. rs.items) left.old.items in
+        let new = map (λ rs. rs.items) left.new.items in
+        (columns : List (List Record)) → IsMerging line columns old trace.old.items
+        → IsMerging line columns new trace.new.items }
 {
     let column = &mut left[next];
     if let Some(record) = column.pop_front() {

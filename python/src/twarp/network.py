@@ -104,13 +104,15 @@ class Network:
             self._components.append((name, model))
             return self
         given: Mapping[str, Any] = parameters
-        if not isinstance(model, str):
-            if not (hasattr(model, "machine") and hasattr(model, "parameters")):
-                raise TypeError(f"the model of {name!r} is a str, a Network or of twarp.library, not {model!r}")
+        if isinstance(model, str):
+            called = model
+        elif hasattr(model, "machine") and hasattr(model, "parameters"):
             self.use(model.machine)
-            model, given = str(model.machine.get("name")), {**model.parameters, **parameters}
+            called, given = str(model.machine.get("name")), {**model.parameters, **parameters}
+        else:
+            raise TypeError(f"the model of {name!r} is a str, a Network or of twarp.library, not {model!r}")
         numbers = {key: _plain(value, f"{key} of {name!r}") for key, value in given.items()}
-        self._components.append((name, {"name": name, "model": model, **numbers}))
+        self._components.append((name, {"name": name, "model": called, **numbers}))
         return self
 
     @overload

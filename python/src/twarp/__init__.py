@@ -9,6 +9,7 @@ frames and pictures. All simulation is the program's. Times are whole ticks.
 {('g', 'count'): 2, ('t', 'count'): 2, ('t', 'sum'): 10, ('t', 'last'): 5}
 """
 
+from . import distributions, library
 from .errors import (
     LimitFault,
     MemoryRefused,
@@ -21,6 +22,7 @@ from .errors import (
     RequestError,
     TwarpError,
 )
+from .experiments import NotPrecise, Seeds, compare, processors, ratio, replicate, summary, sweep, until_precise
 from .network import Network, Size
 from .pictures import Picture, picture_of_time_warp
 from .run import Item, Record, Run, Stats, simulate
@@ -33,6 +35,7 @@ __all__ = [
     "MemoryRefused",
     "Network",
     "NetworkError",
+    "NotPrecise",
     "Picture",
     "ProgramError",
     "ProgramFailed",
@@ -42,9 +45,19 @@ __all__ = [
     "Record",
     "RequestError",
     "Run",
+    "Seeds",
     "Size",
     "Stats",
     "TwarpError",
+    "compare",
+    "distributions",
+    "library",
     "picture_of_time_warp",
+    "processors",
+    "ratio",
+    "replicate",
     "simulate",
+    "summary",
+    "sweep",
+    "until_precise",
 ]

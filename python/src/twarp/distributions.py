@@ -176,31 +176,28 @@ def _continuous(dist: Any, count: int) -> np.ndarray[Any, Any]:
     Within the distribution by Gauss-Legendre on the quantile function; in the outermost shares, where it may
     have no bound, by Gauss-Laguerre in the logarithm of the probability that is left.
     """
+    if count == 1:
+        return np.array([float(dist.mean())])
     node, weight = _special.roots_legendre(_INNER)
     at = (node + 1) / 2
     share = weight / 2
-    means = np.empty(count)
-    for start in range(1, count - 1, 4096):
-        index = np.arange(start, min(start + 4096, count - 1))
-        low = 2 * index < count  # quantiles of the upper half are taken from above, where floats are fine
-        below = (index[low, None] + at[None, :]) / count
-        above = (count - 1 - index[~low, None] + 1 - at[None, :]) / count
-        means[index[low]] = dist.ppf(below) @ share
-        means[index[~low]] = dist.isf(above) @ share
     depth, mass = _special.roots_laguerre(_OUTER)
-    useful = mass > 0
-    left = np.exp(-depth[useful]) / count
-    mass = mass[useful] / mass[useful].sum()
-    if count == 1:
-        return np.array([float(dist.mean())])
+    left = np.exp(-depth[mass > 0]) / count
+    means = np.empty(count)
+    with np.errstate(all="ignore"):
+        for start in range(1, count - 1, 4096):
+            index = np.arange(start, min(start + 4096, count - 1))
+            low = 2 * index < count  # quantiles of the upper half are taken from above, where floats are fine
+            means[index[low]] = dist.ppf((index[low, None] + at) / count) @ share
+            means[index[~low]] = dist.isf((count - index[~low, None] - at) / count) @ share
+        means[0] = dist.ppf(left) @ mass[mass > 0]
+        means[-1] = dist.isf(left) @ mass[mass > 0]
+    # What the distribution's own mean leaves to an outermost share decides where that has no bound.
     lowest, highest = dist.support()
-    means[0] = dist.ppf(left) @ mass
-    means[-1] = dist.isf(left) @ mass
     rest = float(dist.mean()) * count - float(means[1:-1].sum())
-    # What the distribution's own mean leaves to the outermost shares decides where one of them has no bound.
-    if math.isinf(highest) and not math.isinf(lowest):
+    if math.isinf(highest) and math.isfinite(means[0]):
         means[-1] = rest - means[0]
-    elif math.isinf(lowest) and not math.isinf(highest):
+    elif math.isinf(lowest):
         means[0] = rest - means[-1]
     return means
 

@@ -27,6 +27,7 @@ import threading
 import warnings
 from collections.abc import Callable, Iterable, Iterator, Mapping, Sequence
 from concurrent.futures import FIRST_COMPLETED, Future, ThreadPoolExecutor, wait
+from sys import intern
 from typing import Any, NamedTuple, Optional, Union
 
 import numpy as np
@@ -329,7 +330,8 @@ def _numbers(values: list[Any]) -> Any:
 
 def _frame(heads: Sequence[tuple[Mapping[str, Any], int]], told: Sequence[list[_Row]], seed: int) -> pd.DataFrame:
     """The frame of all runs: of each its head (the point of a grid, the replication), then its rows."""
-    flat = [row for rows in told for row in rows]
+    # Names are shared, so that equal frames are equal to the byte when they are pickled too.
+    flat = [row._replace(component=intern(row.component), figure=intern(row.figure)) for rows in told for row in rows]
     columns: dict[str, Any] = {}
     for name in heads[0][0]:
         columns[name] = [point[name] for (point, _), rows in zip(heads, told) for _ in rows]

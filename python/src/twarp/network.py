@@ -242,7 +242,7 @@ class Network:
         """
         written = text.encode("utf-8", "surrogatepass") if isinstance(text, str) else bytes(text)
         try:
-            return _network(json.loads(written.decode()))
+            return _network(json.loads(written.decode(), parse_int=_whole))
         except (ValueError, TypeError, RecursionError) as error:
             answer(["check", "/dev/stdin"], written)
             raise ValueError(f"the program takes this file, and this package does not: {error}") from error
@@ -353,6 +353,11 @@ def _take(machines: list[Any], machine: Any) -> None:
 def _lines(entries: Iterable[Any]) -> str:
     lines = [f"  {json.dumps(entry)}" for entry in entries]
     return "[\n" + ",\n".join(lines) + "]" if lines else "[]"
+
+
+def _whole(digits: str) -> Union[int, float]:
+    """A whole number of a file; `-0` is none, and stays what the program refuses."""
+    return -0.0 if digits == "-0" else int(digits)
 
 
 def _plain(value: Any, what: str) -> Any:

@@ -2,8 +2,10 @@
 
 from __future__ import annotations
 
+import html
 import operator
 import os
+import re
 from collections.abc import Iterable
 from typing import Literal, Optional, SupportsIndex, Union
 
@@ -56,13 +58,14 @@ def picture_of_time_warp(
     steps: Optional[SupportsIndex] = None,
     until: SupportsIndex = _LAST,
     cancel: Literal["aggressive", "lazy"] = "aggressive",
+    title: str = "network",
 ) -> Picture:
     """A picture of a run of Time Warp that is driven by hand: steps, rollbacks, messages and global
     virtual time (docs/PICTURES.md).
 
     The actions are those of a `script`: its text, its lines, or the path of its file (an
     `os.PathLike`); or `steps` actions at random, which `seed` gives. Only steps before the tick
-    `until` can be made. `cancel` says how the messages of steps that are taken back are cancelled.
+    `until` can be made. `cancel` says how the messages of steps that are taken back are cancelled. `title` is what stands above it.
 
     Raises `TypeError` where there are not either a script or a seed and steps, `RequestError` for a
     script with a line that is none (22) or a number out of range (23), `NetworkError` for a network
@@ -86,4 +89,14 @@ def picture_of_time_warp(
     elif script is not None:
         words += ["--script", "{}"]
         text = (script if isinstance(script, str) else "".join(f"{line}\n" for line in script)).encode()
-    return Picture(answer(words, network.to_json().encode("ascii"), text).out.decode())
+    return titled(answer(words, network.to_json().encode("ascii"), text).out, title)
+
+
+def titled(svg: bytes, title: str) -> Picture:
+    """The picture that the program drew, with a title; it knows the network as stdin, from which it came.
+
+    >>> titled(b"<svg><title>stdin</title></svg>", "a < b").svg
+    '<svg><title>a &lt; b</title></svg>'
+    """
+    shown = html.escape(title, quote=False)
+    return Picture(re.sub(r'(<title>|class="t">)stdin(?=<)', lambda told: told[1] + shown, svg.decode()))

@@ -5,9 +5,11 @@ The network goes to the program by a pipe, and so does what it answers: no file 
 
 from __future__ import annotations
 
+import errno
 import os
 import re
 import shutil
+import signal
 import subprocess
 import threading
 import weakref
@@ -88,54 +90,77 @@ class Process:
 
     def __init__(self, words: Sequence[str], network: bytes, script: Optional[bytes] = None) -> None:
         self._feeders: list[threading.Thread] = []
-        line = [find(), *words]
-        if script is None:
-            self._popen = _start(line, ())
-        else:
-            self._popen = self._start_with(line, script)
-        self._ended = weakref.finalize(self, _stop, self._popen)
-        assert self._popen.stdin is not None and self._popen.stdout is not None
-        self.out: IO[bytes] = self._popen.stdout
-        self._feed(self._popen.stdin, network)
-
-    def _start_with(self, line: list[str], script: bytes) -> subprocess.Popen[bytes]:
-        """Starts the program with one more pipe, from which it reads the script."""
-        ours, theirs = None, None
         try:
-            theirs, ours = os.pipe()
-            line = [f"/dev/fd/{theirs}" if word == "{}" else word for word in line]
-            popen = _start(line, (theirs,))
-            self._feed(os.fdopen(ours, "wb"), script)
-            ours = None
-            return popen
+            pipe = self._begin(words, script)
+            assert self._popen.stdin is not None and self._popen.stdout is not None
+            self.out: IO[bytes] = self._popen.stdout
+            if pipe is not None and script is not None:
+                self._feed(pipe, script)
+            self._hand(self._popen.stdin, network)
+        except BaseException:
+            self.close()
+            raise
+
+    def _begin(self, words: Sequence[str], script: Optional[bytes]) -> Optional[IO[bytes]]:
+        """Starts the program, with one more pipe where there is a script for it: its end for us."""
+        if script is None:
+            self._own(_start([find(), *words], ()))
+            return None
+        theirs, ours = os.pipe()
+        try:
+            line = [find(), *(f"/dev/fd/{theirs}" if word == "{}" else word for word in words)]
+            self._own(_start(line, (theirs,)))
+        except BaseException:
+            os.close(ours)
+            raise
         finally:
-            for end in (ours, theirs):
-                if end is not None:
-                    os.close(end)
+            os.close(theirs)
+        return os.fdopen(ours, "wb")
+
+    def _own(self, popen: subprocess.Popen[bytes]) -> None:
+        self._popen = popen
+        self._ended = weakref.finalize(self, _stop, popen)
+
+    def _hand(self, pipe: IO[bytes], network: bytes) -> None:
+        """Hands the network to the program, in a thread where the pipe may not take it at once."""
+        if len(network) <= _PIPE:
+            _write(pipe, network)
+        else:
+            self._feed(pipe, network)
 
     def _feed(self, pipe: IO[bytes], text: bytes) -> None:
-        """Hands a text to the program, in a thread where the pipe does not take it at once."""
-        if len(text) <= _PIPE and not self._feeders:
-            _write(pipe, text)
-            return
         feeder = threading.Thread(target=_write, args=(pipe, text), daemon=True)
         feeder.start()
         self._feeders.append(feeder)
 
     def end(self) -> tuple[int, str]:
         """Waits until the program has ended: its status (a signal's number, negated, where it was
-        killed), and what it said on standard error."""
+        killed), and what it said on standard error. What it still writes is not read."""
         assert self._popen.stderr is not None
+        self.out.close()
         said = self._popen.stderr.read().decode(errors="replace")
         status = self._popen.wait()
-        for feeder in self._feeders:
-            feeder.join()
         self.close()
         return status, said
 
+    def end_soon(self, seconds: float) -> Optional[tuple[int, str]]:
+        """The same where the program ends so soon; else it is ended, and the answer is None. Neither is
+        there an answer where it ends because nobody reads what it writes."""
+        self.out.close()
+        try:
+            self._popen.wait(seconds)
+        except subprocess.TimeoutExpired:
+            self.close()
+            return None
+        status, said = self.end()
+        return None if status in (5, -signal.SIGPIPE) else (status, said)
+
     def close(self) -> None:
         """Ends the program where it still runs, and closes its pipes."""
-        self._ended()
+        if hasattr(self, "_ended"):
+            self._ended()
+        for feeder in self._feeders:
+            feeder.join()
 
     def __enter__(self) -> Process:
         return self
@@ -159,7 +184,9 @@ def _start(line: list[str], kept: tuple[int, ...]) -> subprocess.Popen[bytes]:
             pass_fds=kept,
         )
     except OSError as error:
-        raise ProgramMissing(f"{line[0]} cannot be started: {error}: {BUILD}") from error
+        if error.errno in (errno.ENOENT, errno.EACCES, errno.ENOEXEC):
+            raise ProgramMissing(f"{line[0]} cannot be started: {error.strerror}: {BUILD}") from error
+        raise ProgramFailed(None, f"it cannot be started: {error.strerror}") from error
 
 
 def _write(pipe: IO[bytes], text: bytes) -> None:
@@ -172,16 +199,13 @@ def _write(pipe: IO[bytes], text: bytes) -> None:
 
 
 def _stop(popen: subprocess.Popen[bytes]) -> None:
-    """Ends a program where it still runs, and leaves nothing open."""
+    """Ends a program where it still runs, and closes what is read of it; who feeds it closes what he feeds."""
     if popen.poll() is None:
         popen.kill()
         popen.wait()
-    for pipe in (popen.stdout, popen.stderr, popen.stdin):
+    for pipe in (popen.stdout, popen.stderr):
         if pipe is not None:
-            try:
-                pipe.close()
-            except OSError:
-                pass
+            pipe.close()
 
 
 class Answer:
@@ -211,13 +235,20 @@ def answer(words: Sequence[str], network: bytes, script: Optional[bytes] = None)
 
 
 def outcome(status: int, said: str, words: Sequence[str], network: bytes) -> Optional[LimitFault]:
-    """Judges how a program ended: nothing, or the fault that its run met, or raises what it means."""
+    """What a program's end means: nothing, the fault that its run met, or what is raised.
+
+    >>> outcome(0, "", ["stats"], b"") is None
+    True
+    >>> outcome(3, "fault: tick limit: b at 3.0\\n", ["stats"], b"")
+    LimitFault('b', 3, 0, 'tick')
+    """
     if status == 0:
         return None
     if status < 0:
         raise ProgramKilled(-status, said)
-    if status == 3:
-        return limit_fault(said)
+    fault = limit_fault(said) if status == 3 else None
+    if fault is not None:
+        return fault
     refusal = _REFUSAL.search(said)
     if refusal is None:
         raise ProgramFailed(status, said)

@@ -10,12 +10,13 @@ from collections.abc import Generator, Mapping, Sequence
 from fractions import Fraction
 from typing import IO, Any, Literal, NamedTuple, Optional, SupportsIndex, Union
 
+import numpy as np
 import pandas as pd
 
 from .errors import LimitFault, ProgramFailed, ProgramTooOld, RequestError
 from .network import Network, flat_models
-from .pictures import Picture
-from .program import BUILD, Process, answer, find, limit_fault, outcome
+from .pictures import Picture, titled
+from .program import BUILD, Process, answer, find, outcome
 
 __all__ = ["Item", "Record", "Run", "Stats", "simulate"]
 
@@ -93,10 +94,10 @@ class Stats:
         2
         """
         if self._components is None:
-            rows = [{key: of[key] for key in _COUNTS} for of in self.raw["components"]]
-            names = pd.Index([of["name"] for of in self.raw["components"]], name="component", dtype=object)
-            frame = pd.DataFrame(rows, columns=list(_COUNTS), index=names)
-            self._components = frame.astype({key: "int64" for key in _COUNTS[1:]})
+            of = self.raw["components"]
+            columns = {key: _column([component[key] for component in of], kind) for key, kind in _COUNTS.items()}
+            names = pd.Index([component["name"] for component in of], name="component", dtype=object)
+            self._components = pd.DataFrame(columns, index=names)
         return self._components
 
     @property
@@ -113,16 +114,16 @@ class Stats:
         [0.8, 0.6]
         """
         if self._figures is None:
-            keys, rows = [], []
-            for component in self.raw["components"]:
-                for figure in component["figures"]:
-                    keys.append((component["name"], figure["name"]))
-                    mean, busy = exact(figure)
-                    row = [figure["least"], figure["greatest"], figure["last"]]
-                    rows.append([*row, float(mean), float(busy), mean, busy])
-            index = pd.MultiIndex.from_tuples(keys, names=["component", "figure"])
-            frame = pd.DataFrame(rows, columns=list(_FIGURES), index=index)
-            self._figures = frame.astype(_FIGURES)
+            of = [(component["name"], figure) for component in self.raw["components"] for figure in component["figures"]]
+            columns = {key: [figure[key] for _, figure in of] for key in ("least", "greatest", "last")}
+            columns["mean_exact"] = [exact(figure)[0] for _, figure in of]
+            columns["busy_exact"] = [exact(figure)[1] for _, figure in of]
+            columns["mean"] = [float(mean) for mean in columns["mean_exact"]]
+            columns["busy"] = [float(busy) for busy in columns["busy_exact"]]
+            names = [[name for name, _ in of], [figure["name"] for _, figure in of]]
+            index = pd.MultiIndex.from_arrays(names, names=["component", "figure"])
+            typed = {key: _column(columns[key], kind) for key, kind in _FIGURES.items()}
+            self._figures = pd.DataFrame(typed, index=index)
         return self._figures
 
     def __repr__(self) -> str:
@@ -130,7 +131,7 @@ class Stats:
         return f"Stats(until={self.until}, records={self.records}, microsteps={self.microsteps}{met})"
 
 
-_COUNTS = ("model", "outputs", "sent", "received", "int", "ext", "con")
+_COUNTS = {"model": "object", **{key: "int64" for key in ("outputs", "sent", "received", "int", "ext", "con")}}
 _FIGURES = {
     "least": "int64",
     "greatest": "int64",
@@ -140,6 +141,12 @@ _FIGURES = {
     "mean_exact": "object",
     "busy_exact": "object",
 }
+
+
+def _column(values: list[Any], kind: str) -> np.ndarray[Any, Any]:
+    column = np.empty(len(values), dtype=kind)
+    column[:] = values
+    return column
 
 
 def exact(figure: Mapping[str, Any]) -> tuple[Fraction, Fraction]:
@@ -351,20 +358,20 @@ class Run:
                     break
                 yield _record(last)
             status, said = process.end()
-        outcome(status, said, words, self._network)
-        self._met(limit_fault(last) if status == 3 else None, None)
+        self._met(outcome(status, last + said, words, self._network), None)
 
     def picture(
         self,
         only: Union[None, str, Sequence[str]] = None,
         start: Optional[SupportsIndex] = None,
         figure: Optional[str] = None,
+        title: str = "network",
     ) -> Picture:
         """A picture of the run, a lane for each component, which a notebook shows (docs/PICTURES.md).
 
         `only` are the names of the components that are shown, `start` the tick from which on the run is
-        seen, `figure` the one whose course is drawn. A limit that the run meets is marked in it, and is
-        not raised.
+        seen, `figure` the one whose course is drawn, `title` what stands above it. A limit that the run
+        meets is marked in it, and is not raised.
 
         Raises `RequestError` for a name that is none (15) or a tick out of range (23), and what
         `simulate` says.
@@ -375,14 +382,14 @@ class Run:
         """
         words = ["draw", "/dev/stdin", "--until", str(self.until)]
         if only is not None:
-            words += ["--only", only if isinstance(only, str) else ",".join(only)]
+            words += [f"--only={only if isinstance(only, str) else ','.join(only)}"]
         if start is not None:
             words += ["--from", str(_whole(start, "start"))]
         if figure is not None:
-            words += ["--figure", figure]
+            words += [f"--figure={figure}"]
         given = answer(words, self._network)
         self._learn(given.fault)
-        return Picture(given.out.decode())
+        return titled(given.out, title)
 
     def __repr__(self) -> str:
         return f"Run({len(self._models)} components, until={self.until})"
@@ -431,7 +438,7 @@ class Run:
     def _read(self, flags: list[str], last: dict[str, str], take: Any, whole: bool = False) -> Optional[LimitFault]:
         """Reads a table as the program writes it, and hands it on, whole or in chunks."""
         words = ["table", "/dev/stdin", *flags]
-        names = [name for name, _, _ in self._models]
+        names = list(dict.fromkeys(name for name, _, _ in self._models))
         dtypes = {
             "tick": "int64",
             "microstep": "int64",
@@ -443,23 +450,39 @@ class Run:
         with Process(words, self._network) as process:
             options: dict[str, Any] = {"dtype": dtypes, "na_filter": False, "engine": "c"}
             try:
-                source = _Source(process.out)
+                source = _Source(process.out, _HEAD)
                 if whole:
                     take(pd.read_csv(source, **options))
                 else:
                     with pd.read_csv(source, chunksize=_ROWS, **options) as chunks:
                         for chunk in chunks:
                             take(chunk)
-            except MemoryError:
-                raise
             except Exception as error:
                 wrong = error
-            status, said = process.end()
-        fault = outcome(status, said, words, self._network)
+            stop = wrong and _lost(wrong)
+            if stop is not None:
+                raise stop from None
+            ended = process.end() if wrong is None else process.end_soon(1)
+        fault = outcome(*ended, words, self._network) if ended else None
         if wrong is not None:
             raise ProgramFailed(None, f"{type(wrong).__name__}: {wrong}") from wrong
         return fault
 
+
+def _lost(error: Exception) -> Optional[BaseException]:
+    """What ended the reading where that is not for the program to explain. The parser of pandas loses a
+    KeyboardInterrupt of a signal in a read, and has its own words for want of memory."""
+    if isinstance(error, MemoryError):
+        return error
+    if "read(nbytes) on source failed" in str(error):
+        return KeyboardInterrupt()
+    if "out of memory" in str(error):
+        return MemoryError(f"of a table: {error}")
+    return None
+
+
+# What each table begins with.
+_HEAD = b"tick,microstep,component,kind,"
 
 # How many rows of a table are looked at together where not all are kept.
 _ROWS = 200_000
@@ -468,14 +491,27 @@ _ROWS = 200_000
 class _Source:
     """The pipe of a table as pandas reads it: in large pieces, as bytes, which its parser takes as they are."""
 
-    def __init__(self, pipe: IO[bytes]) -> None:
+    def __init__(self, pipe: IO[bytes], head: bytes) -> None:
+        """Raises `ValueError` where what comes does not begin with the head of a table."""
         self._end = pipe.fileno()
         try:
             fcntl.fcntl(self._end, getattr(fcntl, "F_SETPIPE_SZ", 1031), _WIDE)
         except OSError:
             pass
+        self._begun = b""
+        while len(self._begun) < len(head):
+            piece = os.read(self._end, _WIDE)
+            self._begun += piece
+            if not piece:
+                break
+        if not self._begun.startswith(head):
+            raise ValueError(f"a table began with {self._begun[:80]!r}")
 
     def read(self, size: int = -1) -> bytes:
+        if self._begun:
+            size = size if size > 0 else len(self._begun)
+            begun, self._begun = self._begun[:size], self._begun[size:]
+            return begun
         return os.read(self._end, size if size > 0 else _WIDE)
 
     def __iter__(self) -> _Source:

@@ -9,7 +9,7 @@
 ...     return network.couple("arrivals", "desk")
 >>> frame = replicate(make, 5, until=200_000, warmup=20_000, seed=1, progress=False)
 >>> summary(frame).loc[("desk", "waiting"), "n"]
-5.0
+5
 
 A replication is a run of its own with random numbers of its own.  What is counted here is replications, never
 ticks or customers of one run: those depend on one another, and intervals from them would be too narrow.
@@ -456,9 +456,9 @@ def summary(frame: pd.DataFrame, confidence: float = 0.95, value: str = "mean") 
     >>> import pandas as pd
     >>> frame = pd.DataFrame({"replication": [0, 1, 2], "component": "desk", "figure": "waiting", "mean": [2.0, 3, 4]})
     >>> print(summary(frame).round(3))
-                       mean  half_width   sd    n
-    component figure                             
-    desk      waiting   3.0       2.484  1.0  3.0
+                       mean  half_width   sd  n
+    component figure                           
+    desk      waiting   3.0       2.484  1.0  3
     """
     level = _confidence(confidence)
     keys = _of(frame, value)
@@ -468,7 +468,7 @@ def summary(frame: pd.DataFrame, confidence: float = 0.95, value: str = "mean") 
         values = group[value].to_numpy(dtype=float, na_value=np.nan)
         mean, sd, half = _interval(values, level)
         heads.append(head if isinstance(head, tuple) else (head,))
-        rows.append((mean, half, sd, float(len(values))))
+        rows.append((mean, half, sd, len(values)))
     index = pd.MultiIndex.from_tuples(heads, names=keys)
     return pd.DataFrame(rows, columns=["mean", "half_width", "sd", "n"], index=index)
 
@@ -681,9 +681,9 @@ def compare(a: pd.DataFrame, b: pd.DataFrame, confidence: float = 0.95, value: s
     >>> import pandas as pd
     >>> a = pd.DataFrame({"replication": [0, 1, 2], "component": "desk", "figure": "waiting", "mean": [2.0, 3, 4]})
     >>> print(compare(a, a.assign(mean=[3.0, 4.5, 5.0])).round(3))
-                         a      b  difference  half_width    n  correlation
-    component figure                                                       
-    desk      waiting  3.0  4.167       1.167       0.717  3.0        0.961
+                         a      b  difference  half_width  n  correlation
+    component figure                                                     
+    desk      waiting  3.0  4.167       1.167       0.717  3        0.961
     """
     level = _confidence(confidence)
     seeds = [frame.attrs["seed"] for frame in (a, b) if "seed" in frame.attrs]
@@ -709,7 +709,7 @@ def compare(a: pd.DataFrame, b: pd.DataFrame, confidence: float = 0.95, value: s
         second = group[f"{value}_b"].to_numpy(dtype=float, na_value=np.nan)
         mean, _, half = _interval(second - first, level)
         heads.append(head if isinstance(head, tuple) else (head,))
-        rows.append((first.mean(), second.mean(), mean, half, float(len(first)), _correlation(first, second)))
+        rows.append((first.mean(), second.mean(), mean, half, len(first), _correlation(first, second)))
     index = pd.MultiIndex.from_tuples(heads, names=keys)
     return pd.DataFrame(rows, columns=["a", "b", "difference", "half_width", "n", "correlation"], index=index)
 

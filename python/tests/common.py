@@ -40,8 +40,18 @@ def children(process: int) -> list[int]:
     return found
 
 
+_others: set[int] = set()
+
+
+def know_others() -> None:
+    """What runs before a test is not of that test."""
+    _others.clear()
+    _others.update(children(os.getpid()))
+
+
 def own_programs() -> list[int]:
-    return children(os.getpid())
+    """The programs that the present test has started and that are still there."""
+    return [child for child in children(os.getpid()) if child not in _others]
 
 
 def wait_for(condition: object, seconds: float = 20) -> None:

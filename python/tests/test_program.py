@@ -14,7 +14,7 @@ from pathlib import Path
 from typing import Callable
 
 import pytest
-from common import children, long_run, network, own_programs, program, script, short_run, wait_for
+from common import TOP, children, long_run, network, own_programs, program, script, short_run, wait_for
 
 import twarp
 from twarp import Network, simulate
@@ -52,6 +52,12 @@ def test_the_program_is_found(tmp_path: Path, monkeypatch: pytest.MonkeyPatch) -
     monkeypatch.setenv("PATH", str(tmp_path / "bin"), prepend=os.pathsep)
     assert twarp.program.find() == str(tmp_path / "bin" / "twarp")
     assert short_run().stats().records == 6
+
+
+def test_the_package_has_the_version_of_the_program() -> None:
+    project = (TOP / "python" / "pyproject.toml").read_text()
+    assert f'\nversion = "{twarp.__version__}"\n' in project
+    assert twarp.program.version().split()[:2] == ["twarp", twarp.__version__]
 
 
 @pytest.mark.parametrize("ask", ASKED)

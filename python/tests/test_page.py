@@ -84,7 +84,6 @@ def test_each_block_of_the_page(tmp_path: Path, monkeypatch: pytest.MonkeyPatch)
     environment = {name: value for name, value in os.environ.items() if name not in ("TWARP", "PYTHONPATH")}
     environment["HOME"] = str(home)
     environment["PATH"] = os.pathsep.join([os.path.dirname(sys.executable), environment["PATH"]])
-    environment["PIP_NO_BUILD_ISOLATION"] = "0"  # which is how pip is told not to isolate
     environment["PIP_NO_INDEX"] = environment["PIP_DISABLE_PIP_VERSION_CHECK"] = "1"
     names: dict[str, object] = {"__name__": "page"}
     said = None

@@ -1,6 +1,6 @@
 """The library's machines: their files, their parameters, small runs worked out by hand, and theory.
 
-Theory is held by confidence intervals of 30 replications. In the gate a replication has 20,000 customers; with
+Theory is held by confidence intervals of 30 replications. In the gate a replication has 10,000 customers; with
 TWARP_FULL=1 it has 100,000. Means are thousands of ticks and tables have 10,000 numbers, so what whole ticks and
 tables leave out (a part in 10,000) is far below the intervals' widths. There are some fifty intervals, so each is
 of 0.999 (Bonferroni: all together 0.95); how many of them hold at 0.95 is a test of its own. The seed is 1, and
@@ -34,7 +34,7 @@ from twarp.library import (
 )
 
 FULL = os.environ.get("TWARP_FULL") == "1"
-CUSTOMERS = 100_000 if FULL else 20_000
+CUSTOMERS = 100_000 if FULL else 10_000
 REPLICATIONS = 30
 LEVEL = 0.999
 NUMBERS = 10_000

@@ -16,7 +16,7 @@ from common import examples, network, own_programs, short_run
 
 import twarp
 from twarp import Item, LimitFault, Network, Record, simulate
-from twarp.run import KINDS
+from twarp.tables import KINDS
 
 RUNS = [(name, min(until, 300)) for name, until in examples()]
 WHOLE = [(name, until) for name, until in RUNS if name != "relays-at-the-limit.json"]
@@ -288,6 +288,12 @@ def test_records_are_named() -> None:
     assert records[0].words == () and records[1].items == ()
     rounds = groupby(records, key=lambda record: (record.tick, record.microstep))
     assert [stamp for stamp, _ in rounds] == [(2, 0), (4, 0)]
+
+
+def test_a_parameter_of_any_name() -> None:
+    machine = {"name": "m", "parameters": ["self", "class"], "words": ["self", "class"]}
+    one = Network().use(machine).add(name="m", model="m", **{"self": 3, "class": 4})
+    assert simulate(one, 1).stats().figures["last"].tolist() == [3, 4]
 
 
 def test_names_that_pandas_takes_for_no_value() -> None:

@@ -135,7 +135,12 @@ class Process:
 
     def end(self) -> tuple[int, str]:
         """Waits until the program has ended: its status (a signal's number, negated, where it was
-        killed), and what it said on standard error. What it still writes is not read."""
+        killed), and what it said on standard error. What it still writes is not read.
+
+        >>> with Process(["stats"], b"") as process:
+        ...     process.end()
+        (2, 'twarp: 23 BadLine\\n')
+        """
         assert self._popen.stderr is not None
         self.out.close()
         said = self._popen.stderr.read().decode(errors="replace")
@@ -145,7 +150,12 @@ class Process:
 
     def end_soon(self, seconds: float) -> Optional[tuple[int, str]]:
         """The same where the program ends so soon; else it is ended, and the answer is None. Neither is
-        there an answer where it ends because nobody reads what it writes."""
+        there an answer where it ends because nobody reads what it writes.
+
+        >>> with Process(["stats"], b"") as process:
+        ...     process.end_soon(5)
+        (2, 'twarp: 23 BadLine\\n')
+        """
         self.out.close()
         try:
             self._popen.wait(seconds)
@@ -156,7 +166,11 @@ class Process:
         return None if status in (5, -signal.SIGPIPE) else (status, said)
 
     def close(self) -> None:
-        """Ends the program where it still runs, and closes its pipes."""
+        """Ends the program where it still runs, and closes its pipes. It may be called again.
+
+        >>> process = Process(["stats"], b"")
+        >>> process.close()
+        """
         if hasattr(self, "_ended"):
             self._ended()
         for feeder in self._feeders:

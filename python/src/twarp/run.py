@@ -2,13 +2,11 @@
 
 from __future__ import annotations
 
-import fcntl
 import json
-import os
 import re
 from collections.abc import Generator, Mapping, Sequence
 from fractions import Fraction
-from typing import IO, Any, Literal, NamedTuple, Optional, SupportsIndex, Union
+from typing import Any, Literal, NamedTuple, Optional, SupportsIndex, Union
 
 import numpy as np
 import pandas as pd
@@ -17,14 +15,9 @@ from .errors import LimitFault, ProgramFailed, ProgramTooOld, RequestError
 from .network import Network, flat_models
 from .pictures import Picture, titled
 from .program import BUILD, Process, answer, find, outcome
+from .tables import read_table
 
 __all__ = ["Item", "Record", "Run", "Stats", "simulate"]
-
-#: The kinds of a record, in the order in which a frame's category has them.
-KINDS = ("out", "int", "ext", "con")
-
-# What the pipe of a table is asked to hold, so that the program and the reader wait less for one another.
-_WIDE = 1 << 20
 
 _Frame = Any  # pandas.DataFrame: Debian 12 has no stubs of pandas
 
@@ -300,7 +293,7 @@ class Run:
             return self._table(["--words"], {"place": "int64", "number": "int64"})
         if models <= {"hop", "gen"}:
             return self._table(["--words"], {"place": "int64", "number": "uint64"})
-        return self._table(["--words"], {"place": "int64", "number": "str"}, _numbers)
+        return self._table(["--words"], {"place": "int64", "number": "object"})
 
     def course(self, component: str, figure: str) -> pd.Series:
         """The course of a figure: its value after each tick in which the component made a transition, over
@@ -329,7 +322,7 @@ class Run:
                 told = words.split()
                 values.append(len(told) - place if counted else int(told[place]))
 
-        fault = self._read(["--until", str(self.until)], {"items": "str", "words": "str"}, take)
+        fault = self._read([], {"items": "str", "words": "str"}, take, _ROWS)
         ticks.append(fault.tick if fault else self.until)
         values.append(values[-1])
         index = pd.Index(ticks, name="tick", dtype="int64")
@@ -426,99 +419,20 @@ class Run:
             raise RequestError(15, "NoSuch", f"figure {figure!r} of {component!r}; there are {there}")
         raise RequestError(15, "NoSuch", f"component {component!r}")
 
-    def _table(self, flags: list[str], last: dict[str, str], mend: Any = None) -> _Frame:
+    def _table(self, flags: list[str], last: dict[str, str]) -> _Frame:
         frames: list[_Frame] = []
-        fault = self._read(["--until", str(self.until), *flags], last, frames.append, whole=True)
-        frame = frames[0]
-        if mend is not None:
-            mend(frame)
-        self._met(fault, frame)
-        return frame
+        fault = self._read(flags, last, frames.append)
+        self._met(fault, frames[0])
+        return frames[0]
 
-    def _read(self, flags: list[str], last: dict[str, str], take: Any, whole: bool = False) -> Optional[LimitFault]:
-        """Reads a table as the program writes it, and hands it on, whole or in chunks."""
-        words = ["table", "/dev/stdin", *flags]
-        names = list(dict.fromkeys(name for name, _, _ in self._models))
-        dtypes = {
-            "tick": "int64",
-            "microstep": "int64",
-            "component": pd.CategoricalDtype(names),
-            "kind": pd.CategoricalDtype(list(KINDS)),
-            **last,
-        }
-        wrong: Optional[Exception] = None
-        with Process(words, self._network) as process:
-            options: dict[str, Any] = {"dtype": dtypes, "na_filter": False, "engine": "c"}
-            try:
-                source = _Source(process.out, _HEAD)
-                if whole:
-                    take(pd.read_csv(source, **options))
-                else:
-                    with pd.read_csv(source, chunksize=_ROWS, **options) as chunks:
-                        for chunk in chunks:
-                            take(chunk)
-            except Exception as error:
-                wrong = error
-            stop = wrong and _lost(wrong)
-            if stop is not None:
-                raise stop from None
-            ended = process.end() if wrong is None else process.end_soon(1)
-        fault = outcome(*ended, words, self._network) if ended else None
-        if wrong is not None:
-            raise ProgramFailed(None, f"{type(wrong).__name__}: {wrong}") from wrong
-        return fault
+    def _read(self, flags: list[str], last: dict[str, str], take: Any, rows: Optional[int] = None) -> Optional[LimitFault]:
+        words = ["table", "/dev/stdin", "--until", str(self.until), *flags]
+        names = [name for name, _, _ in self._models]
+        return read_table(words, self._network, names, last, take, rows)
 
-
-def _lost(error: Exception) -> Optional[BaseException]:
-    """What ended the reading where that is not for the program to explain. The parser of pandas loses a
-    KeyboardInterrupt of a signal in a read, and has its own words for want of memory."""
-    if isinstance(error, MemoryError):
-        return error
-    if "read(nbytes) on source failed" in str(error):
-        return KeyboardInterrupt()
-    if "out of memory" in str(error):
-        return MemoryError(f"of a table: {error}")
-    return None
-
-
-# What each table begins with.
-_HEAD = b"tick,microstep,component,kind,"
 
 # How many rows of a table are looked at together where not all are kept.
 _ROWS = 200_000
-
-
-class _Source:
-    """The pipe of a table as pandas reads it: in large pieces, as bytes, which its parser takes as they are."""
-
-    def __init__(self, pipe: IO[bytes], head: bytes) -> None:
-        """Raises `ValueError` where what comes does not begin with the head of a table."""
-        self._end = pipe.fileno()
-        try:
-            fcntl.fcntl(self._end, getattr(fcntl, "F_SETPIPE_SZ", 1031), _WIDE)
-        except OSError:
-            pass
-        self._begun = b""
-        while len(self._begun) < len(head):
-            piece = os.read(self._end, _WIDE)
-            self._begun += piece
-            if not piece:
-                break
-        if not self._begun.startswith(head):
-            raise ValueError(f"a table began with {self._begun[:80]!r}")
-
-    def read(self, size: int = -1) -> bytes:
-        if self._begun:
-            size = size if size > 0 else len(self._begun)
-            begun, self._begun = self._begun[:size], self._begun[size:]
-            return begun
-        return os.read(self._end, size if size > 0 else _WIDE)
-
-    def __iter__(self) -> _Source:
-        return self
-
-    def __next__(self) -> bytes:
-        raise StopIteration
 
 
 def _figures(network: bytes, until: int) -> Any:
@@ -539,11 +453,6 @@ def _whole(value: Any, what: str) -> int:
     if isinstance(value, bool) or not hasattr(value, "__index__"):
         raise TypeError(f"{what} is {value!r}, which is no whole number")
     return int(value.__index__())
-
-
-def _numbers(frame: _Frame) -> None:
-    """Turns the texts of the words into Python's numbers, which have no bound."""
-    frame["number"] = pd.Series([int(number) for number in frame["number"]], dtype=object)
 
 
 _BAG = re.compile(r"(\d+)=(-?\d+)")

@@ -17,6 +17,7 @@ ticks or customers of one run: those depend on one another, and intervals from t
 
 from __future__ import annotations
 
+import contextlib
 import importlib
 import itertools
 import json
@@ -25,10 +26,10 @@ import operator
 import os
 import threading
 import warnings
-from collections.abc import Iterable, Iterator, Mapping, Sequence
+from collections.abc import Generator, Iterable, Iterator, Mapping, Sequence
 from concurrent.futures import FIRST_COMPLETED, Future, ThreadPoolExecutor, wait
 from sys import intern
-from typing import Any, Callable, NamedTuple, Optional, Union
+from typing import Any, Callable, List, NamedTuple, Optional, Tuple, Union
 
 import numpy as np
 import pandas as pd
@@ -116,6 +117,10 @@ class _Row(NamedTuple):
     gain: int
     least: Optional[int]
     greatest: Optional[int]
+
+
+#: Runs that have ended, each with its place among all.
+_Ended = Generator[Tuple[int, List[_Row]], None, None]
 
 
 class _Task(NamedTuple):
@@ -231,37 +236,52 @@ def _measure(network: bytes, until: int, warmup: int, running: Optional[_Running
 # Many runs.
 
 
-def _bar(total: int, progress: bool) -> Any:
-    """A progress bar of tqdm where it is there and somebody sees it, else something that does nothing."""
-    if progress:
-        try:
-            from tqdm.auto import tqdm
-        except ImportError:
-            pass
-        else:
-            return tqdm(total=total, disable=None, unit="run")
-    return None
+class _Bar:
+    """A progress bar of tqdm where it is there and somebody sees it, else nothing."""
+
+    def __init__(self, progress: bool) -> None:
+        self._bar: Any = None
+        if progress:
+            try:
+                from tqdm.auto import tqdm
+            except ImportError:
+                return
+            self._bar = tqdm(total=0, disable=None, unit="run")
+
+    def expect(self, runs: int) -> None:
+        """So many more runs are to be made."""
+        if self._bar is not None:
+            self._bar.total += runs
+            self._bar.refresh()
+
+    def advance(self) -> None:
+        """One more run has ended."""
+        if self._bar is not None:
+            self._bar.update()
+
+    def __enter__(self) -> _Bar:
+        return self
+
+    def __exit__(self, *_: object) -> None:
+        if self._bar is not None:
+            self._bar.close()
 
 
 def _make_all(
-    tasks: Iterable[_Task], total: int, until: int, warmup: int, client: Any, progress: bool
+    tasks: Iterable[_Task], total: int, until: int, warmup: int, client: Any, bar: _Bar
 ) -> list[list[_Row]]:
     """Makes all runs, here or by a client of Dask, and gives what they tell in the order of their places."""
-    bar = _bar(total, progress)
-    try:
-        ended = _here(tasks, until, warmup) if client is None else _there(tasks, until, warmup, client)
-        done: dict[int, list[_Row]] = {}
+    bar.expect(total)
+    done: dict[int, list[_Row]] = {}
+    ended = _here(tasks, until, warmup) if client is None else _there(tasks, until, warmup, client)
+    with contextlib.closing(ended):  # however this is left, no program and no task goes on
         for place, rows in ended:
             done[place] = rows
-            if bar is not None:
-                bar.update()
-        return [done[place] for place in range(total)]
-    finally:
-        if bar is not None:
-            bar.close()
+            bar.advance()
+    return [done[place] for place in range(total)]
 
 
-def _here(tasks: Iterable[_Task], until: int, warmup: int) -> Iterator[tuple[int, list[_Row]]]:
+def _here(tasks: Iterable[_Task], until: int, warmup: int) -> _Ended:
     """Makes runs on this machine, as many at once as it has processors; each in a thread that waits for it."""
     many = processors()
     running = _Running()
@@ -288,7 +308,7 @@ def _first(waiting: dict[Future[list[_Row]], int]) -> Iterator[tuple[int, list[_
         yield place, future.result()
 
 
-def _there(tasks: Iterable[_Task], until: int, warmup: int, client: Any) -> Iterator[tuple[int, list[_Row]]]:
+def _there(tasks: Iterable[_Task], until: int, warmup: int, client: Any) -> _Ended:
     """Makes runs by a client of Dask: each is a task that carries its network.
 
     So many are handed in that every thread has some to do, and one more for each that ends: the scheduler
@@ -365,10 +385,10 @@ def _span(until: Any, warmup: Any) -> tuple[int, int]:
 
 
 def _replications(
-    make: Make, numbers: range, until: int, warmup: int, seed: int, client: Any, progress: bool
+    make: Make, numbers: range, until: int, warmup: int, seed: int, client: Any, bar: _Bar
 ) -> pd.DataFrame:
     makes = ((make, Seeds(seed, number)) for number in numbers)
-    told = _make_all(_tasks(makes), len(numbers), until, warmup, client, progress)
+    told = _make_all(_tasks(makes), len(numbers), until, warmup, client, bar)
     return _frame([({}, number) for number in numbers], told, seed)
 
 
@@ -411,7 +431,9 @@ def replicate(
     """
     end, start = _span(until, warmup)
     many = _whole("n", n, 1)
-    return _replications(make, range(many), end, start, _whole("seed", seed, 0), client, progress)
+    base = _whole("seed", seed, 0)
+    with _Bar(progress) as bar:
+        return _replications(make, range(many), end, start, base, client, bar)
 
 
 # Statistics.
@@ -569,16 +591,16 @@ def until_precise(
     more = _whole("step", step, 1)
     base = _whole("seed", seed, 0)
     count = min(first, last)
-    frame = _replications(make, range(count), end, start, base, client, progress)
-    while not _precise(frame, of, share, level):
-        if count >= last:
-            told = f"after {count} replications a half width is still above {share:g} of its mean"
-            warnings.warn(told, NotPrecise, stacklevel=2)
-            break
-        upto = min(count + more, last)
-        added = _replications(make, range(count, upto), end, start, base, client, progress)
-        frame = pd.concat([frame, added], ignore_index=True)
-        count = upto
+    with _Bar(progress) as bar:
+        frame = _replications(make, range(count), end, start, base, client, bar)
+        while not _precise(frame, of, share, level) and count < last:
+            upto = min(count + more, last)
+            added = _replications(make, range(count, upto), end, start, base, client, bar)
+            frame = pd.concat([frame, added], ignore_index=True)
+            count = upto
+    if not _precise(frame, of, share, level):
+        told = f"after {count} replications a half width is still above {share:g} of its mean"
+        warnings.warn(told, NotPrecise, stacklevel=2)
     frame.attrs["seed"] = base
     return frame
 
@@ -658,7 +680,8 @@ def sweep(
     for place, (point, number) in enumerate(heads):
         seeds = Seeds(base, number if common else place)
         makes.append((_at(make, point), seeds))
-    told = _make_all(_tasks(makes), len(heads), end, start, client, progress)
+    with _Bar(progress) as bar:
+        told = _make_all(_tasks(makes), len(heads), end, start, client, bar)
     return _frame(heads, told, base)
 
 

@@ -1,0 +1,128 @@
+"""Reads the tables that the program writes, while it writes them."""
+
+from __future__ import annotations
+
+import fcntl
+import os
+from collections.abc import Callable, Iterator, Mapping, Sequence
+from typing import IO, Any, Optional
+
+import pandas as pd
+
+from .errors import LimitFault, ProgramFailed
+from .program import Process, outcome
+
+__all__ = ["KINDS", "read_table"]
+
+#: The kinds of a record, in the order in which a frame's category has them.
+KINDS = ("out", "int", "ext", "con")
+
+# What each table begins with.
+_HEAD = b"tick,microstep,component,kind,"
+
+# What the pipe of a table is asked to hold, so that the program and the reader wait less for one another.
+_WIDE = 1 << 20
+
+
+def read_table(
+    words: Sequence[str],
+    network: bytes,
+    names: Sequence[str],
+    last: Mapping[str, str],
+    take: Callable[[Any], object],
+    rows: Optional[int] = None,
+) -> Optional[LimitFault]:
+    """Starts the program, reads its table as it writes, and hands on the frame: whole, or so many `rows` at
+    a time. The answer is the fault that the run met, or None.
+
+    `words` are those of the command line, `names` the components' in their order, `last` the types of
+    the columns behind the kind; `object` stands for whole numbers without a bound.
+
+    Raises what `twarp.simulate` says, but no `LimitFault`.
+
+    >>> network = b'{"format":"tw-1","micro_limit":9,"components":[],"couplings":[],"inputs":[]}'
+    >>> words = ["table", "/dev/stdin", "--until", "5", "--items"]
+    >>> read_table(words, network, [], {"port": "int64", "value": "int64"}, lambda frame: print(len(frame)))
+    0
+    """
+    dtypes = {
+        "tick": "int64",
+        "microstep": "int64",
+        "component": pd.CategoricalDtype(list(dict.fromkeys(names))),
+        "kind": pd.CategoricalDtype(list(KINDS)),
+        **{name: "str" if kind == "object" else kind for name, kind in last.items()},
+    }
+    unbounded = [name for name, kind in last.items() if kind == "object"]
+    wrong: Optional[Exception] = None
+    with Process(words, network) as process:
+        try:
+            for frame in _frames(process.out, dtypes, rows):
+                for name in unbounded:
+                    frame[name] = pd.Series([int(number) for number in frame[name]], index=frame.index, dtype=object)
+                take(frame)
+        except Exception as error:
+            wrong = error
+        stop = wrong and _lost(wrong)
+        if stop is not None:
+            raise stop from None
+        ended = process.end() if wrong is None else process.end_soon(1)
+    fault = outcome(*ended, words, network) if ended else None
+    if wrong is not None:
+        raise ProgramFailed(None, f"{type(wrong).__name__}: {wrong}") from wrong
+    return fault
+
+
+def _frames(pipe: IO[bytes], dtypes: Mapping[str, Any], rows: Optional[int]) -> Iterator[Any]:
+    """The frames of a table: one, or as many as there are so many rows."""
+    source = _Source(pipe, _HEAD)
+    options: dict[str, Any] = {"dtype": dict(dtypes), "na_filter": False, "engine": "c"}
+    if rows is None:
+        yield pd.read_csv(source, **options)
+        return
+    with pd.read_csv(source, chunksize=rows, **options) as frames:
+        yield from frames
+
+
+def _lost(error: Exception) -> Optional[BaseException]:
+    """What ended the reading where that is not for the program to explain. The parser of pandas loses a
+    KeyboardInterrupt of a signal in a read, and has its own words for want of memory."""
+    if isinstance(error, MemoryError):
+        return error
+    if "read(nbytes) on source failed" in str(error):
+        return KeyboardInterrupt()
+    if "out of memory" in str(error):
+        return MemoryError(f"of a table: {error}")
+    return None
+
+
+class _Source:
+    """The pipe of a table as pandas reads it: in large pieces, as bytes, which its parser takes as they are."""
+
+    def __init__(self, pipe: IO[bytes], head: bytes) -> None:
+        """Raises `ValueError` where what comes does not begin with the head of a table."""
+        self._end = pipe.fileno()
+        try:
+            fcntl.fcntl(self._end, getattr(fcntl, "F_SETPIPE_SZ", 1031), _WIDE)
+        except OSError:
+            pass
+        self._begun = b""
+        while len(self._begun) < len(head):
+            piece = os.read(self._end, _WIDE)
+            self._begun += piece
+            if not piece:
+                break
+        if not self._begun.startswith(head):
+            raise ValueError(f"a table began with {self._begun[:80]!r}")
+
+    def read(self, size: int = -1) -> bytes:
+        if self._begun:
+            size = size if size > 0 else len(self._begun)
+            begun, self._begun = self._begun[:size], self._begun[size:]
+            return begun
+        return os.read(self._end, size if size > 0 else _WIDE)
+
+    def __iter__(self) -> _Source:
+        return self
+
+    def __next__(self) -> bytes:
+        raise StopIteration

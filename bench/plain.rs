@@ -1,14 +1,19 @@
-//! A sequential simulator of Parallel DEVS in plain Rust, to measure `twarp seq` by: the same networks, the same bytes, no contracts.
+//! A sequential simulator of Parallel DEVS in plain Rust, to measure `twarp seq` by: the same networks, the same bytes.
 //!
 //!     rustc -O -C target-cpu=x86-64 -C codegen-units=1 bench/plain.rs
 //!     plain NET --until T
 //!
-//! It reads a network file of format tw-1 (docs/FORMATS.md), simulates it before tick T, and writes the trace as it goes, in one
-//! pass. It ends with 0; with 3 where a component met a limit; with 2, and a message, where the command or the file is wrong.
+//! It reads a network file of format tw-1 (docs/FORMATS.md), simulates it before tick T, and writes the trace as it goes, in
+//! one pass. It ends with 0; with 3 where a component met a limit; with 2, and a message, where the command or the file is
+//! wrong; with 5, and a message, where the output failed.
 //!
-//! It is written for speed. A transition never puts off what its component has on the agenda, so the agenda is a timing wheel
-//! without removal. Those that are imminent or awake are sets of bits, which are read in order. The bags have all the room that they
-//! can ever need. A line is written through a bare pointer, since its greatest length is known before.
+//! It is written for speed:
+//!
+//! - The agenda is a timing wheel. Nothing is taken from it before its time: while a component waits, no input changes when it
+//!   is due.
+//! - Those that are imminent or awake are sets of bits, which are read in order.
+//! - The bags have all the room that they can ever need.
+//! - A line is written through a bare pointer, since its greatest length is known before.
 
 use std::borrow::Cow;
 use std::collections::HashMap;
@@ -506,9 +511,9 @@ impl Set {
 const LEVELS: usize = 8;
 const NONE: u16 = u16::MAX;
 
-/// A hierarchical timing wheel (Varghese and Lauck 1987). What is due at a tick whose highest six bits that differ from those of
-/// `now` are the n-th from below stands on level n, in the slot of these bits. When level n comes to a slot, what is in it goes to
-/// the levels below.
+/// A hierarchical timing wheel (Varghese and Lauck 1987). A tick is digits of six bits. What is due at a tick stands on the level
+/// of the highest digit in which the tick differs from `now`, in the slot of that digit. When a level comes to a slot, what is
+/// in it goes to the levels below.
 struct Wheel {
     now: u64,
     /// A bit for each slot that is not empty.
@@ -623,8 +628,8 @@ static FOURS: [[u8; 4]; 10_000] = {
     table
 };
 
-/// A line of which all the room is there: what writes it looks no more. Whoever makes one has room for all that will be written, and
-/// for what the last copies write too much.
+/// A line of which all the room is there: what writes it looks no more. Whoever makes one has room for all that will be
+/// written, and for what the last copies write too much.
 struct Line {
     at: *mut u8,
 }

@@ -191,8 +191,10 @@ INTERRUPTED = """
         ("[0 for _ in run.trace()]", 2),
     ],
 )
-def test_ctrl_c(call: str, workers: object) -> None:
-    """A signal to Python alone, as a notebook's button sends it, ends the program too."""
+@pytest.mark.parametrize("whom", ["Python", "all"])
+def test_ctrl_c(call: str, workers: object, whom: str) -> None:
+    """A signal to Python alone, as a notebook's button sends it, ends the program too; one to both, as a terminal
+    sends it, is no other exception."""
     if call.startswith("run.course"):
         text = textwrap.dedent(INTERRUPTED).replace("CALL", "twarp.simulate(endless(), 10**9).course('t', 'sum')")
         text = text.replace("from common import long_run", "from common import long_run\nfrom test_program import endless")
@@ -213,7 +215,7 @@ def test_ctrl_c(call: str, workers: object) -> None:
         time.sleep(0.3)
         wait_for(lambda: python.poll() is not None or children(python.pid))
         programs = children(python.pid)
-        python.send_signal(signal.SIGINT)
+        (os.kill if whom == "Python" else os.killpg)(python.pid, signal.SIGINT)
         out, err = python.communicate(timeout=20)
     finally:
         python.kill()

@@ -157,7 +157,7 @@ def test_courses_of_words_of_all_kinds() -> None:
         "external": ["a += value", "b[1] = value", "push q value", "push r[1] value", "if value == 9 { pop q; pop q }"],
         "words": ["a", "b", "length ( q )", " r [ 1 ] # one", "q"],
     }
-    one = Network().use(machine).add("m", "m").add("n", {**machine, "words": ["q"]} and "m")
+    one = Network().use(machine).add("m", "m").add("n", "m")
     one.input(2, "m", 1).input(2, "m", 2).input(5, "m", 9).input(6, "m", 1)
     run = simulate(one, 8)
     assert [figure for _, figure in run.stats().figures.index[:5]] == ["a", "b[0]", "b[1]", "length ( q )", "r [ 1 ] # one + q"]

@@ -71,7 +71,7 @@ class Network:
     Size(components=3, couplings=2, inputs=2)
     """
 
-    def __init__(self, micro_limit: int = 1000) -> None:
+    def __init__(self, micro_limit: SupportsIndex = 1000) -> None:
         self.micro_limit: Any = _plain(micro_limit, "micro_limit")
         self._machines: list[Any] = []
         self._components: list[tuple[str, Union[Network, dict[str, Any]]]] = []

@@ -72,7 +72,9 @@ class Stats:
         self.records: int = raw["records"]
         self.microsteps: int = raw["microsteps"]
         met = raw.get("fault")
-        self.fault = met and LimitFault(met["component"], met["tick"], met["microstep"], met["limit"])
+        self.fault: Optional[LimitFault] = None
+        if met is not None:
+            self.fault = LimitFault(met["component"], met["tick"], met["microstep"], met["limit"])
         self._components: _Frame = None
         self._figures: _Frame = None
 

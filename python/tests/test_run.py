@@ -275,6 +275,13 @@ def test_the_fault_is_found_without_another_question() -> None:
     assert short_run().fault is None
 
 
+def test_what_a_notebook_shows_of_figures() -> None:
+    shown = simulate(RELAYS, 5, on_fault="keep").stats()._repr_html_()
+    assert shown.startswith("<p>until=5, records=8, microsteps=4, fault=microstep limit: b at 3.3</p>\n<table")
+    assert shown.count("<table") == 2 and "held" in shown and "exact" not in shown
+    assert "<table" in simulate(Network(), 5).stats()._repr_html_()
+
+
 def test_the_tick_limit() -> None:
     late = Network().add("q", "queue", service=1_099_511_627_774).input(3, "q", 1)
     with pytest.raises(LimitFault, match="tick limit: q at 3.0") as raised:

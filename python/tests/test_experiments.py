@@ -176,6 +176,14 @@ def test_networks_are_made_as_they_are_needed(monkeypatch):
     assert made == list(range(20))
 
 
+def test_figures_of_one_name_stay_apart():
+    twice = {"name": "twice", "registers": {"a": 0}, "external": "a += value", "words": ["a", "a + 1", "a"]}
+    network = Network().use(twice).add("t", "twice").input(2, "t", 5)
+    for warmup in (0, 3):
+        frame = quiet(lambda seeds: network, 2, 10, warmup=warmup)
+        assert frame["figure"].tolist() == ["a", "a + 1", "a"] * 2 and frame["last"].tolist() == [5, 6, 5] * 2
+
+
 def test_numbers_beyond_64_bits_keep_their_value():
     network = Network().add("g", "gen", period=1, value=2**62).add("t", "tally").couple("g", "t")
     frame = quiet(lambda seeds: network, 1, 6)

@@ -19,7 +19,7 @@ import pytest
 from scipy import stats
 
 from twarp import Network, library, ratio, replicate, simulate, summary
-from twarp.distributions import constant, erlang, exponential, lognormal, uniform
+from twarp.distributions import constant, erlang, exponential, lognormal, table_of, uniform
 from twarp.library import (
     batcher,
     breaking_machine,
@@ -86,9 +86,10 @@ def test_each_machine_has_a_function_of_its_name():
         (lambda: server(400, seed=True), "seed is a whole number, not True"),
         (lambda: server(400, seed=2**63), "seed is "),
         (lambda: source(exponential(5), seed=1, value="name"), 'value is "time" or "number"'),
-        (lambda: priority_server([400, 300, 200], seed=1), "gives"),
+        (lambda: priority_server([400, 300], seed=1), "a list of numbers is no clear answer"),
         (lambda: priority_server([exponential(9)] * 3, seed=1), "service has 3 tables, for 2 classes"),
-        (lambda: priority_server([exponential(9), constant(9)], seed=1), "have the same length"),
+        (lambda: priority_server([exponential(9, 8), exponential(9, 12)], seed=1), "have the same length"),
+        (lambda: priority_server(exponential(9, 65_536), seed=1), "131072 numbers for all classes, at most 65536"),
         (lambda: priority_server(9, seed=1, classes=5), "classes is 1 to 4, not 5"),
         (lambda: router([], seed=1), "weights are 1 to 16, not 0"),
         (lambda: router([0, 0], seed=1), "one of them is above 0"),
@@ -105,9 +106,6 @@ def test_each_machine_has_a_function_of_its_name():
     ],
 )
 def test_a_wrong_parameter_is_named(make, told):
-    if told == "gives":  # three whole numbers are a table, for all classes
-        assert make().parameters["n"] == 3
-        return
     with pytest.raises((ValueError, TypeError)) as caught:
         make()
     assert told in str(caught.value)
@@ -131,6 +129,17 @@ def test_weights_of_a_router():
     table = router([1 / 3, math.pi, 1e-9], seed=1, numbers=1_000).parameters["shares"]
     total = 1 / 3 + math.pi
     assert len(table) == 1_000 and abs(table.count(0) / 1_000 - 1 / 3 / total) <= 1 / 1_000
+
+
+def test_services_of_classes():
+    def times(service, **more):
+        parameters = priority_server(service, seed=1, **more).parameters
+        return parameters["n"], parameters["times"]
+
+    assert times(7, classes=3) == (1, [7, 7, 7])
+    assert times(table_of([3, 5])) == (2, [3, 5, 3, 5])
+    assert times([constant(7), table_of([3, 5])]) == (2, [7, 7, 3, 5])
+    assert times([9, table_of([1, 2, 3, 4])]) == (4, [9, 9, 9, 9, 1, 2, 3, 4])
 
 
 def test_a_part_is_used_in_full_or_in_one_call():
@@ -591,7 +600,7 @@ def test_theory_lies_within_the_interval(name, place):
     expected, mean, half = interval(name, place, LEVEL)
     assert abs(mean - expected) <= half
     # and the interval says something
-    assert half <= (0.15 if FULL else 0.3) * expected
+    assert half <= (0.15 if FULL else 0.35) * expected  # the widest is of one customer in fifty, the longest times
 
 
 def test_of_the_intervals_at_95_percent_about_one_in_twenty_misses():

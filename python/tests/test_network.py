@@ -53,6 +53,8 @@ def test_the_same_network_gives_the_same_bytes() -> None:
     assert build().to_json() == build().to_json()
     assert pickle.loads(pickle.dumps(build())).to_json() == build().to_json()
     assert copy.deepcopy(build()).to_json() == build().to_json()
+    one = Network().add("h", "hop", seed=1, ports=2, spread=3)
+    assert one.to_json() == Network().add("h", "hop", spread=3, seed=1, ports=2).to_json()
 
 
 def test_coupled_models_and_their_inputs() -> None:

@@ -38,9 +38,9 @@ def nothing_is_left(tmp_path: Path, monkeypatch: pytest.MonkeyPatch) -> object:
     monkeypatch.setenv("TMPDIR", str(room))
     threads, files = threading.active_count(), len(os.listdir("/proc/self/fd"))
     yield
-    wait_for(lambda: threading.active_count() == threads)
+    wait_for(lambda: threading.active_count() <= threads)
     assert own_programs() == [] and list(room.iterdir()) == []
-    assert len(os.listdir("/proc/self/fd")) == files
+    assert len(os.listdir("/proc/self/fd")) <= files
 
 
 def test_the_program_is_found(tmp_path: Path, monkeypatch: pytest.MonkeyPatch) -> None:
@@ -116,8 +116,14 @@ def test_an_old_program(tmp_path: Path) -> None:
 @pytest.mark.parametrize("ask", ASKED)
 def test_a_program_that_is_killed(ask: str) -> None:
     run = long_run() if ask != "course" else simulate(endless(), 10**9)
-    seen = []
-    killer = threading.Thread(target=lambda: (wait_for(own_programs), time.sleep(0.4), seen.extend(kill_programs())))
+    seen: list[int] = []
+
+    def kill() -> None:
+        wait_for(own_programs)
+        time.sleep(0.4)
+        wait_for(lambda: seen.extend(kill_programs()) or seen)
+
+    killer = threading.Thread(target=kill)
     killer.start()
     with pytest.raises(twarp.ProgramKilled, match=r"killed by signal 9 \(SIGKILL\)") as raised:
         ASKED[ask](run)
@@ -144,7 +150,7 @@ def test_want_of_memory(tmp_path: Path) -> None:
         big.add(f"q{at}", "queue", service=3)
     for at in range(65536):
         big.input(at, f"q{at % 1024}", at)
-    bound = script(tmp_path / "bound", 'ulimit -v 6000; exec "$REAL" "$@"')
+    bound = script(tmp_path / "bound", 'ulimit -v 9000; exec "$REAL" "$@"')
     calls = [
         lambda: big.check(),
         lambda: simulate(big, 5).stats(),
@@ -185,8 +191,10 @@ INTERRUPTED = """
         ("[0 for _ in run.trace()]", 2),
     ],
 )
-def test_ctrl_c(call: str, workers: object) -> None:
-    """A signal to Python alone, as a notebook's button sends it, ends the program too."""
+@pytest.mark.parametrize("whom", ["Python", "all"])
+def test_ctrl_c(call: str, workers: object, whom: str) -> None:
+    """A signal to Python alone, as a notebook's button sends it, ends the program too; one to both, as a terminal
+    sends it, is no other exception."""
     if call.startswith("run.course"):
         text = textwrap.dedent(INTERRUPTED).replace("CALL", "twarp.simulate(endless(), 10**9).course('t', 'sum')")
         text = text.replace("from common import long_run", "from common import long_run\nfrom test_program import endless")
@@ -207,7 +215,7 @@ def test_ctrl_c(call: str, workers: object) -> None:
         time.sleep(0.3)
         wait_for(lambda: python.poll() is not None or children(python.pid))
         programs = children(python.pid)
-        python.send_signal(signal.SIGINT)
+        (os.kill if whom == "Python" else os.killpg)(python.pid, signal.SIGINT)
         out, err = python.communicate(timeout=20)
     finally:
         python.kill()

@@ -157,7 +157,7 @@ def test_courses_of_words_of_all_kinds() -> None:
         "external": ["a += value", "b[1] = value", "push q value", "push r[1] value", "if value == 9 { pop q; pop q }"],
         "words": ["a", "b", "length ( q )", " r [ 1 ] # one", "q"],
     }
-    one = Network().use(machine).add("m", "m").add("n", {**machine, "words": ["q"]} and "m")
+    one = Network().use(machine).add("m", "m").add("n", "m")
     one.input(2, "m", 1).input(2, "m", 2).input(5, "m", 9).input(6, "m", 1)
     run = simulate(one, 8)
     assert [figure for _, figure in run.stats().figures.index[:5]] == ["a", "b[0]", "b[1]", "length ( q )", "r [ 1 ] # one + q"]
@@ -273,6 +273,13 @@ def test_the_fault_is_found_without_another_question() -> None:
         fault = simulate(RELAYS, 5, on_fault=on_fault).fault  # type: ignore[arg-type]
         assert fault is not None and fault.stamp == (3, 3)
     assert short_run().fault is None
+
+
+def test_what_a_notebook_shows_of_figures() -> None:
+    shown = simulate(RELAYS, 5, on_fault="keep").stats()._repr_html_()
+    assert shown.startswith("<p>until=5, records=8, microsteps=4, fault=microstep limit: b at 3.3</p>\n<table")
+    assert shown.count("<table") == 2 and "held" in shown and "exact" not in shown
+    assert "<table" in simulate(Network(), 5).stats()._repr_html_()
 
 
 def test_the_tick_limit() -> None:

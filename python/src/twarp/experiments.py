@@ -183,8 +183,8 @@ def _kill(process: Process) -> None:
     process._popen.kill()
 
 
-def _figures(network: bytes, until: int, running: Optional[_Running]) -> dict[tuple[str, str], dict[str, Any]]:
-    """The figures of a run until a tick, by component and figure, as the program tells them."""
+def _figures(network: bytes, until: int, running: Optional[_Running]) -> list[tuple[str, dict[str, Any]]]:
+    """The figures of a run until a tick, each with its component's name, as the program tells them."""
     words = ["stats", "/dev/stdin", "--until", str(until), "--json"]
     with Process(words, network) as process:
         if running is not None:
@@ -198,12 +198,12 @@ def _figures(network: bytes, until: int, running: Optional[_Running]) -> dict[tu
     fault = outcome(status, said, words, network)
     if fault is not None:
         raise fault
-    found = {}
+    found = []
     for component in json.loads(told)["components"]:
         for figure in component["figures"]:
             if "mean_of" not in figure:
                 raise ProgramTooOld("the program does not tell exact sums (`mean_of` in stats --json): build a newer one")
-            found[component["name"], figure["name"]] = figure
+            found.append((component["name"], figure))
     return found
 
 
@@ -214,22 +214,21 @@ def _measure(network: bytes, until: int, warmup: int, running: Optional[_Running
     difference.
     """
     end = _figures(network, until, running)
-    start = _figures(network, warmup, running) if warmup else {}
+    start = _figures(network, warmup, running) if warmup else end
     rows = []
-    for (component, name), figure in end.items():
+    for (component, figure), (_, before) in zip(end, start):
         total, ticks = figure["mean_of"]
         busy = figure["busy_of"][0]
         gain = figure["last"]
         least: Optional[int] = figure["least"]
         greatest: Optional[int] = figure["greatest"]
         if warmup:
-            before = start[component, name]
             total -= before["mean_of"][0]
             ticks -= before["mean_of"][1]
             busy -= before["busy_of"][0]
             gain -= before["last"]
             least = greatest = None
-        rows.append(_Row(component, name, total / ticks, busy / ticks, figure["last"], gain, least, greatest))
+        rows.append(_Row(component, figure["name"], total / ticks, busy / ticks, figure["last"], gain, least, greatest))
     return rows
 
 
@@ -410,7 +409,8 @@ def replicate(
       start filled, does not count.  The program is then asked twice, until `warmup` and until `until`.
     - `seed`: that of the whole experiment, a whole number from 0.  The same one gives the same frame.
     - `client`: a ``distributed.Client`` of Dask, whose workers make the runs; its workers need this package
-      and the program.  Where it is left out as many programs run at once here as there are processors.
+      and the program.  Where it is left out as many programs run at once here as there are processors.  After
+      an error or Ctrl-C no run begins any more, and programs here are ended; one that a worker runs goes on.
     - `progress`: a bar of tqdm where tqdm is there and standard error is a terminal.
 
     The frame has a row for each replication, component and figure, in this order, whichever way it was made

@@ -228,8 +228,8 @@ def priority_server(
 
     A service that has begun goes on to its end (head of the line, not preemptive).
 
-    - `service`: the ticks of a service, for all classes; or a list of as many as there are classes, tables
-      of the same length.
+    - `service`: the ticks of a service, as one number or table for all classes; or a list with one for each
+      class, of tables of the same length (or a part of it: `constant` goes with all).
     - `seed`: where its random numbers start.
     - `servers`: how many customers are served at once, 1 to 32.
     - `classes`: 1 to 4; class 0 is the most urgent.
@@ -250,27 +250,37 @@ def priority_server(
     [0, 1, 1]
     """
     many = _whole("classes", classes, 1, 4)
-    each: list[Any] = list(service) if isinstance(service, (list, tuple)) and not isinstance(service, Table) else []
-    if any(not hasattr(one, "__index__") for one in each):
-        tables = [_times("service", one) for one in each]
-        if len(tables) != many:
-            raise ValueError(f"service has {len(tables)} tables, for {many} classes")
-        if len({len(table) for table in tables}) > 1:
-            raise ValueError("service: the tables of all classes have the same length")
-    else:
-        tables = [_times("service", service)] * many
-    times = [number for table in tables for number in table]
-    if len(times) > MOST_NUMBERS:
-        raise ValueError(f"service: {len(times)} numbers for all classes, at most {MOST_NUMBERS}")
+    times, length = _by_class(service, many)
     return _part(
         "priority_server",
         seed=_seed(seed),
         servers=_whole("servers", servers, 1, 32),
         classes=many,
         room=_whole("room", room, 1, 500),
-        n=len(tables[0]),
+        n=length,
         times=times,
     )
+
+
+def _by_class(service: Any, classes: int) -> tuple[list[int], int]:
+    """The tables of all classes, one behind the other, and how long each is."""
+    if not isinstance(service, (list, tuple)) or isinstance(service, Table):
+        tables = [_times("service", service)] * classes
+    elif all(hasattr(one, "__index__") for one in service):
+        raise TypeError(
+            "service: a list of numbers is no clear answer: Table([5, 9]) is one table for all classes, "
+            "[constant(5), constant(9)] has one for each"
+        )
+    else:
+        tables = [_times("service", one) for one in service]
+    if len(tables) != classes:
+        raise ValueError(f"service has {len(tables)} tables, for {classes} classes")
+    longest = max(len(table) for table in tables)
+    if any(longest % len(table) for table in tables):
+        raise ValueError("service: the tables of all classes have the same length, or a part of it")
+    if longest * classes > MOST_NUMBERS:
+        raise ValueError(f"service: {longest * classes} numbers for all classes, at most {MOST_NUMBERS}")
+    return [number for table in tables for number in table for _ in range(longest // len(table))], longest
 
 
 def router(weights: Iterable[Any], seed: int, numbers: int = 10_000) -> Part:

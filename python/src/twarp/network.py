@@ -71,7 +71,7 @@ class Network:
     Size(components=3, couplings=2, inputs=2)
     """
 
-    def __init__(self, micro_limit: int = 1000) -> None:
+    def __init__(self, micro_limit: SupportsIndex = 1000) -> None:
         self.micro_limit: Any = _plain(micro_limit, "micro_limit")
         self._machines: list[Any] = []
         self._components: list[tuple[str, Union[Network, dict[str, Any]]]] = []
@@ -111,7 +111,7 @@ class Network:
             called, given = str(model.machine.get("name")), {**model.parameters, **parameters}
         else:
             raise TypeError(f"the model of {name!r} is a str, a Network or of twarp.library, not {model!r}")
-        numbers = {key: _plain(value, f"{key} of {name!r}") for key, value in given.items()}
+        numbers = {key: _plain(given[key], f"{key} of {name!r}") for key in sorted(given)}
         self._components.append((name, {"name": name, "model": called, **numbers}))
         return self
 
@@ -203,7 +203,8 @@ class Network:
 
     def to_json(self) -> str:
         """The text of the network's file, in the least format that serves: tw-3 where it has machines,
-        else tw-2 where it has coupled models, else tw-1. The same network gives the same text.
+        else tw-2 where it has coupled models, else tw-1. The same network gives the same text, in
+        whatever order parameters were given.
 
         Raises `ValueError` where a network is a part of itself.
 

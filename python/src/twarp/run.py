@@ -2,6 +2,7 @@
 
 from __future__ import annotations
 
+import html
 import json
 import re
 from collections.abc import Generator, Mapping, Sequence
@@ -72,7 +73,9 @@ class Stats:
         self.records: int = raw["records"]
         self.microsteps: int = raw["microsteps"]
         met = raw.get("fault")
-        self.fault = met and LimitFault(met["component"], met["tick"], met["microstep"], met["limit"])
+        self.fault: Optional[LimitFault] = None
+        if met is not None:
+            self.fault = LimitFault(met["component"], met["tick"], met["microstep"], met["limit"])
         self._components: _Frame = None
         self._figures: _Frame = None
 
@@ -120,8 +123,17 @@ class Stats:
         return self._figures
 
     def __repr__(self) -> str:
+        return f"Stats({self._told()})"
+
+    def _repr_html_(self) -> str:
+        """What a notebook shows: both frames, without the exact columns."""
+        figures = self.figures.drop(columns=["mean_exact", "busy_exact"])
+        shown = [frame.to_html(max_rows=60) for frame in (self.components, figures)]
+        return "\n".join([f"<p>{html.escape(self._told())}</p>", *shown])
+
+    def _told(self) -> str:
         met = f", fault={self.fault}" if self.fault else ""
-        return f"Stats(until={self.until}, records={self.records}, microsteps={self.microsteps}{met})"
+        return f"until={self.until}, records={self.records}, microsteps={self.microsteps}{met}"
 
 
 _COUNTS = {"model": "object", **{key: "int64" for key in ("outputs", "sent", "received", "int", "ext", "con")}}

@@ -8,7 +8,7 @@
 ...     network.add("desk", server(exponential(400), seed=seeds["desk"]))
 ...     return network.couple("arrivals", "desk")
 >>> frame = replicate(make, 5, until=200_000, warmup=20_000, seed=1, progress=False)
->>> summary(frame).loc[("desk", "waiting"), "n"]
+>>> int(summary(frame).loc[("desk", "waiting"), "n"])
 5
 
 A replication is a run of its own with random numbers of its own.  What is counted here is replications, never

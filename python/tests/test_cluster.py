@@ -78,7 +78,7 @@ def test_a_worker_that_is_killed_costs_its_tasks_again_and_nothing_else(client):
 
     there = replicate(deadly, n, until, warmup=1_000, seed=4, progress=False, client=client)
     assert len(killed) == 1
-    client.wait_for_workers(2)
+    client.wait_for_workers(2, timeout=60)
     assert before[killed[0]] not in pids(client).values()
     same(replicate(make, n, until, warmup=1_000, seed=4, progress=False), there)
 

@@ -7,6 +7,7 @@ import subprocess
 import sys
 import textwrap
 import time
+import warnings
 from fractions import Fraction
 from pathlib import Path
 
@@ -23,6 +24,7 @@ from twarp import (
     NotPrecise,
     ProgramKilled,
     ProgramTooOld,
+    SameSeed,
     Seeds,
     compare,
     experiments,
@@ -207,6 +209,26 @@ def test_what_cannot_be_replicated_is_told(words, kind, told):
     with pytest.raises(kind) as caught:
         replicate(**{"make": desk, "n": 2, "until": 1_000, "progress": False, **words})
     assert told in str(caught.value)
+
+
+def test_seeds_that_do_not_change_are_told():
+    def forgetful(seeds):
+        line = Network().add("desk", server(exponential(40, 100), seed=7)).add("out", "tally").couple("", "desk")
+        network = Network().add("line", line).add("in", source(exponential(50, 100), seed=seeds["in"]))
+        return network.add("h", "hop", seed=3, ports=1, spread=9).couple("in", "line")
+
+    with pytest.warns(SameSeed, match="not independent: h, line.desk; take it from") as told:
+        quiet(forgetful, 3, 1_000)
+    assert len(told) == 1 and told[0].filename == __file__
+    with pytest.warns(SameSeed) as told:
+        until_precise(forgetful, ("in", "made"), 0.01, until=500, least=3, most=9, step=3, progress=False)
+    assert len([one for one in told if one.category is SameSeed]) == 1
+    with pytest.warns(SameSeed):
+        sweep(lambda seeds, a: forgetful(seeds), {"a": [1, 2]}, 2, until=500, progress=False)
+    with warnings.catch_warnings():
+        warnings.simplefilter("error")
+        quiet(desk, 3, 1_000)
+        quiet(forgetful, 1, 1_000)
 
 
 def test_what_a_run_raises_is_raised(monkeypatch):

@@ -525,7 +525,7 @@ def blocking():
         never = constant(10**12)
         network = Network().add("saw", breaking_machine(times, never, 1, seed=seeds["saw"], room=1, credits=places))
         network.add("press", breaking_machine(times, never, 1, seed=seeds["press"], room=places))
-        network.add("again", router([1], seed=0)).couple("saw", 1, "again", 0).couple("again", "saw")
+        network.add("again", router([1], seed=seeds["again"])).couple("saw", 1, "again", 0).couple("again", "saw")
         network.couple("saw", "press").couple("press", 1, "saw", 1)
         return network.input(0, "saw", 0)
 
@@ -542,7 +542,7 @@ def base_stock():
 
     def make(seeds):
         network = Network().add("in", source(exponential(GAP, NUMBERS), seed=seeds["in"]))
-        network.add("store", store(low=level - 1, high=level, seed=0)).add("supplier", delay(lead, seed=seeds["lead"]))
+        network.add("store", store(low=level - 1, high=level, seed=seeds["store"])).add("supplier", delay(lead, seed=seeds["lead"]))
         return network.couple("in", "store").couple("store", "supplier").couple("supplier", 0, "store", 1)
 
     number = np.arange(200)

@@ -22,7 +22,7 @@ from .errors import (
     RequestError,
     TwarpError,
 )
-from .experiments import NotPrecise, Seeds, compare, processors, ratio, replicate, summary, sweep, until_precise
+from .experiments import NotPrecise, SameSeed, Seeds, compare, processors, ratio, replicate, summary, sweep, until_precise
 from .network import Network, Size
 from .pictures import Picture, picture_of_time_warp
 from .run import Item, Record, Run, Stats, simulate
@@ -45,6 +45,7 @@ __all__ = [
     "Record",
     "RequestError",
     "Run",
+    "SameSeed",
     "Seeds",
     "Size",
     "Stats",

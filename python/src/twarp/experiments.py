@@ -8,7 +8,7 @@
 ...     network.add("desk", server(exponential(400), seed=seeds["desk"]))
 ...     return network.couple("arrivals", "desk")
 >>> frame = replicate(make, 5, until=200_000, warmup=20_000, seed=1, progress=False)
->>> summary(frame).loc[("desk", "waiting"), "n"]
+>>> int(summary(frame).loc[("desk", "waiting"), "n"])
 5
 
 A replication is a run of its own with random numbers of its own.  What is counted here is replications, never
@@ -24,11 +24,11 @@ import json
 import math
 import operator
 import os
+import sys
 import threading
 import warnings
 from collections.abc import Generator, Iterable, Iterator, Mapping, Sequence
 from concurrent.futures import FIRST_COMPLETED, Future, ThreadPoolExecutor, wait
-from sys import intern
 from typing import Any, Callable, List, NamedTuple, Optional, Tuple, Union
 
 import numpy as np
@@ -41,6 +41,7 @@ from .program import Process, outcome
 
 __all__ = [
     "NotPrecise",
+    "SameSeed",
     "Seeds",
     "compare",
     "processors",
@@ -56,7 +57,21 @@ MEASURED = ("mean", "busy", "last", "gain", "least", "greatest")
 
 
 class NotPrecise(UserWarning):
-    """`until_precise` made as many replications as it may, and the intervals are still too wide."""
+    """`until_precise` made as many replications as it may, and the intervals are still too wide.
+
+    >>> issubclass(NotPrecise, UserWarning)
+    True
+    """
+
+
+class SameSeed(UserWarning):
+    """A component has the same seed in two replications: they are not independent, and intervals too narrow.
+
+    It is no mistake where the component draws nothing, as a server of constant service.
+
+    >>> issubclass(SameSeed, UserWarning)
+    True
+    """
 
 
 class Seeds:
@@ -336,11 +351,50 @@ def _there(tasks: Iterable[_Task], until: int, warmup: int, client: Any) -> _End
 
 
 def _tasks(makes: Iterable[tuple[Callable[[Seeds], Any], Seeds]]) -> Iterator[_Task]:
+    """The networks of runs, each made when it is asked for; the first two replications must differ in seeds."""
+    first = b""
     for place, (make, seeds) in enumerate(makes):
         network = make(seeds)
         if not isinstance(network, Network):
             raise TypeError(f"make gives a Network, not {network!r}")
-        yield _Task(place, network.to_json().encode("ascii"))
+        text = network.to_json().encode("ascii")
+        if place == 0 and seeds.replication == 0:
+            first = text
+        elif place == 1 and first:
+            _warn_of_same_seeds(first, text)
+        yield _Task(place, text)
+
+
+def _warn_of_same_seeds(first: bytes, second: bytes) -> None:
+    """Warns of components that begin their random numbers alike in two replications."""
+    same = sorted(set(_starts(first)) & set(_starts(second)))
+    if same:
+        names = ", ".join(name for name, _ in same)
+        told = f"the same seed in every replication, so they are not independent: {names}; take it from `seeds`"
+        warnings.warn(told, SameSeed, stacklevel=_outside())
+
+
+def _starts(network: bytes) -> Iterator[tuple[str, int]]:
+    """The components of a network that have random numbers, by their flat names, and where these start."""
+    file = json.loads(network)
+    machines = {machine["name"]: machine.get("random") for machine in file.get("models", [])}
+    machines["hop"] = "seed"
+    parts = [("", component) for component in file["components"]]
+    while parts:
+        way, component = parts.pop()
+        name = way + component["name"]
+        if "components" in component:
+            parts.extend((f"{name}.", part) for part in component["components"])
+        elif isinstance(component.get(machines.get(component["model"])), int):
+            yield name, component[machines[component["model"]]]
+
+
+def _outside() -> int:
+    """How many frames above its caller the caller of this package stands, as `warnings.warn` counts them."""
+    frame, count = sys._getframe(1), 1
+    while frame.f_back is not None and frame.f_globals.get("__name__") == __name__:
+        frame, count = frame.f_back, count + 1
+    return count
 
 
 def _numbers(values: list[Any]) -> Any:
@@ -354,7 +408,7 @@ def _numbers(values: list[Any]) -> Any:
 def _frame(heads: Sequence[tuple[Mapping[str, Any], int]], told: Sequence[list[_Row]], seed: int) -> pd.DataFrame:
     """The frame of all runs: of each its head (the point of a grid, the replication), then its rows."""
     # Names are shared, so that equal frames are equal to the byte when they are pickled too.
-    flat = [row._replace(component=intern(row.component), figure=intern(row.figure)) for rows in told for row in rows]
+    flat = [row._replace(component=sys.intern(row.component), figure=sys.intern(row.figure)) for rows in told for row in rows]
     columns: dict[str, Any] = {}
     for name in heads[0][0]:
         columns[name] = [point[name] for (point, _), rows in zip(heads, told) for _ in rows]
@@ -419,8 +473,9 @@ def replicate(
     warm-up (of a count, how often it was); `least` and `greatest` value, which are not known (``<NA>``) with a
     warm-up.
 
-    Raises what `simulate` raises, by the first run that fails: `LimitFault`, `NetworkError` and others, and
-    ends all programs; `ValueError` for a number out of range; `TypeError` where `make` gives no network.
+    Warns with `SameSeed` of components whose seed is the same in the first two replications.  Raises what
+    `simulate` raises, by the first run that fails: `LimitFault`, `NetworkError` and others, and ends all
+    programs; `ValueError` for a number out of range; `TypeError` where `make` gives no network.
 
     >>> from twarp import Network
     >>> frame = replicate(lambda seeds: Network().add("g", "gen", period=2, value=5), 2, until=5, progress=False)

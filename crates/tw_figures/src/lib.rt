@@ -1,12 +1,15 @@
 //! Counts and figures of a run: what its components did, and how numbers of their states went.
 //!
-//! - [`Counts`]: how many outputs, items and transitions of each kind a component has.
-//! - [`Figure`], [`Measure`]: a number that the words of a state tell, given as data.
-//! - [`Course`]: how a figure went: its least and greatest value, its last, the sum over the ticks, and the ticks in which
-//!   it was not 0.
-//! - [`Told`]: what is told of it over a time: [`mean`] and [`share`] are exact, with three decimals.
-//! - [`sums_fit_law`]: sums of numbers of 64 bits over the ticks of a run fit.
-//! - [`Gatherer`]: all of these, of the records that it was given one after another. It keeps no record.
+//! - [`Counts`] (`counts`): how many outputs, items and transitions of each kind a component has.
+//! - [`Figure`], [`Measure`] (`figure`): a number that the words of a state tell, given as data; [`Labels`] (`labels`): the name of a
+//!   component's model, and its figures.
+//! - [`Course`], [`Sums`] (`course`): how a figure went: its least and greatest value, its last, the sum over the ticks, and the ticks in
+//!   which it was not 0.
+//! - [`Told`] (`told`): what is told of it over a time: its sums exactly; [`mean`] and [`share`] (`shares`) round them to three decimals.
+//! - [`sums_fit_law`] (`fitting`): sums of numbers of 64 bits over the ticks of a run fit.
+//! - [`Member`] (`member`), [`Gatherer`] (`gatherer`): all of these, of the records of a component and of a run, that were given one after
+//!   another. They keep no record.
+//! - [`Rows`], [`View`] (`seeing`): what a table and a picture show of a run, as it is asked for.
 //!
 //! The contracts say what these numbers are of the list of records, in words that know nothing of how they are gathered.
 #![tactic(auto)]
@@ -16,7 +19,9 @@ mod course;
 mod figure;
 mod fitting;
 mod gatherer;
+mod labels;
 mod member;
+mod seeing;
 mod shares;
 mod told;
 
@@ -25,6 +30,8 @@ pub use course::{Course, Sums};
 pub use figure::{Figure, Measure};
 pub use fitting::sums_fit_law;
 pub use gatherer::Gatherer;
+pub use labels::Labels;
 pub use member::Member;
+pub use seeing::{Rows, View};
 pub use shares::{mean, share};
 pub use told::Told;

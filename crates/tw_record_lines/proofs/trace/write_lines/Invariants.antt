@@ -6,7 +6,7 @@ use Rattle.tw_texts.specs.Texts.{trace_text}
 use Rattle.tw_texts.specs.Traces.{MovesBytes}
 use Rattle.tw_theory.specs.Simulator.{round_time}
 use Rattle.tw_vtime.specs.Stamps.{stamp}
-use Rattle.tw_trace_lines.proofs.rounds.write_rounds.Given as goal
+use Rattle.tw_record_lines.proofs.trace.write_lines.Given as goal
 
 abbrev pub invariant-loop-step : goal.invariant-loop-step
 invariant-loop-step g l = record {

@@ -1,4 +1,4 @@
-//! The lines of a run's parts, as they come.
+//! The lines of a trace that are gathered until they are written.
 
 ghost use Rattle.std.specs.Prelude.{◌≡◌, ◌++◌, [], ℕ, List};
 ghost use Rattle.tw_texts.specs.Texts.{record_line};
@@ -12,19 +12,19 @@ use tw_vtime::Stamp;
 
 /// Lines with names of components, and how far their run is.
 #[derive(Drop)]
-pub struct PartLines<'a, N: Names> {
+pub struct TraceLines<'a, N: Names> {
     names: &'a N,
     pub(crate) lines: Lines,
     reached: Reached,
 }
 
-impl<'a, N: Names> PartLines<'a, N> {
+impl<'a, N: Names> TraceLines<'a, N> {
     /// No lines.
-    pub(crate) fn new(alloc: Global, names: &'a N) -> PartLines<'a, N>
+    pub(crate) fn new(alloc: Global, names: &'a N) -> TraceLines<'a, N>
         ensures names { result.names.now ≡ names.now }
         ensures none { result.lines.text ≡ [] }
     {
-        PartLines {
+        TraceLines {
             names,
             lines: Lines::new(alloc),
             reached: Reached::nothing(),
@@ -32,8 +32,8 @@ impl<'a, N: Names> PartLines<'a, N> {
     }
 }
 
-/// Adds the line of each part, as that of a record.
-impl<N: Names> Receiver for PartLines<'_, N> {
+/// Adds the line of each record.
+impl<N: Names> Receiver for TraceLines<'_, N> {
     ghost takes = { λ old r new. (new.names.now ≡ old.names.now)
         × (new.lines.text ≡ old.lines.text ++ record_line (N.name_of old.names.now r.component) r) };
 
@@ -51,7 +51,7 @@ impl<N: Names> Receiver for PartLines<'_, N> {
     }
 }
 
-impl<N: Names> Counting for PartLines<'_, N> {
+impl<N: Names> Counting for TraceLines<'_, N> {
     fn reached(&self) -> Reached {
         self.reached
     }

@@ -1,4 +1,4 @@
-//! A run whose lines are written after each round.
+//! The trace of a run, written after each round.
 
 ghost use Rattle.std.specs.Prelude.{◌≡◌, ◌≤◌, OnOk, IfErr};
 ghost use Rattle.std.specs.Io.KnownBytes.{Appends};
@@ -8,7 +8,7 @@ ghost use Rattle.tw_texts.specs.Traces.{AppendsBeginning};
 ghost use Rattle.tw_theory.specs.Simulator.{sequential};
 ghost use Rattle.tw_vtime.specs.Stamps.{max_tick};
 
-use crate::part_lines::PartLines;
+use crate::trace_lines::TraceLines;
 use std::alloc::Global;
 use std::io::Write;
 use tw_atomic::Atomic;
@@ -23,7 +23,7 @@ use tw_texts::{Names, NotWritten};
 ///
 /// Refused by [`NotWritten::OutOfMemory`] (4), and the writer then has got a beginning of the text; by
 /// [`NotWritten::WriteFailed`] (24) where the writer failed, and then only the writer knows what it took.
-pub fn write_rounds<M: Atomic, N: Names, L: Listener, W: Write>(
+pub fn write_lines<M: Atomic, N: Names, L: Listener, W: Write>(
     alloc: Global,
     network: &Network<M>,
     names: &N,
@@ -32,15 +32,19 @@ pub fn write_rounds<M: Atomic, N: Names, L: Listener, W: Write>(
     out: &mut W,
 ) -> Result<(), NotWritten>
     requires { until ≤ max_tick }
-    ensures ok { OnOk result (Appends (W.contents out.old) (W.contents out.new) (trace_text (N.name_of names.now) (sequential (network_of M.meaning network.now) until).records)) }
-    ensures err { IfErr result (λ e. e ≡ NotWritten.OutOfMemory
-        → AppendsBeginning (W.contents out.old) (W.contents out.new) (trace_text (N.name_of names.now) (sequential (network_of M.meaning network.now) until).records)) }
+    ensures ok { let run = sequential (network_of M.meaning network.now) until in
+        OnOk result (Appends (W.contents out.old) (W.contents out.new)
+        (trace_text (N.name_of names.now) run.records)) }
+    ensures err { let run = sequential (network_of M.meaning network.now) until in
+        IfErr result (λ e. e ≡ NotWritten.OutOfMemory
+        → AppendsBeginning (W.contents out.old) (W.contents out.new)
+        (trace_text (N.name_of names.now) run.records)) }
 {
     let Ok(mut simulation) = begin(alloc, network, until) else {
         return Err(NotWritten::OutOfMemory);
     };
-    let mut outputs = PartLines::new(alloc, names);
-    let mut transitions = PartLines::new(alloc, names);
+    let mut outputs = TraceLines::new(alloc, names);
+    let mut transitions = TraceLines::new(alloc, names);
     loop {
         let Ok(step) = advance_telling(
             alloc,

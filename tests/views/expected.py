@@ -95,7 +95,7 @@ def thousandths(total, time):
 
 
 def course(value, start, moves, time):
-    """Least, greatest, last, mean and busy of a figure."""
+    """Least, greatest, last, mean and busy of a figure; and the sums behind these two."""
     now, since, total, busy = value(start), 0, 0, 0
     if now is None:
         sys.exit(f"a start value that is not known here: {start}")
@@ -106,8 +106,8 @@ def course(value, start, moves, time):
         least, greatest = min(least, now), max(greatest, now)
     total, busy = total + now * (time - since), busy + (now != 0) * (time - since)
     if time == 0:
-        return least, greatest, now, thousandths(now, 1), thousandths(int(now != 0), 1)
-    return least, greatest, now, thousandths(total, time), thousandths(busy, time)
+        return least, greatest, now, thousandths(now, 1), thousandths(int(now != 0), 1), total, busy
+    return least, greatest, now, thousandths(total, time), thousandths(busy, time), total, busy
 
 
 def table(head, left, rows):
@@ -134,8 +134,9 @@ def main():
         figures, start = figures_of(net, part)
         moves = [(it[0], it[5]) for it in mine if it[3] != "out"]
         told = [(figure, *course(value, start, moves, time)) for figure, value in figures]
-        rows += [[name, *map(str, it)] for it in told]
-        of = ",".join('{"name":%s,"least":%d,"greatest":%d,"last":%d,"mean":%s,"busy":%s}' % (json.dumps(it[0]), *it[1:]) for it in told)
+        rows += [[name, *map(str, it[:6])] for it in told]
+        of = ",".join('{"name":%s,"least":%d,"greatest":%d,"last":%d,"mean":%s,"busy":%s,"mean_of":[%d,%d],"busy_of":[%d,%d]}'
+                      % (json.dumps(it[0]), *it[1:7], time, it[7], time) for it in told)
         parts.append('{"name":"%s","model":"%s","outputs":%d,"sent":%d,"received":%d,"int":%d,"ext":%d,"con":%d,"figures":[%s]}'
                      % (name, part["model"], *numbers, of))
     if as_json:

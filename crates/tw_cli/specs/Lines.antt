@@ -1,11 +1,15 @@
 -- The command line, as clap reads it, and the job that stands in it.
 --     twarp_app      the command in clap's own words
+--     IsArg rule arg, IsCommand app command      an argument and a command, as clap's own words tell them
+--     task_name task, IsTaskOf name rows task      the subcommand of a task, and the task of a subcommand and its options
 --     IsJob sub j      the job of a subcommand and its options
 --     IsReason words e      why there is no job
-use Rattle.std.specs.Prelude.{◌≡◌, ◌≢◌, ◌⊎◌, [], ◌∷◌, ℕ, List, Option, Some, None, Result, Ok, codes, true}
-use Rattle.clap.specs.Words.{AddsSubcommand, App, IsAmong, Kinds, Row, Rule, Text, fault_of, first_of, kind_of, new_app, new_rule, subcommand_of, with_rule, with_subcommand}
+use Rattle.std.specs.Prelude.{◌≡◌, ◌≢◌, ◌⊎◌, [], ◌∷◌, ℕ, List, Option, Some, None, Result, Ok, codes, false, true}
+use Rattle.clap.specs.Words.{AddsSubcommand, App, IsAmong, Kinds, Row, Rule, Text, app_of, fault_of, first_of, kind_of, new_app, new_rule, rule_of, subcommand_of, with_rule, with_subcommand}
 use Rattle.clap.specs.declared.builder.action.ArgAction.TheVariants.{SetTrue}
+use Rattle.clap.specs.declared.builder.arg.Arg.{Arg}
 use Rattle.clap.specs.declared.builder.command.Command.{Command}
+use Rattle.clap.specs.declared.builder.command.Command.TheViews.{out-Command}
 use Rattle.clap.specs.declared.builder.value_parser.ValueParser.TheVariants.{Unsigned}
 use Rattle.clap.specs.declared.error.kind.ErrorKind.{ErrorKind}
 use Rattle.clap.specs.declared.error.kind.ErrorKind.TheVariants as kind
@@ -13,11 +17,21 @@ use Rattle.tw_vtime.specs.declared.refusal.Refusal.{Refusal}
 use Rattle.tw_vtime.specs.declared.refusal.Refusal.TheVariants as refusal
 use Rattle.tw_cli_options.specs.Options.{HasFlag, HasNumber, IsCancelIn, IsDriverIn, IsPictureIn, IsRowsIn, IsSettingIn}
 use Rattle.tw_cli.specs.declared.jobs.Job.{Job}
-use Rattle.tw_cli.specs.declared.jobs.Job.TheVariants.{Demo, Check, Seq, Stats, Table, Draw, Run, Play}
+use Rattle.tw_cli.specs.declared.jobs.Job.TheVariants.{Demo, Check, Simulate}
+use Rattle.tw_cli.specs.declared.jobs.Task.{Task}
+use Rattle.tw_cli.specs.declared.jobs.Task.TheVariants.{Seq, Stats, Table, Draw, Run, Play}
 use Rattle.tw_cli.specs.declared.jobs.NoJob.{NoJob}
 use Rattle.tw_cli.specs.declared.jobs.NoJob.TheVariants.{Help, Version, BadLine, OutOfMemory}
 
 -- ---- the command
+
+-- an argument with this rule, of one command alone
+abbrev pub IsArg : Rule → Arg → Type 0
+IsArg rule arg = (rule_of arg ≡ rule) × (arg.global ≡ false)
+
+-- a command that is this, and none of whose arguments is of its subcommands too
+abbrev pub IsCommand : App → Command → Type 0
+IsCommand app command = (app_of command ≡ app) × ((out-Command command).has_globals ≡ false)
 
 -- the network file: required, with no name of its own on the line
 abbrev pub net_rule : Rule
@@ -126,28 +140,37 @@ IsJoined old made new = (sub : Command) × (made ≡ Ok sub) × AddsSubcommand o
 
 -- ---- the job
 
+-- the name of the subcommand of a task
+abbrev pub task_name : Task → Text
+task_name (Seq progress) = codes "seq"
+task_name (Stats json progress) = codes "stats"
+task_name (Table lines progress) = codes "table"
+task_name (Draw picture) = codes "draw"
+task_name (Run cancel setting) = codes "run"
+task_name (Play cancel driver) = codes "play"
+
+-- its options say what it is to do
+abbrev pub IsTaskIn : List Row → Task → Type 0
+IsTaskIn rows (Seq progress) = HasFlag (codes "progress") rows progress
+IsTaskIn rows (Stats json progress) = HasFlag (codes "json") rows json × HasFlag (codes "progress") rows progress
+IsTaskIn rows (Table lines progress) = IsRowsIn rows lines × HasFlag (codes "progress") rows progress
+IsTaskIn rows (Draw picture) = IsPictureIn rows picture
+IsTaskIn rows (Run cancel setting) = IsCancelIn rows cancel × IsSettingIn rows setting
+IsTaskIn rows (Play cancel driver) = IsCancelIn rows cancel × IsDriverIn rows driver
+
+abbrev pub IsTaskOf : Text → List Row → Task → Type 0
+IsTaskOf name rows task = (name ≡ task_name task) × IsTaskIn rows task
+
+-- a network file, an end tick, and a task
+abbrev pub IsSimulationOf : Text → List Row → Text → ℕ → Task → Type 0
+IsSimulationOf name rows net until task =
+    (first_of (codes "net") rows ≡ Some net) × HasNumber (codes "until") 0 1099511627774 rows until × IsTaskOf name rows task
+
 -- the job of a subcommand's name and its options
 abbrev pub IsJobOf : Text → List Row → Job → Type 0
 IsJobOf name rows Demo = name ≡ codes "demo"
 IsJobOf name rows (Check net) = (name ≡ codes "check") × (first_of (codes "net") rows ≡ Some net.now)
-IsJobOf name rows (Seq net until progress) =
-    (name ≡ codes "seq") × (first_of (codes "net") rows ≡ Some net.now)
-    × HasNumber (codes "until") 0 1099511627774 rows until × HasFlag (codes "progress") rows progress
-IsJobOf name rows (Stats net until json progress) =
-    (name ≡ codes "stats") × (first_of (codes "net") rows ≡ Some net.now)
-    × HasNumber (codes "until") 0 1099511627774 rows until × HasFlag (codes "json") rows json × HasFlag (codes "progress") rows progress
-IsJobOf name rows (Table net until lines progress) =
-    (name ≡ codes "table") × (first_of (codes "net") rows ≡ Some net.now)
-    × HasNumber (codes "until") 0 1099511627774 rows until × IsRowsIn rows lines × HasFlag (codes "progress") rows progress
-IsJobOf name rows (Draw net until picture) =
-    (name ≡ codes "draw") × (first_of (codes "net") rows ≡ Some net.now)
-    × HasNumber (codes "until") 0 1099511627774 rows until × IsPictureIn rows picture
-IsJobOf name rows (Run net until cancel setting) =
-    (name ≡ codes "run") × (first_of (codes "net") rows ≡ Some net.now)
-    × HasNumber (codes "until") 0 1099511627774 rows until × IsCancelIn rows cancel × IsSettingIn rows setting
-IsJobOf name rows (Play net until cancel driver) =
-    (name ≡ codes "play") × (first_of (codes "net") rows ≡ Some net.now)
-    × HasNumber (codes "until") 0 1099511627774 rows until × IsCancelIn rows cancel × IsDriverIn rows driver
+IsJobOf name rows (Simulate net until task) = IsSimulationOf name rows net.now until task
 
 -- of no subcommand there is none
 abbrev pub IsJob : Option (Text × List Row) → Job → Type 0

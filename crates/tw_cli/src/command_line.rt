@@ -1,11 +1,11 @@
 //! From the words of a line to a job.
 
-ghost use Rattle.std.specs.Prelude.{◌≡◌, [], codes, IfOk, IfErr, IfSome, IfNone, map, string_bytes};
-ghost use Rattle.clap.specs.Words.{rows_of, found_of, fault_of, kind_of, subcommand_of, subcommand_rows_of};
-ghost use Rattle.tw_cli.specs.Lines.{twarp_app, IsJob, IsJobOf, IsReason, IsMadeOf};
+ghost use Rattle.std.specs.Prelude.{◌≡◌, ◌≢◌, [], Some, codes, IfOk, IfErr, IfSome, IfNone, map, string_bytes};
+ghost use Rattle.clap.specs.Words.{first_of, rows_of, found_of, fault_of, kind_of, subcommand_of, subcommand_rows_of};
+ghost use Rattle.tw_cli.specs.Lines.{twarp_app, IsJob, IsJobOf, IsReason, IsMadeOf, IsSimulationOf, IsTaskOf};
 
 use crate::commands::command;
-use crate::jobs::{Job, NoJob};
+use crate::jobs::{Job, NoJob, Task};
 use clap::error::ErrorKind;
 use clap::{ArgMatches, Error};
 use std::alloc::Global;
@@ -14,128 +14,103 @@ use tw_cli_options::{
 };
 use tw_vtime::MAX_TICK;
 
-/// The job of `check` and its options.
+/// The job of `check` and its options; none where no path of a file stands there.
 fn check_in<'a>(options: &ArgMatches<'a>) -> Option<Job<'a>>
     ensures some { IfSome result (IsJobOf (codes "check") (rows_of (found_of options.now))) }
-    ensures none { IfNone result ((j : _) → ¬ (IsJobOf (codes "check") (rows_of (found_of options.now)) j)) }
+    ensures none { let rows = rows_of (found_of options.now) in
+        IfNone result ((net : _) → first_of (codes "net") rows ≢ Some net) }
 {
     let net = text_in(options, "net")?;
     Some(Job::Check { net })
 }
 
-/// The job of `seq` and its options.
-fn seq_in<'a>(options: &ArgMatches<'a>) -> Option<Job<'a>>
-    ensures some { IfSome result (IsJobOf (codes "seq") (rows_of (found_of options.now))) }
-    ensures none { IfNone result ((j : _) → ¬ (IsJobOf (codes "seq") (rows_of (found_of options.now)) j)) }
+/// The task of `table` and its options; none where they do not say what a line is of.
+fn table_in<'a>(options: &ArgMatches<'a>) -> Option<Task<'a>>
+    ensures some { IfSome result (IsTaskOf (codes "table") (rows_of (found_of options.now))) }
+    ensures none { let rows = rows_of (found_of options.now) in
+        IfNone result ((t : _) → ¬ (IsTaskOf (codes "table") rows t)) }
 {
-    let net = text_in(options, "net")?;
-    let until = number_in(options, "until", 0, MAX_TICK)?;
-    let progress = flag_in(options, "progress");
-    Some(Job::Seq {
-        net,
-        until,
-        progress,
-    })
-}
-
-/// The job of `stats` and its options.
-fn stats_in<'a>(options: &ArgMatches<'a>) -> Option<Job<'a>>
-    ensures some { IfSome result (IsJobOf (codes "stats") (rows_of (found_of options.now))) }
-    ensures none { IfNone result ((j : _) → ¬ (IsJobOf (codes "stats") (rows_of (found_of options.now)) j)) }
-{
-    let net = text_in(options, "net")?;
-    let until = number_in(options, "until", 0, MAX_TICK)?;
-    let json = flag_in(options, "json");
-    let progress = flag_in(options, "progress");
-    Some(Job::Stats {
-        net,
-        until,
-        json,
-        progress,
-    })
-}
-
-/// The job of `table` and its options.
-fn table_in<'a>(options: &ArgMatches<'a>) -> Option<Job<'a>>
-    ensures some { IfSome result (IsJobOf (codes "table") (rows_of (found_of options.now))) }
-    ensures none { IfNone result ((j : _) → ¬ (IsJobOf (codes "table") (rows_of (found_of options.now)) j)) }
-{
-    let net = text_in(options, "net")?;
-    let until = number_in(options, "until", 0, MAX_TICK)?;
     let rows = rows_in(options)?;
     let progress = flag_in(options, "progress");
-    Some(Job::Table {
-        net,
-        until,
-        rows,
-        progress,
-    })
+    Some(Task::Table { rows, progress })
 }
 
-/// The job of `draw` and its options.
-fn draw_in<'a>(options: &ArgMatches<'a>) -> Option<Job<'a>>
-    ensures some { IfSome result (IsJobOf (codes "draw") (rows_of (found_of options.now))) }
-    ensures none { IfNone result ((j : _) → ¬ (IsJobOf (codes "draw") (rows_of (found_of options.now)) j)) }
+/// The task of `draw` and its options; none where they do not say what the picture is of.
+fn draw_in<'a>(options: &ArgMatches<'a>) -> Option<Task<'a>>
+    ensures some { IfSome result (IsTaskOf (codes "draw") (rows_of (found_of options.now))) }
+    ensures none { let rows = rows_of (found_of options.now) in
+        IfNone result ((t : _) → ¬ (IsTaskOf (codes "draw") rows t)) }
 {
-    let net = text_in(options, "net")?;
-    let until = number_in(options, "until", 0, MAX_TICK)?;
     let picture = picture_in(options)?;
-    Some(Job::Draw {
-        net,
-        until,
-        picture,
-    })
+    Some(Task::Draw { picture })
 }
 
-/// The job of `run` and its options.
-fn run_in<'a>(options: &ArgMatches<'a>) -> Option<Job<'a>>
-    ensures some { IfSome result (IsJobOf (codes "run") (rows_of (found_of options.now))) }
-    ensures none { IfNone result ((j : _) → ¬ (IsJobOf (codes "run") (rows_of (found_of options.now)) j)) }
+/// The task of `run` and its options; none where they do not say how steps are cancelled, or what the workers are set to.
+fn run_in<'a>(options: &ArgMatches<'a>) -> Option<Task<'a>>
+    ensures some { IfSome result (IsTaskOf (codes "run") (rows_of (found_of options.now))) }
+    ensures none { let rows = rows_of (found_of options.now) in
+        IfNone result ((t : _) → ¬ (IsTaskOf (codes "run") rows t)) }
 {
-    let net = text_in(options, "net")?;
-    let until = number_in(options, "until", 0, MAX_TICK)?;
     let cancel = cancel_in(options)?;
     let setting = setting_in(options)?;
-    Some(Job::Run {
-        net,
-        until,
-        cancel,
-        setting,
-    })
+    Some(Task::Run { cancel, setting })
 }
 
-/// The job of `play` and its options.
-fn play_in<'a>(options: &ArgMatches<'a>) -> Option<Job<'a>>
-    ensures some { IfSome result (IsJobOf (codes "play") (rows_of (found_of options.now))) }
-    ensures none { IfNone result ((j : _) → ¬ (IsJobOf (codes "play") (rows_of (found_of options.now)) j)) }
+/// The task of `play` and its options; none where they do not say how steps are cancelled, or what drives it.
+fn play_in<'a>(options: &ArgMatches<'a>) -> Option<Task<'a>>
+    ensures some { IfSome result (IsTaskOf (codes "play") (rows_of (found_of options.now))) }
+    ensures none { let rows = rows_of (found_of options.now) in
+        IfNone result ((t : _) → ¬ (IsTaskOf (codes "play") rows t)) }
 {
-    let net = text_in(options, "net")?;
-    let until = number_in(options, "until", 0, MAX_TICK)?;
     let cancel = cancel_in(options)?;
     let driver = driver_in(options)?;
-    Some(Job::Play {
-        net,
-        until,
-        cancel,
-        driver,
-    })
+    Some(Task::Play { cancel, driver })
 }
 
-/// The job of a subcommand, by its name, and its options.
-fn job_named<'a>(name: &str, options: &ArgMatches<'a>) -> Option<Job<'a>>
-    ensures some { IfSome result (IsJobOf name.now (rows_of (found_of options.now))) }
-    ensures none { IfNone result ((j : _) → ¬ (IsJobOf name.now (rows_of (found_of options.now)) j)) }
+/// The task of a subcommand, by its name, and its options.
+fn task_named<'a>(name: &str, options: &ArgMatches<'a>) -> Option<Task<'a>>
+    ensures some { IfSome result (IsTaskOf name.now (rows_of (found_of options.now))) }
+    ensures none { let rows = rows_of (found_of options.now) in
+        IfNone result ((t : _) → ¬ (IsTaskOf name.now rows t)) }
 {
     match name {
-        "demo" => Some(Job::Demo),
-        "check" => check_in(options),
-        "seq" => seq_in(options),
-        "stats" => stats_in(options),
+        "seq" => Some(Task::Seq {
+            progress: flag_in(options, "progress"),
+        }),
+        "stats" => Some(Task::Stats {
+            json: flag_in(options, "json"),
+            progress: flag_in(options, "progress"),
+        }),
         "table" => table_in(options),
         "draw" => draw_in(options),
         "run" => run_in(options),
         "play" => play_in(options),
         _ => None,
+    }
+}
+
+/// The job of a subcommand that simulates a network, by its name, and its options.
+fn simulation_in<'a>(name: &str, options: &ArgMatches<'a>) -> Option<Job<'a>>
+    ensures some { IfSome result (IsJobOf name.now (rows_of (found_of options.now))) }
+    ensures none { let rows = rows_of (found_of options.now) in
+        IfNone result ((net : _) (n : _) (t : _) → ¬ (IsSimulationOf name.now rows net n t)) }
+{
+    let net = text_in(options, "net")?;
+    let until = number_in(options, "until", 0, MAX_TICK)?;
+    let task = task_named(name, options)?;
+    Some(Job::Simulate { net, until, task })
+}
+
+/// The job of a subcommand, by its name, and its options.
+fn job_named<'a>(name: &str, options: &ArgMatches<'a>) -> Option<Job<'a>>
+    ensures some { IfSome result (IsJobOf name.now (rows_of (found_of options.now))) }
+    ensures none { let rows = rows_of (found_of options.now) in
+        IfNone result ((j : _) → ¬ (IsJobOf name.now rows j)) }
+{
+    match name {
+        "demo" => Some(Job::Demo),
+        "check" => check_in(options),
+        _ => simulation_in(name, options),
     }
 }
 

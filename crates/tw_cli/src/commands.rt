@@ -1,9 +1,8 @@
 //! The command as clap takes it, with its help.
 
-ghost use Rattle.std.specs.Prelude.{◌≡◌, IfOk, codes, false};
-ghost use Rattle.clap.specs.Words.{app_of, rule_of};
-ghost use Rattle.clap.specs.declared.builder.command.Command.TheViews.{out-Command};
-ghost use Rattle.tw_cli.specs.Lines.{flag_rule, net_rule, number_rule, text_rule, until_rule, alone_app, cancelled_app, check_app, demo_app, draw_app, driven_app, first_app, network_app, play_app, preset_rule, preset_text_rule, run_app, seen_app, seq_app, set_app, stats_app, table_app, told_app, twarp_app, IsJoined};
+ghost use Rattle.std.specs.Prelude.{◌≡◌, IfOk, codes};
+ghost use Rattle.clap.specs.Words.{App, app_of};
+ghost use Rattle.tw_cli.specs.Lines.{flag_rule, net_rule, number_rule, text_rule, until_rule, alone_app, cancelled_app, check_app, demo_app, draw_app, driven_app, first_app, network_app, play_app, preset_rule, preset_text_rule, run_app, seen_app, seq_app, set_app, stats_app, table_app, told_app, twarp_app, IsArg, IsCommand, IsJoined};
 
 use crate::help::{
     CHECK_END, DEMO_END, DRAW_END, PLAY_END, RUN_END, SEQ_END, STATS_END, TABLE_END, TWARP_END,
@@ -18,8 +17,7 @@ use tw_vtime::MAX_TICK;
 
 /// The path of the network file, which stands on the line with no name of its own.
 fn net<'a>(alloc: Global) -> Arg<'a>
-    ensures rule { rule_of result ≡ net_rule }
-    ensures local { result.global ≡ false }
+    ensures { IsArg net_rule result }
 {
     Arg::new(alloc, "net").required(true).value_name("NET").help(
         "The network: the path of a JSON file of the format tw-1, tw-2 or tw-3",
@@ -28,8 +26,7 @@ fn net<'a>(alloc: Global) -> Arg<'a>
 
 /// An option that takes a number in a range.
 fn number<'a>(alloc: Global, id: &'a str, value_name: &'a str, least: u64, most: u64) -> Arg<'a>
-    ensures rule { rule_of result ≡ number_rule id.entry.now least most }
-    ensures local { result.global ≡ false }
+    ensures { IsArg (number_rule id.entry.now least most) result }
 {
     Arg::new(alloc, id)
         .long(id)
@@ -46,39 +43,34 @@ fn preset<'a>(
     most: u64,
     left_out: &'a str,
 ) -> Arg<'a>
-    ensures rule { rule_of result ≡ preset_rule id.entry.now least most left_out.entry.now }
-    ensures local { result.global ≡ false }
+    ensures { IsArg (preset_rule id.entry.now least most left_out.entry.now) result }
 {
     number(alloc, id, value_name, least, most).default_value(left_out)
 }
 
 /// An option that takes a text.
 fn text<'a>(alloc: Global, id: &'a str, value_name: &'a str) -> Arg<'a>
-    ensures rule { rule_of result ≡ text_rule id.entry.now }
-    ensures local { result.global ≡ false }
+    ensures { IsArg (text_rule id.entry.now) result }
 {
     Arg::new(alloc, id).long(id).value_name(value_name)
 }
 
 /// A text, which stands there as this one where the option is left out.
 fn preset_text<'a>(alloc: Global, id: &'a str, value_name: &'a str, left_out: &'a str) -> Arg<'a>
-    ensures rule { rule_of result ≡ preset_text_rule id.entry.now left_out.entry.now }
-    ensures local { result.global ≡ false }
+    ensures { IsArg (preset_text_rule id.entry.now left_out.entry.now) result }
 {
     text(alloc, id, value_name).default_value(left_out)
 }
 
 /// An option that takes no value, and stands on the line or not.
 fn flag<'a>(alloc: Global, id: &'a str) -> Arg<'a>
-    ensures rule { rule_of result ≡ flag_rule id.entry.now }
-    ensures local { result.global ≡ false }
+    ensures { IsArg (flag_rule id.entry.now) result }
 {
     Arg::new(alloc, id).long(id).action(ArgAction::SetTrue)
 }
 
 fn until<'a>(alloc: Global) -> Arg<'a>
-    ensures rule { rule_of result ≡ until_rule }
-    ensures local { result.global ≡ false }
+    ensures { IsArg until_rule result }
 {
     number(alloc, "until", "T", 0, MAX_TICK).required(true).help(
         "The end of the run in ticks, 0 to 1099511627774: only steps before tick T are made",
@@ -86,8 +78,7 @@ fn until<'a>(alloc: Global) -> Arg<'a>
 }
 
 fn demo_command<'a>(alloc: Global) -> Command<'a>
-    ensures app { app_of result ≡ demo_app }
-    ensures local { (out-Command result).has_globals ≡ false }
+    ensures { IsCommand demo_app result }
 {
     Command::new(alloc, "demo")
         .about("Run a built-in network, a generator of period 2 ticks and a tally, until tick 5")
@@ -95,8 +86,7 @@ fn demo_command<'a>(alloc: Global) -> Command<'a>
 }
 
 fn check_command<'a>(alloc: Global) -> Result<Command<'a>, AllocError>
-    ensures app { IfOk result (λ c. app_of c ≡ check_app) }
-    ensures local { IfOk result (λ c. (out-Command c).has_globals ≡ false) }
+    ensures { IfOk result (IsCommand check_app) }
 {
     Command::new(alloc, "check")
         .about(
@@ -113,8 +103,7 @@ fn network_command<'a>(
     about: &'a str,
     end: &'a str,
 ) -> Result<Command<'a>, AllocError>
-    ensures app { IfOk result (λ c. app_of c ≡ network_app name.entry.now) }
-    ensures local { IfOk result (λ c. (out-Command c).has_globals ≡ false) }
+    ensures { IfOk result (IsCommand (network_app name.entry.now)) }
 {
     Command::new(alloc, name)
         .about(about)
@@ -124,8 +113,7 @@ fn network_command<'a>(
 }
 
 fn far<'a>(alloc: Global) -> Arg<'a>
-    ensures rule { rule_of result ≡ flag_rule (codes "progress") }
-    ensures local { result.global ≡ false }
+    ensures { IsArg (flag_rule (codes "progress")) result }
 {
     flag(alloc, "progress").help(
         "Tell on standard error, once a second, the tick simulated, of the end tick, and how many records there are",
@@ -139,15 +127,13 @@ fn told_command<'a>(
     about: &'a str,
     end: &'a str,
 ) -> Result<Command<'a>, AllocError>
-    ensures app { IfOk result (λ c. app_of c ≡ told_app name.entry.now) }
-    ensures local { IfOk result (λ c. (out-Command c).has_globals ≡ false) }
+    ensures { IfOk result (IsCommand (told_app name.entry.now)) }
 {
     network_command(alloc, name, about, end)?.arg(far(alloc))
 }
 
 fn seq_command<'a>(alloc: Global) -> Result<Command<'a>, AllocError>
-    ensures app { IfOk result (λ c. app_of c ≡ seq_app) }
-    ensures local { IfOk result (λ c. (out-Command c).has_globals ≡ false) }
+    ensures { IfOk result (IsCommand seq_app) }
 {
     told_command(
         alloc,
@@ -158,15 +144,13 @@ fn seq_command<'a>(alloc: Global) -> Result<Command<'a>, AllocError>
 }
 
 fn json<'a>(alloc: Global) -> Arg<'a>
-    ensures rule { rule_of result ≡ flag_rule (codes "json") }
-    ensures local { result.global ≡ false }
+    ensures { IsArg (flag_rule (codes "json")) result }
 {
     flag(alloc, "json").help("Write them as one line of JSON")
 }
 
 fn stats_command<'a>(alloc: Global) -> Result<Command<'a>, AllocError>
-    ensures app { IfOk result (λ c. app_of c ≡ stats_app) }
-    ensures local { IfOk result (λ c. (out-Command c).has_globals ≡ false) }
+    ensures { IfOk result (IsCommand stats_app) }
 {
     told_command(
         alloc,
@@ -178,22 +162,19 @@ fn stats_command<'a>(alloc: Global) -> Result<Command<'a>, AllocError>
 }
 
 fn items<'a>(alloc: Global) -> Arg<'a>
-    ensures rule { rule_of result ≡ flag_rule (codes "items") }
-    ensures local { result.global ≡ false }
+    ensures { IsArg (flag_rule (codes "items")) result }
 {
     flag(alloc, "items").help("A line for each item of a record; without --words")
 }
 
 fn words<'a>(alloc: Global) -> Arg<'a>
-    ensures rule { rule_of result ≡ flag_rule (codes "words") }
-    ensures local { result.global ≡ false }
+    ensures { IsArg (flag_rule (codes "words")) result }
 {
     flag(alloc, "words").help("A line for each word of a state after a transition; without --items")
 }
 
 fn table_command<'a>(alloc: Global) -> Result<Command<'a>, AllocError>
-    ensures app { IfOk result (λ c. app_of c ≡ table_app) }
-    ensures local { IfOk result (λ c. (out-Command c).has_globals ≡ false) }
+    ensures { IfOk result (IsCommand table_app) }
 {
     told_command(
         alloc,
@@ -206,8 +187,7 @@ fn table_command<'a>(alloc: Global) -> Result<Command<'a>, AllocError>
 }
 
 fn workers<'a>(alloc: Global) -> Arg<'a>
-    ensures rule { rule_of result ≡ preset_text_rule (codes "workers") (codes "2") }
-    ensures local { result.global ≡ false }
+    ensures { IsArg (preset_text_rule (codes "workers") (codes "2")) result }
 {
     preset_text(alloc, "workers", "N", "2").help(
         "How many threads work, 1 to 64; or auto: one for each processor where that pays, and else the run is made in order; the trace is the same",
@@ -215,8 +195,7 @@ fn workers<'a>(alloc: Global) -> Arg<'a>
 }
 
 fn burst<'a>(alloc: Global) -> Arg<'a>
-    ensures rule { rule_of result ≡ preset_rule (codes "burst") 1 256 (codes "64") }
-    ensures local { result.global ≡ false }
+    ensures { IsArg (preset_rule (codes "burst") 1 256 (codes "64")) result }
 {
     preset(alloc, "burst", "K", 1, MAX_BURST, "64").help(
         "The most steps of one component that a worker computes at a time, 1 to 256",
@@ -224,8 +203,8 @@ fn burst<'a>(alloc: Global) -> Arg<'a>
 }
 
 fn window<'a>(alloc: Global) -> Arg<'a>
-    ensures rule { rule_of result ≡ preset_rule (codes "window") 0 1099511627774 (codes "1099511627774") }
-    ensures local { result.global ≡ false }
+    ensures { let most = codes "1099511627774" in
+        IsArg (preset_rule (codes "window") 0 1099511627774 most) result }
 {
     preset(alloc, "window", "W", 0, MAX_TICK, "1099511627774").help(
         "How many ticks after gvt a component may still make a step, 0 to 1099511627774",
@@ -233,8 +212,7 @@ fn window<'a>(alloc: Global) -> Arg<'a>
 }
 
 fn progress<'a>(alloc: Global) -> Arg<'a>
-    ensures rule { rule_of result ≡ flag_rule (codes "progress") }
-    ensures local { result.global ≡ false }
+    ensures { IsArg (flag_rule (codes "progress")) result }
 {
     flag(alloc, "progress").help(
         "Tell on standard error, once a second, the tick committed, of the end tick, and how many records are committed",
@@ -243,8 +221,7 @@ fn progress<'a>(alloc: Global) -> Arg<'a>
 
 /// `run` with what its workers are set to.
 fn set_command<'a>(alloc: Global) -> Result<Command<'a>, AllocError>
-    ensures app { IfOk result (λ c. app_of c ≡ set_app) }
-    ensures local { IfOk result (λ c. (out-Command c).has_globals ≡ false) }
+    ensures { IfOk result (IsCommand set_app) }
 {
     network_command(
         alloc,
@@ -259,15 +236,13 @@ fn set_command<'a>(alloc: Global) -> Result<Command<'a>, AllocError>
 }
 
 fn run_command<'a>(alloc: Global) -> Result<Command<'a>, AllocError>
-    ensures app { IfOk result (λ c. app_of c ≡ run_app) }
-    ensures local { IfOk result (λ c. (out-Command c).has_globals ≡ false) }
+    ensures { IfOk result (IsCommand run_app) }
 {
     set_command(alloc)?.arg(cancel(alloc))
 }
 
 fn script<'a>(alloc: Global) -> Arg<'a>
-    ensures rule { rule_of result ≡ text_rule (codes "script") }
-    ensures local { result.global ≡ false }
+    ensures { IsArg (text_rule (codes "script")) result }
 {
     text(alloc, "script", "FILE").help(
         "The actions: the path of a script, one action on each line; without --seed and --steps",
@@ -275,8 +250,7 @@ fn script<'a>(alloc: Global) -> Arg<'a>
 }
 
 fn seed<'a>(alloc: Global) -> Arg<'a>
-    ensures rule { rule_of result ≡ number_rule (codes "seed") 0 18446744073709551615 }
-    ensures local { result.global ≡ false }
+    ensures { IsArg (number_rule (codes "seed") 0 18446744073709551615) result }
 {
     number(alloc, "seed", "S", 0, u64::MAX).help(
         "The seed of random actions, 0 to 18446744073709551615; together with --steps",
@@ -284,8 +258,7 @@ fn seed<'a>(alloc: Global) -> Arg<'a>
 }
 
 fn steps<'a>(alloc: Global) -> Arg<'a>
-    ensures rule { rule_of result ≡ number_rule (codes "steps") 0 1000000 }
-    ensures local { result.global ≡ false }
+    ensures { IsArg (number_rule (codes "steps") 0 1000000) result }
 {
     number(alloc, "steps", "N", 0, MAX_STEPS).help(
         "How many random actions, 0 to 1000000; together with --seed",
@@ -293,8 +266,7 @@ fn steps<'a>(alloc: Global) -> Arg<'a>
 }
 
 fn cancel<'a>(alloc: Global) -> Arg<'a>
-    ensures rule { rule_of result ≡ text_rule (codes "cancel") }
-    ensures local { result.global ≡ false }
+    ensures { IsArg (text_rule (codes "cancel")) result }
 {
     text(alloc, "cancel", "WAY").help(
         "How the messages of steps taken back are cancelled: aggressive (at once, where the option is left out) or lazy (only those not sent again)",
@@ -303,8 +275,8 @@ fn cancel<'a>(alloc: Global) -> Arg<'a>
 
 /// A subcommand with what may drive an executive.
 fn driven_command<'a>(command: Command<'a>, alloc: Global) -> Result<Command<'a>, AllocError>
-    ensures app { IfOk result (λ c. app_of c ≡ driven_app (app_of command.entry)) }
-    ensures local { (out-Command command.entry).has_globals ≡ false → IfOk result (λ c. (out-Command c).has_globals ≡ false) }
+    ensures { (app : App) → IsCommand app command.entry
+        → IfOk result (IsCommand (driven_app app)) }
 {
     command
         .arg(script(alloc))?
@@ -314,15 +286,14 @@ fn driven_command<'a>(command: Command<'a>, alloc: Global) -> Result<Command<'a>
 
 /// A subcommand with what may drive an executive, and how that cancels.
 fn cancelled_command<'a>(command: Command<'a>, alloc: Global) -> Result<Command<'a>, AllocError>
-    ensures app { IfOk result (λ c. app_of c ≡ cancelled_app (app_of command.entry)) }
-    ensures local { (out-Command command.entry).has_globals ≡ false → IfOk result (λ c. (out-Command c).has_globals ≡ false) }
+    ensures { (app : App) → IsCommand app command.entry
+        → IfOk result (IsCommand (cancelled_app app)) }
 {
     driven_command(command, alloc)?.arg(cancel(alloc))
 }
 
 fn play_command<'a>(alloc: Global) -> Result<Command<'a>, AllocError>
-    ensures app { IfOk result (λ c. app_of c ≡ play_app) }
-    ensures local { IfOk result (λ c. (out-Command c).has_globals ≡ false) }
+    ensures { IfOk result (IsCommand play_app) }
 {
     let bare = network_command(
         alloc,
@@ -334,8 +305,7 @@ fn play_command<'a>(alloc: Global) -> Result<Command<'a>, AllocError>
 }
 
 fn from<'a>(alloc: Global) -> Arg<'a>
-    ensures rule { rule_of result ≡ number_rule (codes "from") 0 1099511627774 }
-    ensures local { result.global ≡ false }
+    ensures { IsArg (number_rule (codes "from") 0 1099511627774) result }
 {
     number(alloc, "from", "T0", 0, MAX_TICK).help(
         "The tick from which on the run is seen, 0 to 1099511627774; 0 where it is left out",
@@ -343,8 +313,7 @@ fn from<'a>(alloc: Global) -> Arg<'a>
 }
 
 fn only<'a>(alloc: Global) -> Arg<'a>
-    ensures rule { rule_of result ≡ text_rule (codes "only") }
-    ensures local { result.global ≡ false }
+    ensures { IsArg (text_rule (codes "only")) result }
 {
     text(alloc, "only", "NAMES").help(
         "The components that are seen: their names, parted by commas; all where it is left out",
@@ -352,8 +321,7 @@ fn only<'a>(alloc: Global) -> Arg<'a>
 }
 
 fn figure<'a>(alloc: Global) -> Arg<'a>
-    ensures rule { rule_of result ≡ text_rule (codes "figure") }
-    ensures local { result.global ≡ false }
+    ensures { IsArg (text_rule (codes "figure")) result }
 {
     text(alloc, "figure", "NAME").help(
         "The figure whose course is seen, as stats names it; the last of each model, of a tally its sum, where it is left out",
@@ -362,8 +330,7 @@ fn figure<'a>(alloc: Global) -> Arg<'a>
 
 /// `draw` with what is seen of a run.
 fn seen_command<'a>(alloc: Global) -> Result<Command<'a>, AllocError>
-    ensures app { IfOk result (λ c. app_of c ≡ seen_app) }
-    ensures local { IfOk result (λ c. (out-Command c).has_globals ≡ false) }
+    ensures { IfOk result (IsCommand seen_app) }
 {
     network_command(
         alloc,
@@ -377,8 +344,7 @@ fn seen_command<'a>(alloc: Global) -> Result<Command<'a>, AllocError>
 }
 
 fn draw_command<'a>(alloc: Global) -> Result<Command<'a>, AllocError>
-    ensures app { IfOk result (λ c. app_of c ≡ draw_app) }
-    ensures local { IfOk result (λ c. (out-Command c).has_globals ≡ false) }
+    ensures { IfOk result (IsCommand draw_app) }
 {
     let seen = seen_command(alloc)?;
     cancelled_command(seen, alloc)
@@ -396,8 +362,7 @@ fn with_made<'a>(
 
 /// The program with the subcommands that simulate no network of a file.
 fn first_commands<'a>(alloc: Global) -> Result<Command<'a>, AllocError>
-    ensures app { IfOk result (λ c. app_of c ≡ first_app) }
-    ensures local { IfOk result (λ c. (out-Command c).has_globals ≡ false) }
+    ensures { IfOk result (IsCommand first_app) }
 {
     let first = Command::new(alloc, "twarp")
         .version(VERSION)
@@ -410,8 +375,7 @@ fn first_commands<'a>(alloc: Global) -> Result<Command<'a>, AllocError>
 
 /// The program with the subcommands that tell of the sequential run.
 fn alone_commands<'a>(alloc: Global) -> Result<Command<'a>, AllocError>
-    ensures app { IfOk result (λ c. app_of c ≡ alone_app) }
-    ensures local { IfOk result (λ c. (out-Command c).has_globals ≡ false) }
+    ensures { IfOk result (IsCommand alone_app) }
 {
     let first = first_commands(alloc)?;
     let second = with_made(first, seq_command(alloc))?;
@@ -421,7 +385,7 @@ fn alone_commands<'a>(alloc: Global) -> Result<Command<'a>, AllocError>
 
 /// The whole command.
 pub(crate) fn command<'a>(alloc: Global) -> Result<Command<'a>, AllocError>
-    ensures app { IfOk result (λ c. app_of c ≡ twarp_app) }
+    ensures { IfOk result (λ c. app_of c ≡ twarp_app) }
 {
     let first = alone_commands(alloc)?;
     let second = with_made(first, draw_command(alloc))?;

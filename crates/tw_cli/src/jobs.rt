@@ -6,7 +6,8 @@ ghost use Rattle.tw_cli.specs.Lines.{refusal_of, refused_for_memory};
 use std::alloc::AllocError;
 use thiserror::Error;
 use tw_actions::Cancel;
-use tw_cli_options::{Driver, Picture, Rows, RunOptions};
+use tw_cli_options::{Driver, Picture, RunOptions};
+use tw_figures::Rows;
 use tw_vtime::Refusal;
 
 /// What the program is asked to do.
@@ -19,64 +20,53 @@ pub enum Job<'a> {
         /// The path of the network file.
         net: &'a str,
     },
-    /// Simulate a network by the sequential abstract simulator and write the trace.
-    Seq {
+    /// Simulate a network.
+    Simulate {
         /// The path of the network file.
         net: &'a str,
         /// The end tick, 0 to 1,099,511,627,774: only steps before it are made.
         until: u64,
+        /// How, and what is written of it.
+        task: Task<'a>,
+    },
+}
+
+/// How a network is simulated, and what is written of it.
+#[derive(Debug, Drop)]
+pub enum Task<'a> {
+    /// By the sequential abstract simulator; write the trace.
+    Seq {
         /// Whether a line on standard error tells once a second how far the run is.
         progress: bool,
     },
-    /// Simulate a network the same way and write counts and figures of its run.
+    /// The same way; write counts and figures of the run.
     Stats {
-        /// The path of the network file.
-        net: &'a str,
-        /// The end tick, 0 to 1,099,511,627,774: only steps before it are made.
-        until: u64,
         /// Whether they are written as a line of JSON, in place of tables.
         json: bool,
         /// Whether a line on standard error tells once a second how far the run is.
         progress: bool,
     },
-    /// Simulate a network the same way and write its records as comma-separated values.
+    /// The same way; write its records as comma-separated values.
     Table {
-        /// The path of the network file.
-        net: &'a str,
-        /// The end tick, 0 to 1,099,511,627,774: only steps before it are made.
-        until: u64,
         /// What a line is of.
         rows: Rows,
         /// Whether a line on standard error tells once a second how far the run is.
         progress: bool,
     },
-    /// Draw a picture.
+    /// Draw a picture of a run: of this one, or of one by Time Warp.
     Draw {
-        /// The path of the network file.
-        net: &'a str,
-        /// The end tick, 0 to 1,099,511,627,774: only steps before it are made.
-        until: u64,
         /// Of what.
         picture: Picture<'a>,
     },
-    /// Simulate a network by Time Warp, with workers in threads, and write the trace.
+    /// By Time Warp, with workers in threads; write the trace.
     Run {
-        /// The path of the network file.
-        net: &'a str,
-        /// The end tick, 0 to 1,099,511,627,774: only steps before it are made.
-        until: u64,
         /// How steps that are taken back are cancelled.
         cancel: Cancel,
         /// How many workers there are, how far they work ahead, and whether the run tells how far it is.
         setting: RunOptions,
     },
-    /// Drive a network's executive by hand, action by action: write a reply to each, then the trace of what is
-    /// committed.
+    /// By an executive that is driven by hand, action by action; write a reply to each, then the trace of what is committed.
     Play {
-        /// The path of the network file.
-        net: &'a str,
-        /// The end tick, 0 to 1,099,511,627,774: only steps before it are made.
-        until: u64,
         /// How steps that are taken back are cancelled.
         cancel: Cancel,
         /// What drives it.

@@ -5,6 +5,13 @@
 //! line (23) is one that the parse refuses, or one in which no job stands. Where help or the version is asked for it
 //! hands out clap's text. [`NoJob`] says which of these it is. What options are read into, as a [`Driver`], is tw_cli_options' and
 //! handed on.
+//!
+//! | File | Says |
+//! |---|---|
+//! | `command_line` | from the words of a line to a job ([`job`]) |
+//! | `commands` | the command as `clap` takes it, a function for each subcommand and each option |
+//! | `help` | the texts behind each help |
+//! | `jobs` | what can be asked for ([`Job`], [`Task`]), and why nothing is ([`NoJob`]) |
 #![tactic(auto)]
 
 mod command_line;
@@ -13,5 +20,5 @@ mod help;
 mod jobs;
 
 pub use command_line::job;
-pub use jobs::{Job, NoJob};
-pub use tw_cli_options::{Driver, Picture, Rows, RunOptions, View, Workers};
+pub use jobs::{Job, NoJob, Task};
+pub use tw_cli_options::{Driver, Picture, RunOptions, Workers};

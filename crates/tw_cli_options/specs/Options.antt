@@ -10,9 +10,9 @@ use Rattle.tw_cli_options.specs.declared.driving.Driver.{Driver}
 use Rattle.tw_cli_options.specs.declared.driving.Driver.TheVariants.{Script, Seed}
 use Rattle.tw_cli_options.specs.declared.seeing.Picture.{Picture}
 use Rattle.tw_cli_options.specs.declared.seeing.Picture.TheVariants as of
-use Rattle.tw_cli_options.specs.declared.seeing.Rows.{Rows}
-use Rattle.tw_cli_options.specs.declared.seeing.Rows.TheVariants.{Records, Items, Words}
-use Rattle.tw_cli_options.specs.declared.seeing.View.{View}
+use Rattle.tw_figures.specs.declared.seeing.Rows.{Rows}
+use Rattle.tw_figures.specs.declared.seeing.Rows.TheVariants.{Records, Items, Words}
+use Rattle.tw_figures.specs.declared.seeing.View.{View}
 use Rattle.tw_cli_options.specs.declared.setting.RunOptions.{RunOptions}
 use Rattle.tw_cli_options.specs.declared.setting.Workers.{Workers}
 use Rattle.tw_cli_options.specs.declared.setting.Workers.TheVariants.{Count, Auto}

@@ -8,7 +8,7 @@
 //! | `values` | the text, the number or the flag of one option ([`text_in`], [`number_in`], [`flag_in`]) |
 //! | `driving` | what drives an executive ([`Driver`]), and how it cancels |
 //! | `setting` | what workers are set to ([`RunOptions`], [`Workers`]) |
-//! | `seeing` | what is seen of a run: the lines of a table ([`Rows`]), and a picture ([`Picture`], [`View`]) |
+//! | `seeing` | what is seen of a run: the lines of a table ([`rows_in`]), and a picture ([`Picture`]) |
 #![tactic(auto)]
 
 mod driving;
@@ -17,6 +17,6 @@ mod setting;
 mod values;
 
 pub use driving::{Driver, MAX_STEPS, cancel_in, driver_in};
-pub use seeing::{Picture, Rows, View, picture_in, rows_in};
+pub use seeing::{Picture, picture_in, rows_in};
 pub use setting::{RunOptions, Workers, setting_in};
 pub use values::{flag_in, number_in, text_in};

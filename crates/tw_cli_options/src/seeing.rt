@@ -8,29 +8,8 @@ use crate::driving::{Driver, cancel_in, driver_in, is_driven};
 use crate::values::{flag_in, has, number_in, text_in};
 use clap::ArgMatches;
 use tw_actions::Cancel;
+use tw_figures::{Rows, View};
 use tw_vtime::MAX_TICK;
-
-/// What a line of a table is of.
-#[derive(Clone, Copy, Debug, PartialEq, Eq)]
-pub enum Rows {
-    /// A record, with its items and its words.
-    Records,
-    /// An item of a record.
-    Items,
-    /// A word of a record of a transition.
-    Words,
-}
-
-/// What part of a run is seen.
-#[derive(Clone, Copy, Debug, PartialEq, Eq)]
-pub struct View<'a> {
-    /// The tick from which on it is seen, 0 to 1,099,511,627,774.
-    pub from: u64,
-    /// The names of the components that are seen, parted by commas; all of them where there is none.
-    pub only: Option<&'a str>,
-    /// The name of the figure whose course is seen; the one of each model's own where there is none.
-    pub figure: Option<&'a str>,
-}
 
 /// What a picture is of.
 #[derive(Clone, Copy, Debug, PartialEq, Eq)]

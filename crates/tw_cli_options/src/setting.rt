@@ -33,8 +33,10 @@ pub struct RunOptions {
 
 /// Whether the number of workers is left to the program.
 fn is_auto(options: &ArgMatches<'_>) -> bool
-    ensures yes { IsTrue result → first_of (codes "workers") (rows_of (found_of options.now)) ≡ Some (codes "auto") }
-    ensures no { result ≡ false → first_of (codes "workers") (rows_of (found_of options.now)) ≢ Some (codes "auto") }
+    ensures yes { let rows = rows_of (found_of options.now) in
+        IsTrue result → first_of (codes "workers") rows ≡ Some (codes "auto") }
+    ensures no { let rows = rows_of (found_of options.now) in
+        result ≡ false → first_of (codes "workers") rows ≢ Some (codes "auto") }
 {
     text_in(options, "workers") == Some("auto")
 }

@@ -9,7 +9,8 @@ use clap::ArgMatches;
 /// A number among the options, in a range.
 pub fn number_in(options: &ArgMatches<'_>, id: &str, least: u64, most: u64) -> Option<u64>
     ensures some { IfSome result (HasNumber id.now least most (rows_of (found_of options.now))) }
-    ensures none { IfNone result ((n : _) → ¬ (HasNumber id.now least most (rows_of (found_of options.now)) n)) }
+    ensures none { let rows = rows_of (found_of options.now) in
+        IfNone result ((n : _) → ¬ (HasNumber id.now least most rows n)) }
 {
     let number = options.get_one::<u64>(id)?;
     if number < least || number > most {

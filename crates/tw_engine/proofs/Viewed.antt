@@ -10,7 +10,7 @@ use Rattle.tw_engine.specs.Ends.{Fault, failed_of}
 use Rattle.tw_engine.specs.Runs.{HasNoRun, run_fault}
 use Rattle.tw_engine.specs.Views.{IsLineOf, IsSummedOf, IsTabulatedOf, run_table}
 use Rattle.tw_engine.specs.declared.failed.Failed.{Failed}
-use Rattle.tw_cli_options.specs.declared.seeing.Rows.{Rows}
+use Rattle.tw_figures.specs.declared.seeing.Rows.{Rows}
 use Rattle.tw_network.specs.Contents.{Contents}
 use Rattle.tw_rounds.specs.Refusals.{seq_refusal}
 use Rattle.tw_rounds.specs.declared.refused.SeqRefused.{SeqRefused}
@@ -19,9 +19,6 @@ use Rattle.tw_texts.specs.Refusals.{not_written_refusal}
 use Rattle.tw_texts.specs.Traces.{AppendsBeginning}
 use Rattle.tw_texts.specs.declared.traces.NotWritten.{NotWritten}
 use Rattle.tw_texts.specs.declared.traces.NotWritten.TheVariants as writing
-use Rattle.tw_stats.specs.Refusals.{stats_refusal}
-use Rattle.tw_stats.specs.declared.refused.StatsRefused.{StatsRefused}
-use Rattle.tw_stats.specs.declared.refused.StatsRefused.TheVariants as stats
 use Rattle.tw_vtime.specs.Stamps.{max_tick}
 
 -- there are as many of the one as of the other
@@ -45,12 +42,10 @@ not_reported n until run.OutOfMemory old late = (refl, keeps_all old)
 not_reported n until run.BadTick old late = ((refl, late refl), keeps_all old)
 
 -- writing that is refused
-pub not_summed : (n : Contents AnyModel) (until : ℕ) (why : StatsRefused) (old new : Option (List ℕ))
-    → (why ≡ stats.OutOfMemory) ⊎ (why ≡ stats.WriteFailed) → (why ≢ stats.WriteFailed → Keeps old new) → IsSummedOf n until (Err (failed_of (stats_refusal why))) old new
-not_summed n until stats.OutOfMemory old new one keeps = (refl, keeps (λ e. cc))
-not_summed n until stats.BadTick old new (inl e) keeps = cc e
-not_summed n until stats.BadTick old new (inr e) keeps = cc e
-not_summed n until stats.WriteFailed old new one keeps = tt
+pub not_summed : (n : Contents AnyModel) (until : ℕ) (why : NotWritten) (old new : Option (List ℕ))
+    → (why ≢ writing.WriteFailed → Keeps old new) → IsSummedOf n until (Err (failed_of (not_written_refusal why))) old new
+not_summed n until writing.OutOfMemory old new keeps = (refl, keeps (λ e. cc))
+not_summed n until writing.WriteFailed old new keeps = tt
 
 -- ---- the table
 

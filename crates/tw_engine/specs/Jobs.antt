@@ -17,7 +17,9 @@ use Rattle.tw_cli_options.specs.declared.driving.Driver.TheVariants.{Script, See
 use Rattle.tw_cli_options.specs.declared.seeing.Picture.{Picture}
 use Rattle.tw_cli_options.specs.declared.seeing.Picture.TheVariants as of
 use Rattle.tw_cli.specs.declared.jobs.Job.{Job}
-use Rattle.tw_cli.specs.declared.jobs.Job.TheVariants.{Demo, Check, Seq, Stats, Table, Draw, Run, Play}
+use Rattle.tw_cli.specs.declared.jobs.Job.TheVariants.{Demo, Check, Simulate}
+use Rattle.tw_cli.specs.declared.jobs.Task.{Task}
+use Rattle.tw_cli.specs.declared.jobs.Task.TheVariants.{Seq, Stats, Table, Draw, Run, Play}
 use Rattle.tw_theory.specs.Contents.{Cancel}
 
 -- driven by a script: the network's file is at fault, and nothing is written; or it means a network, and no byte of the script is known to
@@ -43,15 +45,19 @@ OfFile given end old new Is = IsUnread end old new ⊎ IfSome given Is
 abbrev pub Ends : {A : Type 0} → (Result A Failed → Exit) → Exit → (Result A Failed → Type 0) → Type 0
 Ends {A} exit_for exit Is = (end : Result A Failed) × (exit ≡ exit_for end) × Is end
 
+-- a network is simulated up to an end tick
+abbrev pub IsTaskDone : Task → ℕ → Exit → Option (List ℕ) → Option (List ℕ) → Option (List ℕ) → Option (List ℕ) → Type 0
+IsTaskDone (Seq progress) until exit given script old new = Ends exit_of_run exit (λ end. OfFile given end old new (λ bytes. IsRun bytes until end old new))
+IsTaskDone (Stats json progress) until exit given script old new = Ends exit_of_view exit (λ end. OfFile given end old new (λ bytes. IsSummed bytes until end old new))
+IsTaskDone (Table rows progress) until exit given script old new = Ends exit_of_view exit (λ end. OfFile given end old new (λ bytes. IsTabulated bytes until rows end old new))
+IsTaskDone (Draw picture) until exit given script old new = Ends exit_of_view exit (λ end. IsUnread end old new ⊎ IsDrawn picture until end given script old new)
+IsTaskDone (Run cancel setting) until exit given script old new = Ends exit_of_run exit (λ end. OfFile given end old new (λ bytes. IsRunByWorkers bytes until end old new))
+IsTaskDone (Play cancel driver) until exit given script old new = Ends exit_of_rest exit (λ end. IsUnread end old new ⊎ IsPlay driver until cancel end given script old new)
+
 abbrev pub IsDone : Job → Exit → Option (List ℕ) → Option (List ℕ) → Option (List ℕ) → Option (List ℕ) → Type 0
 IsDone Demo exit given script old new = Ends exit_of_run exit (λ end. IsDemo end old new)
 IsDone (Check net) exit given script old new = Ends exit_of_rest exit (λ end. OfFile given end old new (λ bytes. IsCheck bytes end old new))
-IsDone (Seq net until progress) exit given script old new = Ends exit_of_run exit (λ end. OfFile given end old new (λ bytes. IsRun bytes until end old new))
-IsDone (Stats net until json progress) exit given script old new = Ends exit_of_view exit (λ end. OfFile given end old new (λ bytes. IsSummed bytes until end old new))
-IsDone (Table net until rows progress) exit given script old new = Ends exit_of_view exit (λ end. OfFile given end old new (λ bytes. IsTabulated bytes until rows end old new))
-IsDone (Draw net until picture) exit given script old new = Ends exit_of_view exit (λ end. IsUnread end old new ⊎ IsDrawn picture until end given script old new)
-IsDone (Run net until cancel setting) exit given script old new = Ends exit_of_run exit (λ end. OfFile given end old new (λ bytes. IsRunByWorkers bytes until end old new))
-IsDone (Play net until cancel driver) exit given script old new = Ends exit_of_rest exit (λ end. IsUnread end old new ⊎ IsPlay driver until cancel end given script old new)
+IsDone (Simulate net until task) exit given script old new = IsTaskDone task until exit given script old new
 
 -- ---- whether the script is read
 
@@ -67,12 +73,15 @@ abbrev pub PictureReads : Picture → Option (List ℕ) → Type 0
 PictureReads (of.Run view) given = ⊥
 PictureReads (of.Warp way driver) given = DriverReads driver given
 
+abbrev pub TaskReads : Task → Option (List ℕ) → Type 0
+TaskReads (Seq progress) given = ⊥
+TaskReads (Stats json progress) given = ⊥
+TaskReads (Table rows progress) given = ⊥
+TaskReads (Draw picture) given = PictureReads picture given
+TaskReads (Run cancel setting) given = ⊥
+TaskReads (Play cancel driver) given = DriverReads driver given
+
 abbrev pub ReadsScript : Job → Option (List ℕ) → Type 0
 ReadsScript Demo given = ⊥
 ReadsScript (Check net) given = ⊥
-ReadsScript (Seq net until progress) given = ⊥
-ReadsScript (Stats net until json progress) given = ⊥
-ReadsScript (Table net until rows progress) given = ⊥
-ReadsScript (Draw net until picture) given = PictureReads picture given
-ReadsScript (Run net until cancel setting) given = ⊥
-ReadsScript (Play net until cancel driver) given = DriverReads driver given
+ReadsScript (Simulate net until task) given = TaskReads task given

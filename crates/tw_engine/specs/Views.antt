@@ -10,12 +10,9 @@ use Rattle.tw_any_model.specs.declared.any_model.AnyModel.{AnyModel}
 use Rattle.tw_engine.specs.Ends.{Fails, Fault, ViewEnd}
 use Rattle.tw_engine.specs.Runs.{HasNoNetwork, IsLate, Means, fault_text, name_in, run_fault}
 use Rattle.tw_engine.specs.declared.failed.Failed.TheVariants.{Bad, Want, NoWrite}
-use Rattle.tw_cli_options.specs.declared.seeing.Rows.{Rows}
-use Rattle.tw_cli_options.specs.declared.seeing.Rows.TheVariants.{Records, Items, Words}
+use Rattle.tw_figures.specs.declared.seeing.Rows.{Rows}
 use Rattle.tw_network.specs.Contents.{Contents, network_of}
 use Rattle.tw_record_lines.specs.Tables.{table_text}
-use Rattle.tw_record_lines.specs.declared.rows.Rows.{Rows as Lines}
-use Rattle.tw_record_lines.specs.declared.rows.Rows.TheVariants as lines
 use Rattle.tw_texts.specs.Traces.{AppendsBeginning}
 use Rattle.tw_theory.specs.Simulator.{sequential}
 use Rattle.tw_vtime.specs.declared.refusal.Refusal.TheVariants as refusal
@@ -41,14 +38,9 @@ IsSummed bytes until end old new = (Fails end (HasNoNetwork bytes) × Keeps old 
 
 -- ---- the table
 
-abbrev pub lines_of : Rows → Lines
-lines_of Records = lines.Records
-lines_of Items = lines.Items
-lines_of Words = lines.Words
-
 -- the table of the records of a network's sequential run
 abbrev pub run_table : Contents AnyModel → ℕ → Rows → List ℕ
-run_table n until rows = table_text (lines_of rows) (name_in n.names) (sequential (network_of any_meaning n) until).records
+run_table n until rows = table_text rows (name_in n.names) (sequential (network_of any_meaning n) until).records
 
 abbrev pub IsTabulatedOf : Contents AnyModel → ℕ → Rows → ViewEnd → Option (List ℕ) → Option (List ℕ) → Type 0
 IsTabulatedOf n until rows (Ok line) old new = IsLineOf n (run_fault n until) line × Appends old new (run_table n until rows)

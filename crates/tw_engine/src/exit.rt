@@ -107,7 +107,8 @@ impl Exit {
     ///
     /// Refused where the writer fails.
     pub fn write_line<W: Write>(&self, out: &mut W) -> io::Result<()>
-        ensures { OnOk result (Appends (W.contents out.old) (W.contents out.new) (line_of self.now)) }
+        ensures { OnOk result
+            (Appends (W.contents out.old) (W.contents out.new) (line_of self.now)) }
     {
         match self {
             Exit::Done | Exit::Fault => Ok(()),

@@ -14,18 +14,20 @@ const PAUSE: u64 = 1;
 pub(crate) struct Teller<'a, R: Clock + Eprint> {
     rt: &'a R,
     until: u64,
-    // When the latest line was told, and the start of the run before there is one; none where the clock could not be read.
+    // When the latest line was told, and the start of the run before there is one; none where nothing is told, or where the clock could
+    // not be read.
     told: Option<Instant>,
 }
 
 impl<'a, R: Clock + Eprint> Teller<'a, R> {
-    /// Begins to tell of a run up to an end tick.
-    pub(crate) fn new(rt: &'a R, until: u64) -> Teller<'a, R> {
-        Teller {
-            rt,
-            until,
-            told: Instant::now(rt).ok(),
-        }
+    /// Begins to tell of a run up to an end tick, where that is asked for; where it is not, it tells nothing.
+    pub(crate) fn new(rt: &'a R, until: u64, progress: bool) -> Teller<'a, R> {
+        let told = if progress {
+            Instant::now(rt).ok()
+        } else {
+            None
+        };
+        Teller { rt, until, told }
     }
 
     /// Whether a line is due, a second after the latest one.

@@ -10,7 +10,7 @@ use Rattle.tw_figures.specs.declared.figure.Measure.TheVariants.{Word, Beyond}
 use Rattle.tw_any_model.specs.declared.any_model.AnyModel.{AnyModel}
 use Rattle.tw_any_model.specs.declared.any_model.AnyModel.TheVariants.{BuiltIn, Machine}
 use Rattle.tw_models.specs.declared.model.Model.{Model}
-use Rattle.tw_stats.specs.declared.gathering.Labels.{Labels}
+use Rattle.tw_figures.specs.declared.labels.Labels.{Labels}
 use Rattle.tw_models.specs.declared.model.Model.TheVariants.{Gen, Tally, Relay, Queue, Hop}
 
 abbrev pub model_name : Model → List ℕ

@@ -4,9 +4,8 @@ ghost use Rattle.std.specs.Prelude.{◌≡◌, ◌++◌, ◌∷◌, [], IfOk, On
 ghost use Rattle.tw_figure_names.specs.Labels.{figures_in, figure_shown, model_name};
 
 use std::alloc::{AllocError, Global};
-use tw_figures::{Figure, Measure};
+use tw_figures::{Figure, Labels, Measure};
 use tw_models::Model;
-use tw_stats::Labels;
 
 /// What a built-in model is called, and its figures: `count` of gen; `count`, `sum` and `last` of tally; `dropped` and `held`, how
 /// many values it holds, of relay; `dropped` and `jobs`, how many there are, of queue; none of hop.
@@ -14,7 +13,8 @@ use tw_stats::Labels;
 /// Refused for want of memory (4).
 pub fn labels_of(alloc: Global, model: &Model) -> Result<Labels, AllocError>
     ensures model { IfOk result (λ labels. string_bytes labels.model ≡ model_name model.now) }
-    ensures figures { IfOk result (λ labels. map figure_shown labels.figures.items ≡ figures_in model.now) }
+    ensures figures { IfOk result
+        (λ labels. map figure_shown labels.figures.items ≡ figures_in model.now) }
 {
     let figures = figures_of(alloc, model)?;
     let name = String::from_str(alloc, name_of(model))?;
@@ -69,7 +69,8 @@ fn add(
     name: &str,
     measure: Measure,
 ) -> Result<(), AllocError>
-    ensures { OnOk result (map figure_shown figures.new.items ≡ map figure_shown figures.old.items ++ (name.now, measure) ∷ []) }
+    ensures { OnOk result (map figure_shown figures.new.items
+        ≡ map figure_shown figures.old.items ++ (name.now, measure) ∷ []) }
 {
     let name = String::from_str(alloc, name)?;
     figures.push(Figure { name, measure })?;

@@ -4,8 +4,7 @@ use crate::atoms::{items_at, text_at};
 use crate::shown::{Shown, shown_by, squeezed};
 use serde_json::Value;
 use std::alloc::{AllocError, Global};
-use tw_figures::{Figure, Measure};
-use tw_stats::Labels;
+use tw_figures::{Figure, Labels, Measure};
 
 /// What the machine of a component is called, and its figures, as its file has them: those of the entries of its `words`
 /// before the first one that is a queue, and then how many values all its queues there have together.

@@ -10,8 +10,8 @@ use crate::machine::labels_of_machine;
 use serde_json::Value;
 use std::alloc::{AllocError, Global};
 use tw_any_model::AnyModel;
+use tw_figures::Labels;
 use tw_network::Network;
-use tw_stats::Labels;
 
 /// What the models of a network's components are called, in order, and their figures: those of the five models as
 /// [`labels_of`] gives them. Those of a machine are read in the bytes of the network's file: for each entry of its `words`

@@ -6,3 +6,4 @@ pub mod Members
 pub mod Rounding
 pub mod SmallSums
 pub mod ToldOf
+pub mod Zipping

@@ -1,4 +1,4 @@
--- What is told of a figure over the ticks before a time.
+-- What is told of a figure over the ticks before a time: its sums exactly, and its mean and its share in thousandths.
 --     IsTold measure start moves ticks told      of a component that starts in a state of these words and makes these transitions
 use Rattle.std.specs.Prelude.{◌≡◌, ℕ, ℤ, pos, List}
 use Rattle.tw_msgs.specs.declared.record.Record.{Record}
@@ -11,7 +11,7 @@ pub record IsTold (measure : Measure) (start : List ℤ) (moves : List Record) (
   pub least : IsLeast told.least (values measure start moves)
   pub greatest : IsGreatest told.greatest (values measure start moves)
   pub last : told.last ≡ value_of measure (words_after start moves)
-  pub mean : IsMean (sum_over ticks (value_at measure start moves)) (value_of measure (words_after start moves)) ticks told.mean
-  pub some : ℕ
-  pub counted : pos some ≡ sum_over ticks (busy_at measure start moves)
-  pub busy : IsShare some (value_of measure (words_after start moves)) ticks told.busy
+  pub sum : told.sums.sum ≡ sum_over ticks (value_at measure start moves)
+  pub counted : pos told.sums.busy ≡ sum_over ticks (busy_at measure start moves)
+  pub mean : IsMean told.sums.sum told.last ticks told.mean
+  pub busy : IsShare told.sums.busy told.last ticks told.busy

@@ -43,7 +43,8 @@ impl Counts {
     ///
     /// Refused for want of room (4) where a count would pass 2^64 - 1; then the counts are of no more use.
     pub fn take(&mut self, step: &Record) -> Result<(), AllocError>
-        ensures { (records : List TheRecord) → self.old ≡ counts_of records → OnOk result (self.new ≡ counts_of (records ++ step.now ∷ [])) }
+        ensures { (records : List TheRecord) → self.old ≡ counts_of records
+            → OnOk result (self.new ≡ counts_of (records ++ step.now ∷ [])) }
     {
         let items = step.bag.len() as u64;
         match step.kind {

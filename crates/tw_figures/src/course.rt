@@ -63,9 +63,10 @@ impl Course {
     pub fn sums(&self, tick: u64) -> Option<Sums>
         requires { self.now.since ≤ tick }
         ensures sum { (start : List ℤ) (moves : List TheRecord) → IsCourse start moves self.now
-            → IfSome result (λ sums. sums.sum ≡ sum_over tick (value_at self.now.measure start moves)) }
+            → IfSome result (λ s. s.sum ≡ sum_over tick (value_at self.now.measure start moves)) }
         ensures busy { (start : List ℤ) (moves : List TheRecord) → IsCourse start moves self.now
-            → IfSome result (λ sums. pos sums.busy ≡ sum_over tick (busy_at self.now.measure start moves)) }
+            → IfSome result
+            (λ s. pos s.busy ≡ sum_over tick (busy_at self.now.measure start moves)) }
     {
         let stood = tick - self.since;
         let sum = stood_for(self.sum, stood, self.last)?;
@@ -78,8 +79,9 @@ impl Course {
     /// Refused for want of room (4) where a sum would pass the range of its type; then the course is as it was.
     pub fn take(&mut self, tick: u64, words: &Words) -> Result<(), AllocError>
         requires { self.old.since ≤ tick }
-        ensures course { (start : List ℤ) (moves : List TheRecord) (r : TheRecord) → tick_of r.stamp ≡ tick → r.words ≡ words.now
-            → IsCourse start moves self.old → OnOk result (IsCourse start (moves ++ r ∷ []) self.new) }
+        ensures course { (start : List ℤ) (moves : List TheRecord) (r : TheRecord)
+            → tick_of r.stamp ≡ tick → r.words ≡ words.now → IsCourse start moves self.old
+            → OnOk result (IsCourse start (moves ++ r ∷ []) self.new) }
         ensures measure { self.new.measure ≡ self.old.measure }
     {
         let Some(Sums { sum, busy }) = self.sums(tick) else {

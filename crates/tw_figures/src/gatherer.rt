@@ -45,19 +45,25 @@ impl Gatherer {
         figures: &[Figure],
         words: &Words,
     ) -> Result<(), AllocError>
-        ensures gathered { (starts : List (List ℤ)) → IsGathered starts [] self.old → OnOk result (IsGathered (starts ++ words.now ∷ []) [] self.new) }
-        ensures measures { OnOk result (measures_of self.new.members.items ≡ measures_of self.old.members.items ++ map (λ f. f.measure) figures.now ∷ []) }
+        ensures gathered { (starts : List (List ℤ)) → IsGathered starts [] self.old
+            → OnOk result (IsGathered (starts ++ words.now ∷ []) [] self.new) }
+        ensures measures { OnOk result (measures_of self.new.members.items
+            ≡ measures_of self.old.members.items ++ map (λ f. f.measure) figures.now ∷ []) }
     {
         let member = Member::new(alloc, figures, words)?;
         self.members.push(member)?;
         Ok(())
     }
 
-    /// Takes the next records of the run, in their order. Refused as [`Gatherer::take`] is.
+    /// Takes the next records of the run, in their order.
+    ///
+    /// Refused for want of room (4) where a count or a sum would pass the range of its type; then it is of no more use.
     pub fn take_all(&mut self, steps: &[Record]) -> Result<(), AllocError>
-        requires { (starts : List (List ℤ)) × (records : List TheRecord) × IsGathered starts records self.old × IsSteady (records ++ steps.now) }
-        ensures gathered { (starts : List (List ℤ)) (records : List TheRecord) → IsSteady (records ++ steps.now)
-            → IsGathered starts records self.old → OnOk result (IsGathered starts (records ++ steps.now) self.new) }
+        requires { (starts : List (List ℤ)) × (records : List TheRecord)
+            × IsGathered starts records self.old × IsSteady (records ++ steps.now) }
+        ensures gathered { (starts : List (List ℤ)) (records : List TheRecord)
+            → IsSteady (records ++ steps.now) → IsGathered starts records self.old
+            → OnOk result (IsGathered starts (records ++ steps.now) self.new) }
         ensures measures { measures_of self.new.members.items ≡ measures_of self.old.members.items }
     {
         for step in steps {
@@ -71,9 +77,11 @@ impl Gatherer {
     /// Refused for want of room (4) where a count or a sum would pass the range of its type; then it is of no more use.
     pub fn take(&mut self, step: &Record) -> Result<(), AllocError>
         requires before_end { step.now.stamp ≢ never }
-        requires next { (starts : List (List ℤ)) × (records : List TheRecord) × IsGathered starts records self.old × IsNext records step.now }
-        ensures gathered { (starts : List (List ℤ)) (records : List TheRecord) → IsNext records step.now
-            → IsGathered starts records self.old → OnOk result (IsGathered starts (records ++ step.now ∷ []) self.new) }
+        requires next { (starts : List (List ℤ)) × (records : List TheRecord)
+            × IsGathered starts records self.old × IsNext records step.now }
+        ensures gathered { (starts : List (List ℤ)) (records : List TheRecord)
+            → IsNext records step.now → IsGathered starts records self.old
+            → OnOk result (IsGathered starts (records ++ step.now ∷ []) self.new) }
         ensures measures { measures_of self.new.members.items ≡ measures_of self.old.members.items }
     {
         self.records = more(self.records, 1)?;

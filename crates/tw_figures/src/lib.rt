@@ -1,15 +1,15 @@
 //! Counts and figures of a run: what its components did, and how numbers of their states went.
 //!
-//! - `counts`: [`Counts`], how many outputs, items and transitions of each kind a component has.
-//! - `figure`: [`Figure`] and [`Measure`], a number that the words of a state tell, given as data.
-//! - `course`: [`Course`], how a figure went: its least, greatest and last value, the sum over the ticks, and the ticks in
-//!   which it was not 0. [`Sums`] are the two sums up to a tick.
-//! - `told`: [`Told`], what is shown of a figure at the end of a run.
-//! - `shares`: [`mean`] and [`share`], exact and rounded to three decimals.
-//! - `fitting`: [`sums_fit_law`], sums of numbers of 64 bits over the ticks of a run fit in their type.
-//! - `member`: [`Member`], the counts and courses of one component.
-//! - `gatherer`: [`Gatherer`], those of all components, from the records that it was given one after another. It keeps no
-//!   record.
+//! - [`Counts`] (`counts`): how many outputs, items and transitions of each kind a component has.
+//! - [`Figure`], [`Measure`] (`figure`): a number that the words of a state tell, given as data; [`Labels`] (`labels`): the name of a
+//!   component's model, and its figures.
+//! - [`Course`], [`Sums`] (`course`): how a figure went: its least and greatest value, its last, the sum over the ticks, and the ticks in
+//!   which it was not 0.
+//! - [`Told`] (`told`): what is told of it over a time: its sums exactly; [`mean`] and [`share`] (`shares`) round them to three decimals.
+//! - [`sums_fit_law`] (`fitting`): sums of numbers of 64 bits over the ticks of a run fit.
+//! - [`Member`] (`member`), [`Gatherer`] (`gatherer`): all of these, of the records of a component and of a run, that were given one after
+//!   another. They keep no record.
+//! - [`Rows`], [`View`] (`seeing`): what a table and a picture show of a run, as it is asked for.
 //!
 //! The contracts say what these numbers are of the list of records, in words that know nothing of how they are gathered.
 #![tactic(auto)]
@@ -19,7 +19,9 @@ mod course;
 mod figure;
 mod fitting;
 mod gatherer;
+mod labels;
 mod member;
+mod seeing;
 mod shares;
 mod told;
 
@@ -28,6 +30,8 @@ pub use course::{Course, Sums};
 pub use figure::{Figure, Measure};
 pub use fitting::sums_fit_law;
 pub use gatherer::Gatherer;
+pub use labels::Labels;
 pub use member::Member;
+pub use seeing::{Rows, View};
 pub use shares::{mean, share};
 pub use told::Told;

@@ -28,7 +28,8 @@ impl Member {
     /// Refused for want of memory (4).
     pub fn new(alloc: Global, figures: &[Figure], words: &Words) -> Result<Member, AllocError>
         ensures member { IfOk result (IsMember words.now []) }
-        ensures measures { IfOk result (λ member. map (λ c. c.measure) member.courses.items ≡ map (λ f. f.measure) figures.now) }
+        ensures measures { IfOk result
+            (λ m. map (λ c. c.measure) m.courses.items ≡ map (λ f. f.measure) figures.now) }
     {
         let mut courses = Vec::new(alloc);
         for figure in figures {
@@ -45,10 +46,13 @@ impl Member {
     /// Refused for want of room (4) where a count or a sum would pass the range of its type; then it is of no more use.
     pub fn take(&mut self, step: &Record) -> Result<(), AllocError>
         requires before_end { step.now.stamp ≢ never }
-        requires next { (start : List ℤ) × (records : List TheRecord) × IsMember start records self.old × IsNext records step.now }
-        ensures member { (start : List ℤ) (records : List TheRecord) → IsNext records step.now
-            → IsMember start records self.old → OnOk result (IsMember start (records ++ step.now ∷ []) self.new) }
-        ensures measures { map (λ c. c.measure) self.new.courses.items ≡ map (λ c. c.measure) self.old.courses.items }
+        requires next { (start : List ℤ) × (records : List TheRecord)
+            × IsMember start records self.old × IsNext records step.now }
+        ensures member { (start : List ℤ) (records : List TheRecord)
+            → IsNext records step.now → IsMember start records self.old
+            → OnOk result (IsMember start (records ++ step.now ∷ []) self.new) }
+        ensures measures { map (λ c. c.measure) self.new.courses.items
+            ≡ map (λ c. c.measure) self.old.courses.items }
     {
         self.counts.take(step)?;
         match step.kind {
@@ -63,8 +67,9 @@ impl Member {
 /// A transition at a tick, to a state of these words.
 fn go_on(courses: &mut [Course], tick: u64, words: &Words) -> Result<(), AllocError>
     requires { All (λ c. c.since ≤ tick) courses.old }
-    ensures courses { (start : List ℤ) (moves : List TheRecord) (r : TheRecord) → tick_of r.stamp ≡ tick → r.words ≡ words.now
-        → All (IsCourse start moves) courses.old → OnOk result (All (IsCourse start (moves ++ r ∷ [])) courses.new) }
+    ensures courses { (start : List ℤ) (moves : List TheRecord) (r : TheRecord)
+        → tick_of r.stamp ≡ tick → r.words ≡ words.now → All (IsCourse start moves) courses.old
+        → OnOk result (All (IsCourse start (moves ++ r ∷ [])) courses.new) }
     ensures measures { map (λ c. c.measure) courses.new ≡ map (λ c. c.measure) courses.old }
 {
     for course in courses.iter_mut() {

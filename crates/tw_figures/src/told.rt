@@ -21,6 +21,8 @@ pub struct Told {
     pub mean: i128,
     /// The share of the ticks in which the value was not 0, in thousandths.
     pub busy: i128,
+    /// The sum of the values over the ticks, and in how many of them the value was not 0, exactly.
+    pub sums: Sums,
 }
 
 impl Course {
@@ -32,13 +34,14 @@ impl Course {
         ensures { (start : List ℤ) (moves : List TheRecord) → IsCourse start moves self.now
             → IfSome result (IsTold self.now.measure start moves ticks) }
     {
-        let Sums { sum, busy } = self.sums(ticks)?;
+        let sums = self.sums(ticks)?;
         Some(Told {
             least: self.least,
             greatest: self.greatest,
             last: self.last,
-            mean: mean(sum, self.last, ticks)?,
-            busy: share(busy, self.last, ticks)?,
+            mean: mean(sums.sum, self.last, ticks)?,
+            busy: share(sums.busy, self.last, ticks)?,
+            sums,
         })
     }
 }

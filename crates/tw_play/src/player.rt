@@ -45,6 +45,13 @@ impl<M: Atomic> Player<M> {
         &self.executive
     }
 
+    /// Gives the executive up as it stands; the mark is forgotten.
+    pub fn into_executive(self) -> Executive<M>
+        ensures { result ≡ self.executive }
+    {
+        self.executive
+    }
+
     /// Obeys a command, and answers what came of it.
     ///
     /// An action is the executive's. `Mark` keeps where every component stands, in place of an earlier mark; `Rewind` goes back

@@ -1,16 +1,34 @@
--- A table whose lines are written round by round.
+-- Lines that are written round by round: of a trace, and of a table.
 use Rattle.std.proofs.Common.{◌≡◌, ◌++◌, ◌∙◌, ℕ, List, [], ◌∷◌, sym, ap, subst, append_assoc, append-nil}
 use Rattle.std.specs.Prelude.{Option}
 use Rattle.std.specs.Io.KnownBytes.{Appends}
 use Rattle.std.proofs.lemmas.Grind.{flat_map-append}
 use Rattle.tw_msgs.specs.declared.record.Record.{Record}
 use Rattle.tw_rounds.specs.Receiving.{Receives}
+use Rattle.tw_texts.specs.Texts.{record_line, trace_text}
 use Rattle.tw_texts.specs.Traces.{AppendsBeginning, MovesBytes}
 use Rattle.tw_texts.proofs.Portions.{appends_both}
 use Rattle.tw_record_lines.specs.Tables.{head_text, row_text, rows_text, table_text}
-use Rattle.tw_record_lines.specs.declared.rows.Rows.{Rows}
+use Rattle.tw_figures.specs.declared.seeing.Rows.{Rows}
 
--- ---- lines
+-- ---- the lines of a trace
+
+pub trace_more : (name_of : ℕ → List ℕ) (xs ys : List Record) → trace_text name_of (xs ++ ys) ≡ trace_text name_of xs ++ trace_text name_of ys
+trace_more name_of xs ys = flat_map-append (λ r. record_line (name_of r.component) r) xs ys
+
+-- lines that got records have their text at the end
+pub traced : {V N : Type 0} (names : V → N) (text : V → List ℕ) (name_of : N → ℕ → List ℕ) (old : V) (records : List Record) (new : V)
+    → Receives (λ a r b. (names b ≡ names a) × (text b ≡ text a ++ record_line (name_of (names a) r.component) r)) old records new
+    → (names new ≡ names old) × (text new ≡ text old ++ trace_text (name_of (names old)) records)
+traced names text name_of old [] new h = (ap names (sym h), ap text (sym h) ∙ sym (append-nil (text old)))
+traced names text name_of old (r ∷ records) new h =
+    let line = record_line (name_of (names old) r.component) r in
+    let rest = traced names text name_of h.0 records new h.2 in (
+      rest.0 ∙ h.1.0,
+      rest.1 ∙ (λ i. h.1.1 i ++ trace_text (name_of (h.1.0 i)) records) ∙ append_assoc (text old) line (trace_text (name_of (names old)) records),
+    )
+
+-- ---- the lines of a table
 
 pub rows_more : (rows : Rows) (name_of : ℕ → List ℕ) (xs ys : List Record) → rows_text rows name_of (xs ++ ys) ≡ rows_text rows name_of xs ++ rows_text rows name_of ys
 rows_more rows name_of xs ys = flat_map-append (λ r. row_text rows (name_of r.component) r) xs ys
@@ -19,13 +37,13 @@ pub table_more : (rows : Rows) (name_of : ℕ → List ℕ) (xs ys : List Record
 table_more rows name_of xs ys = append_assoc (head_text rows) (rows_text rows name_of xs) (rows_text rows name_of ys) ∙ ap (λ l. head_text rows ++ l) (sym (rows_more rows name_of xs ys))
 
 -- lines that got records have theirs at the end
-pub gathered : {V N : Type 0} (names : V → N) (kinds : V → Rows) (text : V → List ℕ) (name_of : N → ℕ → List ℕ) (old : V) (records : List Record) (new : V)
+pub tabulated : {V N : Type 0} (names : V → N) (kinds : V → Rows) (text : V → List ℕ) (name_of : N → ℕ → List ℕ) (old : V) (records : List Record) (new : V)
     → Receives (λ a r b. (names b ≡ names a) × (kinds b ≡ kinds a) × (text b ≡ text a ++ row_text (kinds a) (name_of (names a) r.component) r)) old records new
     → (names new ≡ names old) × (kinds new ≡ kinds old) × (text new ≡ text old ++ rows_text (kinds old) (name_of (names old)) records)
-gathered names kinds text name_of old [] new h = (ap names (sym h), ap kinds (sym h), ap text (sym h) ∙ sym (append-nil (text old)))
-gathered names kinds text name_of old (r ∷ records) new h =
+tabulated names kinds text name_of old [] new h = (ap names (sym h), ap kinds (sym h), ap text (sym h) ∙ sym (append-nil (text old)))
+tabulated names kinds text name_of old (r ∷ records) new h =
     let line = row_text (kinds old) (name_of (names old) r.component) r in
-    let rest = gathered names kinds text name_of h.0 records new h.2 in (
+    let rest = tabulated names kinds text name_of h.0 records new h.2 in (
       rest.0 ∙ h.1.0,
       rest.1 ∙ h.1.1,
       rest.2 ∙ (λ i. h.1.2 i ++ rows_text (h.1.1 i) (name_of (h.1.0 i)) records) ∙ append_assoc (text old) line (rows_text (kinds old) (name_of (names old)) records),

@@ -10,8 +10,8 @@ use Rattle.tw_msgs.specs.declared.record.Record.{Record}
 use Rattle.tw_msgs.specs.declared.record_kind.RecordKind.{RecordKind}
 use Rattle.tw_texts.specs.Texts.{bag_text, kind_text, words_text}
 use Rattle.tw_vtime.specs.Stamps.{never, tick_of, micro_of}
-use Rattle.tw_record_lines.specs.declared.rows.Rows.{Rows}
-use Rattle.tw_record_lines.specs.declared.rows.Rows.TheVariants.{Records, Items, Words}
+use Rattle.tw_figures.specs.declared.seeing.Rows.{Rows}
+use Rattle.tw_figures.specs.declared.seeing.Rows.TheVariants.{Records, Items, Words}
 
 abbrev pub time_cells : ℕ → List ℕ
 time_cells s = if s == never then codes "end,end" else (decimal (tick_of s) ++ codes "," ++ decimal (micro_of s))

@@ -1,19 +1,20 @@
-//! The records of a network's sequential run as comma-separated values.
+//! The lines of a network's sequential run, written round by round: those of its trace, or those of a table of comma-separated values.
 //!
-//! - [`Rows`]: what a line is of: a record, an item of a record, or a word of one.
-//! - [`write_table`]: simulates a network and writes the table round by round. No record is kept, so that it takes no more
-//!   memory for a longer run.
-//! - [`table`]: the same, once it is known how the run ends: so nothing is written where it is refused.
+//! Each is a loop over rounds. What a round did goes line by line to two receivers, of outputs and of transitions, and the lines
+//! go to the writer after the round. No record is kept, so that a longer run takes no more memory.
+//!
+//! - [`write_lines`] (`trace`): the trace; its lines are gathered by `trace_lines`.
+//! - [`write_table`] (`table`): a [`Table`], whose lines are gathered by `table_lines` and made by `rows`.
 //!
 //! The contracts give the exact bytes.
 #![tactic(auto)]
 
-mod refused;
-mod rounds;
 mod rows;
-mod whole;
+mod table;
+mod table_lines;
+mod trace;
+mod trace_lines;
 
-pub use refused::TableRefused;
-pub use rounds::write_table;
-pub use rows::Rows;
-pub use whole::table;
+pub use table::write_table;
+pub use table_lines::Table;
+pub use trace::write_lines;

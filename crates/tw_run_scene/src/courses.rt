@@ -4,7 +4,7 @@ use crate::kept::Kept;
 use crate::lanes::{Course, Lane};
 use crate::layout::LanePlace;
 use crate::scale::Scale;
-use crate::staves::Stave;
+use crate::stave::Stave;
 use std::alloc::AllocError;
 use tw_svg::{Path, Points, Spot, Svg, cut, value_text};
 
@@ -15,7 +15,7 @@ const NAME: usize = 18;
 const FIGURE: usize = 20;
 
 /// Draws the lanes of a stave.
-pub fn push_lanes(svg: &mut Svg, kept: &Kept, stave: &Stave<'_>) -> Result<(), AllocError> {
+pub(crate) fn push_lanes(svg: &mut Svg, kept: &Kept, stave: &Stave<'_>) -> Result<(), AllocError> {
     for (number, lane) in kept.lanes.items.iter().enumerate() {
         if let Some(place) = stave.layout.lanes.get(number) {
             push_lane(svg, stave, lane, place)?;

@@ -7,7 +7,7 @@ const TALLEST: i64 = 12_000;
 
 /// What decides how wide time is drawn.
 #[derive(Clone, Copy)]
-pub struct Fit {
+pub(crate) struct Fit {
     /// The width of a page.
     pub room: Points,
     /// The width that a round wants.
@@ -48,15 +48,15 @@ impl Fit {
         let full = Unit::new(Points::whole(56), 1);
         let wanted = Unit::new(self.pitch, self.tight);
         let begun = if full.is_below(wanted) { full } else { wanted };
-        let wide = self.widened(axis, begun, full);
-        let narrow = self.narrowed(axis, wide);
-        let unit = self.evened(axis, narrow);
+        let wide = self.widen(axis, begun, full);
+        let narrow = self.narrow(axis, wide);
+        let unit = self.even(axis, narrow);
         axis.lay(&self.spread(unit));
         unit.length(self.tight)
     }
 
     /// A wider unit, while all fits the page.
-    fn widened(&self, axis: &mut Axis, begun: Unit, full: Unit) -> Unit {
+    fn widen(&self, axis: &mut Axis, begun: Unit, full: Unit) -> Unit {
         let mut unit = begun;
         for _ in 0..400 {
             let more = unit.hundredths(105);
@@ -69,7 +69,7 @@ impl Fit {
     }
 
     /// A narrower unit, while the picture would be too high.
-    fn narrowed(&self, axis: &mut Axis, begun: Unit) -> Unit {
+    fn narrow(&self, axis: &mut Axis, begun: Unit) -> Unit {
         let longest = self.longest();
         let mut unit = begun;
         for _ in 0..400 {
@@ -84,7 +84,7 @@ impl Fit {
     }
 
     /// A narrower unit, while a last stave would have little.
-    fn evened(&self, axis: &mut Axis, begun: Unit) -> Unit {
+    fn even(&self, axis: &mut Axis, begun: Unit) -> Unit {
         let mut unit = begun;
         let length = axis.lay(&self.spread(unit));
         let staves = (length - self.room.share(35, 100)).parts(self.room).max(1);

@@ -13,13 +13,14 @@ use tw_rounds::{Advanced, Fault, Simulation, advance, begin};
 
 /// Makes the rounds of a run up to a tick and keeps what the picture shows, to the end of the run or of the picture. Answers the
 /// fault that ended the run, if it did. The only error is want of memory, where the tick is one that a run may end at.
-pub fn follow<M: Atomic>(
+pub(crate) fn follow<M: Atomic>(
     alloc: Global,
     network: &Network<M>,
     until: u64,
     kept: &mut Kept,
 ) -> Result<Option<Fault>, AllocError>
-    ensures { IfOk result (λ fault. (fault ≡ None) ⊎ (fault ≡ (sequential (network_of M.meaning network.now) until).fault)) }
+    ensures { let run = sequential (network_of M.meaning network.now) until in
+        IfOk result (λ fault. (fault ≡ None) ⊎ (fault ≡ run.fault)) }
 {
     let Ok(mut simulation) = begin(alloc, network, until) else {
         return Err(AllocError);
@@ -35,7 +36,8 @@ fn make_rounds<M: Atomic>(
     kept: &mut Kept,
 ) -> Result<Option<Fault>, AllocError>
     requires { IsSimulating M.valid M.meaning network.now [] simulation.old }
-    ensures { IfOk result (λ fault. (fault ≡ None) ⊎ (fault ≡ (sequential (network_of M.meaning network.now) simulation.old.until).fault)) }
+    ensures { let run = sequential (network_of M.meaning network.now) simulation.old.until in
+        IfOk result (λ fault. (fault ≡ None) ⊎ (fault ≡ run.fault)) }
 {
     let mut outputs = Vec::new(alloc);
     let mut transitions = Vec::new(alloc);

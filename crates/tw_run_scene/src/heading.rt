@@ -3,7 +3,7 @@
 use crate::kept::Kept;
 use crate::layout::Layout;
 use crate::marks::{class_of, push_arrow, push_shape, push_stub};
-use crate::view::View;
+use crate::subject::Subject;
 use std::alloc::{AllocError, Global};
 use tw_msgs::RecordKind;
 use tw_svg::{Front, Legend, Path, Points, Spot, Svg, cut, many, push_number};
@@ -12,13 +12,11 @@ const READING: &str =
     "Time runs to the right. About the line of a tick stand its outputs, on the left, and its transitions, on the \
 right.";
 
-/// What is told of a call and of its run.
+/// What a heading says of a picture.
 #[derive(Clone, Copy)]
-pub struct Told<'a> {
-    /// What is shown of the run.
-    pub view: &'a View<'a>,
-    /// The end tick.
-    pub until: u64,
+pub(crate) struct Facts<'a> {
+    /// What the picture is of.
+    pub subject: &'a Subject<'a>,
     /// How many components the network has.
     pub components: usize,
     /// The line of the fault that ended the run, if one did.
@@ -31,26 +29,30 @@ fn number(count: usize) -> u64 {
 }
 
 /// The line of facts.
-fn facts(
+fn line_of_facts(
     alloc: Global,
     kept: &Kept,
     layout: &Layout,
-    told: &Told<'_>,
+    facts: &Facts<'_>,
 ) -> Result<String, AllocError> {
     let mut line = String::new(alloc);
-    if told.view.only.is_some() {
+    if facts.subject.view.only.is_some() {
         push_number(&mut line, number(kept.lanes.len()))?;
         line.push_str(" of ")?;
     }
-    line.push_str(many(alloc, number(told.components), "component")?.as_str())?;
+    line.push_str(many(alloc, number(facts.components), "component")?.as_str())?;
     line.push_str(" \u{b7} ")?;
     line.push_str(many(alloc, number(kept.marks), "record")?.as_str())?;
     line.push_str(" \u{b7} ticks ")?;
-    push_number(&mut line, told.view.from)?;
+    push_number(&mut line, facts.subject.view.from)?;
     line.push_str(" to ")?;
-    let last = if kept.goes_on { layout.end } else { told.until };
-    push_number(&mut line, last.max(told.view.from))?;
-    if let Some(figure) = told.view.figure {
+    let last = if kept.goes_on {
+        layout.end
+    } else {
+        facts.subject.until
+    };
+    push_number(&mut line, last.max(facts.subject.view.from))?;
+    if let Some(figure) = facts.subject.view.figure {
         line.push_str(" \u{b7} figure ")?;
         line.push_str(cut(alloc, figure, 60)?.as_str())?;
     }
@@ -79,17 +81,17 @@ fn push_front(
     alloc: Global,
     kept: &Kept,
     layout: &Layout,
-    told: &Told<'_>,
+    facts: &Facts<'_>,
 ) -> Result<Points, AllocError> {
-    let facts = facts(alloc, kept, layout, told)?;
+    let line = line_of_facts(alloc, kept, layout, facts)?;
     let missing = missing(alloc, kept)?;
     let mut faults = Vec::new(alloc);
-    if let Some(line) = told.fault {
+    if let Some(line) = facts.fault {
         faults.push(String::from_str(alloc, line)?)?;
     }
     let front = Front {
-        title: told.view.title,
-        facts: facts.as_str(),
+        title: facts.subject.title,
+        facts: line.as_str(),
         reading: &[READING],
         faults: faults.as_slice(),
         missing: missing.as_slice(),
@@ -98,17 +100,17 @@ fn push_front(
 }
 
 /// Draws what stands above the staves, and answers how far down they begin.
-pub fn push_heading(
+pub(crate) fn push_heading(
     svg: &mut Svg,
     alloc: Global,
     kept: &Kept,
     layout: &Layout,
-    told: &Told<'_>,
+    facts: &Facts<'_>,
 ) -> Result<Points, AllocError> {
-    let top = push_front(svg, alloc, kept, layout, told)?;
+    let top = push_front(svg, alloc, kept, layout, facts)?;
     let mut legend = Legend::new(top + Points::whole(6), layout.width);
     push_kinds(svg, alloc, kept, &mut legend)?;
-    push_ways(svg, alloc, kept, told, &mut legend)?;
+    push_ways(svg, alloc, kept, facts, &mut legend)?;
     push_course(svg, alloc, kept, &mut legend)?;
     push_axis(svg, alloc, layout, &mut legend)?;
     Ok(legend.bottom() + Points::whole(6))
@@ -168,7 +170,7 @@ fn push_ways(
     svg: &mut Svg,
     alloc: Global,
     kept: &Kept,
-    told: &Told<'_>,
+    facts: &Facts<'_>,
     legend: &mut Legend,
 ) -> Result<(), AllocError> {
     if kept.arrows > 0 {
@@ -183,7 +185,7 @@ fn push_ways(
         svg.path("a k", &path, None)?;
     }
     if has_outside(kept) {
-        let words = if told.view.only.is_some() {
+        let words = if facts.subject.view.only.is_some() {
             "from outside or from one not shown"
         } else {
             "from outside"

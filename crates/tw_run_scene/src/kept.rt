@@ -1,7 +1,7 @@
 //! What is kept of a run.
 
 use crate::lanes::Lanes;
-use crate::takers::Sendings;
+use crate::takers::{Arrow, Sendings};
 use std::alloc::{AllocError, Global};
 use tw_atomic::Atomic;
 use tw_msgs::{Record, RecordKind};
@@ -11,14 +11,14 @@ use tw_texts::push_record;
 use tw_vtime::{MAX_TICK, Stamp};
 
 /// How many marks a picture has at most.
-pub const MARKS: usize = 20_000;
+pub(crate) const MARKS: usize = 20_000;
 
 /// How many arrows a picture has at most.
-pub const ARROWS: usize = 20_000;
+pub(crate) const ARROWS: usize = 20_000;
 
 /// A record that is shown.
 #[derive(Drop)]
-pub struct Mark {
+pub(crate) struct Mark {
     /// Its lane.
     pub lane: usize,
     /// What the component did.
@@ -29,18 +29,9 @@ pub struct Mark {
     pub outside: bool,
 }
 
-/// An arrow from the lane of an output to that of a transition of its round.
-#[derive(Clone, Copy)]
-pub struct Arrow {
-    /// The lane of the output.
-    pub from: usize,
-    /// The lane of the transition.
-    pub to: usize,
-}
-
 /// The records of a time.
 #[derive(Drop)]
-pub struct Round {
+pub(crate) struct Round {
     /// The time.
     pub time: Time,
     /// The records, outputs first.
@@ -51,7 +42,7 @@ pub struct Round {
 
 /// What is kept of a run: the rounds that are shown.
 #[derive(Drop)]
-pub struct Kept {
+pub(crate) struct Kept {
     /// The tick from which on records are shown.
     pub from: u64,
     /// The lanes.
@@ -72,7 +63,7 @@ pub struct Kept {
 }
 
 /// The time of a stamp.
-pub fn time_of(stamp: Stamp) -> Time {
+pub(crate) fn time_of(stamp: Stamp) -> Time {
     if stamp.is_end() {
         return Time {
             tick: MAX_TICK,
@@ -110,7 +101,7 @@ impl Kept {
     }
 
     /// How many of these records are of lanes.
-    fn shown(&self, records: &[Record]) -> usize {
+    fn count_shown(&self, records: &[Record]) -> usize {
         let mut count = 0usize;
         for record in records {
             if self.lanes.of(record.component).is_some() {
@@ -135,7 +126,7 @@ impl Kept {
             self.follow(records, None)?;
             return Ok(false);
         }
-        let count = self.shown(records);
+        let count = self.count_shown(records);
         if count == 0 {
             return Ok(false);
         }

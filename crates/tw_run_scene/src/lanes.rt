@@ -2,18 +2,16 @@
 
 ghost use Rattle.std.specs.Prelude.{◌≡◌, ◌<◌, length};
 
-use crate::view::View;
 use std::alloc::{AllocError, Global};
 use tw_atomic::Atomic;
-use tw_figures::{Figure, Measure};
+use tw_figures::{Figure, Labels, Measure, View};
 use tw_msgs::Words;
 use tw_network::Network;
-use tw_stats::Labels;
 use tw_texts::Names;
 
 /// A value of a figure, from a round that is shown on.
 #[derive(Clone, Copy)]
-pub struct Change {
+pub(crate) struct Change {
     /// The place of the round among those that are shown.
     pub round: usize,
     /// The value.
@@ -22,7 +20,7 @@ pub struct Change {
 
 /// How a figure goes.
 #[derive(Drop)]
-pub struct Course {
+pub(crate) struct Course {
     /// What the figure is called.
     pub name: String,
     /// What it tells of the words of a state.
@@ -41,7 +39,7 @@ pub struct Course {
 
 /// A component that is shown.
 #[derive(Drop)]
-pub struct Lane {
+pub(crate) struct Lane {
     /// Its number.
     pub component: usize,
     /// Its name.
@@ -56,7 +54,7 @@ pub struct Lane {
 #[derive(Drop)]
 pub struct Lanes {
     /// The lanes.
-    pub items: Vec<Lane>,
+    pub(crate) items: Vec<Lane>,
     // The lane of each component, if it has one.
     places: Vec<Option<usize>>,
 }
@@ -120,7 +118,7 @@ impl Lanes {
 }
 
 /// Which components have one of the names, which are parted by commas; none where a name is of no component.
-fn chosen<M: Atomic>(
+fn choose<M: Atomic>(
     alloc: Global,
     network: &Network<M>,
     only: Option<&str>,
@@ -187,7 +185,7 @@ pub fn lanes_of<M: Atomic, N: Names>(
 ) -> Result<Option<Lanes>, AllocError>
     requires { length labels.now ≡ length network.now.models }
 {
-    let Some(shown) = chosen(alloc, network, view.only)? else {
+    let Some(shown) = choose(alloc, network, view.only)? else {
         return Ok(None);
     };
     let mut lanes = Lanes {

@@ -11,7 +11,7 @@ const PAGE: i64 = 1280;
 
 /// Where a lane stands in its stave.
 #[derive(Clone, Copy)]
-pub struct LanePlace {
+pub(crate) struct LanePlace {
     /// The top of its band.
     pub top: Points,
     /// The line of its events.
@@ -20,7 +20,7 @@ pub struct LanePlace {
 
 /// A tick that is told.
 #[derive(Clone, Copy)]
-pub struct Label {
+pub(crate) struct Label {
     /// The tick.
     pub tick: u64,
     /// Where it stands on the axis.
@@ -29,7 +29,7 @@ pub struct Label {
 
 /// Where all stands.
 #[derive(Drop)]
-pub struct Layout {
+pub(crate) struct Layout {
     /// The tick at which the axis ends.
     pub end: u64,
     /// The height of the band of a course.

@@ -1,13 +1,14 @@
 //! The rounds of a stave: arrows under marks, one group a round.
 
-use crate::kept::{Arrow, Kept, Mark, Round};
-use crate::staves::{ShownFault, Stave};
+use crate::kept::{Kept, Mark, Round};
+use crate::stave::{ShownFault, Stave};
+use crate::takers::Arrow;
 use std::alloc::AllocError;
 use tw_msgs::RecordKind;
 use tw_svg::{Path, Points, Spot, Svg};
 
 /// The class of a mark.
-pub fn class_of(kind: RecordKind) -> &'static str {
+pub(crate) fn class_of(kind: RecordKind) -> &'static str {
     match kind {
         RecordKind::Out => "o",
         RecordKind::Int => "i",
@@ -17,7 +18,7 @@ pub fn class_of(kind: RecordKind) -> &'static str {
 }
 
 /// The shape of a mark: a triangle that points on, a disc, a square, a diamond.
-pub fn push_shape(
+pub(crate) fn push_shape(
     path: &mut Path,
     kind: RecordKind,
     spot: Spot,
@@ -33,7 +34,12 @@ pub fn push_shape(
 
 /// An arrow from an output to a transition of its round: a bow to the right of both, wider where it is longer, so that arrows of one
 /// round lie beside each other.
-pub fn push_arrow(path: &mut Path, from: Spot, to: Spot, size: Points) -> Result<(), AllocError> {
+pub(crate) fn push_arrow(
+    path: &mut Path,
+    from: Spot,
+    to: Spot,
+    size: Points,
+) -> Result<(), AllocError> {
     let far = (to.y - from.y).size();
     let bow = Points::whole(3) + Points::whole(14).least(far.share(35, 1000));
     let short = size.share(15, 10);
@@ -59,7 +65,7 @@ pub fn push_arrow(path: &mut Path, from: Spot, to: Spot, size: Points) -> Result
 }
 
 /// What comes from outside: a short line from the upper left.
-pub fn push_stub(path: &mut Path, spot: Spot, size: Points) -> Result<(), AllocError> {
+pub(crate) fn push_stub(path: &mut Path, spot: Spot, size: Points) -> Result<(), AllocError> {
     let from = spot.moved(-size.times(4), -size.share(34, 10) - Points::whole(3));
     let to = spot.moved(-size.share(6, 10), -size.share(11, 10));
     path.start(from)?;
@@ -68,7 +74,7 @@ pub fn push_stub(path: &mut Path, spot: Spot, size: Points) -> Result<(), AllocE
 }
 
 /// Draws the rounds of a stave.
-pub fn push_rounds(svg: &mut Svg, kept: &Kept, stave: &Stave<'_>) -> Result<(), AllocError> {
+pub(crate) fn push_rounds(svg: &mut Svg, kept: &Kept, stave: &Stave<'_>) -> Result<(), AllocError> {
     for number in stave.first..stave.next {
         if let Some(round) = kept.rounds.get(number) {
             if let Some(at) = stave.layout.rounds.get(number) {
@@ -135,7 +141,7 @@ fn push_one_arrow(
 }
 
 /// A fault on a lane of the stave: a cross.
-pub fn push_fault(
+pub(crate) fn push_fault(
     svg: &mut Svg,
     stave: &Stave<'_>,
     fault: &ShownFault<'_>,

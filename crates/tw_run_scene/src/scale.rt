@@ -5,7 +5,7 @@ use tw_svg::Points;
 
 /// From which value to which a course is drawn.
 #[derive(Clone, Copy)]
-pub struct Scale {
+pub(crate) struct Scale {
     /// The value at the foot.
     pub bottom: i128,
     /// The value at the top.

@@ -45,7 +45,7 @@ fn fading(kept: &Kept, layout: &Layout) -> &'static str {
 }
 
 /// The style sheet.
-pub fn sheet_of(alloc: Global, kept: &Kept, layout: &Layout) -> Result<String, AllocError> {
+pub(crate) fn sheet_of(alloc: Global, kept: &Kept, layout: &Layout) -> Result<String, AllocError> {
     let mut fixed = String::from_str(alloc, FIXED)?;
     fixed.push_str(fading(kept, layout))?;
     fixed.push_str(LIT)?;

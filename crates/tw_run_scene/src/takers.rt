@@ -1,15 +1,23 @@
 //! Who took what the outputs of a round sent.
 
-use crate::kept::Arrow;
 use crate::lanes::Lanes;
 use std::alloc::{AllocError, Global};
 use tw_atomic::Atomic;
 use tw_msgs::{Record, RecordKind};
 use tw_network::Network;
 
+/// An arrow from the lane of an output to that of a transition of its round.
+#[derive(Clone, Copy)]
+pub(crate) struct Arrow {
+    /// The lane of the output.
+    pub from: usize,
+    /// The lane of the transition.
+    pub to: usize,
+}
+
 /// What the outputs of a round sent so far, by lane.
 #[derive(Drop)]
-pub struct Sendings {
+pub(crate) struct Sendings {
     // How many items were sent to each lane.
     items: Vec<usize>,
     // Whether each lane takes items in this round.
@@ -20,7 +28,7 @@ pub struct Sendings {
 
 /// How many arrows an output has.
 #[derive(Clone, Copy)]
-pub struct Drawn {
+pub(crate) struct Drawn {
     /// Those that are drawn.
     pub drawn: usize,
     /// Those that are left out.

@@ -6,7 +6,7 @@ use Rattle.std.proofs.lemmas.Option.{get_or_from_slice_get, slice_get_within}
 use Rattle.tw_atomic.specs.Atomic.{Meaning}
 use Rattle.tw_network.specs.Contents.{Contents, network_of}
 use Rattle.tw_stats.specs.Gathering.{measures_in, start_words}
-use Rattle.tw_stats.specs.declared.gathering.Labels.{Labels}
+use Rattle.tw_figures.specs.declared.labels.Labels.{Labels}
 
 pub starts_more : {M S : Type 0} (meaning : M → Meaning S) (contents : Contents M) (c : ℕ) (model : M) → slice_get contents.models c ≡ Some model
     → take c (start_words (network_of meaning contents)) ++ (meaning model).words (meaning model).start ∷ [] ≡ take (c + 1) (start_words (network_of meaning contents))

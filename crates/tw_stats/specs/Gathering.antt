@@ -8,7 +8,7 @@ use Rattle.tw_figures.specs.declared.figure.Measure.{Measure}
 use Rattle.tw_theory.specs.Network.{Network}
 use Rattle.tw_vtime.specs.Stamps.{never, tick_of}
 use Rattle.tw_theory.specs.Simulator.{Fault}
-use Rattle.tw_stats.specs.declared.gathering.Labels.{Labels}
+use Rattle.tw_figures.specs.declared.labels.Labels.{Labels}
 
 abbrev pub start_words : {S : Type 0} → Network S → List (List ℤ)
 start_words net = map (λ m. m.words m.start) net.models

@@ -1,4 +1,3 @@
 pub mod Decimals
 pub mod Gathering
-pub mod Refusals
 pub mod Reports

@@ -12,7 +12,7 @@ use Rattle.tw_figures.specs.declared.member.Member.{Member}
 use Rattle.tw_figures.specs.declared.told.Told.{Told}
 use Rattle.tw_msgs.specs.declared.record.Record.{Record}
 use Rattle.tw_theory.specs.Traces.{of_component}
-use Rattle.tw_stats.specs.declared.gathering.Labels.{Labels}
+use Rattle.tw_figures.specs.declared.labels.Labels.{Labels}
 use Rattle.tw_stats.specs.declared.report.Part.{Part}
 
 pub record TellsFigure (ticks : ℕ) (course : Course) (told : Told) : Type 0 where

@@ -9,7 +9,8 @@ use std::alloc::AllocError;
 ///
 /// Where memory is wanting (refusal 4) a part of it may stand at the end.
 pub(crate) fn add_thousandths(text: &mut String, number: i128) -> Result<(), AllocError>
-    ensures { OnOk result (string_bytes text.new ≡ string_bytes text.old ++ thousandths_text number) }
+    ensures { OnOk result
+        (string_bytes text.new ≡ string_bytes text.old ++ thousandths_text number) }
 {
     if number < 0 {
         text.push_str("-")?;

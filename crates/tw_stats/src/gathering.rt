@@ -12,31 +12,22 @@ ghost use Rattle.tw_vtime.specs.Stamps.{max_tick};
 
 use std::alloc::{AllocError, Global};
 use tw_atomic::Atomic;
-use tw_figures::{Figure, Gatherer};
+use tw_figures::{Figure, Gatherer, Labels};
 use tw_listen::{Listener, Reached};
 use tw_msgs::{Record, Words};
 use tw_network::Network;
 use tw_rounds::{Advanced, Fault, SeqRefused, Simulation, advance, begin};
 use tw_vtime::Stamp;
 
-/// What a component's model is called, and its figures.
-#[derive(Debug, PartialEq, Eq, Drop)]
-pub struct Labels {
-    /// The name of its model.
-    pub model: String,
-    /// Its figures, in their order.
-    pub figures: Vec<Figure>,
-}
-
 /// What is gathered of a network's run.
 #[derive(Debug, Drop)]
-pub struct Gathering {
+pub(crate) struct Gathering {
     /// The counts and the courses of the figures of each component.
-    pub gathered: Gatherer,
+    pub(crate) gathered: Gatherer,
     /// The limit fault that ended the run.
-    pub fault: Option<Fault>,
+    pub(crate) fault: Option<Fault>,
     /// How many ticks the run has: up to its end tick, or up to that of its fault.
-    pub ticks: u64,
+    pub(crate) ticks: u64,
 }
 
 /// Simulates a network up to the end tick `until` and gathers the counts of its components and the courses of their
@@ -45,7 +36,7 @@ pub struct Gathering {
 /// Refused by [`SeqRefused::BadTick`] (10) exactly where `until` is above 1,099,511,627,774, and by
 /// [`SeqRefused::OutOfMemory`] (4) where a growth of memory was refused, or a count or a sum would pass the range of its
 /// type.
-pub fn gather<M: Atomic, L: Listener>(
+pub(crate) fn gather<M: Atomic, L: Listener>(
     alloc: Global,
     network: &Network<M>,
     labels: &[Labels],
@@ -53,11 +44,16 @@ pub fn gather<M: Atomic, L: Listener>(
     listener: &mut L,
 ) -> Result<Gathering, SeqRefused>
     requires { length labels.now ≡ length network.now.models }
-    ensures gathered { IfOk result (λ g. IsGathered (start_words (network_of M.meaning network.now)) (sequential (network_of M.meaning network.now) until).records g.gathered) }
-    ensures measures { IfOk result (λ g. measures_of g.gathered.members.items ≡ measures_in labels.now) }
-    ensures fault { IfOk result (λ g. g.fault ≡ (sequential (network_of M.meaning network.now) until).fault) }
-    ensures ticks { IfOk result (λ g. g.ticks ≡ run_ticks until (sequential (network_of M.meaning network.now) until).fault) }
-    ensures reached { IfOk result (λ g. All (λ m. All (λ c. c.since ≤ g.ticks) m.courses.items) g.gathered.members.items) }
+    ensures gathered { let net = network_of M.meaning network.now in
+        IfOk result (λ g. IsGathered (start_words net) (sequential net until).records g.gathered) }
+    ensures measures { IfOk result
+        (λ g. measures_of g.gathered.members.items ≡ measures_in labels.now) }
+    ensures fault { let run = sequential (network_of M.meaning network.now) until in
+        IfOk result (λ g. g.fault ≡ run.fault) }
+    ensures ticks { let run = sequential (network_of M.meaning network.now) until in
+        IfOk result (λ g. g.ticks ≡ run_ticks until run.fault) }
+    ensures reached { IfOk result
+        (λ g. All (λ m. All (λ c. c.since ≤ g.ticks) m.courses.items) g.gathered.members.items) }
     ensures in_time { IfOk result (λ g. BeforeEnd g.fault) }
     ensures bad_tick { IsErrOf result BadTick ↔ (max_tick < until) }
 {
@@ -65,11 +61,11 @@ pub fn gather<M: Atomic, L: Listener>(
     let simulation = begin(alloc, network, until)?;
     let mut gathered = start(alloc, network, labels)?;
     let fault = follow(alloc, network, simulation, &mut gathered, listener)?;
-    Ok(ended(gathered, until, fault))
+    Ok(gathering_of(gathered, until, fault))
 }
 
 /// What is gathered of a run that ends so.
-fn ended(gathered: Gatherer, until: u64, fault: Option<Fault>) -> Gathering
+fn gathering_of(gathered: Gatherer, until: u64, fault: Option<Fault>) -> Gathering
     requires { BeforeEnd fault }
     ensures gathered { result.gathered ≡ gathered }
     ensures fault { result.fault ≡ fault }
@@ -86,7 +82,7 @@ fn ended(gathered: Gatherer, until: u64, fault: Option<Fault>) -> Gathering
     }
 }
 
-/// Makes the rounds of a run, each of whose records are gathered.
+/// Makes the rounds of a run, each of whose records are gathered. Refused as [`gather`] is, but for the end tick.
 fn follow<M: Atomic, L: Listener>(
     alloc: Global,
     network: &Network<M>,
@@ -96,10 +92,13 @@ fn follow<M: Atomic, L: Listener>(
 ) -> Result<Option<Fault>, AllocError>
     requires so_far { IsSimulating M.valid M.meaning network.now [] simulation }
     requires gathered { (starts : List (List ℤ)) × IsGathered starts [] gathered.old }
-    ensures gathered { (starts : List (List ℤ)) → IsGathered starts [] gathered.old
-        → OnOk result (IsGathered starts (sequential (network_of M.meaning network.now) simulation.until).records gathered.new) }
-    ensures measures { measures_of gathered.new.members.items ≡ measures_of gathered.old.members.items }
-    ensures fault { IfOk result (λ fault. fault ≡ (sequential (network_of M.meaning network.now) simulation.until).fault) }
+    ensures gathered { let run = sequential (network_of M.meaning network.now) simulation.until in
+        (starts : List (List ℤ)) → IsGathered starts [] gathered.old
+        → OnOk result (IsGathered starts run.records gathered.new) }
+    ensures measures { measures_of gathered.new.members.items
+        ≡ measures_of gathered.old.members.items }
+    ensures fault { let run = sequential (network_of M.meaning network.now) simulation.until in
+        IfOk result (λ fault. fault ≡ run.fault) }
 {
     network.facts();
     let mut outputs = Vec::new(alloc);
@@ -142,14 +141,15 @@ fn reached(round: &[Record], records: u64) -> Reached {
     }
 }
 
-/// Nothing gathered yet of the components of a network.
+/// Nothing gathered yet of the components of a network. Refused for want of memory (4).
 fn start<M: Atomic>(
     alloc: Global,
     network: &Network<M>,
     labels: &[Labels],
 ) -> Result<Gatherer, AllocError>
     requires { length labels.now ≡ length network.now.models }
-    ensures gathered { IfOk result (IsGathered (start_words (network_of M.meaning network.now)) []) }
+    ensures gathered { let net = network_of M.meaning network.now in
+        IfOk result (IsGathered (start_words net) []) }
     ensures measures { IfOk result (λ g. measures_of g.members.items ≡ measures_in labels.now) }
 {
     let mut gathered = Gatherer::new(alloc);
@@ -160,16 +160,18 @@ fn start<M: Atomic>(
     Ok(gathered)
 }
 
-/// One component more, in its start state.
+/// One component more, in its start state. Refused for want of memory (4).
 fn add<M: Atomic>(
     alloc: Global,
     model: &M,
     figures: &[Figure],
     gathered: &mut Gatherer,
 ) -> Result<(), AllocError>
-    ensures gathered { (starts : List (List ℤ)) → IsGathered starts [] gathered.old
-        → OnOk result (IsGathered (starts ++ (M.meaning model.now).words (M.meaning model.now).start ∷ []) [] gathered.new) }
-    ensures measures { OnOk result (measures_of gathered.new.members.items ≡ measures_of gathered.old.members.items ++ map (λ f. f.measure) figures.now ∷ []) }
+    ensures gathered { let means = M.meaning model.now in
+        (starts : List (List ℤ)) → IsGathered starts [] gathered.old
+        → OnOk result (IsGathered (starts ++ means.words means.start ∷ []) [] gathered.new) }
+    ensures measures { OnOk result (measures_of gathered.new.members.items
+        ≡ measures_of gathered.old.members.items ++ map (λ f. f.measure) figures.now ∷ []) }
 {
     let state = model.start(alloc)?;
     let mut words = Vec::new(alloc);

@@ -5,10 +5,9 @@ ghost use Rattle.tw_stats.specs.Gathering.{BeforeEnd};
 ghost use Rattle.tw_vtime.specs.Stamps.{never};
 
 use crate::decimals::add_thousandths;
-use crate::gathering::Labels;
 use crate::report::{Part, Report};
 use std::alloc::AllocError;
-use tw_figures::{Counts, Told};
+use tw_figures::{Counts, Labels, Sums, Told};
 use tw_texts::Names;
 use tw_vtime::{Limit, Stamp};
 
@@ -18,10 +17,10 @@ pub(crate) fn add_json<N: Names>(
     report: &Report,
     names: &N,
     labels: &[Labels],
-    until: u64,
 ) -> Result<(), AllocError>
     requires { BeforeEnd report.now.fault }
 {
+    let until = report.until;
     let records = report.records;
     let microsteps = report.microsteps;
     write!(
@@ -30,7 +29,7 @@ pub(crate) fn add_json<N: Names>(
     )?;
     for (component, (label, part)) in labels.iter().zip(report.parts.iter()).enumerate() {
         add_comma(text, component)?;
-        add_component(text, names.name(component), label, part)?;
+        add_component(text, names.name(component), label, part, report.ticks)?;
     }
     text.push_str("]")?;
     if let Some(fault) = report.fault {
@@ -53,6 +52,7 @@ fn add_component(
     name: &str,
     label: &Labels,
     part: &Part,
+    ticks: u64,
 ) -> Result<(), AllocError> {
     text.push_str("{\"name\":")?;
     add_string(text, name)?;
@@ -62,7 +62,7 @@ fn add_component(
     text.push_str(",\"figures\":[")?;
     for (place, (figure, told)) in label.figures.iter().zip(part.figures.iter()).enumerate() {
         add_comma(text, place)?;
-        add_figure(text, figure.name.as_str(), *told)?;
+        add_figure(text, figure.name.as_str(), *told, ticks)?;
     }
     text.push_str("]}")
 }
@@ -83,14 +83,15 @@ fn add_counts(text: &mut String, counts: Counts) -> Result<(), AllocError> {
     )
 }
 
-/// A figure.
-fn add_figure(text: &mut String, name: &str, told: Told) -> Result<(), AllocError> {
+/// A figure, with the sums behind its mean and its share: each a sum over so many ticks, and these.
+fn add_figure(text: &mut String, name: &str, told: Told, ticks: u64) -> Result<(), AllocError> {
     let Told {
         least,
         greatest,
         last,
         mean,
         busy,
+        sums,
     } = told;
     text.push_str("{\"name\":")?;
     add_string(text, name)?;
@@ -101,7 +102,11 @@ fn add_figure(text: &mut String, name: &str, told: Told) -> Result<(), AllocErro
     add_thousandths(text, mean)?;
     text.push_str(",\"busy\":")?;
     add_thousandths(text, busy)?;
-    text.push_str("}")
+    let Sums { sum, busy } = sums;
+    write!(
+        text,
+        ",\"mean_of\":[{sum},{ticks}],\"busy_of\":[{busy},{ticks}]}}"
+    )
 }
 
 /// The fault that ended the run.

@@ -1,22 +1,19 @@
 //! Counts and figures of a network's sequential run, told as tables or as JSON.
 //!
-//! - [`Labels`]: what a component's model is called, and its figures: data that the caller gives.
-//! - [`gather`]: simulates a network and gathers them, with the fault that ended the run. It keeps no record longer than a
-//!   round, so that it takes no more memory for a longer run.
-//! - [`report_of`]: the same, with all that is told of it: its contract says of which records each number is.
-//! - [`write_report`]: writes a report as text or as JSON; [`stats`] does both.
+//! - [`report_of`] (`report`): simulates a network and tells them, as a [`Report`]: its contract says of which records each number is.
+//!   They are gathered round by round (`gathering`); no record is kept longer than its round, so that a longer run takes no more
+//!   memory.
+//! - [`write_report`] (`written`): writes a report: as text (`text`), in aligned columns (`grid`), or as JSON (`json`). Means and shares
+//!   stand with three decimals (`decimals`).
 #![tactic(auto)]
 
 mod decimals;
 mod gathering;
 mod grid;
 mod json;
-mod refused;
 mod report;
 mod text;
 mod written;
 
-pub use gathering::{Gathering, Labels, gather};
-pub use refused::StatsRefused;
 pub use report::{Part, Report, report_of};
-pub use written::{stats, write_report};
+pub use written::write_report;

@@ -10,10 +10,10 @@ ghost use Rattle.tw_stats.specs.Gathering.{BeforeEnd, run_ticks, start_words};
 ghost use Rattle.tw_stats.specs.Reports.{AreTold, TellsFigure, TellsPart};
 ghost use Rattle.tw_vtime.specs.Stamps.{max_tick};
 
-use crate::gathering::{Gathering, Labels, gather};
+use crate::gathering::{Gathering, gather};
 use std::alloc::{AllocError, Global};
 use tw_atomic::Atomic;
-use tw_figures::{Counts, Course, Member, Told};
+use tw_figures::{Counts, Course, Labels, Member, Told};
 use tw_listen::Listener;
 use tw_network::Network;
 use tw_rounds::{Fault, SeqRefused};
@@ -32,6 +32,10 @@ pub struct Part {
 pub struct Report {
     /// The components, in order.
     pub parts: Vec<Part>,
+    /// The end tick.
+    pub until: u64,
+    /// The time that the figures are of, in ticks: up to the end tick, or to the tick of the fault that ended the run.
+    pub ticks: u64,
     /// How many records there are.
     pub records: u64,
     /// The greatest microstep of a record plus one; 0 where there is no record.
@@ -55,11 +59,18 @@ pub fn report_of<M: Atomic, L: Listener>(
     listener: &mut L,
 ) -> Result<Report, SeqRefused>
     requires { length labels.now ≡ length network.now.models }
-    ensures parts { let run = sequential (network_of M.meaning network.now) until in
-        IfOk result (λ r. AreTold labels.now (start_words (network_of M.meaning network.now)) run.records (run_ticks until run.fault) r.parts.items) }
-    ensures records { IfOk result (λ r. r.records ≡ length (sequential (network_of M.meaning network.now) until).records) }
-    ensures microsteps { IfOk result (λ r. IsAboveMicrosteps r.microsteps (sequential (network_of M.meaning network.now) until).records) }
-    ensures fault { IfOk result (λ r. r.fault ≡ (sequential (network_of M.meaning network.now) until).fault) }
+    ensures parts { let net = network_of M.meaning network.now in let run = sequential net until in
+        let ticks = run_ticks until run.fault in
+        IfOk result (λ r. AreTold labels.now (start_words net) run.records ticks r.parts.items) }
+    ensures until { IfOk result (λ r. r.until ≡ until) }
+    ensures ticks { let run = sequential (network_of M.meaning network.now) until in
+        IfOk result (λ r. r.ticks ≡ run_ticks until run.fault) }
+    ensures records { let run = sequential (network_of M.meaning network.now) until in
+        IfOk result (λ r. r.records ≡ length run.records) }
+    ensures microsteps { let run = sequential (network_of M.meaning network.now) until in
+        IfOk result (λ r. IsAboveMicrosteps r.microsteps run.records) }
+    ensures fault { let run = sequential (network_of M.meaning network.now) until in
+        IfOk result (λ r. r.fault ≡ run.fault) }
     ensures in_time { IfOk result (λ r. BeforeEnd r.fault) }
     ensures bad_tick { IsErrOf result BadTick ↔ (max_tick < until) }
 {
@@ -71,13 +82,15 @@ pub fn report_of<M: Atomic, L: Listener>(
     let parts = tell_all(alloc, gathered.members.as_slice(), ticks)?;
     Ok(Report {
         parts,
+        until,
+        ticks,
         records: gathered.records,
         microsteps: gathered.microsteps,
         fault,
     })
 }
 
-/// What is told of each component over so many ticks.
+/// What is told of each component over so many ticks. Refused for want of memory (4), or where a sum would pass its range (4).
 fn tell_all(alloc: Global, members: &[Member], ticks: u64) -> Result<Vec<Part>, AllocError>
     requires { All (λ m. All (λ c. c.since ≤ ticks) m.courses.items) members.now }
     ensures { IfOk result (λ parts. AllZip (TellsPart ticks) members.now parts.items) }
@@ -92,7 +105,7 @@ fn tell_all(alloc: Global, members: &[Member], ticks: u64) -> Result<Vec<Part>, 
     Ok(parts)
 }
 
-/// What is told of figures over so many ticks.
+/// What is told of figures over so many ticks. Refused for want of memory (4), or where a sum would pass its range (4).
 fn tell(alloc: Global, courses: &[Course], ticks: u64) -> Result<Vec<Told>, AllocError>
     requires { All (λ c. c.since ≤ ticks) courses.now }
     ensures { IfOk result (λ figures. AllZip (TellsFigure ticks) courses.now figures.items) }

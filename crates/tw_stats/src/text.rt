@@ -1,11 +1,10 @@
 //! A report as text: what it is of, the counts of the components, and their figures.
 
 use crate::decimals::add_thousandths;
-use crate::gathering::Labels;
 use crate::grid::Grid;
 use crate::report::Report;
 use std::alloc::{AllocError, Global};
-use tw_figures::{Counts, Told};
+use tw_figures::{Counts, Labels, Told};
 use tw_texts::Names;
 
 /// Adds a report to a text.
@@ -15,8 +14,8 @@ pub(crate) fn add_text<N: Names>(
     report: &Report,
     names: &N,
     labels: &[Labels],
-    until: u64,
 ) -> Result<(), AllocError> {
+    let until = report.until;
     let components = report.parts.len();
     let records = report.records;
     let microsteps = report.microsteps;

@@ -7,10 +7,10 @@ use std::alloc::Global;
 use std::process::Abort;
 use std::str::from_utf8;
 use tw_figure_names::labels_of;
+use tw_figures::{Labels, View};
 use tw_models::Model;
 use tw_network::Network;
-use tw_run_picture::{DrawRefused, View, draw};
-use tw_stats::Labels;
+use tw_run_picture::{DrawRefused, Subject, draw_run};
 use tw_texts::Names;
 
 /// What the pictures are called.
@@ -95,15 +95,18 @@ fn drawn(
         first: scene.names.first().copied().unwrap_or(""),
         other: scene.names.last().copied().unwrap_or(""),
     };
-    let view = View {
+    let subject = Subject {
         title: TITLE,
-        from: scene.from,
-        only: scene.only,
-        figure: scene.figure,
+        until: scene.until,
+        view: View {
+            from: scene.from,
+            only: scene.only,
+            figure: scene.figure,
+        },
     };
     let mut out = Vec::new(alloc);
     let labels = labels.as_slice();
-    let made = draw(alloc, network, &names, labels, scene.until, &view, &mut out);
+    let made = draw_run(alloc, network, &names, labels, &subject, &mut out);
     (out, made.err())
 }
 
@@ -178,15 +181,18 @@ fn draws_many_lanes(rt: HostRuntime) {
         first: "g",
         other: "h",
     };
-    let view = View {
+    let subject = Subject {
         title: TITLE,
-        from: 0,
-        only: None,
-        figure: None,
+        until: 5,
+        view: View {
+            from: 0,
+            only: None,
+            figure: None,
+        },
     };
     let mut out = Vec::new(rt.alloc());
     let labels = labels.as_slice();
-    let made = draw(rt.alloc(), &network, &names, labels, 5, &view, &mut out);
+    let made = draw_run(rt.alloc(), &network, &names, labels, &subject, &mut out);
     assert!(rt; made == Ok(None));
     assert_picture(&rt, out.as_slice(), &[128, 128, 0, 0, 0], "64 components");
 }

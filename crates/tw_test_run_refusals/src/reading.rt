@@ -3,7 +3,7 @@
 use crate::telling::tell_number;
 use std::alloc::{AllocError, Global};
 use tw_any_model::AnyModel;
-use tw_cli::{Job, NoJob, job};
+use tw_cli::{Job, NoJob, Task, job};
 use tw_file_faults::explain;
 use tw_file_network::{FileRefused, network_of_any_file};
 use tw_network::Network;
@@ -93,12 +93,14 @@ fn name_of(job: &Job<'_>) -> &'static str {
     match job {
         Job::Demo => "demo\n",
         Job::Check { .. } => "check\n",
-        Job::Seq { .. } => "seq\n",
-        Job::Stats { .. } => "stats\n",
-        Job::Table { .. } => "table\n",
-        Job::Draw { .. } => "draw\n",
-        Job::Run { .. } => "run\n",
-        Job::Play { .. } => "play\n",
+        Job::Simulate { task, .. } => match task {
+            Task::Seq { .. } => "seq\n",
+            Task::Stats { .. } => "stats\n",
+            Task::Table { .. } => "table\n",
+            Task::Draw { .. } => "draw\n",
+            Task::Run { .. } => "run\n",
+            Task::Play { .. } => "play\n",
+        },
     }
 }
 

@@ -6,12 +6,12 @@ ghost use Rattle.std.specs.Prelude.{◌==◌, if◌then◌else◌};
 use std::alloc::Global;
 use std::process::Abort;
 use tw_figure_names::labels_of;
-use tw_figures::mean;
-use tw_listen::Nobody;
+use tw_figures::{Labels, Rows, mean};
+use tw_listen::{Nobody, outcome_telling};
 use tw_models::Model;
 use tw_network::Network;
-use tw_record_lines::{Rows, table};
-use tw_stats::{Labels, stats};
+use tw_record_lines::{Table, write_table};
+use tw_stats::{report_of, write_report};
 use tw_texts::Names;
 
 /// The names of two components.
@@ -40,6 +40,8 @@ struct Scene {
     inputs: &'static [(u64, usize, u8, i64)],
     micro_limit: u64,
     until: u64,
+    // The component at whose fault the run ends.
+    fault: Option<usize>,
 }
 
 /// A generator and its tally.
@@ -52,6 +54,7 @@ static COUNTED: Scene = Scene {
     inputs: &[],
     micro_limit: 100,
     until: 5,
+    fault: None,
 };
 
 /// Two relays that send to each other.
@@ -64,6 +67,7 @@ static RELAYED: Scene = Scene {
     inputs: &[(3, 0, 0, 1)],
     micro_limit: 3,
     until: 10,
+    fault: Some(1),
 };
 
 /// The views of a network.
@@ -92,11 +96,11 @@ t          last        0         5     5  3.000  0.600
 ",
     json: "{\"until\":5,\"records\":6,\"microsteps\":1,\"components\":[\
 {\"name\":\"g\",\"model\":\"gen\",\"outputs\":2,\"sent\":2,\"received\":0,\"int\":2,\"ext\":0,\"con\":0,\"figures\":[\
-{\"name\":\"count\",\"least\":0,\"greatest\":2,\"last\":2,\"mean\":0.800,\"busy\":0.600}]},\
+{\"name\":\"count\",\"least\":0,\"greatest\":2,\"last\":2,\"mean\":0.800,\"busy\":0.600,\"mean_of\":[4,5],\"busy_of\":[3,5]}]},\
 {\"name\":\"t\",\"model\":\"tally\",\"outputs\":0,\"sent\":0,\"received\":2,\"int\":0,\"ext\":2,\"con\":0,\"figures\":[\
-{\"name\":\"count\",\"least\":0,\"greatest\":2,\"last\":2,\"mean\":0.800,\"busy\":0.600},\
-{\"name\":\"sum\",\"least\":0,\"greatest\":10,\"last\":10,\"mean\":4.000,\"busy\":0.600},\
-{\"name\":\"last\",\"least\":0,\"greatest\":5,\"last\":5,\"mean\":3.000,\"busy\":0.600}]}]}\n",
+{\"name\":\"count\",\"least\":0,\"greatest\":2,\"last\":2,\"mean\":0.800,\"busy\":0.600,\"mean_of\":[4,5],\"busy_of\":[3,5]},\
+{\"name\":\"sum\",\"least\":0,\"greatest\":10,\"last\":10,\"mean\":4.000,\"busy\":0.600,\"mean_of\":[20,5],\"busy_of\":[3,5]},\
+{\"name\":\"last\",\"least\":0,\"greatest\":5,\"last\":5,\"mean\":3.000,\"busy\":0.600,\"mean_of\":[15,5],\"busy_of\":[3,5]}]}]}\n",
     records: "\
 tick,microstep,component,kind,items,words
 2,0,g,out,0=5,
@@ -144,11 +148,11 @@ b          held         0         1     0  0.000  0.000
 ",
     json: "{\"until\":10,\"records\":8,\"microsteps\":4,\"components\":[\
 {\"name\":\"a\",\"model\":\"relay\",\"outputs\":2,\"sent\":2,\"received\":2,\"int\":1,\"ext\":2,\"con\":0,\"figures\":[\
-{\"name\":\"dropped\",\"least\":0,\"greatest\":0,\"last\":0,\"mean\":0.000,\"busy\":0.000},\
-{\"name\":\"held\",\"least\":0,\"greatest\":1,\"last\":1,\"mean\":0.000,\"busy\":0.000}]},\
+{\"name\":\"dropped\",\"least\":0,\"greatest\":0,\"last\":0,\"mean\":0.000,\"busy\":0.000,\"mean_of\":[0,3],\"busy_of\":[0,3]},\
+{\"name\":\"held\",\"least\":0,\"greatest\":1,\"last\":1,\"mean\":0.000,\"busy\":0.000,\"mean_of\":[0,3],\"busy_of\":[0,3]}]},\
 {\"name\":\"b\",\"model\":\"relay\",\"outputs\":1,\"sent\":1,\"received\":1,\"int\":1,\"ext\":1,\"con\":0,\"figures\":[\
-{\"name\":\"dropped\",\"least\":0,\"greatest\":0,\"last\":0,\"mean\":0.000,\"busy\":0.000},\
-{\"name\":\"held\",\"least\":0,\"greatest\":1,\"last\":0,\"mean\":0.000,\"busy\":0.000}]}],\
+{\"name\":\"dropped\",\"least\":0,\"greatest\":0,\"last\":0,\"mean\":0.000,\"busy\":0.000,\"mean_of\":[0,3],\"busy_of\":[0,3]},\
+{\"name\":\"held\",\"least\":0,\"greatest\":1,\"last\":0,\"mean\":0.000,\"busy\":0.000,\"mean_of\":[0,3],\"busy_of\":[0,3]}]}],\
 \"fault\":{\"component\":\"b\",\"tick\":3,\"microstep\":3,\"limit\":\"microstep\"}}\n",
     records: "\
 tick,microstep,component,kind,items,words
@@ -221,23 +225,16 @@ fn assert_stats(
     scene: &Scene,
     json: bool,
     wanted: &str,
-    fault: Option<usize>,
 ) {
     let labels = labels(rt, alloc, network);
     assert!(rt; labels.len() == network.len());
+    let labels = labels.as_slice();
+    let report = report_of(alloc, network, labels, scene.until, &mut Nobody);
+    let report = report.ok().expect(rt, "a report");
+    assert!(rt; report.fault.map(|met| met.component) == scene.fault);
     let mut out = Vec::new(alloc);
-    let ended = stats(
-        alloc,
-        network,
-        &scene.names,
-        labels.as_slice(),
-        scene.until,
-        json,
-        &mut Nobody,
-        &mut out,
-    );
-    let met = ended.ok().expect(rt, "a view");
-    assert!(rt; met.map(|met| met.component) == fault);
+    let written = write_report(alloc, &report, &scene.names, labels, json, &mut out);
+    assert!(rt; written.is_ok());
     assert!(rt; out.as_slice() == wanted.as_bytes());
 }
 
@@ -249,20 +246,17 @@ fn assert_table(
     scene: &Scene,
     rows: Rows,
     wanted: &str,
-    fault: Option<usize>,
 ) {
+    let met = outcome_telling(alloc, network, scene.until, &mut Nobody);
+    let met = met.ok().expect(rt, "an outcome");
+    assert!(rt; met.map(|met| met.component) == scene.fault);
     let mut out = Vec::new(alloc);
-    let ended = table(
-        alloc,
-        network,
-        &scene.names,
-        scene.until,
+    let lines = Table {
         rows,
-        &mut Nobody,
-        &mut out,
-    );
-    let met = ended.ok().expect(rt, "a table");
-    assert!(rt; met.map(|met| met.component) == fault);
+        names: &scene.names,
+    };
+    let written = write_table(alloc, network, scene.until, &lines, &mut Nobody, &mut out);
+    assert!(rt; written.is_ok());
     assert!(rt; out.as_slice() == wanted.as_bytes());
 }
 
@@ -273,44 +267,19 @@ fn assert_tables(
     network: &Network<Model>,
     scene: &Scene,
     wanted: &Wanted,
-    fault: Option<usize>,
 ) {
-    assert_table(
-        rt,
-        alloc,
-        network,
-        scene,
-        Rows::Records,
-        wanted.records,
-        fault,
-    );
-    assert_table(rt, alloc, network, scene, Rows::Items, wanted.items, fault);
-    assert_table(rt, alloc, network, scene, Rows::Words, wanted.words, fault);
+    assert_table(rt, alloc, network, scene, Rows::Records, wanted.records);
+    assert_table(rt, alloc, network, scene, Rows::Items, wanted.items);
+    assert_table(rt, alloc, network, scene, Rows::Words, wanted.words);
 }
 
 #[test]
 fn shows_a_generator_and_its_tally(rt: HostRuntime) {
     let first = Model::generator(2, 5).ok().expect(&rt, "a generator");
     let network = network(&rt, rt.alloc(), &COUNTED, first, Model::Tally);
-    assert_stats(
-        &rt,
-        rt.alloc(),
-        &network,
-        &COUNTED,
-        false,
-        GEN_TALLY.text,
-        None,
-    );
-    assert_stats(
-        &rt,
-        rt.alloc(),
-        &network,
-        &COUNTED,
-        true,
-        GEN_TALLY.json,
-        None,
-    );
-    assert_tables(&rt, rt.alloc(), &network, &COUNTED, &GEN_TALLY, None);
+    assert_stats(&rt, rt.alloc(), &network, &COUNTED, false, GEN_TALLY.text);
+    assert_stats(&rt, rt.alloc(), &network, &COUNTED, true, GEN_TALLY.json);
+    assert_tables(&rt, rt.alloc(), &network, &COUNTED, &GEN_TALLY);
 }
 
 #[test]
@@ -318,25 +287,9 @@ fn shows_relays_up_to_a_fault(rt: HostRuntime) {
     let first = Model::relay(0).ok().expect(&rt, "a relay");
     let second = Model::relay(0).ok().expect(&rt, "a relay");
     let network = network(&rt, rt.alloc(), &RELAYED, first, second);
-    assert_stats(
-        &rt,
-        rt.alloc(),
-        &network,
-        &RELAYED,
-        false,
-        RELAYS.text,
-        Some(1),
-    );
-    assert_stats(
-        &rt,
-        rt.alloc(),
-        &network,
-        &RELAYED,
-        true,
-        RELAYS.json,
-        Some(1),
-    );
-    assert_tables(&rt, rt.alloc(), &network, &RELAYED, &RELAYS, Some(1));
+    assert_stats(&rt, rt.alloc(), &network, &RELAYED, false, RELAYS.text);
+    assert_stats(&rt, rt.alloc(), &network, &RELAYED, true, RELAYS.json);
+    assert_tables(&rt, rt.alloc(), &network, &RELAYED, &RELAYS);
 }
 
 /// A half is rounded up, towards greater.

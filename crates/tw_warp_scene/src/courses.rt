@@ -30,9 +30,9 @@ pub(crate) fn draw_courses(
     for component in scene.shown.as_slice() {
         draw_course(svg, alloc, scene, plan, *component)?;
     }
-    for (place, acted) in scene.seen.actions.iter().enumerate() {
+    for (action, acted) in scene.seen.actions.iter().enumerate() {
         if acted.is_refused() {
-            draw_refused(svg, alloc, scene, plan, place.saturating_add(1), acted)?;
+            draw_refused(svg, alloc, scene, plan, action, acted)?;
         }
     }
     Ok(())
@@ -47,7 +47,7 @@ fn draw_course(
 ) -> Result<(), AllocError> {
     let mut course = Course {
         component,
-        spot: plan.spot(0, component, None),
+        spot: Spot::new(plan.left, plan.y_of(component, None)),
         stays: Path::new(alloc),
         gone: Path::new(alloc),
         marks: Svg::new(alloc),

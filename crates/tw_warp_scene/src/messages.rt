@@ -2,7 +2,7 @@
 
 use crate::looks::{Shade, class_if, classes, draw_coin};
 use crate::plan::{Plan, counted};
-use crate::scene::Scene;
+use crate::scene::{Scene, number_of};
 use std::alloc::{AllocError, Global};
 use tw_msgs::Sign;
 use tw_svg::{Path, Points, Spot, Svg};
@@ -114,7 +114,7 @@ fn told_of(alloc: Global, scene: &Scene, carried: &Carried) -> Result<String, Al
     let port = message.port;
     let value = message.value;
     let stamp = message.stamp;
-    let made = carried.sending.action;
+    let made = number_of(carried.sending.action);
     let end = match carried.delivered {
         Some(action) => scene.told(action),
         None => "not delivered",

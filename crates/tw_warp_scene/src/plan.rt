@@ -99,12 +99,10 @@ impl Plan {
         self.count <= 40
     }
 
-    /// How far right the action of a number stands; number 0 is the beginning.
+    /// How far right the action at a place stands; the beginning is as far to the left of the first as actions are apart.
     pub(crate) fn x(&self, action: usize) -> Points {
-        self.left
-            + self
-                .span
-                .share(counted(action), self.count.saturating_add(1))
+        let before = counted(action).saturating_add(1);
+        self.left + self.span.share(before, self.count.saturating_add(1))
     }
 
     /// How far right of its action the fall of this rank stands, of those that are by one action.

@@ -56,9 +56,9 @@ impl Scene {
 
     /// Tells each action.
     fn tell(&mut self, alloc: Global) -> Result<(), AllocError> {
-        for (place, acted) in self.seen.actions.iter().enumerate() {
+        for (action, acted) in self.seen.actions.iter().enumerate() {
             let words = words_of(alloc, self.names.as_slice(), acted.command)?;
-            let told = told_of(alloc, place, words.as_str(), acted)?;
+            let told = told_of(alloc, action, words.as_str(), acted)?;
             self.words.push(words)?;
             self.told.push(told)?;
         }
@@ -80,23 +80,28 @@ impl Scene {
         cut(alloc, self.name(component), NAME)
     }
 
-    /// Whether the action of a number is a rewind.
+    /// Whether the action at a place is a rewind.
     pub(crate) fn is_rewind(&self, action: usize) -> bool {
         self.seen
             .actions
-            .get(action.saturating_sub(1))
+            .get(action)
             .is_some_and(|acted| acted.command == Command::Rewind)
     }
 
     /// What the action at a place says.
-    pub(crate) fn words(&self, place: usize) -> &str {
-        name_in(self.words.as_slice(), place)
+    pub(crate) fn words(&self, action: usize) -> &str {
+        name_in(self.words.as_slice(), action)
     }
 
-    /// What is told of the action of a number.
+    /// What is told of the action at a place.
     pub(crate) fn told(&self, action: usize) -> &str {
-        name_in(self.told.as_slice(), action.saturating_sub(1))
+        name_in(self.told.as_slice(), action)
     }
+}
+
+/// The number of the action at a place, as it is printed: the first is 1.
+pub(crate) fn number_of(action: usize) -> usize {
+    action.saturating_add(1)
 }
 
 /// The text at a place; past the last nothing.
@@ -178,8 +183,8 @@ fn push_back(text: &mut String, name: &str, stamp: Stamp) -> Result<(), AllocErr
 }
 
 /// What is told of an action: its number, its words and its reply.
-fn told_of(alloc: Global, place: usize, words: &str, acted: &Acted) -> Result<String, AllocError> {
-    let number = place.saturating_add(1);
+fn told_of(alloc: Global, action: usize, words: &str, acted: &Acted) -> Result<String, AllocError> {
+    let number = number_of(action);
     let mut text = String::new(alloc);
     write!(&mut text, "{number}: {words} \u{2192} ")?;
     push_reply(&mut text, acted.reply)?;

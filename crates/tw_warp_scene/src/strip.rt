@@ -2,7 +2,7 @@
 
 use crate::looks::{Shade, add_figure, class_if, classes};
 use crate::plan::{Plan, counted};
-use crate::scene::Scene;
+use crate::scene::{Scene, number_of};
 use std::alloc::{AllocError, Global};
 use tw_svg::{Path, Points, Spot, Svg, tick_text};
 use tw_warp_watch::Acted;
@@ -66,17 +66,12 @@ pub(crate) fn draw_strip(
     plan: &Plan,
 ) -> Result<Points, AllocError> {
     let top = plan.base + Points::whole(12);
-    for (place, acted) in scene.seen.actions.iter().enumerate() {
-        let action = place.saturating_add(1);
-        draw_stroke(
-            svg,
-            alloc,
-            scene,
-            Spot::new(plan.x(action), top),
-            plan,
-            action,
-            acted,
-        )?;
+    for (action, acted) in scene.seen.actions.iter().enumerate() {
+        let spot = Spot::new(plan.x(action), top);
+        let path = stroke(alloc, spot)?;
+        let class = class_of(alloc, acted)?;
+        let wide = plan.pitch.share(6, 10).least(Points::whole(3));
+        svg.wide_path(class.as_str(), &path, wide, Some(scene.told(action)))?;
     }
     if plan.is_short() {
         return draw_words(svg, scene, plan, top);
@@ -85,26 +80,22 @@ pub(crate) fn draw_strip(
     Ok(top + Points::whole(34))
 }
 
-fn draw_stroke(
-    svg: &mut Svg,
-    alloc: Global,
-    scene: &Scene,
-    spot: Spot,
-    plan: &Plan,
-    action: usize,
-    acted: &Acted,
-) -> Result<(), AllocError> {
+/// The stroke of an action.
+fn stroke(alloc: Global, spot: Spot) -> Result<Path, AllocError> {
+    let mut path = Path::new(alloc);
+    path.start(spot)?;
+    path.by_down(Points::whole(8))?;
+    Ok(path)
+}
+
+/// Its class: the shade of its component, and whether it was refused.
+fn class_of(alloc: Global, acted: &Acted) -> Result<String, AllocError> {
     let shade = match acted.component() {
         Some(component) => Shade::Of(component),
         None => Shade::Plain,
     };
     let gone = class_if(acted.is_refused(), "gone");
-    let class = classes(alloc, &[shade.drawn(), gone])?;
-    let mut path = Path::new(alloc);
-    path.start(spot)?;
-    path.by_down(Points::whole(8))?;
-    let wide = plan.pitch.share(6, 10).least(Points::whole(3));
-    svg.wide_path(class.as_str(), &path, wide, Some(scene.told(action)))
+    classes(alloc, &[shade.drawn(), gone])
 }
 
 /// The words of each action, from the lower left.
@@ -115,10 +106,10 @@ fn draw_words(
     top: Points,
 ) -> Result<Points, AllocError> {
     let mut letters = 1;
-    for place in 0..scene.seen.actions.len() {
-        let words = scene.words(place);
+    for action in 0..scene.seen.actions.len() {
+        let words = scene.words(action);
         letters = letters.max(words.chars().count());
-        let x = plan.x(place.saturating_add(1)) + Points::whole(3);
+        let x = plan.x(action) + Points::whole(3);
         let spot = Spot::new(x, top + Points::whole(18));
         svg.turned(spot, -48, "m s r", words, None)?;
     }
@@ -131,10 +122,11 @@ fn draw_numbers(svg: &mut Svg, alloc: Global, plan: &Plan, top: Points) -> Resul
     let x = plan.left - Points::whole(8);
     svg.text(Spot::new(x, y), "s r", "action", None)?;
     let step = step_of(plan);
-    for number in 1..usize::try_from(plan.count).unwrap_or(0).saturating_add(1) {
+    for action in 0..usize::try_from(plan.count).unwrap_or(0) {
+        let number = number_of(action);
         if number.checked_rem(step).unwrap_or(1) == 0 {
             let words = tick_text(alloc, number as u64)?;
-            svg.text(Spot::new(plan.x(number), y), "s q", words.as_str(), None)?;
+            svg.text(Spot::new(plan.x(action), y), "s q", words.as_str(), None)?;
         }
     }
     Ok(())

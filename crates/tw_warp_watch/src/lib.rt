@@ -5,6 +5,13 @@
 //! them were undone later; the falls of its rollbacks; the messages and anti-messages, from the action that made them to their
 //! delivery; the rises of global virtual time; what was committed. At most [`MOST_ACTIONS`] are watched. Want of memory is the
 //! only refusal (4).
+//!
+//! | File | Says |
+//! |---|---|
+//! | `seen` | what is seen of a run ([`Seen`]): plain data; an action is told by its place in the list of all |
+//! | `watching` | a player that obeys, and is watched ([`watch_script`], [`watch_seed`]) |
+//! | `notes` | what came of each action, noted; `lane`: what is kept of one component for that |
+//! | `reading` | what is read of a component: where it stands, what it keeps, what it sends |
 #![tactic(auto)]
 
 mod lane;
@@ -13,5 +20,7 @@ mod reading;
 mod seen;
 mod watching;
 
-pub use seen::{Acted, Carried, Cause, Committed, Fallen, Move, Risen, Seen, Sending, Stepped};
-pub use watching::{MOST_ACTIONS, watch_script, watch_seed};
+pub use seen::{
+    Acted, Carried, Cause, Committed, Fallen, MOST_ACTIONS, Move, Risen, Seen, Sending, Stepped,
+};
+pub use watching::{watch_script, watch_seed};

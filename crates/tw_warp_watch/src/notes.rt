@@ -3,9 +3,9 @@
 use crate::lane::Lane;
 use crate::reading::{history_len, line, mail, outgoing, outgoing_len, place};
 use crate::seen::{
-    Acted, Carried, Cause, Committed, Fallen, Move, Risen, Seen, Sending, Stepped, component_of,
+    Acted, Carried, Cause, Committed, Fallen, MOST_ACTIONS, Move, Risen, Seen, Sending, Stepped,
+    component_of,
 };
-use crate::watching::MOST_ACTIONS;
 use std::alloc::{AllocError, Global};
 use tw_actions::Received;
 use tw_atomic::Atomic;
@@ -68,7 +68,7 @@ impl Notes {
         self.seen.actions.len() >= MOST_ACTIONS
     }
 
-    /// Notes a command with its reply, and where its component stands then. The number of the action.
+    /// Notes a command with its reply, and where its component stands then, and answers the place of the action.
     pub(crate) fn act<M: Atomic>(
         &mut self,
         executive: &Executive<M>,
@@ -79,25 +79,28 @@ impl Notes {
             Command::Act(action) => place_after(executive, action),
             _ => None,
         };
+        let place = self.seen.actions.len();
         self.seen.actions.push(Acted {
             command: *command,
             reply: *reply,
             place: stands,
         })?;
-        Ok(self.seen.actions.len())
+        Ok(place)
     }
 
-    /// Notes what an action did, where it was not refused.
+    /// Notes what the action at a place did, where it was not refused.
     pub(crate) fn note<M: Atomic>(
         &mut self,
         alloc: Global,
         executive: &Executive<M>,
         action: usize,
         before: &Before,
-        command: Command,
         done: Done,
     ) -> Result<(), AllocError> {
-        match command {
+        let Some(acted) = self.seen.actions.get(action) else {
+            return Ok(());
+        };
+        match acted.command {
             Command::Act(Action::Step(component)) => {
                 self.step(executive, action, component, done)
             }

@@ -7,6 +7,9 @@ use tw_msgs::Item;
 use tw_script::Command;
 use tw_vtime::Stamp;
 
+/// As many actions are watched.
+pub const MOST_ACTIONS: usize = 2_000;
+
 /// An action, a mark or a rewind, and what was replied.
 #[derive(Clone, Copy, Debug)]
 pub struct Acted {
@@ -48,7 +51,7 @@ pub(crate) fn component_of(action: Action) -> Option<usize> {
 /// A step.
 #[derive(Clone, Copy, Debug)]
 pub struct Stepped {
-    /// The number of its action.
+    /// The place of its action among [`Seen::actions`].
     pub action: usize,
     /// The component that made it.
     pub component: usize,
@@ -79,7 +82,7 @@ pub enum Cause {
 /// A rollback: the fall of a component.
 #[derive(Clone, Copy, Debug)]
 pub struct Fallen {
-    /// The number of its action.
+    /// The place of its action among [`Seen::actions`].
     pub action: usize,
     /// The component that fell.
     pub component: usize,
@@ -107,7 +110,7 @@ pub enum Move {
 /// Where an item comes from.
 #[derive(Clone, Copy, Debug)]
 pub struct Sending {
-    /// The number of the action that made it: a step, a rollback, or the Post that settled what was owed.
+    /// The place of the action that made it: a step, a rollback, or the Post that settled what was owed.
     pub action: usize,
     /// The sender.
     pub component: usize,
@@ -122,14 +125,14 @@ pub struct Carried {
     pub item: Item,
     /// Where it comes from.
     pub sending: Sending,
-    /// The number of the action that delivered it, where one did.
+    /// The place of the action that delivered it, where one did.
     pub delivered: Option<usize>,
 }
 
 /// A rise of global virtual time.
 #[derive(Clone, Copy, Debug)]
 pub struct Risen {
-    /// The number of its action.
+    /// The place of its action among [`Seen::actions`].
     pub action: usize,
     /// Global virtual time from then on.
     pub gvt: Stamp,
@@ -138,7 +141,7 @@ pub struct Risen {
 /// A harvest that committed a record or more.
 #[derive(Clone, Copy, Debug)]
 pub struct Committed {
-    /// The number of its action.
+    /// The place of its action among [`Seen::actions`].
     pub action: usize,
     /// The component.
     pub component: usize,
@@ -151,7 +154,7 @@ pub struct Committed {
 /// What is seen of a run. Each list is in the order in which things happened.
 #[derive(Debug, Drop)]
 pub struct Seen {
-    /// The actions; the first is number 1.
+    /// The actions. Elsewhere an action is told by its place here, from 0.
     pub actions: Vec<Acted>,
     /// The steps.
     pub steps: Vec<Stepped>,

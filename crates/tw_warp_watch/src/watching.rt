@@ -1,7 +1,7 @@
 //! A player is watched while it obeys.
 
 use crate::notes::{Before, Notes};
-use crate::seen::Seen;
+use crate::seen::{MOST_ACTIONS, Seen};
 use std::alloc::{AllocError, Global};
 use tw_atomic::Atomic;
 use tw_exec::Refused;
@@ -9,9 +9,6 @@ use tw_inspect::Reply;
 use tw_play::{Player, Response};
 use tw_script::Command;
 use tw_seeded::Schedule;
-
-/// As many actions are watched.
-pub const MOST_ACTIONS: usize = 2_000;
 
 /// Has a player obey commands, and notes what came of each. What is to be shown is left out, and counts for no action. After
 /// [`MOST_ACTIONS`] actions no more are played.
@@ -34,7 +31,7 @@ pub fn watch_script<M: Atomic>(
         }
         watch(alloc, player, &mut notes, command)?;
     }
-    ended(player, notes)
+    end_of(player, notes)
 }
 
 /// Has a player take so many actions that a seed gives, none where there are no components, and notes what came of each. After
@@ -59,7 +56,7 @@ pub fn watch_seed<M: Atomic>(
         }
         watch(alloc, player, &mut notes, &Command::Act(action))?;
     }
-    ended(player, notes)
+    end_of(player, notes)
 }
 
 /// Whether a command changes nothing.
@@ -81,14 +78,14 @@ fn watch<M: Atomic>(
     let executive = player.executive();
     let action = notes.act(executive, command, &reply)?;
     match reply {
-        Reply::Done(done) => notes.note(alloc, executive, action, &before, *command, done),
+        Reply::Done(done) => notes.note(alloc, executive, action, &before, done),
         Reply::Refused(Refused::OutOfMemory) => Err(AllocError),
         _ => Ok(()),
     }
 }
 
 /// What was seen, with how things stand at the end.
-fn ended<M: Atomic>(player: &Player<M>, mut notes: Notes) -> Result<Seen, AllocError> {
+fn end_of<M: Atomic>(player: &Player<M>, mut notes: Notes) -> Result<Seen, AllocError> {
     notes.end(player.executive())?;
     Ok(notes.seen)
 }

@@ -23,8 +23,11 @@ use tw_progress::while_telling;
 use tw_vtime::Refusal;
 use tw_workers::{Effort, Open, Outcome, Setting, run_counted};
 
-/// The records and the fault of the sequential run of an executive's network, made by workers. With `progress` it tells how far it is, and at the end what it spent.
-pub fn worked<R: Threads + Wait + Clock + Eprint + Sync>(
+/// Runs an executive by workers, and answers the records and the fault of its network's sequential run. With `progress` it tells on
+/// standard error how far it is, and at the end what it spent.
+///
+/// Refused where a process would hold too many nodes (12), and for want of memory (4).
+pub fn run_by_workers<R: Threads + Wait + Clock + Eprint + Sync>(
     rt: &R,
     alloc: Global,
     executive: Executive<AnyModel>,
@@ -32,13 +35,15 @@ pub fn worked<R: Threads + Wait + Clock + Eprint + Sync>(
     progress: bool,
 ) -> Result<(Vec<Record>, Option<Fault>), Refusal>
     requires { IsSet setting }
-    ensures records { IfOk result (λ made. made.0.items ≡ (sequential (network_of any_meaning executive.network) executive.until).records) }
-    ensures fault { IfOk result (λ made. made.1 ≡ (sequential (network_of any_meaning executive.network) executive.until).fault) }
+    ensures records { let run = sequential (network_of any_meaning executive.network) executive.until in
+        IfOk result (λ made. made.0.items ≡ run.records) }
+    ensures fault { let run = sequential (network_of any_meaning executive.network) executive.until in
+        IfOk result (λ made. made.1 ≡ run.fault) }
     ensures err { IfErr result (λ why. (why ≡ refusal.OutOfMemory) ⊎ (why ≡ refusal.Full)) }
 {
     executive.facts();
     outcome_law::<AnyState>();
-    let (ended, effort) = outcome(rt, alloc, executive, setting, progress);
+    let (ended, effort) = run_told(rt, alloc, executive, setting, progress);
     if progress {
         tell_effort(rt, &ended, effort);
     }
@@ -50,7 +55,7 @@ pub fn worked<R: Threads + Wait + Clock + Eprint + Sync>(
 }
 
 /// How the workers' run of an executive ends. It posts on a board of its own, and tells how far it is where that is asked for.
-fn outcome<R: Threads + Wait + Clock + Eprint + Sync>(
+fn run_told<R: Threads + Wait + Clock + Eprint + Sync>(
     rt: &R,
     alloc: Global,
     executive: Executive<AnyModel>,
@@ -65,7 +70,7 @@ fn outcome<R: Threads + Wait + Clock + Eprint + Sync>(
         return (Err(Refusal::OutOfMemory), Effort::nothing());
     };
     if !progress {
-        return posted(rt, alloc, executive, setting, publisher);
+        return run_posting(rt, alloc, executive, setting, publisher);
     }
     let Ok(reader) = board.reader() else {
         return (Err(Refusal::OutOfMemory), Effort::nothing());
@@ -79,13 +84,14 @@ fn outcome<R: Threads + Wait + Clock + Eprint + Sync>(
             requires not_ahead { IsNotAhead publisher executive }
             requires set { IsSet setting }
             ensures outcome { IfOk result.0 (IsEnd any_meaning executive.network executive.until) }
-            ensures err { IfErr result.0 (λ why. (why ≡ refusal.OutOfMemory) ⊎ (why ≡ refusal.Full)) }
-        { posted(rt, alloc, executive, setting, publisher) },
+            ensures err { IfErr result.0
+                (λ why. (why ≡ refusal.OutOfMemory) ⊎ (why ≡ refusal.Full)) }
+        { run_posting(rt, alloc, executive, setting, publisher) },
     )
 }
 
 /// How the workers' run of an executive ends, which posts how far it is.
-fn posted<R: Threads + Wait + Sync>(
+fn run_posting<R: Threads + Wait + Sync>(
     rt: &R,
     alloc: Global,
     executive: Executive<AnyModel>,

@@ -14,7 +14,7 @@ use std::sync::Wait;
 use std::thread::Threads;
 use std::time::Clock;
 use std::{env, io};
-use tw_cli::{Driver, Job, NoJob, Picture, job};
+use tw_cli::{Driver, Job, NoJob, Picture, Task, job};
 use tw_engine::{Exit, engine};
 use tw_vtime::Refusal;
 
@@ -55,30 +55,34 @@ fn do_job<T: Threads + Wait + Clock + Eprint + Sync>(
 ) -> Exit {
     let mut net = match job {
         Job::Demo => Source::Missing(ErrorKind::NotFound),
-        Job::Check { net }
-        | Job::Seq { net, .. }
-        | Job::Stats { net, .. }
-        | Job::Table { net, .. }
-        | Job::Draw { net, .. }
-        | Job::Run { net, .. }
-        | Job::Play { net, .. } => Source::from(File::open(rt, *net)),
+        Job::Check { net } | Job::Simulate { net, .. } => Source::from(File::open(rt, *net)),
     };
-    let mut script = match job {
-        Job::Play {
+    let mut script = match script_of(job) {
+        Some(path) => Source::from(File::open(rt, path)),
+        None => Source::Missing(ErrorKind::NotFound),
+    };
+    let mut out = io::writer(rt);
+    engine(threads, rt.alloc(), job, &mut net, &mut script, &mut out)
+}
+
+/// The path of the script that a job is driven by, if it is.
+fn script_of<'a>(job: &Job<'a>) -> Option<&'a str> {
+    let Job::Simulate { task, .. } = job else {
+        return None;
+    };
+    match task {
+        Task::Play {
             driver: Driver::Script(path),
             ..
         }
-        | Job::Draw {
+        | Task::Draw {
             picture: Picture::Warp {
                 driver: Driver::Script(path),
                 ..
             },
-            ..
-        } => Source::from(File::open(rt, *path)),
-        _ => Source::Missing(ErrorKind::NotFound),
-    };
-    let mut out = io::writer(rt);
-    engine(threads, rt.alloc(), job, &mut net, &mut script, &mut out)
+        } => Some(*path),
+        _ => None,
+    }
 }
 
 /// Writes the line for standard error, and answers the status. Where standard error is gone, the status

@@ -40,13 +40,18 @@ fn push_stamp(text: &mut String, stamp: Option<Stamp>) -> Result<(), AllocError>
     }
 }
 
+/// The number of the action at a place: the first is 1.
+fn number(place: usize) -> usize {
+    place.saturating_add(1)
+}
+
 fn push_fall(text: &mut String, fallen: &Fallen) -> Result<(), AllocError> {
     let cause = match fallen.cause {
         Cause::Straggler => "straggler",
         Cause::AntiMessage => "anti",
         Cause::Back => "back",
     };
-    let action = fallen.action;
+    let action = number(fallen.action);
     let component = fallen.component;
     write!(text, "fall {action} of {component} {cause} to")?;
     push_stamp(text, fallen.to)?;
@@ -61,7 +66,7 @@ fn push_carried(text: &mut String, carried: &Carried) -> Result<(), AllocError> 
         Sign::Positive => "+",
         Sign::Anti => "-",
     };
-    let made = carried.sending.action;
+    let made = number(carried.sending.action);
     let from = carried.sending.component;
     let to = carried.item.message.to;
     let value = carried.item.message.value;
@@ -69,19 +74,22 @@ fn push_carried(text: &mut String, carried: &Carried) -> Result<(), AllocError> 
     write!(text, "{sign} {made} of {from} to {to} {value} at {at} by")?;
     push_stamp(text, carried.sending.step)?;
     match carried.delivered {
-        Some(action) => write!(text, " delivered {action}\n"),
+        Some(place) => {
+            let action = number(place);
+            write!(text, " delivered {action}\n")
+        }
         None => text.push_str(" not delivered\n"),
     }
 }
 
 fn push_final(text: &mut String, seen: &Seen) -> Result<(), AllocError> {
     for risen in seen.rises.as_slice() {
-        let action = risen.action;
+        let action = number(risen.action);
         let gvt = risen.gvt;
         write!(text, "rise {action} to {gvt}\n")?;
     }
     for commit in seen.commits.as_slice() {
-        let action = commit.action;
+        let action = number(commit.action);
         let component = commit.component;
         let from = commit.from;
         let to = commit.to;
@@ -93,7 +101,7 @@ fn push_final(text: &mut String, seen: &Seen) -> Result<(), AllocError> {
 fn push_refused(text: &mut String, seen: &Seen) -> Result<(), AllocError> {
     for (place, acted) in seen.actions.iter().enumerate() {
         if acted.is_refused() {
-            let action = place.saturating_add(1);
+            let action = number(place);
             write!(text, "refused {action} at")?;
             push_stamp(text, acted.place)?;
             text.push_str("\n")?;

@@ -1,22 +1,16 @@
-use Rattle.std.proofs.Common.{◌≡◌, ◌∙◌, rules, codes, None, Some}
-use Rattle.clap.specs.Words.{first_of, found_of, rows_of}
-use Rattle.tw_cli.proofs.Missing.{no_run}
+use Rattle.std.proofs.Common.{codes}
+use Rattle.clap.specs.Words.{found_of, rows_of}
+use Rattle.tw_cli.proofs.Missing.{Needs, run_letters, needs_met}
 use Rattle.tw_cli.proofs.command_line.run_in.Goals as goal
 
-pub returns-in_err-net-clause-none : goal.returns-in_err-net-clause-none
-returns-in_err-net-clause-none c =
-    let none : None ≡ first_of (codes "net") (rows_of (found_of c.args.options.now)) = search rules in
-    rw c.from_residual.ensures (no_run (rows_of (found_of c.args.options.now))
-    (λ net n way setting is has is_way is_setting. let bad : None ≡ Some net = none ∙ is in absurd cc))
-
-pub returns-in_err-until-clause-none : goal.returns-in_err-until-clause-none
-returns-in_err-until-clause-none c = rw c.from_residual-in_err-until.ensures (no_run (rows_of (found_of c.args.options.now))
-    (λ net n way setting is has is_way is_setting. c.in_err-until.ensures.none n has))
-
 pub returns-in_err-cancel-clause-none : goal.returns-in_err-cancel-clause-none
-returns-in_err-cancel-clause-none c = rw c.from_residual-in_err-cancel.ensures (no_run (rows_of (found_of c.args.options.now))
-    (λ net n way setting is has is_way is_setting. c.in_err-cancel.ensures.none way is_way))
+returns-in_err-cancel-clause-none c = rw c.from_residual.ensures (λ t is.
+    let rows = rows_of (found_of c.args.options.now) in
+    let met : Needs run_letters rows = needs_met (codes "run") rows t is in
+    c.in_err-cancel.ensures.none met.0 met.2)
 
 pub returns-in_err-setting-clause-none : goal.returns-in_err-setting-clause-none
-returns-in_err-setting-clause-none c = rw c.from_residual-in_err-setting.ensures (no_run (rows_of (found_of c.args.options.now))
-    (λ net n way setting is has is_way is_setting. c.in_err-setting.ensures.none setting is_setting))
+returns-in_err-setting-clause-none c = rw c.from_residual-in_err-setting.ensures (λ t is.
+    let rows = rows_of (found_of c.args.options.now) in
+    let met : Needs run_letters rows = needs_met (codes "run") rows t is in
+    c.in_err-setting.ensures.none met.1 met.3)

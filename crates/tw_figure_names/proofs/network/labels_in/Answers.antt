@@ -2,7 +2,7 @@
 use Rattle.std.proofs.Common.{sym}
 use Rattle.std.proofs.lemmas.Option.{get_or_from_slice_get, slice_get_within}
 use Rattle.tw_figure_names.specs.Labels.{AreLabels}
-use Rattle.tw_stats.proofs.Telling.{zip_more}
+use Rattle.tw_figures.proofs.Zipping.{zip_more}
 use Rattle.tw_figure_names.proofs.network.labels_in.Goals as goal
 
 pub loop-component-preserved : goal.loop-component-preserved

@@ -18,8 +18,8 @@ small g c = let within = c.in_ok-simulation.ensures.begun.part.small in let same
 met : (g : _) (c : In_ok-fault g) → c.in_ok-fault.fault ≡ (sequential (network_of g.M.Atomic.meaning c.args.network.now) c.args.until).fault
 met g c = c.in_ok-fault.ensures.fault ∙ ap (λ u. (sequential (network_of g.M.Atomic.meaning c.args.network.now) u).fault) c.in_ok-simulation.ensures.until
 
-pub ended-requires : goal.ended-requires
-ended-requires g c = fault_before_end (network_of g.M.Atomic.meaning c.args.network.now) c.args.until c.facts.ensures.network (small g c) c.in_ok-fault.fault (met g c)
+pub gathering_of-requires : goal.gathering_of-requires
+gathering_of-requires g c = fault_before_end (network_of g.M.Atomic.meaning c.args.network.now) c.args.until c.facts.ensures.network (small g c) c.in_ok-fault.fault (met g c)
 
 pub returns-clause-reached : goal.returns-clause-reached
 returns-clause-reached g c =
@@ -28,12 +28,12 @@ returns-clause-reached g c =
     let all = c.in_ok-fault.ensures.gathered (start_words net) c.in_ok-gathered.ensures.gathered in
     let gathered = subst (λ (u : ℕ). IsGathered (start_words net) (sequential net u).records c.follow.new.gathered) c.in_ok-simulation.ensures.until all in
     let within = since_within net c.args.until c.facts.ensures.network (small g before) c.follow.new.gathered gathered in
-    subst (λ (n : ℕ). All (λ (m : Member). All (λ (x : Course). x.since ≤ n) m.courses.items) c.ended.result.gathered.members.items)
-    (sym (c.ended.ensures.ticks ∙ ap (run_ticks c.args.until) (met g before)))
-    (subst (λ (o : Gatherer). All (λ (m : Member). All (λ (x : Course). x.since ≤ run_ticks c.args.until (sequential net c.args.until).fault) m.courses.items) o.members.items) (sym c.ended.ensures.gathered) within)
+    subst (λ (n : ℕ). All (λ (m : Member). All (λ (x : Course). x.since ≤ n) m.courses.items) c.gathering_of.result.gathered.members.items)
+    (sym (c.gathering_of.ensures.ticks ∙ ap (run_ticks c.args.until) (met g before)))
+    (subst (λ (o : Gatherer). All (λ (m : Member). All (λ (x : Course). x.since ≤ run_ticks c.args.until (sequential net c.args.until).fault) m.courses.items) o.members.items) (sym c.gathering_of.ensures.gathered) within)
 
 pub returns-clause-in_time : goal.returns-clause-in_time
 returns-clause-in_time g c =
     let before = (goal.at.returns-clause-in_time g c).In_ok-fault in
-    subst BeforeEnd (sym c.ended.ensures.fault)
+    subst BeforeEnd (sym c.gathering_of.ensures.fault)
     (fault_before_end (network_of g.M.Atomic.meaning c.args.network.now) c.args.until c.facts.ensures.network (small g before) c.in_ok-fault.fault (met g before))

@@ -1,5 +1,5 @@
 use Rattle.tw_stats.specs.Reports.{TellsFigure}
-use Rattle.tw_stats.proofs.Telling.{zip_more_at}
+use Rattle.tw_figures.proofs.Zipping.{zip_more_at}
 use Rattle.tw_stats.proofs.report.tell.Goals as goal
 
 pub loop-course-preserved : goal.loop-course-preserved

@@ -2,7 +2,7 @@ use Rattle.std.proofs.Common.{List, refl, subst}
 use Rattle.std.specs.List.{AllZip}
 use Rattle.tw_figures.specs.declared.course.Course.{Course}
 use Rattle.tw_stats.specs.Reports.{TellsFigure, TellsPart}
-use Rattle.tw_stats.proofs.Telling.{zip_more}
+use Rattle.tw_figures.proofs.Zipping.{zip_more}
 use Rattle.tw_stats.proofs.report.tell_all.Goals as goal
 
 pub loop-member-preserved : goal.loop-member-preserved

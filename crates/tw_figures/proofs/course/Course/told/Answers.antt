@@ -9,14 +9,15 @@ use Rattle.tw_figures.proofs.course.Course.told.Goals as goal
 pub returns : goal.returns
 returns c start moves h =
     let course = c.args.self.now in
+    let sums = c.in_ok-sums.sums in
     let fits_least : FitsSigned w128 course.least = search rules in
     let fits_greatest : FitsSigned w128 course.greatest = search rules in
     let fits_last : FitsSigned w128 course.last = search rules in
-    let fits_sum : FitsSigned w128 c.in_ok-sum.field-0.sum = search rules in
+    let fits_sum : FitsSigned w128 sums.sum = search rules in
     let fits_mean : FitsSigned w128 c.in_ok-mean.field-0 = search rules in
     let fits_busy : FitsSigned w128 c.in_ok-share.field-0 = search rules in
-    let mean : IsMean c.in_ok-sum.field-0.sum course.last c.args.ticks c.in_ok-mean.field-0 = simp to_z-of_z at c.in_ok-mean.ensures in
-    let busy : IsShare c.in_ok-sum.field-0.busy course.last c.args.ticks c.in_ok-share.field-0 = simp to_z-of_z at c.in_ok-share.ensures in
+    let mean : IsMean sums.sum course.last c.args.ticks c.in_ok-mean.field-0 = simp to_z-of_z at c.in_ok-mean.ensures in
+    let busy : IsShare sums.busy course.last c.args.ticks c.in_ok-share.field-0 = simp to_z-of_z at c.in_ok-share.ensures in
     rw (to_z-of_z w128 course.least fits_least, to_z-of_z w128 course.greatest fits_greatest, to_z-of_z w128 course.last fits_last, to_z-of_z w128 c.in_ok-mean.field-0 fits_mean, to_z-of_z w128 c.in_ok-share.field-0 fits_busy)
-    (told_of start moves course h c.args.ticks c.in_ok-sum.field-0.sum c.in_ok-sum.field-0.busy c.in_ok-mean.field-0 c.in_ok-share.field-0
-    (c.in_ok-sum.ensures.sum start moves h) (c.in_ok-sum.ensures.busy start moves h) mean busy)
+    (told_of start moves course h c.args.ticks sums c.in_ok-mean.field-0 c.in_ok-share.field-0
+    (c.in_ok-sums.ensures.sum start moves h) (c.in_ok-sums.ensures.busy start moves h) mean busy)

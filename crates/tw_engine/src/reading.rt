@@ -1,0 +1,54 @@
+//! What a job reads: the bytes of a file, and the network that they mean.
+
+ghost use Rattle.std.specs.Prelude.{◌≡◌, ◌⊎◌, IfOk, IfErr, IfSome, None};
+ghost use Rattle.tw_file_network.specs.TreeMeaning.{IsMeaning};
+ghost use Rattle.tw_vtime.specs.declared.refusal.Refusal.TheVariants as refusal;
+ghost use Rattle.tw_engine.specs.Runs.{HasNoNetwork};
+ghost use Rattle.tw_engine.specs.declared.failed.Failed.TheVariants as failed;
+
+use crate::failed::Failed;
+use std::alloc::Global;
+use std::io::{ErrorKind, Read};
+use tw_any_model::AnyModel;
+use tw_file_network::network_of_any_file;
+use tw_network::Network;
+use tw_vtime::Refusal;
+
+/// A network, and the end tick up to which it runs.
+#[derive(Clone, Copy)]
+pub(crate) struct Run<'a> {
+    pub(crate) network: &'a Network<AnyModel>,
+    pub(crate) until: u64,
+}
+
+/// All that a reader has left.
+///
+/// Refused where it fails (19), or for want of memory (4).
+pub(crate) fn read_all<N: Read>(alloc: Global, net: &mut N) -> Result<Vec<u8>, Failed>
+    ensures ok { IfOk result (λ bytes. IfSome (N.remaining net.old) (λ all. bytes.items ≡ all)) }
+    ensures err { IfErr result
+        (λ e. (e ≡ failed.Bad refusal.Unreadable None) ⊎ (e ≡ failed.Want refusal.OutOfMemory)) }
+{
+    let mut bytes = Vec::new(alloc);
+    match net.read_to_end(&mut bytes) {
+        Ok(_) => Ok(bytes),
+        Err(error) => Err(if error.kind() == ErrorKind::OutOfMemory {
+            Failed::Want(Refusal::OutOfMemory)
+        } else {
+            Failed::from(Refusal::Unreadable)
+        }),
+    }
+}
+
+/// The network that a file's bytes mean.
+///
+/// Refused as the file is (5 to 9, 11, 17, 18, 20, 21), or for want of memory (4).
+pub(crate) fn network_in(alloc: Global, bytes: &[u8]) -> Result<Network<AnyModel>, Failed>
+    ensures ok { IfOk result (IsMeaning bytes.now) }
+    ensures err { IfErr result (HasNoNetwork bytes.now) }
+{
+    match network_of_any_file(alloc, bytes) {
+        Ok(network) => Ok(network),
+        Err(refused) => Err(Failed::from(Refusal::from(refused))),
+    }
+}

@@ -1,0 +1,81 @@
+//! The job `stats`: counts and figures of a sequential run.
+
+ghost use Rattle.tw_engine.specs.Jobs.{OfFile};
+ghost use Rattle.tw_engine.specs.Views.{IsSummed, IsSummedOf};
+
+use crate::failed::Failed;
+use crate::faults::fault_line;
+use crate::names::NetworkNames;
+use crate::reading::{Run, network_in, read_all};
+use std::alloc::Global;
+use std::io::{Read, Write};
+use tw_figure_names::labels_in;
+use tw_listen::Listener;
+use tw_stats::{report_of, write_report};
+use tw_vtime::Refusal;
+
+/// Does the job `stats` of [`engine`](crate::engine), and answers the line of the run's fault, if it ends in one. After each round the
+/// listener hears how far the run is. It takes no handle, and so it returns.
+///
+/// It fails as the table of [`engine`](crate::engine) says.
+pub fn stats<N: Read, L: Listener, W: Write>(
+    alloc: Global,
+    net: &mut N,
+    until: u64,
+    json: bool,
+    listener: &mut L,
+    out: &mut W,
+) -> Result<Option<String>, Failed>
+    ensures { OfFile (N.remaining net.old) result (W.contents out.old) (W.contents out.new)
+        (λ bytes. IsSummed bytes until result (W.contents out.old) (W.contents out.new)) }
+{
+    let bytes = read_all(alloc, net)?;
+    sum_up_file(alloc, bytes.as_slice(), until, json, listener, out)
+}
+
+/// Writes the counts and the figures of the run of the network that a file's bytes mean.
+fn sum_up_file<L: Listener, W: Write>(
+    alloc: Global,
+    bytes: &[u8],
+    until: u64,
+    json: bool,
+    listener: &mut L,
+    out: &mut W,
+) -> Result<Option<String>, Failed>
+    ensures { IsSummed bytes.now until result (W.contents out.old) (W.contents out.new) }
+{
+    let network = network_in(alloc, bytes)?;
+    let run = Run {
+        network: &network,
+        until,
+    };
+    sum_up(alloc, bytes, &run, json, listener, out)
+}
+
+/// Writes the counts and the figures of a network's run.
+fn sum_up<L: Listener, W: Write>(
+    alloc: Global,
+    bytes: &[u8],
+    run: &Run<'_>,
+    json: bool,
+    listener: &mut L,
+    out: &mut W,
+) -> Result<Option<String>, Failed>
+    ensures { IsSummedOf run.now.network.now run.now.until result
+        (W.contents out.old) (W.contents out.new) }
+{
+    let labels = labels_in(alloc, bytes, run.network)?;
+    let labels = labels.as_slice();
+    let report = match report_of(alloc, run.network, labels, run.until, listener) {
+        Ok(report) => report,
+        Err(why) => return Err(Failed::from(Refusal::from(why))),
+    };
+    let line = fault_line(alloc, run.network, report.fault)?;
+    let names = NetworkNames {
+        network: run.network,
+    };
+    match write_report(alloc, &report, &names, labels, json, out) {
+        Ok(()) => Ok(line),
+        Err(why) => Err(Failed::from(why)),
+    }
+}

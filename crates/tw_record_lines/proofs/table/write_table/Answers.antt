@@ -1,0 +1,91 @@
+-- Round by round.
+use Rattle.std.proofs.Common.{◌≡◌, ◌++◌, ◌∙◌, List, [], sym, ap, subst, append_assoc, append-nil, string_bytes}
+use Rattle.std.proofs.lemmas.Result.{on_ok_weaker}
+use Rattle.tw_msgs.specs.declared.record.Record.{Record}
+use Rattle.tw_network.specs.Contents.{network_of}
+use Rattle.tw_rounds.specs.Stepping.{IsAdvanced}
+use Rattle.tw_rounds.proofs.Parted.{part_begins}
+use Rattle.tw_record_lines.specs.Tables.{head_text, rows_text, table_text}
+use Rattle.tw_texts.proofs.Portions.{appends_nothing}
+use Rattle.tw_texts.specs.Traces.{AppendsBeginning, MovesBytes}
+use Rattle.tw_theory.specs.Simulator.{sequential}
+use Rattle.tw_record_lines.proofs.Written.{tabulated, moved_begins, moved_whole, moves_on, rows_more, table_more}
+use Rattle.tw_record_lines.proofs.table.write_table.Goals as goal
+use Rattle.tw_record_lines.proofs.table.write_table.Goals.{After-advance_telling}
+
+pub loop-step-init : goal.loop-step-init
+loop-step-init g c = record {
+  done = [];
+  so_far = c.in-Ok.ensures.begun;
+  until = c.in-Ok.ensures.until;
+  names = c.new-outputs.ensures.names;
+  names' = c.new-transitions.ensures.names;
+  kinds = c.new-outputs.ensures.rows;
+  kinds' = c.new-transitions.ensures.rows;
+  none = ap string_bytes c.new-transitions.ensures.lines ∙ c.new.ensures.bytes;
+  written = ([], appends_nothing _, ap string_bytes c.new-outputs.ensures.lines ∙ c.in-Ok-from_str.ensures.ok ∙ c.head.ensures ∙ sym (append-nil (head_text c.args.table.now.rows)));
+}
+
+pub advance_telling-requires : goal.advance_telling-requires
+advance_telling-requires g c = (c.loop-step.invariant.done, c.loop-step.invariant.so_far)
+
+-- what is written so far is a beginning of all lines
+begun : (g : _) (c : After-advance_telling g) → AppendsBeginning (g.W.Write.contents c.args.out.now) (g.W.Write.contents c.loop-step.out) (table_text c.args.table.now.rows (g.N.Names.name_of c.args.table.now.names.now) (sequential (network_of g.M.Atomic.meaning c.args.network.now) c.args.until).records)
+begun g c =
+    let inv = c.loop-step.invariant in
+    let net = network_of g.M.Atomic.meaning c.args.network.now in
+    let name_of = g.N.Names.name_of c.args.table.now.names.now in
+    let more = subst (λ u. (more : List Record) × (inv.done ++ more ≡ (sequential net u).records)) inv.until
+    (part_begins g.M.Atomic.valid g.M.Atomic.meaning c.args.network.now c.loop-step.simulation.until inv.done c.loop-step.simulation.run inv.so_far.part) in
+    moved_begins _ _ (table_text c.args.table.now.rows name_of inv.done) (rows_text c.args.table.now.rows name_of more.0) (string_bytes c.loop-step.outputs.lines) _ inv.written
+    (table_more c.args.table.now.rows name_of inv.done more.0 ∙ ap (table_text c.args.table.now.rows name_of) more.1)
+
+pub returns-in_default-advance_telling-clause-err : goal.returns-in_default-advance_telling-clause-err
+returns-in_default-advance_telling-clause-err g c _ = begun g (goal.at.returns-in_default-advance_telling-clause-err g c).After-advance_telling
+
+pub returns-in_default-move_lines-clause-err : goal.returns-in_default-move_lines-clause-err
+returns-in_default-move_lines-clause-err g c _ = begun g (goal.at.returns-in_default-move_lines-clause-err g c).After-advance_telling
+
+pub returns-in-End-clause-ok : goal.returns-in-End-clause-ok
+returns-in-End-clause-ok g c =
+    let inv = c.loop-step.invariant in
+    let net = network_of g.M.Atomic.meaning c.args.network.now in
+    let name_of = g.N.Names.name_of c.args.table.now.names.now in
+    let last = subst (IsAdvanced _ g.M.Atomic.valid g.M.Atomic.meaning c.args.network.now c.loop-step.simulation c.advance_telling.new.simulation c.loop-step.outputs c.advance_telling.new.outputs c.loop-step.transitions c.advance_telling.new.transitions) c.in-End.is c.in-Ok-advance_telling.ensures.step in
+    let got = tabulated (λ v. v.names.now) (λ v. v.rows) (λ v. string_bytes v.lines) g.N.Names.name_of c.loop-step.outputs last.outs c.advance_telling.new.outputs last.outputs in
+    let grown : string_bytes c.advance_telling.new.outputs.lines ≡ string_bytes c.loop-step.outputs.lines ++ rows_text c.args.table.now.rows name_of last.outs =
+    got.2 ∙ (λ i. string_bytes c.loop-step.outputs.lines ++ rows_text (inv.kinds i) (g.N.Names.name_of (inv.names i)) last.outs) in
+    let all = (last.all inv.done inv.so_far).records ∙ ap (λ u. (sequential net u).records) inv.until in
+    on_ok_weaker c.write_out.result
+    (moved_whole _ _ _ (table_text c.args.table.now.rows name_of inv.done) (rows_text c.args.table.now.rows name_of last.outs) (string_bytes c.loop-step.outputs.lines) (string_bytes c.advance_telling.new.outputs.lines) _ inv.written grown
+    (table_more c.args.table.now.rows name_of inv.done last.outs ∙ ap (table_text c.args.table.now.rows name_of) all)) c.write_out.ensures.ok
+
+pub loop-step-preserved : goal.loop-step-preserved
+loop-step-preserved g c =
+    let inv = c.loop-step.invariant in
+    let name_of = g.N.Names.name_of c.args.table.now.names.now in
+    let made = subst (IsAdvanced _ g.M.Atomic.valid g.M.Atomic.meaning c.args.network.now c.loop-step.simulation c.advance_telling.new.simulation c.loop-step.outputs c.advance_telling.new.outputs c.loop-step.transitions c.advance_telling.new.transitions) c.in-Round.is c.in-Ok-advance_telling.ensures.step in
+    let outs = tabulated (λ v. v.names.now) (λ v. v.rows) (λ v. string_bytes v.lines) g.N.Names.name_of c.loop-step.outputs made.outs c.advance_telling.new.outputs made.outputs in
+    let turns = tabulated (λ v. v.names.now) (λ v. v.rows) (λ v. string_bytes v.lines) g.N.Names.name_of c.loop-step.transitions made.turns c.advance_telling.new.transitions made.transitions in
+    let first : string_bytes c.advance_telling.new.outputs.lines ≡ string_bytes c.loop-step.outputs.lines ++ rows_text c.args.table.now.rows name_of made.outs =
+    outs.2 ∙ (λ i. string_bytes c.loop-step.outputs.lines ++ rows_text (inv.kinds i) (g.N.Names.name_of (inv.names i)) made.outs) in
+    let second : string_bytes c.advance_telling.new.transitions.lines ≡ rows_text c.args.table.now.rows name_of made.turns =
+    turns.2 ∙ (λ i. inv.none i ++ rows_text (inv.kinds' i) (g.N.Names.name_of (inv.names' i)) made.turns) in
+    let grown : string_bytes c.move_lines.new.to ≡ string_bytes c.loop-step.outputs.lines ++ rows_text c.args.table.now.rows name_of (made.outs ++ made.turns) =
+    c.in-Ok-move_lines.ensures.moved ∙ (λ i. first i ++ second i)
+    ∙ append_assoc (string_bytes c.loop-step.outputs.lines) (rows_text c.args.table.now.rows name_of made.outs) (rows_text c.args.table.now.rows name_of made.turns)
+    ∙ ap (λ l. string_bytes c.loop-step.outputs.lines ++ l) (sym (rows_more c.args.table.now.rows name_of made.outs made.turns)) in
+    record {
+      done = inv.done ++ (made.outs ++ made.turns);
+      so_far = made.on inv.done inv.so_far;
+      until = c.in-Ok-advance_telling.ensures.until ∙ inv.until;
+      names = outs.0 ∙ inv.names;
+      names' = turns.0 ∙ inv.names';
+      kinds = outs.1 ∙ inv.kinds;
+      kinds' = turns.1 ∙ inv.kinds';
+      none = c.in-Ok-move_lines.ensures.emptied;
+      written = subst (λ l. MovesBytes (g.W.Write.contents c.args.out.now) (g.W.Write.contents c.write_portion.new.out) l (string_bytes c.write_portion.new.text))
+          (table_more c.args.table.now.rows name_of inv.done (made.outs ++ made.turns))
+          (moves_on _ _ _ (table_text c.args.table.now.rows name_of inv.done) (rows_text c.args.table.now.rows name_of (made.outs ++ made.turns)) (string_bytes c.loop-step.outputs.lines) (string_bytes c.move_lines.new.to) (string_bytes c.write_portion.new.text)
+          inv.written grown c.in_ok-write_portion-in-Round.ensures.ok);
+    }

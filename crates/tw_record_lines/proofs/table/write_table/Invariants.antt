@@ -1,0 +1,25 @@
+-- The records so far were handed over; the writer and the lines that are gathered have the table of them.
+use Rattle.std.proofs.Common.{◌≡◌, ◌-◌, List, [], string_bytes}
+use Rattle.tw_msgs.specs.declared.record.Record.{Record}
+use Rattle.tw_rounds.specs.Parts.{IsSimulating}
+use Rattle.tw_record_lines.specs.Tables.{table_text}
+use Rattle.tw_texts.specs.Traces.{MovesBytes}
+use Rattle.tw_theory.specs.Simulator.{round_time}
+use Rattle.tw_vtime.specs.Stamps.{stamp}
+use Rattle.tw_record_lines.proofs.table.write_table.Given as goal
+
+abbrev pub invariant-loop-step : goal.invariant-loop-step
+invariant-loop-step g l = record {
+  done : List Record;
+  so_far : IsSimulating g.M.Atomic.valid g.M.Atomic.meaning l.network done l.simulation;
+  until : l.simulation.until ≡ l.until;
+  names : l.outputs.names.now ≡ l.table.names.now;
+  names' : l.transitions.names.now ≡ l.table.names.now;
+  kinds : l.outputs.rows ≡ l.table.rows;
+  kinds' : l.transitions.rows ≡ l.table.rows;
+  none : string_bytes l.transitions.lines ≡ [];
+  written : MovesBytes (g.W.Write.contents l.fn.out) (g.W.Write.contents l.out) (table_text l.table.rows (g.N.Names.name_of l.table.names.now) done) (string_bytes l.outputs.lines);
+}
+
+abbrev pub decreases-loop-step : goal.decreases-loop-step
+decreases-loop-step g l = stamp l.until 0 0 - round_time l.simulation.run.at

@@ -4,7 +4,7 @@
 //!   fault that ended the run, if there was one. Both are those of the definition, `sequential` of tw_theory.
 //! - [`outcome`] gives the fault alone, and keeps no record: it is [`tw_listen::outcome_telling`] to which nobody listens.
 //!
-//! The rounds are those of `tw_rounds`, which `twarp seq` makes too, by `tw_trace_lines` and `tw_record_lines`.
+//! The rounds are those of `tw_rounds`, which `twarp seq` makes too, by `tw_record_lines`.
 //! A call is refused ([`tw_rounds::SeqRefused`]) for an end tick that no stamp has, and for want of memory.
 #![tactic(auto)]
 

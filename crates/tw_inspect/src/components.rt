@@ -20,7 +20,8 @@ pub(crate) fn add_component<M: Atomic>(
     process: &Process<M>,
     mail: &[Item],
 ) -> Result<(), AllocError>
-    ensures { OnOk result (string_bytes text.new ≡ string_bytes text.old ++ component_line (seen M.meaning name.now model.now process.now.process mail.now)) }
+    ensures { OnOk result (string_bytes text.new ≡ string_bytes text.old
+        ++ component_line (seen M.meaning name.now model.now process.now.process mail.now)) }
 {
     let words = words_of(alloc, model, process.state())?;
     text.push_str(name)?;
@@ -40,7 +41,8 @@ fn words_of<M: Atomic>(alloc: Global, model: &M, state: &M::State) -> Result<Vec
 
 /// Its stamps and times.
 fn add_stamps<M: Atomic>(text: &mut String, process: &Process<M>) -> Result<(), AllocError>
-    ensures { OnOk result (string_bytes text.new ≡ string_bytes text.old ++ stamps_part process.now.process) }
+    ensures { OnOk result
+        (string_bytes text.new ≡ string_bytes text.old ++ stamps_part process.now.process) }
 {
     let line = process.line();
     let next = process.next();
@@ -51,7 +53,8 @@ fn add_stamps<M: Atomic>(text: &mut String, process: &Process<M>) -> Result<(), 
 
 /// The lengths of its lists.
 fn add_counts<M: Atomic>(text: &mut String, process: &Process<M>) -> Result<(), AllocError>
-    ensures { OnOk result (string_bytes text.new ≡ string_bytes text.old ++ counts_part process.now.process) }
+    ensures { OnOk result
+        (string_bytes text.new ≡ string_bytes text.old ++ counts_part process.now.process) }
 {
     let steps = process.history_len();
     let lists = process.lists();
@@ -67,7 +70,8 @@ fn add_counts<M: Atomic>(text: &mut String, process: &Process<M>) -> Result<(), 
 
 /// How many items are in its mailbox, and the words of its present state.
 fn add_words(text: &mut String, mail: usize, words: &[i128]) -> Result<(), AllocError>
-    ensures { OnOk result (string_bytes text.new ≡ string_bytes text.old ++ words_part mail words.now) }
+    ensures { OnOk result
+        (string_bytes text.new ≡ string_bytes text.old ++ words_part mail words.now) }
 {
     write!(text, " mail {mail} | ")?;
     push_words(text, words)?;
@@ -76,7 +80,8 @@ fn add_words(text: &mut String, mail: usize, words: &[i128]) -> Result<(), Alloc
 
 /// How many messages are owed, where steps are cancelled lazily.
 fn add_owed_count(text: &mut String, cancel: Cancel, count: usize) -> Result<(), AllocError>
-    ensures { OnOk result (string_bytes text.new ≡ string_bytes text.old ++ owed_part cancel count) }
+    ensures { OnOk result
+        (string_bytes text.new ≡ string_bytes text.old ++ owed_part cancel count) }
 {
     match cancel {
         Cancel::Aggressive => Ok(()),

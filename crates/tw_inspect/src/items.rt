@@ -14,7 +14,8 @@ use tw_texts::{push_message, sign_name};
 
 /// The lines of pending messages.
 pub(crate) fn add_pending(text: &mut String, messages: &[Message]) -> Result<(), AllocError>
-    ensures { OnOk result (string_bytes text.new ≡ string_bytes text.old ++ flat_map pending_line messages.now) }
+    ensures { OnOk result
+        (string_bytes text.new ≡ string_bytes text.old ++ flat_map pending_line messages.now) }
 {
     for message in messages {
         add_line(text, "pending ", message)?;
@@ -24,7 +25,8 @@ pub(crate) fn add_pending(text: &mut String, messages: &[Message]) -> Result<(),
 
 /// The lines of messages whose anti-messages wait.
 pub(crate) fn add_waiting(text: &mut String, messages: &[Message]) -> Result<(), AllocError>
-    ensures { OnOk result (string_bytes text.new ≡ string_bytes text.old ++ flat_map waiting_line messages.now) }
+    ensures { OnOk result
+        (string_bytes text.new ≡ string_bytes text.old ++ flat_map waiting_line messages.now) }
 {
     for message in messages {
         add_line(text, "waiting ", message)?;
@@ -38,7 +40,8 @@ pub(crate) fn add_outgoing<M: Atomic>(
     network: &Network<M>,
     items: &[Item],
 ) -> Result<(), AllocError>
-    ensures { OnOk result (string_bytes text.new ≡ string_bytes text.old ++ flat_map (outgoing_line network.now.names) items.now) }
+    ensures { OnOk result (string_bytes text.new ≡ string_bytes text.old
+        ++ flat_map (outgoing_line network.now.names) items.now) }
 {
     for item in items {
         let name = name_of(network, item.message.to);
@@ -54,7 +57,8 @@ pub(crate) fn add_owed<M: Atomic>(
     cancel: Cancel,
     messages: &[Message],
 ) -> Result<(), AllocError>
-    ensures { OnOk result (string_bytes text.new ≡ string_bytes text.old ++ owed_lines network.now.names cancel messages.now) }
+    ensures { OnOk result (string_bytes text.new ≡ string_bytes text.old
+        ++ owed_lines network.now.names cancel messages.now) }
 {
     match cancel {
         Cancel::Aggressive => Ok(()),
@@ -67,7 +71,8 @@ fn add_owed_messages<M: Atomic>(
     network: &Network<M>,
     messages: &[Message],
 ) -> Result<(), AllocError>
-    ensures { OnOk result (string_bytes text.new ≡ string_bytes text.old ++ flat_map (owed_line network.now.names) messages.now) }
+    ensures { OnOk result (string_bytes text.new ≡ string_bytes text.old
+        ++ flat_map (owed_line network.now.names) messages.now) }
 {
     for message in messages {
         let name = name_of(network, message.to);
@@ -78,7 +83,8 @@ fn add_owed_messages<M: Atomic>(
 
 /// The lines of the items of a mailbox.
 pub(crate) fn add_mail(text: &mut String, items: &[Item]) -> Result<(), AllocError>
-    ensures { OnOk result (string_bytes text.new ≡ string_bytes text.old ++ flat_map mail_line items.now) }
+    ensures { OnOk result
+        (string_bytes text.new ≡ string_bytes text.old ++ flat_map mail_line items.now) }
 {
     for item in items {
         add_mail_item(text, item)?;
@@ -100,7 +106,8 @@ fn name_of<M: Atomic>(network: &Network<M>, component: usize) -> &str
 
 /// A message, with what is said of it before.
 fn add_line(text: &mut String, said: &str, message: &Message) -> Result<(), AllocError>
-    ensures { OnOk result (string_bytes text.new ≡ string_bytes text.old ++ said.now ++ message_text message.now ++ codes "\n") }
+    ensures { OnOk result (string_bytes text.new ≡ string_bytes text.old ++ said.now
+        ++ message_text message.now ++ codes "\n") }
 {
     text.push_str(said)?;
     push_message(text, message)?;
@@ -119,7 +126,8 @@ fn add_outgoing_item(text: &mut String, name: &str, item: &Item) -> Result<(), A
 
 /// A message that is owed, with the name of its receiver.
 fn add_owed_message(text: &mut String, name: &str, message: &Message) -> Result<(), AllocError>
-    ensures { OnOk result (string_bytes text.new ≡ string_bytes text.old ++ codes "owed " ++ name.now ++ codes " " ++ message_text message.now ++ codes "\n") }
+    ensures { OnOk result (string_bytes text.new ≡ string_bytes text.old ++ codes "owed "
+        ++ name.now ++ codes " " ++ message_text message.now ++ codes "\n") }
 {
     write!(text, "owed {name}")?;
     add_line(text, " ", message)

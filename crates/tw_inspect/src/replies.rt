@@ -93,5 +93,6 @@ pub fn push_reply(text: &mut String, reply: Reply) -> Result<(), AllocError>
 /// refusal for want of memory or of nodes (4, 12) it knows nothing. The call does nothing.
 pub fn replies_law()
     ensures done { (done : _) → reply_text (Reply.Done done) ≡ answer_text (Ok done) ++ codes "\n" }
-    ensures refused { (why : _) (known : _) → reason why ≡ Some known → reply_text (Reply.Refused why) ≡ answer_text (Err known) ++ codes "\n" }
+    ensures refused { (why : _) (known : _) → reason why ≡ Some known
+        → reply_text (Reply.Refused why) ≡ answer_text (Err known) ++ codes "\n" }
 {}

@@ -49,7 +49,8 @@ pub fn describe<M: Atomic>(
     component: usize,
 ) -> Result<String, AllocError>
     requires { component < length executive.now.network.models }
-    ensures { IfOk result (λ text. string_bytes text ≡ describe_text M.meaning executive.now component) }
+    ensures { IfOk result
+        (λ text. string_bytes text ≡ describe_text M.meaning executive.now component) }
 {
     executive.facts();
     let network = &**executive.network();
@@ -71,7 +72,8 @@ pub fn describe<M: Atomic>(
 /// Every component of an executive is there, so that no line of a report and no description is left out.
 /// The call does nothing.
 pub fn components_law<M: Atomic>(executive: &Executive<M>)
-    ensures { (c : ℕ) → c < length executive.now.network.models → IsSome (shown_at M.meaning executive.now c) }
+    ensures { (c : ℕ) → c < length executive.now.network.models
+        → IsSome (shown_at M.meaning executive.now c) }
 {
     executive.facts();
     executive.network().facts();
@@ -79,7 +81,8 @@ pub fn components_law<M: Atomic>(executive: &Executive<M>)
 
 /// Global virtual time, and how many records are committed.
 fn add_gvt<M: Atomic>(text: &mut String, executive: &Executive<M>) -> Result<(), AllocError>
-    ensures { OnOk result (string_bytes text.new ≡ string_bytes text.old ++ gvt_line executive.now.world) }
+    ensures { OnOk result
+        (string_bytes text.new ≡ string_bytes text.old ++ gvt_line executive.now.world) }
 {
     let gvt = executive.gvt();
     let committed = executive.committed_len();
@@ -94,7 +97,8 @@ fn add_line<M: Atomic>(
     component: usize,
 ) -> Result<(), AllocError>
     requires { component < length executive.now.network.models }
-    ensures { OnOk result (string_bytes text.new ≡ string_bytes text.old ++ text_if component_line (shown_at M.meaning executive.now component)) }
+    ensures { OnOk result (string_bytes text.new ≡ string_bytes text.old
+        ++ text_if component_line (shown_at M.meaning executive.now component)) }
 {
     let network = &**executive.network();
     let process = executive.contents(component);
@@ -116,7 +120,8 @@ fn add_messages<M: Atomic>(
     mail: &[Item],
 ) -> Result<(), AllocError>
     requires { Sorted process.now.process.pending }
-    ensures { OnOk result (string_bytes text.new ≡ string_bytes text.old ++ messages_part network.now.names process.now.process mail.now) }
+    ensures { OnOk result (string_bytes text.new ≡ string_bytes text.old
+        ++ messages_part network.now.names process.now.process mail.now) }
 {
     let lists = process.lists();
     let pending = lists.pending()?;

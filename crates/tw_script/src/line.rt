@@ -34,8 +34,10 @@ pub(crate) fn command_of<M: Atomic>(line: &str, network: &Network<M>) -> Option<
 /// The command of one word.
 fn command_alone(word: &str) -> Option<Command>
     requires { IsFree 32 word.now }
-    ensures said { (names : List (List ℕ)) → IfSome result (λ command. Says names command word.now) }
-    ensures none { (names : List (List ℕ)) → IfNone result ((command : Said) → ¬ (Says names command word.now)) }
+    ensures said { (names : List (List ℕ))
+        → IfSome result (λ command. Says names command word.now) }
+    ensures none { (names : List (List ℕ))
+        → IfNone result ((command : Said) → ¬ (Says names command word.now)) }
 {
     match word {
         "raise" => Some(Command::Act(Action::Raise)),
@@ -49,8 +51,10 @@ fn command_alone(word: &str) -> Option<Command>
 /// The command of a verb and its operands.
 fn command_with<M: Atomic>(verb: &str, operands: &str, network: &Network<M>) -> Option<Command>
     requires { IsFree 32 verb.now }
-    ensures said { IfSome result (λ command. Says network.now.names command (verb.now ++ 32 ∷ operands.now)) }
-    ensures none { IfNone result ((command : Said) → ¬ (Says network.now.names command (verb.now ++ 32 ∷ operands.now))) }
+    ensures said { IfSome result
+        (λ command. Says network.now.names command (verb.now ++ 32 ∷ operands.now)) }
+    ensures none { IfNone result ((command : Said)
+        → ¬ (Says network.now.names command (verb.now ++ 32 ∷ operands.now))) }
 {
     match verb {
         "step" => Some(Command::Act(Action::Step(network.find(operands)?))),
@@ -65,8 +69,11 @@ fn command_with<M: Atomic>(verb: &str, operands: &str, network: &Network<M>) -> 
 
 /// The delivery of a receiver's name and a place of its mailbox.
 fn delivery<M: Atomic>(operands: &str, network: &Network<M>) -> Option<Action>
-    ensures said { IfSome result (λ action. Says network.now.names (Acts action) (codes "deliver " ++ operands.now)) }
-    ensures none { IfNone result ((q i : ℕ) → q < length network.now.names → i ≤ 18446744073709551615 → ¬ (operands.now ≡ name_of network.now.names q ++ 32 ∷ decimal i)) }
+    ensures said { IfSome result
+        (λ action. Says network.now.names (Acts action) (codes "deliver " ++ operands.now)) }
+    ensures none { IfNone result ((q i : ℕ) → q < length network.now.names
+        → i ≤ 18446744073709551615
+        → ¬ (operands.now ≡ name_of network.now.names q ++ 32 ∷ decimal i)) }
 {
     network.facts();
     let (receiver, place) = operands.split_once(' ')?;
@@ -76,8 +83,10 @@ fn delivery<M: Atomic>(operands: &str, network: &Network<M>) -> Option<Action>
 
 /// The rollback of a component's name and a stamp.
 fn rollback<M: Atomic>(operands: &str, network: &Network<M>) -> Option<Action>
-    ensures said { IfSome result (λ action. Says network.now.names (Acts action) (codes "back " ++ operands.now)) }
-    ensures none { IfNone result ((p s : ℕ) → p < length network.now.names → IsStamp s → ¬ (operands.now ≡ name_of network.now.names p ++ 32 ∷ stamp_text s)) }
+    ensures said { IfSome result
+        (λ action. Says network.now.names (Acts action) (codes "back " ++ operands.now)) }
+    ensures none { IfNone result ((p s : ℕ) → p < length network.now.names → IsStamp s
+        → ¬ (operands.now ≡ name_of network.now.names p ++ 32 ∷ stamp_text s)) }
 {
     network.facts();
     let (component, at) = operands.split_once(' ')?;

@@ -59,7 +59,9 @@ fn lines_of<'a>(alloc: Global, bytes: &'a [u8]) -> Result<Vec<&'a [u8]>, AllocEr
 
 /// What stands between the newlines of a text, before the first and after the last.
 fn pieces_of<'a>(alloc: Global, bytes: &'a [u8]) -> Result<Vec<&'a [u8]>, AllocError>
-    ensures { IfOk result (λ pieces. map (λ piece. piece.now) pieces.items ≡ slice_split (λ b. b == newline) bytes.now) }
+    ensures { IfOk result
+        (λ pieces. map (λ piece. piece.now) pieces.items ≡ slice_split
+        (λ b. b == newline) bytes.now) }
 {
     bytes.split(|byte| *byte == b'\n').collect(alloc)
 }
@@ -76,7 +78,8 @@ fn ends_in_nothing(pieces: &[&[u8]]) -> bool
 
 /// Lines as texts; the first that is not UTF-8 is refused.
 fn texts_of<'a>(alloc: Global, lines: &[&'a [u8]]) -> Result<Vec<&'a str>, ScriptRefused>
-    ensures texts { IfOk result (λ texts. map (λ text. text.now) texts.items ≡ map (λ line. line.now) lines.now) }
+    ensures texts { IfOk result
+        (λ texts. map (λ text. text.now) texts.items ≡ map (λ line. line.now) lines.now) }
     ensures utf8 { OnOk result (Each IsUtf8 (map (λ line. line.now) lines.now)) }
     ensures refused { IfErr result (IsNotText (map (λ line. line.now) lines.now)) }
 {
@@ -96,8 +99,10 @@ fn commands_of<M: Atomic>(
     lines: &[&str],
     network: &Network<M>,
 ) -> Result<Vec<Command>, ScriptRefused>
-    ensures said { IfOk result (λ commands. AreSaid network.now.names (map (λ line. line.now) lines.now) commands.items) }
-    ensures refused { IfErr result (SaysNothing network.now.names (map (λ line. line.now) lines.now)) }
+    ensures said { IfOk result
+        (λ commands. AreSaid network.now.names (map (λ line. line.now) lines.now) commands.items) }
+    ensures refused { IfErr result
+        (SaysNothing network.now.names (map (λ line. line.now) lines.now)) }
 {
     let mut commands = Vec::new(alloc);
     for i in 0..lines.len() {

@@ -36,8 +36,10 @@ pub(crate) fn stamp(word: &str) -> Option<Stamp>
 /// The stamp of this tick, microstep and phase.
 fn stamp_of(tick: u64, micro: u64, phase: u64) -> Option<Stamp>
     ensures stamp { IfSome result (λ s. s ≡ stamp tick micro phase) }
-    ensures in_range { IfSome result (λ _. IsInRange (record { tick = tick; micro = micro; phase = phase })) }
-    ensures none { IfNone result (¬ (IsInRange (record { tick = tick; micro = micro; phase = phase }))) }
+    ensures in_range { IfSome result
+        (λ _. IsInRange (record { tick = tick; micro = micro; phase = phase })) }
+    ensures none { IfNone result
+        (¬ (IsInRange (record { tick = tick; micro = micro; phase = phase }))) }
 {
     let micro = u32::try_from(micro).ok()?;
     let phase = u8::try_from(phase).ok()?;

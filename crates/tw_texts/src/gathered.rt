@@ -58,7 +58,8 @@ impl Lines {
         bag: &[(u8, i64)],
         words: &[i128],
     ) -> Result<(), AllocError>
-        ensures { OnOk result (self.new.text ≡ self.old.text ++ step_line name.now at kind bag.now words.now) }
+        ensures { OnOk result
+            (self.new.text ≡ self.old.text ++ step_line name.now at kind bag.now words.now) }
     {
         keep_time(&mut self.last, &mut self.time, at)?;
         self.text.push_str(self.time.as_str())?;
@@ -101,7 +102,8 @@ impl Lines {
 
     /// Hands the lines to a writer, once they are a portion of 65,536 bytes. Refused as [`write_out`] is.
     pub fn write_portion<W: Write>(&mut self, out: &mut W) -> Result<(), NotWritten>
-        ensures ok { OnOk result (MovesBytes (W.contents out.old) (W.contents out.new) self.old.text self.new.text) }
+        ensures ok { OnOk result
+            (MovesBytes (W.contents out.old) (W.contents out.new) self.old.text self.new.text) }
         ensures err { IfErr result (λ e. e ≡ NotWritten.WriteFailed) }
     {
         write_portion(&mut self.text, out)

@@ -17,7 +17,8 @@ pub fn sign_name(sign: Sign) -> &'static str
 }
 
 fn add_message(text: &mut String, message: &Message) -> Result<(), AllocError>
-    ensures { OnOk result (string_bytes text.new ≡ string_bytes text.old ++ message_text message.now) }
+    ensures { OnOk result
+        (string_bytes text.new ≡ string_bytes text.old ++ message_text message.now) }
 {
     let Message {
         stamp,
@@ -33,7 +34,8 @@ fn add_message(text: &mut String, message: &Message) -> Result<(), AllocError>
 ///
 /// Where memory is wanting (refusal 4) the text stays as it was.
 pub fn push_message(text: &mut String, message: &Message) -> Result<(), AllocError>
-    ensures ok { OnOk result (string_bytes text.new ≡ string_bytes text.old ++ message_text message.now) }
+    ensures ok { OnOk result
+        (string_bytes text.new ≡ string_bytes text.old ++ message_text message.now) }
     ensures err { OnErr result (string_bytes text.new ≡ string_bytes text.old) }
 {
     let mut piece = String::new(*text.allocator());

@@ -81,7 +81,8 @@ pub(crate) fn add_step(
     bag: &[(u8, i64)],
     words: &[i128],
 ) -> Result<(), AllocError>
-    ensures { OnOk result (string_bytes text.new ≡ string_bytes text.old ++ step_text kind bag.now words.now) }
+    ensures { OnOk result
+        (string_bytes text.new ≡ string_bytes text.old ++ step_text kind bag.now words.now) }
 {
     match kind {
         RecordKind::Out => {
@@ -103,7 +104,8 @@ pub(crate) fn add_step(
 }
 
 pub(crate) fn add_record(text: &mut String, name: &str, step: &Record) -> Result<(), AllocError>
-    ensures { OnOk result (string_bytes text.new ≡ string_bytes text.old ++ record_line name.now step.now) }
+    ensures { OnOk result
+        (string_bytes text.new ≡ string_bytes text.old ++ record_line name.now step.now) }
 {
     add_time(text, step.stamp)?;
     text.push_str(" ")?;
@@ -131,7 +133,8 @@ pub(crate) fn add_fault(
     at: Stamp,
     limit: Limit,
 ) -> Result<(), AllocError>
-    ensures { OnOk result (string_bytes text.new ≡ string_bytes text.old ++ fault_line name.now at limit) }
+    ensures { OnOk result
+        (string_bytes text.new ≡ string_bytes text.old ++ fault_line name.now at limit) }
 {
     text.push_str("fault: ")?;
     text.push_str(limit_name(limit))?;

@@ -44,7 +44,8 @@ pub fn push_bag(text: &mut String, bag: &[(u8, i64)]) -> Result<(), AllocError>
 ///
 /// Where memory is wanting (refusal 4) the text stays as it was.
 pub fn push_words(text: &mut String, words: &[i128]) -> Result<(), AllocError>
-    ensures ok { OnOk result (string_bytes text.new ≡ string_bytes text.old ++ words_text words.now) }
+    ensures ok { OnOk result
+        (string_bytes text.new ≡ string_bytes text.old ++ words_text words.now) }
     ensures err { OnErr result (string_bytes text.new ≡ string_bytes text.old) }
 {
     let mut piece = String::new(*text.allocator());
@@ -71,7 +72,8 @@ pub fn kind_name(kind: RecordKind) -> &'static str
 /// The record's own component number is not read. Where memory is wanting (refusal 4) the text stays as
 /// it was.
 pub fn push_record(text: &mut String, name: &str, step: &Record) -> Result<(), AllocError>
-    ensures ok { OnOk result (string_bytes text.new ≡ string_bytes text.old ++ record_line name.now step.now) }
+    ensures ok { OnOk result
+        (string_bytes text.new ≡ string_bytes text.old ++ record_line name.now step.now) }
     ensures err { OnErr result (string_bytes text.new ≡ string_bytes text.old) }
 {
     let mut piece = String::new(*text.allocator());
@@ -84,7 +86,8 @@ pub fn push_record(text: &mut String, name: &str, step: &Record) -> Result<(), A
 ///
 /// Where memory is wanting (refusal 4) the text stays as it was.
 pub fn push_fault(text: &mut String, name: &str, at: Stamp, limit: Limit) -> Result<(), AllocError>
-    ensures ok { OnOk result (string_bytes text.new ≡ string_bytes text.old ++ fault_line name.now at limit) }
+    ensures ok { OnOk result
+        (string_bytes text.new ≡ string_bytes text.old ++ fault_line name.now at limit) }
     ensures err { OnErr result (string_bytes text.new ≡ string_bytes text.old) }
 {
     let mut piece = String::new(*text.allocator());

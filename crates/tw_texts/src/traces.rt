@@ -53,7 +53,8 @@ impl Error for NotWritten {}
 
 /// Hands a text to a writer and empties it. Refused where the writer fails (24), and then only the writer knows what it took.
 pub fn write_out<W: Write>(text: &mut String, out: &mut W) -> Result<(), NotWritten>
-    ensures ok { OnOk result (Appends (W.contents out.old) (W.contents out.new) (string_bytes text.old)) }
+    ensures ok { OnOk result
+        (Appends (W.contents out.old) (W.contents out.new) (string_bytes text.old)) }
     ensures emptied { OnOk result (string_bytes text.new ≡ []) }
     ensures err { IfErr result (λ e. e ≡ NotWritten.WriteFailed) }
 {
@@ -66,7 +67,9 @@ pub fn write_out<W: Write>(text: &mut String, out: &mut W) -> Result<(), NotWrit
 
 /// Hands a text to a writer and empties it, once it is a portion of 65,536 bytes long. Refused as [`write_out`] is.
 pub fn write_portion<W: Write>(text: &mut String, out: &mut W) -> Result<(), NotWritten>
-    ensures ok { OnOk result (MovesBytes (W.contents out.old) (W.contents out.new) (string_bytes text.old) (string_bytes text.new)) }
+    ensures ok { OnOk result
+        (MovesBytes (W.contents out.old) (W.contents out.new) (string_bytes text.old)
+        (string_bytes text.new)) }
     ensures err { IfErr result (λ e. e ≡ NotWritten.WriteFailed) }
 {
     if text.len() < PORTION {
@@ -88,7 +91,9 @@ pub fn write_trace<N: Names, W: Write>(
     records: &[Record],
     out: &mut W,
 ) -> Result<(), NotWritten>
-    ensures ok { OnOk result (Appends (W.contents out.old) (W.contents out.new) (trace_text (N.name_of names.now) records.now)) }
+    ensures ok { OnOk result
+        (Appends (W.contents out.old) (W.contents out.new)
+        (trace_text (N.name_of names.now) records.now)) }
     ensures err { IfErr result (λ e. e ≡ NotWritten.OutOfMemory
         → AppendsBeginning (W.contents out.old) (W.contents out.new) (trace_text (N.name_of names.now) records.now)) }
 {

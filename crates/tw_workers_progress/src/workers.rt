@@ -35,9 +35,11 @@ pub fn run_by_workers<R: Threads + Wait + Clock + Eprint + Sync>(
     progress: bool,
 ) -> Result<(Vec<Record>, Option<Fault>), Refusal>
     requires { IsSet setting }
-    ensures records { let run = sequential (network_of any_meaning executive.network) executive.until in
+    ensures records { let run = sequential
+        (network_of any_meaning executive.network) executive.until in
         IfOk result (λ made. made.0.items ≡ run.records) }
-    ensures fault { let run = sequential (network_of any_meaning executive.network) executive.until in
+    ensures fault { let run = sequential
+        (network_of any_meaning executive.network) executive.until in
         IfOk result (λ made. made.1 ≡ run.fault) }
     ensures err { IfErr result (λ why. (why ≡ refusal.OutOfMemory) ⊎ (why ≡ refusal.Full)) }
 {

@@ -113,6 +113,10 @@ def test_scipy_distributions_continuous_and_discrete():
     table = table_of(stats.randint(3, 7), 1_000)
     assert [table.count(value) for value in range(3, 7)] == [250] * 4
     assert table_of(stats.geom(0.25), 1).mean == 4
+    table = table_of(stats.randint(0, 10**9), 1_000)  # not value by value
+    assert float(table.mean) == pytest.approx(5e8 - 0.5, rel=1e-6) and table[0] == pytest.approx(5e5, rel=1e-3)
+    table = table_of(stats.poisson(10**6), 1_000)
+    assert float(table.mean) == pytest.approx(1e6, abs=0.01) and float(table.variance) == pytest.approx(1e6, rel=0.01)
 
 
 def test_samples():

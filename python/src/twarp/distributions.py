@@ -70,6 +70,9 @@ MOST_TICKS = 1_099_511_627_774
 _INNER = 24
 _OUTER = 96
 
+# More values of a discrete distribution than these are not looked at one by one.
+_MANY = 1_000_000
+
 
 class Table(Tuple[int, ...]):
     """A table of quantiles: whole numbers of ticks, in order, each of which is drawn with the same share.
@@ -206,6 +209,8 @@ def _discrete(dist: Any, count: int) -> np.ndarray[Any, Any]:
     """The means of the shares of a discrete distribution of scipy, from its probabilities."""
     edge = 1e-13 / count
     first, last = int(dist.ppf(edge)), int(dist.isf(edge))
+    if last - first > _MANY:  # steps so small that the quantile function is as good as smooth
+        return _continuous(dist, count)
     values = np.arange(first, last + 1)
     upto = np.clip(dist.cdf(values), 0, 1)
     upto[-1] = 1.0

@@ -4,11 +4,10 @@
 //! `tw_machine_text` stopped; what may stand there says what is wrong. Of the words nothing is proved but that they are
 //! made safely and that the search ends: they are shown by tests, one for each kind of fault.
 //!
-//! - [`reason`]: why a text goes wrong at a place.
-//! - [`words_of`], [`Spelled`]: all words of a text, each with its place.
-//! - [`is_reserved`]: whether a word is one of the language that no name may be.
-//! - [`Nearest`]: the name that was meant, where one is misspelt.
-//! - [`quoted`], [`described`], [`listed`]: words of which a line is made.
+//! - `texts`: [`reason`], why a text goes wrong at a place; `reading`, what may stand behind the words before it.
+//! - `spelling`: [`words_of`], [`Spelled`], all words of a text, each with its place.
+//! - `nearest`: [`Nearest`], the name that was meant, where one is misspelt.
+//! - `words`: [`quoted`], [`described`], [`listed`], words of which a line is made.
 #![tactic(auto)]
 
 mod nearest;
@@ -19,5 +18,5 @@ mod words;
 
 pub use nearest::Nearest;
 pub use spelling::{Spelled, words_of};
-pub use texts::{is_reserved, reason};
+pub use texts::reason;
 pub use words::{described, listed, quoted};

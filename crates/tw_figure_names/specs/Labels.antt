@@ -1,5 +1,4 @@
 -- The names and the figures of models.
---     model_name m      what a model is called
 --     figures_in m      its figures, each by its name and what it tells
 --     figure_shown f      a figure so
 --     AreLabels m labels      the name and the figures of a component's model; of a machine they are its file's
@@ -9,16 +8,10 @@ use Rattle.tw_figures.specs.declared.figure.Measure.{Measure}
 use Rattle.tw_figures.specs.declared.figure.Measure.TheVariants.{Word, Beyond}
 use Rattle.tw_any_model.specs.declared.any_model.AnyModel.{AnyModel}
 use Rattle.tw_any_model.specs.declared.any_model.AnyModel.TheVariants.{BuiltIn, Machine}
+use Rattle.tw_models.specs.Kinds.{kind_name}
 use Rattle.tw_models.specs.declared.model.Model.{Model}
 use Rattle.tw_figures.specs.declared.labels.Labels.{Labels}
 use Rattle.tw_models.specs.declared.model.Model.TheVariants.{Gen, Tally, Relay, Queue, Hop}
-
-abbrev pub model_name : Model → List ℕ
-model_name (Gen g) = codes "gen"
-model_name Tally = codes "tally"
-model_name (Relay r) = codes "relay"
-model_name (Queue q) = codes "queue"
-model_name (Hop h) = codes "hop"
 
 abbrev pub figures_in : Model → List (List ℕ × Measure)
 figures_in (Gen g) = (codes "count", Word 0) ∷ []
@@ -31,5 +24,5 @@ abbrev pub figure_shown : Figure → List ℕ × Measure
 figure_shown f = (string_bytes f.name, f.measure)
 
 abbrev pub AreLabels : AnyModel → Labels → Type 0
-AreLabels (BuiltIn m) labels = (string_bytes labels.model ≡ model_name m) × (map figure_shown labels.figures.items ≡ figures_in m)
+AreLabels (BuiltIn m) labels = (string_bytes labels.model ≡ kind_name m) × (map figure_shown labels.figures.items ≡ figures_in m)
 AreLabels (Machine m) labels = Unit {0}

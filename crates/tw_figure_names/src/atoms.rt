@@ -2,6 +2,7 @@
 
 use serde_json::Value;
 use std::alloc::{AllocError, Global};
+use tw_file_members::items_in;
 
 /// More levels than a JSON text can have: a level of components takes two of its 127.
 const ROOM: usize = 64;
@@ -22,7 +23,7 @@ fn add_atoms<'a>(
     if room == 0 {
         return Ok(());
     }
-    for component in items_at(model, "components") {
+    for component in items_in(model, "components") {
         if component.get("components").is_some() {
             add_atoms(atoms, component, room - 1)?;
         } else {
@@ -30,17 +31,4 @@ fn add_atoms<'a>(
         }
     }
     Ok(())
-}
-
-/// The items of a member that is a list, and none of any other.
-pub(crate) fn items_at<'a>(value: &'a Value, name: &str) -> &'a [Value] {
-    match value.get(name).and_then(Value::as_array) {
-        Some(items) => items.as_slice(),
-        None => &[],
-    }
-}
-
-/// The text of a member, and the empty one where it has none.
-pub(crate) fn text_at<'a>(value: &'a Value, name: &str) -> &'a str {
-    value.get(name).and_then(Value::as_str).unwrap_or("")
 }

@@ -1,7 +1,8 @@
 //! The names and the figures of the built-in models.
 
 ghost use Rattle.std.specs.Prelude.{◌≡◌, ◌++◌, ◌∷◌, [], IfOk, OnOk, map, string_bytes};
-ghost use Rattle.tw_figure_names.specs.Labels.{figures_in, figure_shown, model_name};
+ghost use Rattle.tw_models.specs.Kinds.{kind_name};
+ghost use Rattle.tw_figure_names.specs.Labels.{figures_in, figure_shown};
 
 use std::alloc::{AllocError, Global};
 use tw_figures::{Figure, Labels, Measure};
@@ -12,29 +13,16 @@ use tw_models::Model;
 ///
 /// Refused for want of memory (4).
 pub fn labels_of(alloc: Global, model: &Model) -> Result<Labels, AllocError>
-    ensures model { IfOk result (λ labels. string_bytes labels.model ≡ model_name model.now) }
+    ensures model { IfOk result (λ labels. string_bytes labels.model ≡ kind_name model.now) }
     ensures figures { IfOk result
         (λ labels. map figure_shown labels.figures.items ≡ figures_in model.now) }
 {
     let figures = figures_of(alloc, model)?;
-    let name = String::from_str(alloc, name_of(model))?;
+    let name = String::from_str(alloc, model.kind_name())?;
     Ok(Labels {
         model: name,
         figures,
     })
-}
-
-/// The name of a model.
-fn name_of(model: &Model) -> &'static str
-    ensures { result.now ≡ model_name model.now }
-{
-    match model {
-        Model::Gen(_) => "gen",
-        Model::Tally => "tally",
-        Model::Relay(_) => "relay",
-        Model::Queue(_) => "queue",
-        Model::Hop(_) => "hop",
-    }
 }
 
 /// The figures of a model.

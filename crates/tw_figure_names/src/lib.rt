@@ -1,11 +1,13 @@
 //! What the models of a file's network are called, and their figures.
 //!
-//! - [`labels_in`]: those of all components of a network, with the bytes of its file.
-//! - [`labels_of`]: the name and the figures of one of the five models.
-//! - [`figures_law`]: what the figures are of a state: its count, its sum, how many values it holds.
+//! - `network`: [`labels_in`], those of all components of a network, with the bytes of its file.
+//! - `labels`: [`labels_of`], the name and the figures of one of the five models.
+//! - `law`: [`figures_law`], what the figures are of a state: its count, its sum, how many values it holds.
+//! - `atoms`: the components of a file, in the order of their numbers.
+//! - `machine`: the name and the figures of a machine, which stand in its file alone. `shown`: what an entry of its `words`
+//!   shows.
 //!
-//! The names of a machine's figures stand in its file alone; `atoms` finds the component there, and `machine` what its machine
-//! shows. Of these names nothing is proved: they are shown by tests.
+//! Of these names nothing is proved: they are shown by tests.
 #![tactic(auto)]
 
 mod atoms;

@@ -1,10 +1,10 @@
 //! The name and the figures of a machine.
 
-use crate::atoms::{items_at, text_at};
 use crate::shown::{Shown, shown_by, squeezed};
 use serde_json::Value;
 use std::alloc::{AllocError, Global};
 use tw_figures::{Figure, Labels, Measure};
+use tw_file_members::{items_in, text_in};
 
 /// What the machine of a component is called, and its figures, as its file has them: those of the entries of its `words`
 /// before the first one that is a queue, and then how many values all its queues there have together.
@@ -13,15 +13,15 @@ pub(crate) fn labels_of_machine(
     file: &Value,
     component: &Value,
 ) -> Result<Labels, AllocError> {
-    let name = text_at(component, "model");
+    let name = text_in(component, "model");
     let mut figures = Figures {
         figures: Vec::new(alloc),
         place: 0,
         queues: String::new(alloc),
         numbers: 0,
     };
-    if let Some(machine) = machine_named(file, name) {
-        for entry in items_at(machine, "words") {
+    if let Some(machine) = machine_at(file, name) {
+        for entry in items_in(machine, "words") {
             figures.add(alloc, machine, entry)?;
         }
     }
@@ -32,10 +32,10 @@ pub(crate) fn labels_of_machine(
 }
 
 /// The machine of a file that has this name.
-fn machine_named<'a>(file: &'a Value, name: &str) -> Option<&'a Value> {
-    items_at(file, "models")
+fn machine_at<'a>(file: &'a Value, name: &str) -> Option<&'a Value> {
+    items_in(file, "models")
         .iter()
-        .find(|machine| text_at(machine, "name") == name)
+        .find(|machine| text_in(machine, "name") == name)
 }
 
 /// The figures of the entries so far.

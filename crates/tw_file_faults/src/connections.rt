@@ -4,8 +4,9 @@ use crate::given::late_starts;
 use crate::parameters::check_range;
 use serde_json::Value;
 use std::alloc::Global;
+use tw_file_members::items_in;
 use tw_file_outline::{Level, Outline, place_of};
-use tw_machine_faults::{Stop, items_at, machines_of, name_of};
+use tw_machine_faults::{Stop, machines_of, name_of};
 use tw_machine_text_faults::quoted;
 use tw_network::{MAX_NAME, MAX_PORT};
 use tw_vtime::MAX_TICK;
@@ -36,7 +37,7 @@ fn coupling_of<'a>(value: &'a Value) -> Option<Coupling<'a>> {
 /// Looks for a name that is not made as names are.
 pub(crate) fn bad_names(alloc: Global, outline: &Outline<'_>) -> Result<(), Stop> {
     for level in &outline.levels {
-        for (i, component) in items_at(level.value, "components").iter().enumerate() {
+        for (i, component) in items_in(level.value, "components").iter().enumerate() {
             let name = name_of(component).unwrap_or("");
             if !is_name(name) {
                 let name = quoted(alloc, name)?;
@@ -64,7 +65,7 @@ fn is_name(name: &str) -> bool {
 /// Looks for a name that stood before in the same model.
 pub(crate) fn repeated_names(alloc: Global, outline: &Outline<'_>) -> Result<(), Stop> {
     for level in &outline.levels {
-        let components = items_at(level.value, "components");
+        let components = items_in(level.value, "components");
         for (i, component) in components.iter().enumerate() {
             let name = name_of(component).unwrap_or("");
             if let Some(first) = first_named(components, name) {
@@ -99,14 +100,14 @@ pub(crate) fn unknown_names(
     outline: &Outline<'_>,
 ) -> Result<(), Stop> {
     for level in &outline.levels {
-        for (i, item) in items_at(level.value, "couplings").iter().enumerate() {
+        for (i, item) in items_in(level.value, "couplings").iter().enumerate() {
             if let Some(coupling) = coupling_of(item) {
                 check_end(alloc, level, i, coupling.source)?;
                 check_end(alloc, level, i, coupling.destination)?;
             }
         }
     }
-    for (i, input) in items_at(value, "inputs").iter().enumerate() {
+    for (i, input) in items_in(value, "inputs").iter().enumerate() {
         let name = input.get("to").and_then(Value::as_str).unwrap_or("");
         if !has_atom(outline, name) {
             let name = quoted(alloc, name)?;
@@ -122,7 +123,7 @@ fn check_end(alloc: Global, level: &Level<'_>, i: usize, name: &str) -> Result<(
     if name.is_empty() && level.depth > 0 {
         return Ok(());
     }
-    if first_named(items_at(level.value, "components"), name).is_some() {
+    if first_named(items_in(level.value, "components"), name).is_some() {
         return Ok(());
     }
     let name = quoted(alloc, name)?;
@@ -152,7 +153,7 @@ fn has_atom(outline: &Outline<'_>, name: &str) -> bool {
 pub(crate) fn bad_ports(alloc: Global, value: &Value, outline: &Outline<'_>) -> Result<(), Stop> {
     let most = u64::from(MAX_PORT);
     for level in &outline.levels {
-        for (i, item) in items_at(level.value, "couplings").iter().enumerate() {
+        for (i, item) in items_in(level.value, "couplings").iter().enumerate() {
             if let Some(coupling) = coupling_of(item) {
                 let port = if coupling.source_port > most {
                     coupling.source_port
@@ -169,7 +170,7 @@ pub(crate) fn bad_ports(alloc: Global, value: &Value, outline: &Outline<'_>) -> 
             }
         }
     }
-    for (i, input) in items_at(value, "inputs").iter().enumerate() {
+    for (i, input) in items_in(value, "inputs").iter().enumerate() {
         let place = format!(in alloc; "inputs[{i}]")?;
         check_range(alloc, place.as_str(), input, "port", 0, most)?;
     }
@@ -179,7 +180,7 @@ pub(crate) fn bad_ports(alloc: Global, value: &Value, outline: &Outline<'_>) -> 
 /// Looks for a coupling whose ends are the same.
 pub(crate) fn self_couplings(alloc: Global, outline: &Outline<'_>) -> Result<(), Stop> {
     for level in &outline.levels {
-        for (i, item) in items_at(level.value, "couplings").iter().enumerate() {
+        for (i, item) in items_in(level.value, "couplings").iter().enumerate() {
             if let Some(coupling) = coupling_of(item) {
                 if coupling.source == coupling.destination {
                     let path = level.path.as_str();
@@ -202,7 +203,7 @@ pub(crate) fn self_couplings(alloc: Global, outline: &Outline<'_>) -> Result<(),
 /// Looks for a coupling that stood before in the same model.
 pub(crate) fn repeated_routes(alloc: Global, outline: &Outline<'_>) -> Result<(), Stop> {
     for level in &outline.levels {
-        let couplings = items_at(level.value, "couplings");
+        let couplings = items_in(level.value, "couplings");
         for (i, item) in couplings.iter().enumerate() {
             if let Some(first) = first_like(couplings, item) {
                 if first < i {
@@ -235,7 +236,7 @@ pub(crate) fn bad_ticks(alloc: Global, value: &Value, outline: &Outline<'_>) -> 
         let machines = machines_of(alloc, value)?;
         late_starts(alloc, outline, machines.as_slice())?;
     }
-    for (i, input) in items_at(value, "inputs").iter().enumerate() {
+    for (i, input) in items_in(value, "inputs").iter().enumerate() {
         let place = format!(in alloc; "inputs[{i}]")?;
         check_range(alloc, place.as_str(), input, "tick", 0, MAX_TICK)?;
     }

@@ -4,17 +4,12 @@ use crate::shape::{check_members, check_value};
 use serde_json::Value;
 use std::alloc::Global;
 use tw_file_outline::Outline;
+use tw_machine::limits::{MAX_FILE_NUMBERS, MAX_NUMBERS};
 use tw_machine_declaration::constant;
 use tw_machine_faults::{Machine, Stop, WHOLE};
 use tw_machine_file::{MachineFault, given_of};
 use tw_machine_text_faults::{described, quoted};
 use tw_vtime::MAX_TICK;
-
-/// The most numbers that a component gives for a list.
-const MAX_LIST: usize = 65_536;
-
-/// The most numbers of all tables of a file.
-const MAX_NUMBERS: usize = 1_048_576;
 
 /// The machine of this name.
 pub(crate) fn machine_named<'a, 'b>(
@@ -72,8 +67,8 @@ fn check_numbers(alloc: Global, place: &str, component: &Value, name: &str) -> R
         return Err(Stop::Fault(line));
     };
     let count = numbers.len();
-    if count < 1 || count > MAX_LIST {
-        let line = format!(in alloc; "{place}: {name} has {count} numbers, 1 to {MAX_LIST}")?;
+    if count < 1 || count > MAX_NUMBERS {
+        let line = format!(in alloc; "{place}: {name} has {count} numbers, 1 to {MAX_NUMBERS}")?;
         return Err(Stop::Fault(line));
     }
     for (i, number) in numbers.iter().enumerate() {
@@ -112,9 +107,9 @@ pub(crate) fn check_tables(
             }
         }
     }
-    if total > MAX_NUMBERS {
+    if total > MAX_FILE_NUMBERS {
         let line = format!(in alloc;
-            "the file: {total} numbers in tables and lists, at most {MAX_NUMBERS}"
+            "the file: {total} numbers in tables and lists, at most {MAX_FILE_NUMBERS}"
         )?;
         return Err(Stop::Fault(line));
     }

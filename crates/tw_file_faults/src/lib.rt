@@ -5,6 +5,7 @@
 //! fault's first place is looked for. Of the words nothing is proved but that they are made safely and that the
 //! search ends: they are shown by tests, one for each kind of fault.
 //!
+//! - `lines`: [`explain`].
 //! - `tw_file_outline` has the models and components of a file, each with its place and its name.
 //! - `shape`, `parameters`, `connections`, `counts`: the first place of a fault of each kind.
 //! - `given`: components of machines. The machines themselves, the first fault of `models`, are left to

@@ -2,30 +2,29 @@
 
 use serde_json::Value;
 use std::alloc::Global;
-use tw_file_outline::Outline;
+use tw_file_outline::{Atom, Outline};
 use tw_machine_faults::Stop;
-use tw_vtime::MAX_TICK;
+use tw_models::{KINDS, Kind, Numbers};
 
-/// The most output ports of a hop.
-const MAX_PORTS: u64 = 16;
-
-/// The widest spread of a hop's waits, in ticks.
-const MAX_SPREAD: u64 = 1_048_576;
-
-/// Looks for a parameter out of range, by atom in order; of a hop its ports first.
+/// Looks for a parameter out of range, by atom in order; of an atom in the order of its kind.
 pub(crate) fn bad_parameters(alloc: Global, outline: &Outline<'_>) -> Result<(), Stop> {
     for atom in &outline.atoms {
-        let value = atom.value;
-        let place = atom.place.as_str();
-        match value.get("model").and_then(Value::as_str) {
-            Some("gen") => check_range(alloc, place, value, "period", 1, MAX_TICK)?,
-            Some("relay") => check_range(alloc, place, value, "delay", 0, MAX_TICK)?,
-            Some("queue") => check_range(alloc, place, value, "service", 0, MAX_TICK)?,
-            Some("hop") => {
-                check_range(alloc, place, value, "ports", 1, MAX_PORTS)?;
-                check_range(alloc, place, value, "spread", 1, MAX_SPREAD)?;
+        let model = atom.value.get("model").and_then(Value::as_str);
+        for kind in &KINDS {
+            if model == Some(kind.name) {
+                check_parameters(alloc, atom, kind)?;
             }
-            _ => {}
+        }
+    }
+    Ok(())
+}
+
+/// Stops at the first parameter of an atom of this kind that is out of range.
+fn check_parameters(alloc: Global, atom: &Atom<'_>, kind: &Kind) -> Result<(), Stop> {
+    for parameter in kind.parameters {
+        if let Numbers::Counts { least, most } = parameter.numbers {
+            let place = atom.place.as_str();
+            check_range(alloc, place, atom.value, parameter.name, least, most)?;
         }
     }
     Ok(())

@@ -3,9 +3,11 @@
 use crate::given::{check_given, check_tables, machine_named};
 use serde_json::Value;
 use std::alloc::Global;
+use tw_file_members::items_in;
 use tw_file_outline::{Outline, place_of};
-use tw_machine_faults::{MODELS, Machine, Stop, items_at, machines_of};
+use tw_machine_faults::{Machine, Stop, machines_of};
 use tw_machine_text_faults::{Nearest, described, listed, quoted};
+use tw_models::{KINDS, Kind, Numbers};
 
 /// The members of a network file.
 const MEMBERS: [&str; 5] = ["format", "micro_limit", "components", "couplings", "inputs"];
@@ -31,7 +33,7 @@ pub(crate) fn bad_shape(alloc: Global, value: &Value, outline: &Outline<'_>) -> 
     };
     check_levels(alloc, outline, machines.as_slice())?;
     check_tables(alloc, outline, machines.as_slice())?;
-    for (i, input) in items_at(value, "inputs").iter().enumerate() {
+    for (i, input) in items_in(value, "inputs").iter().enumerate() {
         let place = format!(in alloc; "inputs[{i}]")?;
         check_input(alloc, place.as_str(), input)?;
     }
@@ -47,7 +49,7 @@ fn check_levels(
     for level in &outline.levels {
         let place = level.place.as_str();
         check_list(alloc, place, level.value, "components")?;
-        for (i, component) in items_at(level.value, "components").iter().enumerate() {
+        for (i, component) in items_in(level.value, "components").iter().enumerate() {
             let place = place_of(
                 alloc,
                 level.path.as_str(),
@@ -64,7 +66,7 @@ fn check_levels(
             )?;
         }
         check_list(alloc, place, level.value, "couplings")?;
-        for (i, coupling) in items_at(level.value, "couplings").iter().enumerate() {
+        for (i, coupling) in items_in(level.value, "couplings").iter().enumerate() {
             let place = format!(in alloc; "{}couplings[{i}]", level.path)?;
             check_coupling(alloc, place.as_str(), coupling)?;
         }
@@ -133,37 +135,33 @@ fn check_atom(
     check_text(alloc, place, atom, "name")?;
     check_present(alloc, place, atom, "a component", "model")?;
     check_text(alloc, place, atom, "model")?;
-    let common = &["name", "model"];
-    match atom.get("model").and_then(Value::as_str).unwrap_or("") {
-        "gen" => {
-            check_members(alloc, place, atom, "a gen", common, &["period", "value"])?;
-            check_count(alloc, place, atom, "period")?;
-            check_value(alloc, place, atom, "value")
+    let model = atom.get("model").and_then(Value::as_str).unwrap_or("");
+    for kind in &KINDS {
+        if kind.name == model {
+            return check_built_in(alloc, place, atom, kind);
         }
-        "tally" => check_members(alloc, place, atom, "a tally", common, &[]),
-        "relay" => {
-            check_members(alloc, place, atom, "a relay", common, &["delay"])?;
-            check_count(alloc, place, atom, "delay")
-        }
-        "queue" => {
-            check_members(alloc, place, atom, "a queue", common, &["service"])?;
-            check_count(alloc, place, atom, "service")
-        }
-        "hop" => check_hop(alloc, place, atom, common),
-        model => match machine_named(machines, model) {
-            Some(machine) => check_given(alloc, place, atom, machine),
-            None => unknown_model(alloc, place, model, machines),
-        },
+    }
+    match machine_named(machines, model) {
+        Some(machine) => check_given(alloc, place, atom, machine),
+        None => unknown_model(alloc, place, model, machines),
     }
 }
 
-/// Looks at a hop.
-fn check_hop(alloc: Global, place: &str, atom: &Value, common: &[&str]) -> Result<(), Stop> {
-    let own = &["seed", "ports", "spread"];
-    check_members(alloc, place, atom, "a hop", common, own)?;
-    check_count(alloc, place, atom, "seed")?;
-    check_count(alloc, place, atom, "ports")?;
-    check_count(alloc, place, atom, "spread")
+/// Looks at a component of a built-in model: its members, and then its parameters in order.
+fn check_built_in(alloc: Global, place: &str, atom: &Value, kind: &Kind) -> Result<(), Stop> {
+    let what = format!(in alloc; "a {}", kind.name)?;
+    let mut own = Vec::new(alloc);
+    for parameter in kind.parameters {
+        own.push(parameter.name)?;
+    }
+    check_members(alloc, place, atom, what.as_str(), &["name", "model"], &own)?;
+    for parameter in kind.parameters {
+        match parameter.numbers {
+            Numbers::Counts { .. } => check_count(alloc, place, atom, parameter.name)?,
+            Numbers::Values => check_value(alloc, place, atom, parameter.name)?,
+        }
+    }
+    Ok(())
 }
 
 /// Stops at a model that there is not.
@@ -174,20 +172,25 @@ fn unknown_model(
     machines: &[Machine<'_>],
 ) -> Result<(), Stop> {
     let shown = quoted(alloc, model)?;
+    let mut kinds = String::new(alloc);
+    for (i, kind) in KINDS.iter().enumerate() {
+        kinds.push_str(if i > 0 { ", " } else { "" })?;
+        kinds.push_str(kind.name)?;
+    }
     if machines.is_empty() {
-        let line = format!(in alloc;
-            "{place}: no model {shown}; there are gen, tally, relay, queue, hop"
-        )?;
+        let line = format!(in alloc; "{place}: no model {shown}; there are {kinds}")?;
         return Err(Stop::Fault(line));
     }
     let mut nearest = Nearest::new(model);
     for machine in machines {
         nearest.look(alloc, machine.read.name.as_str())?;
     }
-    nearest.look_all(alloc, &MODELS)?;
+    for kind in &KINDS {
+        nearest.look(alloc, kind.name)?;
+    }
     let question = nearest.question(alloc)?;
     let line = format!(in alloc;
-        "{place}: no model {shown}; there are gen, tally, relay, queue, hop and those of models{question}"
+        "{place}: no model {shown}; there are {kinds} and those of models{question}"
     )?;
     Err(Stop::Fault(line))
 }

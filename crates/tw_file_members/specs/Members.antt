@@ -2,10 +2,10 @@
 --     has_members n d, has_items n d      an object has so many members, an array so many items
 --     has_format f d, is_file n f d      it says that it is a file of this format; and it has so many members
 --     text_at name d, count_at name d, value_at name d      a member that is a text, a number, a number that may have a sign
-use Rattle.std.specs.Prelude.{◌==◌, ◌&&◌, ℕ, ℤ, List, Bool, false, Option, codes, option_and_then}
+use Rattle.std.specs.Prelude.{◌==◌, ◌&&◌, ℕ, ℤ, List, [], Bool, false, Option, codes, option_and_then, unwrap_or}
 use Rattle.std.specs.Str.{bytes_eq}
 use Rattle.std.specs.Option.{option_map_or}
-use Rattle.serde_json.specs.Data.{Data}
+use Rattle.serde_json.specs.Data.{Data, Items, no_items}
 use Rattle.serde_json.specs.Find.{get, as_number, as_u64, as_i64, as_str, as_array, as_object}
 use Rattle.serde_json.specs.Events.{members_len, items_len}
 
@@ -34,6 +34,13 @@ count_at name d = option_and_then count_of (get name d)
 
 abbrev pub value_at : List ℕ → Data → Option ℤ
 value_at name d = option_and_then value_of (get name d)
+
+-- the items of a member that is an array, a member that is a text; empty where they are not
+abbrev pub items_in : List ℕ → Data → Items
+items_in name d = unwrap_or (option_and_then as_array (get name d)) no_items
+
+abbrev pub text_in : List ℕ → Data → List ℕ
+text_in name d = unwrap_or (text_at name d) []
 
 -- the member `format` is this text
 abbrev pub has_format : List ℕ → Data → Bool

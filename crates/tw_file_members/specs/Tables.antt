@@ -6,6 +6,7 @@ use Rattle.std.specs.Option.{option_map_or}
 use Rattle.serde_json.specs.Data.{Data, Items, no_items, item}
 use Rattle.serde_json.specs.Events.{items_len}
 use Rattle.serde_json.specs.Find.{as_array, get}
+use Rattle.tw_machine.specs.Limits.{max_file_numbers}
 use Rattle.tw_machine_declaration.specs.Seen.{Declares, table}
 use Rattle.tw_machine_file.specs.Seen.{Machine}
 use Rattle.tw_file_members.specs.Members.{text_at}
@@ -56,4 +57,4 @@ abbrev pub numbers_in : List Machine → Data → ℕ
 numbers_in machines d = sum_by own_numbers machines + given_within machines 64 d
 
 abbrev pub has_few_numbers : List Machine → Data → Bool
-has_few_numbers machines d = nat_le (numbers_in machines d) 1048576
+has_few_numbers machines d = nat_le (numbers_in machines d) max_file_numbers

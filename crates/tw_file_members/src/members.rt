@@ -11,6 +11,8 @@ ghost use Rattle.tw_file_members.specs.Members.{
   is_file,
   text_at,
   value_at,
+  items_in,
+  text_in,
 };
 
 use serde_json::Value;
@@ -54,9 +56,17 @@ pub fn is_file(value: &Value, count: usize, format: &str) -> bool
 
 /// The items of a member that is an array.
 pub fn items_at<'a>(value: &'a Value, name: &str) -> Option<&'a [Value]>
-    ensures { option_map (λ vs. items_view vs.now) result ≡ option_and_then as_array (get name.now (view value.now)) }
+    ensures { option_map (λ vs. items_view vs.now) result
+        ≡ option_and_then as_array (get name.now (view value.now)) }
 {
     Some(value.get(name)?.as_array()?.as_slice())
+}
+
+/// The items of a member that is an array; none where it is not.
+pub fn items_in<'a>(value: &'a Value, name: &str) -> &'a [Value]
+    ensures { items_view result.now ≡ items_in name.now (view value.now) }
+{
+    items_at(value, name).unwrap_or(&[])
 }
 
 /// A member that is a text.
@@ -64,6 +74,13 @@ pub fn text_at<'a>(value: &'a Value, name: &str) -> Option<&'a str>
     ensures { option_map (λ t. t.now) result ≡ text_at name.now (view value.now) }
 {
     value.get(name)?.as_str()
+}
+
+/// A member that is a text; the empty text where it is not.
+pub fn text_in<'a>(value: &'a Value, name: &str) -> &'a str
+    ensures { result.now ≡ text_in name.now (view value.now) }
+{
+    text_at(value, name).unwrap_or("")
 }
 
 /// A member that is a number without a fraction, an exponent or a sign, and fits 64 bits.

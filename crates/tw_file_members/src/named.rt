@@ -8,7 +8,8 @@ use tw_machine_file::FileMachine;
 
 /// The first machine of a name.
 pub fn machine_named<'a>(machines: &'a [FileMachine], name: &str) -> Option<&'a FileMachine>
-    ensures { option_map (λ m. machine m.now) result ≡ machine_named (map machine machines.now) name.now }
+    ensures { option_map (λ m. machine m.now) result
+        ≡ machine_named (map machine machines.now) name.now }
 {
     for machine in machines {
         if machine.name.as_str() == name {

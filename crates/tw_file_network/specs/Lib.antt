@@ -1,3 +1,4 @@
+pub mod Answers
 pub mod Components
 pub mod Draft
 pub mod Meaning

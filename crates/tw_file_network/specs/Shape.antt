@@ -11,6 +11,7 @@ use Rattle.tw_machine_file.specs.Machines.{program_in}
 use Rattle.tw_machine_file.specs.Seen as file
 use Rattle.tw_file_members.specs.Members.{count_at, count_of, has_items, has_members, text_at, value_at}
 use Rattle.tw_file_members.specs.Named.{machine_named}
+use Rattle.tw_models.specs.Kinds.{gen_name, tally_name, relay_name, queue_name, hop_name}
 use Rattle.tw_file_network.specs.declared.draft.AnyDraft.{AnyDraft}
 use Rattle.tw_file_network.specs.declared.draft.AnyDraft.TheVariants.{BuiltIn, Machine}
 use Rattle.tw_file_network.specs.declared.draft.ModelDraft.{ModelDraft}
@@ -79,11 +80,11 @@ hop_of d =
 -- the model of this name
 abbrev pub model_named : List ℕ → Data → Option ModelDraft
 model_named name d =
-    if bytes_eq name (codes "gen") then gen_of d
-    else if bytes_eq name (codes "tally") then tally_of d
-    else if bytes_eq name (codes "relay") then relay_of d
-    else if bytes_eq name (codes "queue") then queue_of d
-    else if bytes_eq name (codes "hop") then hop_of d
+    if bytes_eq name gen_name then gen_of d
+    else if bytes_eq name tally_name then tally_of d
+    else if bytes_eq name relay_name then relay_of d
+    else if bytes_eq name queue_name then queue_of d
+    else if bytes_eq name hop_name then hop_of d
     else None
 
 -- the program of a machine, with what the component gives for its parameters

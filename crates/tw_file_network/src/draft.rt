@@ -1,8 +1,9 @@
 //! What a network file says, before it is known to be a network.
 
 ghost use Rattle.std.specs.Prelude.{◌≡◌};
-ghost use Rattle.std.specs.Prelude.{◌≢◌, Ok, Err, IfOk, IfErr};
+ghost use Rattle.std.specs.Prelude.{Ok, IfOk};
 ghost use Rattle.std.specs.Result.{result_err};
+ghost use Rattle.tw_file_network.specs.Answers.{FailsBy};
 ghost use Rattle.tw_file_network.specs.Components.{any_model_of, model_of};
 
 use crate::programs::ProgramDraft;
@@ -15,7 +16,7 @@ use tw_network::Nested;
 
 /// A model with its parameters, which may still be out of range.
 #[derive(Clone, Copy, Debug, PartialEq, Eq)]
-pub enum ModelDraft {
+pub(crate) enum ModelDraft {
     Gen { period: u64, value: i64 },
     Tally,
     Relay { delay: u64 },
@@ -24,7 +25,7 @@ pub enum ModelDraft {
 }
 
 impl ModelDraft {
-    // The model, where its parameters are in range.
+    /// The model, where its parameters are in range.
     pub fn model(self) -> Result<Model, BadModel>
         ensures { result ≡ model_of self }
     {
@@ -44,16 +45,16 @@ impl ModelDraft {
 
 /// What a component is to be: one of the five models with its parameters, or a machine whose program can be made.
 #[derive(Drop)]
-pub enum AnyDraft<'m> {
+pub(crate) enum AnyDraft<'m> {
     BuiltIn(ModelDraft),
     Machine(ProgramDraft<'m>),
 }
 
 impl<'m> AnyDraft<'m> {
-    // The model, where its parameters are in range.
+    /// The model, where its parameters are in range.
     pub fn model(&self, alloc: Global) -> Result<AnyModel, FileRefused>
         ensures ok { IfOk result (λ m. any_model_of self.now ≡ Ok m) }
-        ensures err { IfErr result (λ e. e ≢ FileRefused.OutOfMemory → any_model_of self.now ≡ Err e) }
+        ensures err { FailsBy result (any_model_of self.now) }
     {
         match self {
             AnyDraft::BuiltIn(draft) => Ok(AnyModel::BuiltIn(draft.model()?)),
@@ -63,7 +64,7 @@ impl<'m> AnyDraft<'m> {
         }
     }
 
-    // The parameter that is out of range, if one is.
+    /// The parameter that is out of range, if one is.
     pub fn fault(&self) -> Option<FileRefused>
         ensures { result ≡ result_err (any_model_of self.now) }
     {
@@ -79,14 +80,14 @@ impl<'m> AnyDraft<'m> {
 
 /// A component of a file, its name lent by the file's value.
 #[derive(Drop)]
-pub struct ComponentDraft<'a> {
+pub(crate) struct ComponentDraft<'a> {
     pub name: &'a str,
     pub model: AnyDraft<'a>,
 }
 
 /// A coupling of a file, with the names of its ends.
 #[derive(Clone, Copy, Debug)]
-pub struct CouplingDraft<'a> {
+pub(crate) struct CouplingDraft<'a> {
     pub source: &'a str,
     pub source_port: u64,
     pub destination: &'a str,
@@ -95,7 +96,7 @@ pub struct CouplingDraft<'a> {
 
 /// An input of a file, with the name of its component.
 #[derive(Clone, Copy, Debug)]
-pub struct InputDraft<'a> {
+pub(crate) struct InputDraft<'a> {
     pub tick: u64,
     pub to: &'a str,
     pub port: u64,
@@ -104,7 +105,7 @@ pub struct InputDraft<'a> {
 
 /// A network file, each of whose members has its type.
 #[derive(Drop)]
-pub struct Draft<'a> {
+pub(crate) struct Draft<'a> {
     pub micro_limit: u64,
     pub components: Vec<ComponentDraft<'a>>,
     pub couplings: Vec<CouplingDraft<'a>>,
@@ -114,7 +115,7 @@ pub struct Draft<'a> {
 /// A network file of format `tw-2`, each of whose members has its type; inputs name atoms by their names from
 /// the root on.
 #[derive(Drop)]
-pub struct TreeDraft<'a> {
+pub(crate) struct TreeDraft<'a> {
     pub micro_limit: u64,
     pub root: Nested<AnyDraft<'a>>,
     pub inputs: Vec<InputDraft<'a>>,

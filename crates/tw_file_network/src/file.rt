@@ -1,7 +1,8 @@
 //! A network file's bytes to the network that they mean.
 
-ghost use Rattle.std.specs.Prelude.{◌≡◌, ◌≢◌, Ok, Err, IfOk, IfErr};
+ghost use Rattle.std.specs.Prelude.{◌≡◌, Ok, IfOk};
 ghost use Rattle.serde_json.specs.View.{view};
+ghost use Rattle.tw_file_network.specs.Answers.{FailsBy};
 ghost use Rattle.tw_network.specs.Contents.{named};
 ghost use Rattle.tw_file_network.specs.Draft.{draft_view};
 ghost use Rattle.tw_file_network.specs.Meaning.{json_of, meaning_of, network_made, network_of};
@@ -28,17 +29,17 @@ use tw_network::{Coupling, Input, Network};
 /// instead. After any of them nothing is left. Nothing is said of an object that has a member twice.
 pub fn network_of_file(alloc: Global, bytes: &[u8]) -> Result<Network<AnyModel>, FileRefused>
     ensures network { IfOk result (λ n. meaning_of bytes.now ≡ Ok n) }
-    ensures first_fault { IfErr result (λ e. e ≢ FileRefused.OutOfMemory → meaning_of bytes.now ≡ Err e) }
+    ensures first_fault { FailsBy result (meaning_of bytes.now) }
 {
     let value = json_of(alloc, bytes)?;
     let draft = draft_of(alloc, &value)?;
     network_of(alloc, &draft)
 }
 
-// The JSON value that the bytes write.
-pub fn json_of(alloc: Global, bytes: &[u8]) -> Result<Value, FileRefused>
+/// The JSON value that the bytes write.
+pub(crate) fn json_of(alloc: Global, bytes: &[u8]) -> Result<Value, FileRefused>
     ensures ok { IfOk result (λ v. json_of bytes.now ≡ Ok (view v)) }
-    ensures err { IfErr result (λ e. e ≢ FileRefused.OutOfMemory → json_of bytes.now ≡ Err e) }
+    ensures err { FailsBy result (json_of bytes.now) }
 {
     match Value::from_slice(alloc, bytes) {
         Ok(value) => Ok(value),
@@ -47,10 +48,10 @@ pub fn json_of(alloc: Global, bytes: &[u8]) -> Result<Value, FileRefused>
     }
 }
 
-// The network that a draft means.
-pub fn network_of(alloc: Global, draft: &Draft) -> Result<Network<AnyModel>, FileRefused>
+/// The network that a draft means.
+pub(crate) fn network_of(alloc: Global, draft: &Draft) -> Result<Network<AnyModel>, FileRefused>
     ensures ok { IfOk result (λ n. network_of (draft_view draft.now) ≡ Ok n) }
-    ensures err { IfErr result (λ e. e ≢ FileRefused.OutOfMemory → network_of (draft_view draft.now) ≡ Err e) }
+    ensures err { FailsBy result (network_of (draft_view draft.now)) }
 {
     let drafts = draft.components.as_slice();
     let components = components_made(alloc, drafts)?;
@@ -69,8 +70,11 @@ fn network_made(
     inputs: Vec<Input>,
     micro_limit: u64,
 ) -> Result<Network<AnyModel>, FileRefused>
-    ensures ok { IfOk result (λ n. network_made (named components.items) couplings.items inputs.items micro_limit ≡ Ok n) }
-    ensures err { IfErr result (λ e. e ≢ FileRefused.OutOfMemory → network_made (named components.items) couplings.items inputs.items micro_limit ≡ Err e) }
+    ensures ok { IfOk result
+        (λ n. network_made (named components.items) couplings.items inputs.items micro_limit
+        ≡ Ok n) }
+    ensures err { FailsBy result (network_made
+        (named components.items) couplings.items inputs.items micro_limit) }
 {
     match Network::new(alloc, components, couplings, inputs, micro_limit) {
         Ok(network) => Ok(network),

@@ -1,7 +1,8 @@
 //! Components of a file that are one of the five models, or a machine that the file declares.
 
-ghost use Rattle.std.specs.Prelude.{◌≡◌, ◌≢◌, Some, None, IfOk, IfErr, map};
+ghost use Rattle.std.specs.Prelude.{◌≡◌, Some, IfOk, map};
 ghost use Rattle.serde_json.specs.View.{view};
+ghost use Rattle.tw_file_network.specs.Answers.{HasNoShape};
 ghost use Rattle.tw_machine_file.specs.Seen as file;
 ghost use Rattle.tw_machine_file.specs.Seen.{machine};
 ghost use Rattle.tw_file_network.specs.Shape.{machine_of, model_in};
@@ -16,15 +17,17 @@ use std::alloc::Global;
 use tw_file_members::machine_named;
 use tw_machine_file::{FileMachine, MachineFault, machines_in};
 
-// The model that a component names, where these machines may be named.
-pub fn model_in<'m>(
+/// The model that a component names, where these machines may be named.
+pub(crate) fn model_in<'m>(
     alloc: Global,
     machines: &'m [FileMachine],
     value: &Value,
     name: &str,
 ) -> Result<AnyDraft<'m>, FileRefused>
-    ensures ok { IfOk result (λ d. model_in (map machine machines.now) (view value.now) name.now ≡ Some d) }
-    ensures err { IfErr result (λ e. e ≢ FileRefused.OutOfMemory → (e ≡ FileRefused.BadShape) × (model_in (map machine machines.now) (view value.now) name.now ≡ None)) }
+    ensures ok { IfOk result
+        (λ d. model_in (map machine machines.now) (view value.now) name.now ≡ Some d) }
+    ensures err { HasNoShape result (model_in (map machine machines.now)
+        (view value.now) name.now) }
 {
     if let Some(draft) = model_named(name, value) {
         return Ok(AnyDraft::BuiltIn(draft));
@@ -41,8 +44,9 @@ fn machine_of<'m>(
     machine: &'m FileMachine,
     value: &Value,
 ) -> Result<AnyDraft<'m>, FileRefused>
-    ensures ok { IfOk result (λ d. machine_of (file.machine machine.now) (view value.now) ≡ Some d) }
-    ensures err { IfErr result (λ e. e ≢ FileRefused.OutOfMemory → (e ≡ FileRefused.BadShape) × (machine_of (file.machine machine.now) (view value.now) ≡ None)) }
+    ensures ok { IfOk result
+        (λ d. machine_of (file.machine machine.now) (view value.now) ≡ Some d) }
+    ensures err { HasNoShape result (machine_of (file.machine machine.now) (view value.now)) }
 {
     match ProgramDraft::new(alloc, machine, value) {
         Ok(program) => Ok(AnyDraft::Machine(program)),
@@ -51,10 +55,10 @@ fn machine_of<'m>(
     }
 }
 
-// The machines that a file declares.
-pub fn machines_at(alloc: Global, value: &Value) -> Result<Vec<FileMachine>, FileRefused>
+/// The machines that a file declares.
+pub(crate) fn machines_at(alloc: Global, value: &Value) -> Result<Vec<FileMachine>, FileRefused>
     ensures ok { IfOk result (λ ms. machines_at (view value.now) ≡ Some (map machine ms.items)) }
-    ensures err { IfErr result (λ e. e ≢ FileRefused.OutOfMemory → (e ≡ FileRefused.BadShape) × (machines_at (view value.now) ≡ None)) }
+    ensures err { HasNoShape result (machines_at (view value.now)) }
 {
     let Some(models) = value.get("models") else {
         return Err(FileRefused::BadShape);

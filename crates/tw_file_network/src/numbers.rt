@@ -23,12 +23,13 @@ use indexmap::IndexMap;
 use std::alloc::{AllocError, Global};
 use tw_network::{Coupling, End, Input, Link};
 
-// The names of the components of a file.
-pub fn names_of<'a>(
+/// The names of the components of a file.
+pub(crate) fn names_of<'a>(
     alloc: Global,
     components: &[ComponentDraft<'a>],
 ) -> Result<Vec<&'a str>, AllocError>
-    ensures { IfOk result (λ v. map (λ n. n.now) v.items ≡ names_of (components_view components.now)) }
+    ensures { IfOk result
+        (λ v. map (λ n. n.now) v.items ≡ names_of (components_view components.now)) }
 {
     let mut names = Vec::with_capacity(alloc, components.len())?;
     for component in components {
@@ -37,16 +38,16 @@ pub fn names_of<'a>(
     Ok(names)
 }
 
-// The numbers of components or parts, by name.
+/// The numbers of components or parts, by name.
 #[derive(Drop)]
-pub struct Numbers<'a> {
+pub(crate) struct Numbers<'a> {
     by_name: IndexMap<&'a str, usize>,
     count: usize,
 }
 
 impl<'a> Numbers<'a> {
-    // The numbers of those that have these names. It goes from the last one to the first, so that of equal
-    // names the first one counts.
+    /// The numbers of those that have these names. It goes from the last one to the first, so that of equal
+    /// names the first one counts.
     pub fn new(alloc: Global, names: &[&'a str]) -> Result<Numbers<'a>, AllocError>
         ensures { IfOk result (λ n. numbering n ≡ number_of (map (λ n. n.now) names.now)) }
     {
@@ -58,13 +59,14 @@ impl<'a> Numbers<'a> {
         Ok(Numbers { by_name, count })
     }
 
-    // The couplings with numbers.
+    /// The couplings with numbers.
     pub fn couplings(
         &self,
         alloc: Global,
         drafts: &[CouplingDraft],
     ) -> Result<Vec<Coupling>, AllocError>
-        ensures { IfOk result (λ v. v.items ≡ map (numbered_coupling (numbering self.now)) (couplings_view drafts.now)) }
+        ensures { IfOk result (λ v. v.items
+            ≡ map (numbered_coupling (numbering self.now)) (couplings_view drafts.now)) }
     {
         let mut couplings = Vec::with_capacity(alloc, drafts.len())?;
         for draft in drafts {
@@ -73,9 +75,10 @@ impl<'a> Numbers<'a> {
         Ok(couplings)
     }
 
-    // The couplings of a model with the places of its parts.
+    /// The couplings of a model with the places of its parts.
     pub fn links(&self, alloc: Global, drafts: &[CouplingDraft]) -> Result<Vec<Link>, AllocError>
-        ensures { IfOk result (λ v. v.items ≡ map (link_named (numbering self.now)) (couplings_view drafts.now)) }
+        ensures { IfOk result
+            (λ v. v.items ≡ map (link_named (numbering self.now)) (couplings_view drafts.now)) }
     {
         let mut links = Vec::with_capacity(alloc, drafts.len())?;
         for draft in drafts {
@@ -84,9 +87,10 @@ impl<'a> Numbers<'a> {
         Ok(links)
     }
 
-    // The inputs with numbers.
+    /// The inputs with numbers.
     pub fn inputs(&self, alloc: Global, drafts: &[InputDraft]) -> Result<Vec<Input>, AllocError>
-        ensures { IfOk result (λ v. v.items ≡ map (numbered_input (numbering self.now)) (inputs_view drafts.now)) }
+        ensures { IfOk result
+            (λ v. v.items ≡ map (numbered_input (numbering self.now)) (inputs_view drafts.now)) }
     {
         let mut inputs = Vec::with_capacity(alloc, drafts.len())?;
         for draft in drafts {
@@ -147,8 +151,8 @@ impl<'a> Numbers<'a> {
     }
 }
 
-// A port above 255 as 255: a network takes neither.
-pub fn port_of(port: u64) -> u8
+/// A port above 255 as 255: a network takes neither.
+pub(crate) fn port_of(port: u64) -> u8
     ensures { result ≡ port_of port }
 {
     if port < 256 { port as u8 } else { 255 }

@@ -1,9 +1,9 @@
 //! Programs of components that are still to be made.
 
-ghost use Rattle.std.specs.Prelude.{◌≡◌, ◌≢◌, Ok, Err, IfOk, IfErr};
+ghost use Rattle.std.specs.Prelude.{◌≡◌, Ok, IfOk};
 ghost use Rattle.serde_json.specs.View.{view};
+ghost use Rattle.tw_machine_file.specs.Answers.{FailsBy};
 ghost use Rattle.tw_machine_declaration.specs.Seen as plain;
-ghost use Rattle.tw_machine_file.specs.Fault.{fault};
 ghost use Rattle.tw_machine_file.specs.Machines.{program_given, program_in};
 ghost use Rattle.tw_machine_file.specs.Seen as file;
 
@@ -11,14 +11,14 @@ use serde_json::Value;
 use std::alloc::{AllocError, Global};
 use std::marker::Model;
 use tw_machine::machine::Shared;
-use tw_machine_compiler::{BadMachine, Declaration, Given, declared};
+use tw_machine_compiler::{BadMachine, Declaration, Given, compile};
 use tw_machine_file::{FileMachine, MachineFault, given_of};
 
 /// What a machine declares, and what a component gives for its parameters, which together are within the limits.
 ///
 /// Contracts see the program that they mean. It takes no more memory than what is given, until it is made.
 #[derive(Drop)]
-pub struct ProgramDraft<'m> {
+pub(crate) struct ProgramDraft<'m> {
     declaration: &'m Declaration,
     given: Given,
 }
@@ -39,28 +39,30 @@ impl<'m> Model for ProgramDraft<'m> {
 
     ghost view = { λ d. program_of (plain.given d.given) (plain.declaration d.declaration.now) };
 
-    ghost invariant = { λ d. fault_of (plain.given d.given) (plain.declaration d.declaration.now) ≡ None };
+    ghost invariant = { λ d. fault_of (plain.given d.given) (plain.declaration d.declaration.now)
+        ≡ None };
 }
 
 impl<'m> ProgramDraft<'m> {
-    // The program of a component of a machine.
+    /// The program of a component of a machine.
     pub fn new(
         alloc: Global,
         machine: &'m FileMachine,
         component: &Value,
     ) -> Result<ProgramDraft<'m>, MachineFault>
-        ensures ok { IfOk result (λ d. program_in (file.machine machine.now) (view component.now) ≡ Ok d) }
-        ensures err { IfErr result (λ e. e ≢ MachineFault.OutOfMemory → program_in (file.machine machine.now) (view component.now) ≡ Err (fault e)) }
+        ensures ok { IfOk result
+            (λ d. program_in (file.machine machine.now) (view component.now) ≡ Ok d) }
+        ensures err { FailsBy result (program_in (file.machine machine.now) (view component.now)) }
     {
         let given = given_of(alloc, machine, component)?;
         program_given(alloc, &machine.declaration, given)
     }
 
-    // The program, made. The only error is want of memory.
+    /// The program, made. The only error is want of memory.
     pub fn made(&self, alloc: Global) -> Result<Shared, AllocError>
         ensures { IfOk result (λ shared. shared ≡ self.now) }
     {
-        match declared(alloc, &self.given, self.declaration) {
+        match compile(alloc, &self.given, self.declaration) {
             Ok(program) => Shared::new(alloc, program),
             Err(BadMachine::OutOfMemory) => Err(AllocError),
             Err(_) => unreachable!(),
@@ -75,10 +77,12 @@ fn program_given<'m>(
     declaration: &'m Declaration,
     given: Given,
 ) -> Result<ProgramDraft<'m>, MachineFault>
-    ensures ok { IfOk result (λ d. program_given (plain.declaration declaration.now) (plain.given given) ≡ Ok d) }
-    ensures err { IfErr result (λ e. e ≢ MachineFault.OutOfMemory → program_given (plain.declaration declaration.now) (plain.given given) ≡ Err (fault e)) }
+    ensures ok { IfOk result
+        (λ d. program_given (plain.declaration declaration.now) (plain.given given) ≡ Ok d) }
+    ensures err { FailsBy result (program_given (plain.declaration declaration.now)
+        (plain.given given)) }
 {
-    match declared(alloc, &given, declaration) {
+    match compile(alloc, &given, declaration) {
         Ok(program) => {
             drop(program);
             Ok(ProgramDraft { declaration, given })

@@ -2,7 +2,10 @@
 
 ghost use Rattle.std.specs.Prelude.{◌≡◌};
 ghost use Rattle.tw_file_network.specs.Refused.{file_refusal, network_fault};
-ghost use Rattle.tw_file_network.specs.declared.refused.FileRefused.TheVariants.{OutOfMemory, Parameter};
+ghost use Rattle.tw_file_network.specs.declared.refused.FileRefused.TheVariants.{
+  OutOfMemory,
+  Parameter,
+};
 
 use std::alloc::{AllocError, AllocFailed};
 use thiserror::Error;

@@ -1,7 +1,8 @@
 //! What a network file's JSON value says: exactly its members, each of its type.
 
-ghost use Rattle.std.specs.Prelude.{◌≡◌, ◌≢◌, [], Some, None, Ok, Err, IfOk, IfErr, codes, map, option_map};
+ghost use Rattle.std.specs.Prelude.{◌≡◌, [], Some, Ok, IfOk, map, option_map};
 ghost use Rattle.serde_json.specs.View.{view, items_view};
+ghost use Rattle.tw_file_network.specs.Answers.{FailsBy, HasNoShape};
 ghost use Rattle.tw_machine_file.specs.Seen.{machine};
 ghost use Rattle.tw_file_network.specs.Draft.{
   component_view,
@@ -32,11 +33,12 @@ use serde_json::Value;
 use std::alloc::Global;
 use tw_file_members::{count_at, has_items, has_members, is_file, text_at, value_at};
 use tw_machine_file::FileMachine;
+use tw_models::{GEN, HOP, QUEUE, RELAY, TALLY};
 
-// What the file's value says, where it has the shape of a network file.
-pub fn draft_of<'a>(alloc: Global, value: &'a Value) -> Result<Draft<'a>, FileRefused>
+/// What the file's value says, where it has the shape of a network file.
+pub(crate) fn draft_of<'a>(alloc: Global, value: &'a Value) -> Result<Draft<'a>, FileRefused>
     ensures ok { IfOk result (λ d. shape_of (view value.now) ≡ Ok (draft_view d)) }
-    ensures err { IfErr result (λ e. e ≢ FileRefused.OutOfMemory → shape_of (view value.now) ≡ Err e) }
+    ensures err { FailsBy result (shape_of (view value.now)) }
 {
     if !is_file(value, 5, "tw-1") {
         return Err(FileRefused::BadShape);
@@ -68,8 +70,9 @@ fn components_of<'a>(
     alloc: Global,
     values: &'a [Value],
 ) -> Result<Vec<ComponentDraft<'a>>, FileRefused>
-    ensures ok { IfOk result (λ v. all_read (component_of []) (items_view values.now) ≡ Some (components_view v.items)) }
-    ensures err { IfErr result (λ e. e ≢ FileRefused.OutOfMemory → (e ≡ FileRefused.BadShape) × (all_read (component_of []) (items_view values.now) ≡ None)) }
+    ensures ok { IfOk result
+        (λ v. all_read (component_of []) (items_view values.now) ≡ Some (components_view v.items)) }
+    ensures err { HasNoShape result (all_read (component_of []) (items_view values.now)) }
 {
     let mut components = Vec::new(alloc);
     for value in values {
@@ -78,12 +81,13 @@ fn components_of<'a>(
     Ok(components)
 }
 
-pub fn couplings_of<'a>(
+pub(crate) fn couplings_of<'a>(
     alloc: Global,
     values: &'a [Value],
 ) -> Result<Vec<CouplingDraft<'a>>, FileRefused>
-    ensures ok { IfOk result (λ v. all_read coupling_of (items_view values.now) ≡ Some (couplings_view v.items)) }
-    ensures err { IfErr result (λ e. e ≢ FileRefused.OutOfMemory → (e ≡ FileRefused.BadShape) × (all_read coupling_of (items_view values.now) ≡ None)) }
+    ensures ok { IfOk result
+        (λ v. all_read coupling_of (items_view values.now) ≡ Some (couplings_view v.items)) }
+    ensures err { HasNoShape result (all_read coupling_of (items_view values.now)) }
 {
     let mut couplings = Vec::new(alloc);
     for value in values {
@@ -95,9 +99,13 @@ pub fn couplings_of<'a>(
     Ok(couplings)
 }
 
-pub fn inputs_of<'a>(alloc: Global, values: &'a [Value]) -> Result<Vec<InputDraft<'a>>, FileRefused>
-    ensures ok { IfOk result (λ v. all_read input_of (items_view values.now) ≡ Some (inputs_view v.items)) }
-    ensures err { IfErr result (λ e. e ≢ FileRefused.OutOfMemory → (e ≡ FileRefused.BadShape) × (all_read input_of (items_view values.now) ≡ None)) }
+pub(crate) fn inputs_of<'a>(
+    alloc: Global,
+    values: &'a [Value],
+) -> Result<Vec<InputDraft<'a>>, FileRefused>
+    ensures ok { IfOk result
+        (λ v. all_read input_of (items_view values.now) ≡ Some (inputs_view v.items)) }
+    ensures err { HasNoShape result (all_read input_of (items_view values.now)) }
 {
     let mut inputs = Vec::new(alloc);
     for value in values {
@@ -109,14 +117,15 @@ pub fn inputs_of<'a>(alloc: Global, values: &'a [Value]) -> Result<Vec<InputDraf
     Ok(inputs)
 }
 
-// A component, where these machines may be named.
-pub fn component_of<'a>(
+/// A component, where these machines may be named.
+pub(crate) fn component_of<'a>(
     alloc: Global,
     machines: &'a [FileMachine],
     value: &'a Value,
 ) -> Result<ComponentDraft<'a>, FileRefused>
-    ensures ok { IfOk result (λ c. component_of (map machine machines.now) (view value.now) ≡ Some (component_view c)) }
-    ensures err { IfErr result (λ e. e ≢ FileRefused.OutOfMemory → (e ≡ FileRefused.BadShape) × (component_of (map machine machines.now) (view value.now) ≡ None)) }
+    ensures ok { IfOk result
+        (λ c. component_of (map machine machines.now) (view value.now) ≡ Some (component_view c)) }
+    ensures err { HasNoShape result (component_of (map machine machines.now) (view value.now)) }
 {
     let Some(name) = text_at(value, "name") else {
         return Err(FileRefused::BadShape);
@@ -128,22 +137,22 @@ pub fn component_of<'a>(
     Ok(ComponentDraft { name, model })
 }
 
-pub fn model_named(name: &str, value: &Value) -> Option<ModelDraft>
+pub(crate) fn model_named(name: &str, value: &Value) -> Option<ModelDraft>
     ensures { result ≡ model_named name.now (view value.now) }
 {
-    if name == "gen" {
+    if name == GEN {
         return gen_of(value);
     }
-    if name == "tally" {
+    if name == TALLY {
         return has_members(value, 2).then_some(ModelDraft::Tally);
     }
-    if name == "relay" {
+    if name == RELAY {
         return relay_of(value);
     }
-    if name == "queue" {
+    if name == QUEUE {
         return queue_of(value);
     }
-    if name == "hop" {
+    if name == HOP {
         return hop_of(value);
     }
     None

@@ -1,8 +1,9 @@
 //! The parts of a tree with their models.
 
-ghost use Rattle.std.specs.Prelude.{◌≡◌, ◌≢◌, ◌+◌, ◌≤◌, ℕ, List, Ok, Err, IfOk, IfErr, length, min};
+ghost use Rattle.std.specs.Prelude.{◌≡◌, ◌+◌, ◌≤◌, ℕ, List, Ok, Err, IfOk, length, min};
 ghost use Rattle.std.specs.Option.{option_or};
 ghost use Rattle.std.specs.Result.{result_err};
+ghost use Rattle.tw_file_network.specs.Answers.{FailsAs, FailsBy};
 ghost use Rattle.tw_nested.specs.Tree.{Parts, models_in, part_view, parts_of};
 ghost use Rattle.tw_file_network.specs.Components.{after};
 ghost use Rattle.tw_file_network.specs.TreeShape.{tree_made};
@@ -13,15 +14,16 @@ use std::alloc::Global;
 use tw_any_model::AnyModel;
 use tw_network::{Nested, Part};
 
-// The tree, where all its models' parameters are in range.
+/// The tree, where all its models' parameters are in range.
 #[cycle(made)]
-pub fn tree_made(
+pub(crate) fn tree_made(
     alloc: Global,
     draft: &Nested<AnyDraft<'_>>,
 ) -> Result<Nested<AnyModel>, FileRefused>
-    ensures ok { IfOk result (λ n. tree_made (parts_of draft.now.parts.items) ≡ Ok (parts_of n.parts.items)) }
+    ensures ok { IfOk result
+        (λ n. tree_made (parts_of draft.now.parts.items) ≡ Ok (parts_of n.parts.items)) }
     ensures couplings { IfOk result (λ n. n.couplings.items ≡ draft.now.couplings.items) }
-    ensures err { IfErr result (λ e. e ≢ FileRefused.OutOfMemory → tree_made (parts_of draft.now.parts.items) ≡ Err e) }
+    ensures err { FailsBy result (tree_made (parts_of draft.now.parts.items)) }
 {
     let mut parts = Vec::with_capacity(alloc, draft.parts.len())?;
     for (name, part) in &draft.parts {
@@ -36,8 +38,11 @@ pub fn tree_made(
 /// The part, whatever comes after it.
 #[cycle(made)]
 fn part_made(alloc: Global, part: &Part<AnyDraft<'_>>) -> Result<Part<AnyModel>, FileRefused>
-    ensures ok { IfOk result (λ p. (name : List ℕ) (rest : Parts AnyDraft) → tree_made (part_view part.now name rest) ≡ after (λ more. Ok (part_view p name more)) (tree_made rest)) }
-    ensures err { IfErr result (λ e. e ≢ FileRefused.OutOfMemory → (name : List ℕ) (rest : Parts AnyDraft) → tree_made (part_view part.now name rest) ≡ Err e) }
+    ensures ok { IfOk result
+        (λ p. (name : List ℕ) (rest : Parts AnyDraft) → tree_made (part_view part.now name rest)
+        ≡ after (λ more. Ok (part_view p name more)) (tree_made rest)) }
+    ensures err { FailsAs result (λ e. (name : List ℕ) (rest : Parts AnyDraft)
+        → tree_made (part_view part.now name rest) ≡ Err e) }
 {
     match part {
         Part::Atom(draft) => Ok(Part::Atom(draft.model(alloc)?)),
@@ -45,9 +50,9 @@ fn part_made(alloc: Global, part: &Part<AnyDraft<'_>>) -> Result<Part<AnyModel>,
     }
 }
 
-// The first parameter that is out of range in a tree, whose models are not made.
+/// The first parameter that is out of range in a tree, whose models are not made.
 #[cycle(faults)]
-pub fn tree_fault(draft: &Nested<AnyDraft<'_>>) -> Option<FileRefused>
+pub(crate) fn tree_fault(draft: &Nested<AnyDraft<'_>>) -> Option<FileRefused>
     ensures { result ≡ result_err (tree_made (parts_of draft.now.parts.items)) }
 {
     for (_, part) in &draft.parts {
@@ -61,7 +66,9 @@ pub fn tree_fault(draft: &Nested<AnyDraft<'_>>) -> Option<FileRefused>
 /// The same in a part, whatever comes after it.
 #[cycle(faults)]
 fn part_fault(part: &Part<AnyDraft<'_>>) -> Option<FileRefused>
-    ensures { (name : List ℕ) (rest : Parts AnyDraft) → result_err (tree_made (part_view part.now name rest)) ≡ option_or result (result_err (tree_made rest)) }
+    ensures { (name : List ℕ) (rest : Parts AnyDraft)
+        → result_err (tree_made (part_view part.now name rest))
+        ≡ option_or result (result_err (tree_made rest)) }
 {
     match part {
         Part::Atom(draft) => draft.fault(),
@@ -69,9 +76,9 @@ fn part_fault(part: &Part<AnyDraft<'_>>) -> Option<FileRefused>
     }
 }
 
-// How many atoms a tree has, counted to 1,025, one past what is allowed.
+/// How many atoms a tree has, counted to 1,025, one past what is allowed.
 #[cycle(atoms)]
-pub fn atoms(draft: &Nested<AnyDraft<'_>>) -> usize
+pub(crate) fn atoms(draft: &Nested<AnyDraft<'_>>) -> usize
     ensures value { result ≡ min (length (models_in (parts_of draft.now.parts.items))) 1025 }
     ensures small { result ≤ 1025 }
 {
@@ -85,7 +92,9 @@ pub fn atoms(draft: &Nested<AnyDraft<'_>>) -> usize
 /// The same of a part, whatever comes after it.
 #[cycle(atoms)]
 fn part_atoms(part: &Part<AnyDraft<'_>>) -> usize
-    ensures value { (name : List ℕ) (rest : Parts AnyDraft) → min (length (models_in (part_view part.now name rest))) 1025 ≡ min (result + length (models_in rest)) 1025 }
+    ensures value { (name : List ℕ) (rest : Parts AnyDraft)
+        → min (length (models_in (part_view part.now name rest))) 1025
+        ≡ min (result + length (models_in rest)) 1025 }
     ensures small { result ≤ 1025 }
 {
     match part {

@@ -1,7 +1,8 @@
 //! What the JSON value of a file of format `tw-2` or `tw-3` says: a tree of components.
 
-ghost use Rattle.std.specs.Prelude.{◌≡◌, ◌≢◌, Some, None, Ok, Err, IfOk, IfErr, codes, map, string_bytes};
+ghost use Rattle.std.specs.Prelude.{◌≡◌, ◌≢◌, Some, None, IfOk, IfErr, codes, map, string_bytes};
 ghost use Rattle.serde_json.specs.View.{view, items_view};
+ghost use Rattle.tw_file_network.specs.Answers.{HasNoShape};
 ghost use Rattle.tw_machine_file.specs.Seen.{machine};
 ghost use Rattle.tw_file_members.specs.Members.{text_at};
 ghost use Rattle.tw_nested.specs.Tree.{part_view, parts_of};
@@ -36,17 +37,20 @@ use tw_network::{Link, Nested, Part};
 /// More levels than a JSON text of 127 levels can have: a level of parts takes two, an object and an array.
 const ROOM: usize = 64;
 
-// Whether the value is that of a file of this format.
-pub fn is_tree(value: &Value) -> bool
+/// Whether the value is that of a file of this format.
+pub(crate) fn is_tree(value: &Value) -> bool
     ensures { result ≡ is_tree_format (text_at (codes "format") (view value.now)) }
 {
     has_format(value, "tw-2")
 }
 
-// What the file's value says, where it has the shape of a file of this format.
-pub fn tree_draft_of<'a>(alloc: Global, value: &'a Value) -> Result<TreeDraft<'a>, FileRefused>
+/// What the file's value says, where it has the shape of a file of this format.
+pub(crate) fn tree_draft_of<'a>(
+    alloc: Global,
+    value: &'a Value,
+) -> Result<TreeDraft<'a>, FileRefused>
     ensures ok { IfOk result (λ d. tree_file_of (view value.now) ≡ Some (tree_view d)) }
-    ensures err { IfErr result (λ e. e ≢ FileRefused.OutOfMemory → (e ≡ FileRefused.BadShape) × (tree_file_of (view value.now) ≡ None)) }
+    ensures err { HasNoShape result (tree_file_of (view value.now)) }
 {
     if !is_file(value, 5, "tw-2") {
         return Err(FileRefused::BadShape);
@@ -66,17 +70,21 @@ pub fn tree_draft_of<'a>(alloc: Global, value: &'a Value) -> Result<TreeDraft<'a
     })
 }
 
-// Whether the value is that of a file of format `tw-3`.
-pub fn has_machines(value: &Value) -> bool
+/// Whether the value is that of a file of format `tw-3`.
+pub(crate) fn has_machines(value: &Value) -> bool
     ensures { result ≡ is_machines_format (text_at (codes "format") (view value.now)) }
 {
     has_format(value, "tw-3")
 }
 
-// The machines of a file of format `tw-3`.
-pub fn machines_declared(alloc: Global, value: &Value) -> Result<Vec<FileMachine>, FileRefused>
-    ensures ok { IfOk result (λ ms. machines_declared (view value.now) ≡ Some (map machine ms.items)) }
-    ensures err { IfErr result (λ e. e ≢ FileRefused.OutOfMemory → (e ≡ FileRefused.BadShape) × (machines_declared (view value.now) ≡ None)) }
+/// The machines of a file of format `tw-3`.
+pub(crate) fn machines_declared(
+    alloc: Global,
+    value: &Value,
+) -> Result<Vec<FileMachine>, FileRefused>
+    ensures ok { IfOk result
+        (λ ms. machines_declared (view value.now) ≡ Some (map machine ms.items)) }
+    ensures err { HasNoShape result (machines_declared (view value.now)) }
 {
     if !is_file(value, 6, "tw-3") {
         return Err(FileRefused::BadShape);
@@ -84,14 +92,16 @@ pub fn machines_declared(alloc: Global, value: &Value) -> Result<Vec<FileMachine
     machines_at(alloc, value)
 }
 
-// What else the file says, where its components may be these machines.
-pub fn machines_draft_with<'a>(
+/// What else the file says, where its components may be these machines.
+pub(crate) fn machines_draft_with<'a>(
     alloc: Global,
     value: &'a Value,
     machines: &'a [FileMachine],
 ) -> Result<TreeDraft<'a>, FileRefused>
-    ensures ok { IfOk result (λ d. machines_file_with (view value.now) (map machine machines.now) ≡ Some (tree_view d)) }
-    ensures err { IfErr result (λ e. e ≢ FileRefused.OutOfMemory → (e ≡ FileRefused.BadShape) × (machines_file_with (view value.now) (map machine machines.now) ≡ None)) }
+    ensures ok { IfOk result
+        (λ d. machines_file_with (view value.now) (map machine machines.now) ≡ Some (tree_view d)) }
+    ensures err { HasNoShape result (machines_file_with (view value.now)
+        (map machine machines.now)) }
 {
     if !has_few_numbers(machines, value) {
         return Err(FileRefused::BadShape);
@@ -119,8 +129,9 @@ fn tree_read<'m>(
     value: &'m Value,
     room: usize,
 ) -> Result<Nested<AnyDraft<'m>>, FileRefused>
-    ensures ok { IfOk result (λ n. tree_read (map machine machines.now) room (view value.now) ≡ Some (parts_of n.parts.items, n.couplings.items)) }
-    ensures err { IfErr result (λ e. e ≢ FileRefused.OutOfMemory → (e ≡ FileRefused.BadShape) × (tree_read (map machine machines.now) room (view value.now) ≡ None)) }
+    ensures ok { IfOk result (λ n. tree_read (map machine machines.now) room (view value.now)
+        ≡ Some (parts_of n.parts.items, n.couplings.items)) }
+    ensures err { HasNoShape result (tree_read (map machine machines.now) room (view value.now)) }
 {
     if room == 0 {
         return Err(FileRefused::BadShape);
@@ -144,7 +155,9 @@ fn parts_read<'m>(
     values: &'m [Value],
     room: usize,
 ) -> Result<Vec<(String, Part<AnyDraft<'m>>)>, FileRefused>
-    ensures ok { IfOk result (λ v. parts_read (map machine machines.now) (tree_read (map machine machines.now) room) (items_view values.now) ≡ Some (parts_of v.items)) }
+    ensures ok { IfOk result
+        (λ v. parts_read (map machine machines.now) (tree_read (map machine machines.now) room)
+        (items_view values.now) ≡ Some (parts_of v.items)) }
     ensures err { IfErr result (λ e. e ≢ FileRefused.OutOfMemory
         → (e ≡ FileRefused.BadShape) × (parts_read (map machine machines.now) (tree_read (map machine machines.now) room) (items_view values.now) ≡ None)) }
 {
@@ -162,8 +175,11 @@ fn part_read<'m>(
     value: &'m Value,
     room: usize,
 ) -> Result<(String, Part<AnyDraft<'m>>), FileRefused>
-    ensures ok { IfOk result (λ p. part_read (map machine machines.now) (tree_read (map machine machines.now) room) (view value.now) ≡ Some (part_view p.1 (string_bytes p.0))) }
-    ensures err { IfErr result (λ e. e ≢ FileRefused.OutOfMemory → (e ≡ FileRefused.BadShape) × (part_read (map machine machines.now) (tree_read (map machine machines.now) room) (view value.now) ≡ None)) }
+    ensures ok { IfOk result
+        (λ p. part_read (map machine machines.now) (tree_read (map machine machines.now) room)
+        (view value.now) ≡ Some (part_view p.1 (string_bytes p.0))) }
+    ensures err { HasNoShape result (part_read (map machine machines.now)
+        (tree_read (map machine machines.now) room) (view value.now)) }
 {
     match component_of(alloc, machines, value) {
         Ok(component) => {
@@ -190,7 +206,8 @@ fn links_named(
     parts: &[(String, Part<AnyDraft<'_>>)],
     drafts: &[CouplingDraft<'_>],
 ) -> Result<Vec<Link>, AllocError>
-    ensures { IfOk result (λ v. v.items ≡ links_named (parts_of parts.now) (couplings_view drafts.now)) }
+    ensures { IfOk result
+        (λ v. v.items ≡ links_named (parts_of parts.now) (couplings_view drafts.now)) }
 {
     let names = part_names(alloc, parts)?;
     let numbers = Numbers::new(alloc, names.as_slice())?;

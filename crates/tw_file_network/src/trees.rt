@@ -1,15 +1,24 @@
 //! Network files of any format to the networks that they mean.
 
-ghost use Rattle.std.specs.Prelude.{◌≡◌, ◌≢◌, ◌<◌, ℕ, List, Some, Err, IfOk, IfErr, length, map};
+ghost use Rattle.std.specs.Prelude.{◌≡◌, ◌<◌, ℕ, List, Some, Err, IfOk, length, map};
+ghost use Rattle.tw_file_network.specs.Answers.{FailsAs};
 ghost use Rattle.tw_nested.specs.Tree.{models_in, parts_of};
-ghost use Rattle.tw_file_network.specs.Draft.{input_view, inputs_view};
+ghost use Rattle.tw_file_network.specs.Draft.{inputs_view};
 ghost use Rattle.tw_file_network.specs.Numbers.{number_of, numbered_input};
 ghost use Rattle.tw_file_network.specs.Meaning.{meaning_of};
 ghost use Rattle.tw_file_network.specs.OneMeaning.{MeansOne};
 ghost use Rattle.tw_file_network.specs.TreeDraft.{tree_view};
 ghost use Rattle.tw_file_network.specs.TreeShape.{TreeFile};
 ghost use Rattle.tw_file_network.specs.declared.refused.FileRefused.TheVariants.{BadShape};
-ghost use Rattle.tw_file_network.specs.TreeMeaning.{IsFault, IsMeaning, IsNetworkOfTree, IsRefusedTree, IsTreeFileFault, IsTreeMeaning, tree_in};
+ghost use Rattle.tw_file_network.specs.TreeMeaning.{
+  IsFault,
+  IsMeaning,
+  IsNetworkOfTree,
+  IsRefusedTree,
+  IsTreeFileFault,
+  IsTreeMeaning,
+  tree_in,
+};
 
 use crate::draft::{InputDraft, TreeDraft};
 use crate::file::{json_of, network_of};
@@ -42,7 +51,7 @@ use tw_network::{Input, MAX_COMPONENTS, MAX_INPUTS, Nested, Network, NetworkRefu
 /// 1,048,576 numbers in the tables of all machines, of each once, and in the lists of all components.
 pub fn network_of_any_file(alloc: Global, bytes: &[u8]) -> Result<Network<AnyModel>, FileRefused>
     ensures network { IfOk result (IsMeaning bytes.now) }
-    ensures first_fault { IfErr result (λ e. e ≢ FileRefused.OutOfMemory → IsFault bytes.now e) }
+    ensures first_fault { FailsAs result (IsFault bytes.now) }
 {
     let value = json_of(alloc, bytes)?;
     if is_tree(&value) {
@@ -60,7 +69,8 @@ pub fn network_of_any_file(alloc: Global, bytes: &[u8]) -> Result<Network<AnyMod
 
 /// No file is of both formats: for format `tw-1`, one that says a tree has another shape. It does nothing.
 pub fn formats_law()
-    ensures { (bytes : List ℕ) (file : TreeFile) → tree_in bytes ≡ Some file → meaning_of bytes ≡ Err BadShape }
+    ensures { (bytes : List ℕ) (file : TreeFile) → tree_in bytes ≡ Some file
+        → meaning_of bytes ≡ Err BadShape }
 {}
 
 /// The bytes of a file mean at most one network, but for the order of the couplings of a tree, and have at most one first
@@ -84,7 +94,7 @@ fn fault_of_many(tree: &TreeDraft) -> FileRefused
 /// inputs it is made first: that network finds atoms by name, and it is no larger than a network may be.
 fn network_of_tree(alloc: Global, tree: &TreeDraft) -> Result<Network<AnyModel>, FileRefused>
     ensures ok { IfOk result (IsTreeMeaning (tree_view tree.now)) }
-    ensures err { IfErr result (λ e. e ≢ FileRefused.OutOfMemory → IsTreeFileFault (tree_view tree.now) e) }
+    ensures err { FailsAs result (IsTreeFileFault (tree_view tree.now)) }
 {
     if atoms(&tree.root) > MAX_COMPONENTS {
         return Err(fault_of_many(tree));
@@ -107,8 +117,10 @@ fn nested(
     inputs: Vec<Input>,
     micro_limit: u64,
 ) -> Result<Network<AnyModel>, FileRefused>
-    ensures ok { IfOk result (IsNetworkOfTree (parts_of root.parts.items) root.couplings.items inputs.items micro_limit) }
-    ensures err { IfErr result (λ e. e ≢ FileRefused.OutOfMemory → IsRefusedTree (parts_of root.parts.items) root.couplings.items inputs.items micro_limit e) }
+    ensures ok { IfOk result (IsNetworkOfTree
+        (parts_of root.parts.items) root.couplings.items inputs.items micro_limit) }
+    ensures err { FailsAs result (IsRefusedTree
+        (parts_of root.parts.items) root.couplings.items inputs.items micro_limit) }
 {
     match Network::nested(alloc, root, inputs, micro_limit) {
         Ok(network) => Ok(network),
@@ -122,7 +134,8 @@ fn inputs_named(
     network: &Network<AnyModel>,
     drafts: &[InputDraft],
 ) -> Result<Vec<Input>, AllocError>
-    ensures { IfOk result (λ v. v.items ≡ map (numbered_input (number_of network.now.names)) (inputs_view drafts.now)) }
+    ensures { IfOk result (λ v. v.items
+        ≡ map (numbered_input (number_of network.now.names)) (inputs_view drafts.now)) }
 {
     let mut inputs = Vec::with_capacity(alloc, drafts.len())?;
     for draft in drafts {

@@ -2,7 +2,8 @@
 
 use serde_json::Value;
 use std::alloc::{AllocError, Global};
-use tw_machine_faults::{items_at, name_of};
+use tw_file_members::items_in;
+use tw_machine_faults::name_of;
 use tw_machine_text_faults::quoted;
 
 /// More levels than a JSON text can have: a level of components takes two of its 127.
@@ -82,7 +83,7 @@ fn add_level<'a>(
     if room == 0 {
         return Ok(());
     }
-    for (i, component) in items_at(value, "components").iter().enumerate() {
+    for (i, component) in items_in(value, "components").iter().enumerate() {
         let place = place_of(alloc, path.as_str(), prefix.as_str(), i, component)?;
         let name = name_of(component).unwrap_or("");
         if outline.has_trees && is_coupled(component) {

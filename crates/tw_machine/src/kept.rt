@@ -58,8 +58,10 @@ impl Program {
         elapsed: u64,
         bag: &[(u8, i64)],
     ) -> Result<Kept, AllocError>
-        ensures state { OnOk result (state.new ≡ turned (machine_meaning self.now) turn state.old elapsed bag.now) }
-        ensures residue { IfOk result (λ kept. kept ≡ record { left = kept_left self.now turn state.old; log = kept_log self.now turn state.old elapsed bag.now }) }
+        ensures state { OnOk result (state.new
+            ≡ turned (machine_meaning self.now) turn state.old elapsed bag.now) }
+        ensures residue { IfOk result
+            (λ kept. kept ≡ record { left = kept_left self.now turn state.old; log = kept_log self.now turn state.old elapsed bag.now }) }
         ensures stays { OnErr result (state.new ≡ state.old) }
     {
         let Some(room) = self.room(turn, bag) else {
@@ -98,7 +100,8 @@ impl Program {
         bag: &[(u8, i64)],
         kept: Kept,
     )
-        ensures { state.new ≡ machine_undone self.now kept.left kept.log turn state.old elapsed bag.now }
+        ensures { state.new
+            ≡ machine_undone self.now kept.left kept.log turn state.old elapsed bag.now }
     {
         let Kept { left, log } = kept;
         let mut log = log.take();

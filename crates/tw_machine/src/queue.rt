@@ -1,5 +1,19 @@
 //! A queue of a machine.
-ghost use Rattle.std.specs.Prelude.{◌≡◌, ◌+◌, ◌<◌, ◌≤◌, ◌++◌, ◌↔◌, [], length, IsTrue, IfOk, nat_lt, vec_len, vec_capacity};
+ghost use Rattle.std.specs.Prelude.{
+  ◌≡◌,
+  ◌+◌,
+  ◌<◌,
+  ◌≤◌,
+  ◌++◌,
+  ◌↔◌,
+  [],
+  length,
+  IsTrue,
+  IfOk,
+  nat_lt,
+  vec_len,
+  vec_capacity,
+};
 ghost use Rattle.std.specs.List.{insert, remove};
 ghost use Rattle.tw_machine.specs.Memory.{refilled};
 
@@ -21,7 +35,8 @@ impl Model for Queue {
 
     ghost view = { λ q. record { items = q.values.items; room = q.room } };
 
-    ghost invariant = { λ q. (length q.values.items ≤ q.room) × (q.room ≤ vec_capacity q.values) × (q.room < 65536) };
+    ghost invariant = { λ q. (length q.values.items ≤ q.room) × (q.room ≤ vec_capacity q.values)
+        × (q.room < 65536) };
 }
 
 /// Whether two lists of values are equal.

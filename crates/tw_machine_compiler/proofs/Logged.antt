@@ -5,18 +5,18 @@ use Rattle.std.specs.Prelude.{nat_lt, sum_by, if◌then◌else◌}
 use Rattle.std.proofs.lemmas.Bool.{ltb-false, le-ltb}
 use Rattle.tw_machine.specs.declared.language.Expr.{Expr}
 use Rattle.tw_machine.specs.declared.language.Target.{Target}
-use Rattle.tw_machine.specs.declared.language.Statement.{Statement as Done}
+use Rattle.tw_machine.specs.declared.language.Statement.{Statement}
 use Rattle.tw_machine.specs.declared.language.Statement.TheVariants.{Skip}
 use Rattle.tw_machine.specs.Undoing.{needs}
 use Rattle.tw_machine.specs.Program.{ProgramText}
 use Rattle.tw_machine.specs.declared.program.BadProgram.TheVariants as any
 use Rattle.tw_machine.specs.Limits.{fault_of}
-use Rattle.tw_machine_text.specs.declared.words.Change.{Change}
-use Rattle.tw_machine_text.specs.declared.words.Change.TheVariants.{Set, Add, Subtract, Xor}
+use Rattle.tw_machine_text.specs.declared.words.SourceChange.{SourceChange}
+use Rattle.tw_machine_text.specs.declared.words.SourceChange.TheVariants.{Set, Add, Subtract, Xor}
 use Rattle.tw_machine_text.specs.declared.words.Verb.{Verb}
 use Rattle.tw_machine_text.specs.declared.words.Verb.TheVariants.{Push, Insert, Remove, Put}
 use Rattle.tw_machine_text.specs.declared.words.Operator.TheVariants.{Comma}
-use Rattle.tw_machine_text.specs.Tree.{Tree, Number, Name, Known, Indexed, Call, RandomBelow, Group, Negate, Not, Binary, Statement, Assign, Act, Pop, Draw, Wait, Passivate, If, IfElse, Repeat, Block, Empty, Then, Arms, One, More}
+use Rattle.tw_machine_text.specs.Tree.{Tree, Number, Name, Known, Indexed, Call, RandomBelow, Group, Negate, Not, Binary, SourceStatement, Assign, Act, Pop, Draw, Wait, Passivate, If, IfElse, Repeat, Block, Empty, Then, Arms, One, More}
 use Rattle.tw_machine_declaration.specs.Seen.{Declaration}
 use Rattle.tw_machine_declaration.specs.declared.names.Standing.{Standing}
 use Rattle.tw_machine_declaration.specs.Turns.{written_turns}
@@ -42,7 +42,7 @@ work-some ss (Not e) = omega arith
 work-some ss (Binary Comma a b) = omega (arith, work-some ss a)
 work-some ss (Binary op a b) = omega arith
 
-assigned-needs : (change : Change) (t : Target) (e : Expr) → needs (assigned change t e) ≤ 2
+assigned-needs : (change : SourceChange) (t : Target) (e : Expr) → needs (assigned change t e) ≤ 2
 assigned-needs Set t e = omega arith
 assigned-needs Add t e = omega arith
 assigned-needs Subtract t e = omega arith
@@ -73,7 +73,7 @@ repeated-needs t c a w few each =
     omega (arith, step, same)
 
 mutual
-  statement-needs : (ss : List Standing) (x : Statement) → needs (statement ss x) ≤ 2 * statement_work ss x
+  statement-needs : (ss : List Standing) (x : SourceStatement) → needs (statement ss x) ≤ 2 * statement_work ss x
   statement-needs ss (Assign place change e) =
       omega (arith, assigned-needs change (cell ss place) (expression ss e), work-some ss place)
   statement-needs ss (Act verb q e) =
@@ -94,7 +94,7 @@ mutual
   block-needs ss (Then before last marked) = omega (arith, block-needs ss before, statement-needs ss last)
 
   -- each arm logs its block, and that it was the one
-  chosen-needs : (ss : List Standing) (arms : Arms) (last : Done) (n : ℕ) → needs last ≤ n → needs (chosen ss arms last) ≤ max (2 * greatest_work ss arms) n + tests_work ss arms
+  chosen-needs : (ss : List Standing) (arms : Arms) (last : Statement) (n : ℕ) → needs last ≤ n → needs (chosen ss arms last) ≤ max (2 * greatest_work ss arms) n + tests_work ss arms
   chosen-needs ss (One test b) last n few = omega (arith, few, block-needs ss b, work-some ss test)
   chosen-needs ss (More before test b) last n few =
       let later = branch (expression ss test) (block ss b) last in

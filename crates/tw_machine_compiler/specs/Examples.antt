@@ -11,10 +11,10 @@ use Rattle.tw_machine.specs.declared.language.Position.TheVariants.{End, Given a
 use Rattle.tw_machine.specs.declared.language.Which.TheVariants.{Foremost}
 use Rattle.tw_machine.specs.declared.language.Statement.TheVariants as m
 use Rattle.tw_machine_text.specs.declared.words.Builtin.TheVariants.{Value, Now}
-use Rattle.tw_machine_text.specs.declared.words.Change.TheVariants.{Set, Add}
+use Rattle.tw_machine_text.specs.declared.words.SourceChange.TheVariants.{Set, Add}
 use Rattle.tw_machine_text.specs.declared.words.Operator.TheVariants.{Comma, Equal, Greater, Plus}
 use Rattle.tw_machine_text.specs.declared.words.Verb.TheVariants.{Push, Put}
-use Rattle.tw_machine_text.specs.Tree.{Tree, Number, Name, Known, Indexed, Call, RandomBelow, Binary, Statement, Assign, Act, Pop, Draw, Wait, If, Repeat, Block, Empty, Then, One}
+use Rattle.tw_machine_text.specs.Tree.{Tree, Number, Name, Known, Indexed, Call, RandomBelow, Binary, SourceStatement, Assign, Act, Pop, Draw, Wait, If, Repeat, Block, Empty, Then, One}
 use Rattle.tw_machine_declaration.specs.declared.declaration.Constant.TheVariants as c
 use Rattle.tw_machine_declaration.specs.Seen.{Given, register}
 use Rattle.tw_machine_declaration.specs.declared.names.Standing.{Standing}
@@ -29,7 +29,7 @@ use Rattle.tw_machine_declaration.specs.Work.{statement_work, block_work}
 abbrev pub behind_functions : List Standing → List Standing
 behind_functions own = replicate 10 s.Nothing ++ own
 
-abbrev pub then : Block → Statement → Block
+abbrev pub then : Block → SourceStatement → Block
 then before last = Then before last false
 
 -- registers `count`, `sum`, `last`: the names 10 to 12, the cells 0 to 2
@@ -90,7 +90,7 @@ pool_draws =
     ≡ m.Set (Single 0) (two binary.Plus (Plain leaf.Now) (one (unary.Table (record { first = 0; count = 20 })) (one unary.RandomBelow (Plain (leaf.Number (pos 20))))))
 
 -- put who place(busy, end), front(waiting)
-abbrev pub pool_put : Statement
+abbrev pub pool_put : SourceStatement
 pool_put = Act Put (Name 14) (Binary Comma (Call 9 (Binary Comma (Name 13) (Name 12))) (Call 5 (Name 15)))
 
 abbrev pub pool_puts : Type 0

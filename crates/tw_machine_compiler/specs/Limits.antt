@@ -1,7 +1,10 @@
 -- What is wrong with a machine as it is declared, with the numbers that are given: its members in order, then its limits. The first counts.
 use Rattle.std.specs.Prelude.{ℕ, ℤ, pos, negsuc, Bool, true, false, not, ◌&&◌, List, [], ◌∷◌, length, sum, sum_by, Option, Some, None, nat_lt, nat_le, if◌then◌else◌, option_and_then, slice_get}
+use Rattle.tw_vtime.specs.Stamps.{max_tick}
+use Rattle.tw_machine.specs.Limits.{max_cells, max_computations, max_numbers, max_outputs, max_queues, max_room, max_rooms, max_words}
 use Rattle.tw_machine.specs.Program.{ProgramText}
-use Rattle.tw_machine_text.specs.Tree.{Statement, If, IfElse, Repeat, Block, Empty, Then, Arms, One, More}
+use Rattle.tw_machine_text.specs.Limits.{max_nodes, max_turns}
+use Rattle.tw_machine_text.specs.Tree.{SourceStatement, If, IfElse, Repeat, Block, Empty, Then, Arms, One, More}
 use Rattle.tw_machine_declaration.specs.Seen.{Declaration, Given, Declares, registers, queue, queues, table, list_table}
 use Rattle.tw_machine_compiler.specs.declared.limits.BadMachine.{BadMachine}
 use Rattle.tw_machine_compiler.specs.declared.limits.BadMachine.TheVariants as bad
@@ -32,19 +35,19 @@ list_up_to most None = true
 
 -- an array register has 1 to 64 cells
 abbrev pub is_register : Declares → Bool
-is_register (registers cs) = length_up_to 64 cs
+is_register (registers cs) = length_up_to max_cells cs
 is_register _ = true
 
 -- an array of queues has 1 to 16, and a queue has room for 1 to 1,024
 abbrev pub is_queue : Given → Declares → Bool
-is_queue given (queue c) = constant_up_to 1024 (constant given c)
-is_queue given (queues n c) = constant_up_to 16 (constant given n) && constant_up_to 1024 (constant given c)
+is_queue given (queue c) = constant_up_to max_room (constant given c)
+is_queue given (queues n c) = constant_up_to max_queues (constant given n) && constant_up_to max_room (constant given c)
 is_queue given _ = true
 
 -- a table has 1 to 65,536 numbers
 abbrev pub is_table : Given → Declares → Bool
-is_table given (table ns) = length_up_to 65536 ns
-is_table given (list_table k) = list_up_to 65536 (slice_get given.lists k)
+is_table given (table ns) = length_up_to max_numbers ns
+is_table given (list_table k) = list_up_to max_numbers (slice_get given.lists k)
 is_table given _ = true
 
 abbrev pub all : (Declares → Bool) → List Declares → Bool
@@ -53,12 +56,12 @@ all test (thing ∷ things) = test thing && all test things
 
 -- a block is repeated 0 to 64 times
 abbrev pub is_turns : Option ℤ → Bool
-is_turns (Some (pos n)) = nat_le n 64
+is_turns (Some (pos n)) = nat_le n max_turns
 is_turns (Some (negsuc n)) = false
 is_turns None = true
 
 abbrev mutual
-  pub turns_fit_statement : List Standing → Statement → Bool
+  pub turns_fit_statement : List Standing → SourceStatement → Bool
   turns_fit_statement ss (If arms) = turns_fit_arms ss arms
   turns_fit_statement ss (IfElse arms last) = turns_fit_arms ss arms && turns_fit ss last
   turns_fit_statement ss (Repeat count each) = is_turns (written_turns ss count) && turns_fit ss each
@@ -78,25 +81,25 @@ members_fault given d ss =
     if not (all is_register (things d.names)) then Some bad.CellCount
     else if not (all (is_queue given) (things d.names)) then Some bad.QueueCount
     else if not (all (is_table given) (things d.names)) then Some bad.TableCount
-    else if not (constant_up_to 1099511627774 (option_and_then (constant given) d.longest)) then Some bad.Longest
+    else if not (constant_up_to max_tick (option_and_then (constant given) d.longest)) then Some bad.Longest
     else if not (turns_fit ss d.internal && turns_fit ss d.external) then Some bad.Turns
-    else if nat_lt 64 (length d.outputs) then Some bad.OutputCount
-    else if not (length_up_to 64 d.words) then Some bad.WordCount
+    else if nat_lt max_outputs (length d.outputs) then Some bad.OutputCount
+    else if not (length_up_to max_words d.words) then Some bad.WordCount
     else if twice (rows ss d.words) then Some bad.WordTwice
     else None
 
 -- the first limit that is passed: of cells, queues and numbers, of nodes, of computations of each kind by itself
 abbrev pub limit : List Standing → Declaration → ProgramText → Option BadMachine
 limit ss d p =
-    if nat_lt 64 (length p.cells) then Some bad.TooManyCells
-    else if nat_lt 16 (length p.rooms) then Some bad.TooManyQueues
-    else if nat_lt 4096 (sum p.rooms) then Some bad.TooMuchRoom
-    else if nat_lt 65536 (length p.numbers) then Some bad.TooManyNumbers
-    else if nat_lt 4096 (all_nodes d) then Some bad.TooManyNodes
-    else if nat_lt 262144 (block_work ss d.internal) then Some bad.TooManyComputations
-    else if nat_lt 262144 (block_work ss d.external) then Some bad.TooManyComputations
-    else if nat_lt 262144 (sum_by (output_work ss) d.outputs) then Some bad.TooManyComputations
-    else if nat_lt 262144 (sum_by (word_work ss) d.words) then Some bad.TooManyComputations
+    if nat_lt max_cells (length p.cells) then Some bad.TooManyCells
+    else if nat_lt max_queues (length p.rooms) then Some bad.TooManyQueues
+    else if nat_lt max_rooms (sum p.rooms) then Some bad.TooMuchRoom
+    else if nat_lt max_numbers (length p.numbers) then Some bad.TooManyNumbers
+    else if nat_lt max_nodes (all_nodes d) then Some bad.TooManyNodes
+    else if nat_lt max_computations (block_work ss d.internal) then Some bad.TooManyComputations
+    else if nat_lt max_computations (block_work ss d.external) then Some bad.TooManyComputations
+    else if nat_lt max_computations (sum_by (output_work ss) d.outputs) then Some bad.TooManyComputations
+    else if nat_lt max_computations (sum_by (word_work ss) d.words) then Some bad.TooManyComputations
     else None
 
 abbrev pub otherwise : Option BadMachine → Option BadMachine → Option BadMachine

@@ -9,12 +9,13 @@ use Rattle.tw_machine.specs.declared.language.Which.TheVariants.{Foremost, Chose
 use Rattle.tw_machine.specs.declared.language.Statement.{Statement}
 use Rattle.tw_machine.specs.declared.language.Statement.TheVariants as m
 use Rattle.tw_machine.specs.Values.{natural}
-use Rattle.tw_machine_text.specs.declared.words.Change.{Change}
-use Rattle.tw_machine_text.specs.declared.words.Change.TheVariants.{Set, Add, Subtract, Xor}
+use Rattle.tw_machine_text.specs.Limits.{max_turns}
+use Rattle.tw_machine_text.specs.declared.words.SourceChange.{SourceChange}
+use Rattle.tw_machine_text.specs.declared.words.SourceChange.TheVariants.{Set, Add, Subtract, Xor}
 use Rattle.tw_machine_text.specs.declared.words.Verb.{Verb}
 use Rattle.tw_machine_text.specs.declared.words.Verb.TheVariants.{Push, Insert, Remove, Put}
 use Rattle.tw_machine_text.specs.declared.words.Operator.TheVariants.{Comma}
-use Rattle.tw_machine_text.specs.Tree.{Tree, Name, Indexed, Binary, Statement as Said, Assign, Act, Pop, Draw, Wait, Passivate, If, IfElse, Repeat, Block, Empty, Then, Arms, One, More}
+use Rattle.tw_machine_text.specs.Tree.{Tree, Name, Indexed, Binary, SourceStatement, Assign, Act, Pop, Draw, Wait, Passivate, If, IfElse, Repeat, Block, Empty, Then, Arms, One, More}
 use Rattle.tw_machine_declaration.specs.declared.names.Standing.{Standing}
 use Rattle.tw_machine_declaration.specs.declared.names.Standing.TheVariants as s
 use Rattle.tw_machine_declaration.specs.Names.{standing_at}
@@ -38,7 +39,7 @@ cell ss (Name n) = cell_named (standing_at ss n)
 cell ss (Indexed n index) = cell_indexed (standing_at ss n) (expression ss index)
 cell ss _ = no_target
 
-abbrev pub assigned : Change → Target → Expr → Statement
+abbrev pub assigned : SourceChange → Target → Expr → Statement
 assigned Set t e = m.Set t e
 assigned Add t e = m.Alter machine.Add t e
 assigned Subtract t e = m.Alter machine.Subtract t e
@@ -57,11 +58,11 @@ acted ss Put q e = put ss q e
 
 -- how often it is repeated: other numbers than 0 to 64 are refused
 abbrev pub turns : Option ℤ → ℕ
-turns (Some n) = min (natural n) 64
+turns (Some n) = min (natural n) max_turns
 turns None = 0
 
 abbrev mutual
-  pub statement : List Standing → Said → Statement
+  pub statement : List Standing → SourceStatement → Statement
   statement ss (Assign place change e) = assigned change (cell ss place) (expression ss e)
   statement ss (Act verb q e) = acted ss verb (queue ss q) e
   statement ss (Pop q) = m.Take (queue ss q) Foremost

@@ -1,5 +1,20 @@
 //! Machines by hand, which the check computes.
-ghost use Rattle.tw_machine_compiler.specs.Examples.{adder_names, adder_adds, line_serves, line_computes, line_drops, line_takes, pool_draws, pool_puts, pool_computes, pool_repeats, pool_turns, array_twice, last_twice, none_twice};
+ghost use Rattle.tw_machine_compiler.specs.Examples.{
+  adder_names,
+  adder_adds,
+  line_serves,
+  line_computes,
+  line_drops,
+  line_takes,
+  pool_draws,
+  pool_puts,
+  pool_computes,
+  pool_repeats,
+  pool_turns,
+  array_twice,
+  last_twice,
+  none_twice,
+};
 
 /// Each of these statements is that one, and makes so many computations; a row stands twice among these words or not.
 pub fn machines()

@@ -2,13 +2,28 @@
 ghost use Rattle.std.specs.Prelude.{◌≡◌, IfOk};
 ghost use Rattle.tw_machine_text.specs.Views.{tree};
 ghost use Rattle.tw_machine.specs.Seen.{seen, seen_target, one, two, choose};
-ghost use Rattle.tw_machine_compiler.specs.Expressions.{known, number, named, indexed, queue_named, queue_indexed, operation, measured, at, place, expression, applied, choice, queue};
+ghost use Rattle.tw_machine_compiler.specs.Expressions.{
+  known,
+  number,
+  named,
+  indexed,
+  queue_named,
+  queue_indexed,
+  operation,
+  measured,
+  at,
+  place,
+  expression,
+  applied,
+  choice,
+  queue,
+};
 
 use crate::making::{choose, one, two, zero};
 use std::alloc::{AllocError, Global};
 use tw_machine::language::{Binary, Expr, Leaf, Measure, Target, Unary};
 use tw_machine_declaration::{Function, Joining, Standing, function_of, standing_at};
-use tw_machine_text::{Builtin, Expr as Tree, Operator};
+use tw_machine_text::{Builtin, Operator, SourceExpr};
 
 /// What a word of the language reads.
 fn known(builtin: Builtin) -> Leaf
@@ -26,7 +41,7 @@ fn known(builtin: Builtin) -> Leaf
 }
 
 /// A number of a text.
-pub fn number(digits: u64) -> i64
+pub(crate) fn number(digits: u64) -> i64
     ensures { result ≡ number digits }
 {
     digits.min(9223372036854775807) as i64
@@ -131,38 +146,42 @@ fn place(alloc: Global, queue: Target, value: Expr) -> Result<Expr, AllocError>
 
 /// An expression in the machine's language. The only error is want of memory.
 #[cycle(expressions)]
-pub fn expression(alloc: Global, standings: &[Standing], written: &Tree) -> Result<Expr, AllocError>
+pub(crate) fn expression(
+    alloc: Global,
+    standings: &[Standing],
+    written: &SourceExpr,
+) -> Result<Expr, AllocError>
     ensures { IfOk result (λ e. seen e ≡ expression standings.now (tree written.now)) }
 {
     match written {
-        Tree::Number(digits) => Ok(Expr::Plain(Leaf::Number(number(*digits)))),
-        Tree::Name(name) => Ok(named(standing_at(standings, *name))),
-        Tree::Known(builtin) => Ok(Expr::Plain(known(*builtin))),
-        Tree::Indexed(name, index) => {
+        SourceExpr::Number(digits) => Ok(Expr::Plain(Leaf::Number(number(*digits)))),
+        SourceExpr::Name(name) => Ok(named(standing_at(standings, *name))),
+        SourceExpr::Known(builtin) => Ok(Expr::Plain(known(*builtin))),
+        SourceExpr::Indexed(name, index) => {
             let index = expression(alloc, standings, index)?;
             indexed(alloc, standing_at(standings, *name), index)
         }
-        Tree::Call(name, arguments) => match function_of(*name) {
+        SourceExpr::Call(name, arguments) => match function_of(*name) {
             Function::Measured(measure) => {
                 let queue = queue(alloc, standings, arguments)?;
                 measured(alloc, measure, queue)
             }
             Function::Applied(joining) => applied(alloc, standings, joining, arguments),
         },
-        Tree::RandomBelow(below) => {
+        SourceExpr::RandomBelow(below) => {
             let below = expression(alloc, standings, below)?;
             one(alloc, Unary::RandomBelow, below)
         }
-        Tree::Group(inner) => expression(alloc, standings, inner),
-        Tree::Negate(inner) => {
+        SourceExpr::Group(inner) => expression(alloc, standings, inner),
+        SourceExpr::Negate(inner) => {
             let inner = expression(alloc, standings, inner)?;
             one(alloc, Unary::Negative, inner)
         }
-        Tree::Not(inner) => {
+        SourceExpr::Not(inner) => {
             let inner = expression(alloc, standings, inner)?;
             one(alloc, Unary::Not, inner)
         }
-        Tree::Binary(operator, a, b) => {
+        SourceExpr::Binary(operator, a, b) => {
             let a = expression(alloc, standings, a)?;
             let b = expression(alloc, standings, b)?;
             operation(alloc, *operator, a, b)
@@ -176,11 +195,11 @@ fn applied(
     alloc: Global,
     standings: &[Standing],
     joining: Joining,
-    arguments: &Tree,
+    arguments: &SourceExpr,
 ) -> Result<Expr, AllocError>
     ensures { IfOk result (λ e. seen e ≡ applied standings.now joining (tree arguments.now)) }
 {
-    let Tree::Binary(Operator::Comma, first, last) = arguments else {
+    let SourceExpr::Binary(Operator::Comma, first, last) = arguments else {
         return Ok(zero());
     };
     match joining {
@@ -216,13 +235,13 @@ fn applied(
 fn choice(
     alloc: Global,
     standings: &[Standing],
-    arguments: &Tree,
+    arguments: &SourceExpr,
     b: Expr,
 ) -> Result<Expr, AllocError>
     ensures { IfOk result (λ e. seen e ≡ choice standings.now (tree arguments.now) (seen b)) }
 {
     match arguments {
-        Tree::Binary(Operator::Comma, test, a) => {
+        SourceExpr::Binary(Operator::Comma, test, a) => {
             let test = expression(alloc, standings, test)?;
             let a = expression(alloc, standings, a)?;
             choose(alloc, test, a, b)
@@ -233,12 +252,16 @@ fn choice(
 
 /// A queue in the machine's language.
 #[cycle(expressions)]
-pub fn queue(alloc: Global, standings: &[Standing], written: &Tree) -> Result<Target, AllocError>
+pub(crate) fn queue(
+    alloc: Global,
+    standings: &[Standing],
+    written: &SourceExpr,
+) -> Result<Target, AllocError>
     ensures { IfOk result (λ target. seen_target target ≡ queue standings.now (tree written.now)) }
 {
     match written {
-        Tree::Name(name) => Ok(queue_named(standing_at(standings, *name))),
-        Tree::Indexed(name, index) => {
+        SourceExpr::Name(name) => Ok(queue_named(standing_at(standings, *name))),
+        SourceExpr::Indexed(name, index) => {
             let index = expression(alloc, standings, index)?;
             Ok(queue_indexed(standing_at(standings, *name), index))
         }

@@ -1,12 +1,12 @@
 //! A machine as its user declares it, and the program that it means once the numbers of a component are put in.
 //!
-//! - [`Declaration`]: what a machine declares, as the reader of files hands it over, its texts read into trees.
-//! - [`Given`]: what a component gives for its machine's parameters.
-//! - [`declared`]: the program that both mean, or the first fault ([`BadMachine`]).
+//! - `programs`: [`compile`], the program that a declaration and a component's numbers mean, or the first fault ([`BadMachine`]).
+//! - `expressions`, `statements`, `members`: trees into the machine's own language, where names are places.
+//! - `making`: expressions and statements of that language, made of parts.
+//! - `starts`: the cells of registers, the rooms of queues and the numbers of tables at the start.
+//! - `rows`: no queue and no array register stands twice among the words.
+//! - `limits`: [`BadMachine`], and the first limit that a machine passes.
 //! - [`examples`]: machines by hand.
-//!
-//! Within: `expressions`, `statements`, `members` and `starts` put a tree into the machine's own language, where names
-//! are places; `rows` looks for what stands twice among the words, and `limits` compares.
 //!
 //! The walks over trees call themselves as deep as a tree has nodes, up to 4,096.
 #![tactic(auto)]
@@ -22,5 +22,5 @@ mod starts;
 mod statements;
 
 pub use limits::BadMachine;
-pub use programs::declared;
+pub use programs::compile;
 pub use tw_machine_declaration::{Constant, Declaration, Given, Named, OutputText, Thing, Value};

@@ -1,21 +1,42 @@
 //! What is wrong with a machine as it is declared, the first of it.
 ghost use Rattle.std.specs.Prelude.{◌≡◌, ◌≤◌, length, map, sum, option_and_then};
+ghost use Rattle.tw_vtime.specs.Stamps.{max_tick};
+ghost use Rattle.tw_machine.specs.Limits.{max_queues};
 ghost use Rattle.tw_machine.specs.Program.{text_of};
 ghost use Rattle.tw_machine_text.specs.Views.{told, body, chain};
 ghost use Rattle.tw_machine_declaration.specs.Seen as plain;
 ghost use Rattle.tw_machine_declaration.specs.Names.{constant, things};
-ghost use Rattle.tw_machine_compiler.specs.Limits.{is_up_to, constant_up_to, length_up_to, is_register, is_queue, is_table, all, is_turns, turns_fit, turns_fit_statement, turns_fit_arms, members_fault, limit};
+ghost use Rattle.tw_machine_compiler.specs.Limits.{
+  is_up_to,
+  constant_up_to,
+  length_up_to,
+  is_register,
+  is_queue,
+  is_table,
+  all,
+  is_turns,
+  turns_fit,
+  turns_fit_statement,
+  turns_fit_arms,
+  members_fault,
+  limit,
+};
 ghost use Rattle.tw_machine_compiler.specs.declared.limits.BadMachine.TheVariants.{OutOfMemory};
 
 use crate::rows::twice;
 use std::alloc::AllocError;
 use thiserror::Error;
+use tw_machine::limits::{
+    MAX_CELLS, MAX_COMPUTATIONS, MAX_NUMBERS, MAX_OUTPUTS, MAX_QUEUES, MAX_ROOM, MAX_ROOMS,
+    MAX_WORDS,
+};
 use tw_machine::program::Parts;
 use tw_machine_declaration::{
     Constant, Declaration, Given, Named, Standing, Thing, all_nodes, block_work, constant,
     outputs_work, words_work, written_turns,
 };
-use tw_machine_text::{Arms, Block, Statement as Said};
+use tw_machine_text::{Arms, Block, MAX_NODES, MAX_TURNS, SourceStatement};
+use tw_vtime::MAX_TICK;
 
 /// Why a machine makes no program: the first fault, in this order, or want of memory. Each but that is refusal 21
 /// (BadShape).
@@ -64,17 +85,18 @@ impl From<AllocError> for BadMachine {
 
 /// Whether the greatest wait is 1 to 1,099,511,627,774, if it is given.
 fn is_longest(given: &Given, longest: Option<Constant>) -> bool
-    ensures { result ≡ constant_up_to 1099511627774 (option_and_then (constant (plain.given given.now)) longest) }
+    ensures { result ≡ constant_up_to max_tick
+        (option_and_then (constant (plain.given given.now)) longest) }
 {
     match longest {
-        Some(longest) => constant_up_to(1099511627774, constant(given, longest)),
+        Some(longest) => constant_up_to(MAX_TICK, constant(given, longest)),
         None => true,
     }
 }
 
 /// The rooms of at most 16 queues together.
 fn total_room(rooms: &[u16]) -> usize
-    requires { length rooms.now ≤ 16 }
+    requires { length rooms.now ≤ max_queues }
     ensures { result ≡ sum rooms.now }
 {
     let mut total = 0;
@@ -92,7 +114,7 @@ fn is_up_to(most: u64, number: i64) -> bool
 }
 
 /// Whether a constant is from 1 to this, if it is given.
-pub fn constant_up_to(most: u64, number: Option<i64>) -> bool
+pub(crate) fn constant_up_to(most: u64, number: Option<i64>) -> bool
     ensures { result ≡ constant_up_to most number }
 {
     match number {
@@ -106,7 +128,7 @@ fn is_register(thing: &Thing) -> bool
     ensures { result ≡ is_register (plain.thing thing.now) }
 {
     match thing {
-        Thing::RegisterArray(cells) => cells.len() >= 1 && cells.len() <= 64,
+        Thing::RegisterArray(cells) => cells.len() >= 1 && cells.len() <= MAX_CELLS,
         _ => true,
     }
 }
@@ -116,10 +138,10 @@ fn is_queue(given: &Given, thing: &Thing) -> bool
     ensures { result ≡ is_queue (plain.given given.now) (plain.thing thing.now) }
 {
     match thing {
-        Thing::Queue(room) => constant_up_to(1024, constant(given, *room)),
+        Thing::Queue(room) => constant_up_to(MAX_ROOM as u64, constant(given, *room)),
         Thing::QueueArray(count, room) => {
-            constant_up_to(16, constant(given, *count))
-                && constant_up_to(1024, constant(given, *room))
+            constant_up_to(MAX_QUEUES as u64, constant(given, *count))
+                && constant_up_to(MAX_ROOM as u64, constant(given, *room))
         }
         _ => true,
     }
@@ -130,9 +152,9 @@ fn is_table(given: &Given, thing: &Thing) -> bool
     ensures { result ≡ is_table (plain.given given.now) (plain.thing thing.now) }
 {
     match thing {
-        Thing::Table(numbers) => numbers.len() >= 1 && numbers.len() <= 65536,
+        Thing::Table(numbers) => numbers.len() >= 1 && numbers.len() <= MAX_NUMBERS,
         Thing::ListTable(place) => match given.lists.get(*place) {
-            Some(list) => list.len() >= 1 && list.len() <= 65536,
+            Some(list) => list.len() >= 1 && list.len() <= MAX_NUMBERS,
             None => true,
         },
         _ => true,
@@ -180,22 +202,22 @@ fn is_turns(written: Option<i128>) -> bool
     ensures { result ≡ is_turns written }
 {
     match written {
-        Some(turns) => turns >= 0 && turns <= 64,
+        Some(turns) => turns >= 0 && turns <= MAX_TURNS as i128,
         None => true,
     }
 }
 
 /// Whether all blocks in a statement are repeated 0 to 64 times.
 #[cycle(repeats)]
-fn turns_fit_statement(standings: &[Standing], said: &Said) -> bool
+fn turns_fit_statement(standings: &[Standing], said: &SourceStatement) -> bool
     ensures { result ≡ turns_fit_statement standings.now (told said.now) }
 {
     match said {
-        Said::If(arms) => turns_fit_arms(standings, arms),
-        Said::IfElse(arms, last) => {
+        SourceStatement::If(arms) => turns_fit_arms(standings, arms),
+        SourceStatement::IfElse(arms, last) => {
             turns_fit_arms(standings, arms) && turns_fit(standings, last)
         }
-        Said::Repeat(count, each) => {
+        SourceStatement::Repeat(count, each) => {
             is_turns(written_turns(standings, count)) && turns_fit(standings, each)
         }
         _ => true,
@@ -204,7 +226,7 @@ fn turns_fit_statement(standings: &[Standing], said: &Said) -> bool
 
 /// Whether all blocks in a program are repeated 0 to 64 times.
 #[cycle(repeats)]
-pub fn turns_fit(standings: &[Standing], program: &Block) -> bool
+pub(crate) fn turns_fit(standings: &[Standing], program: &Block) -> bool
     ensures { result ≡ turns_fit standings.now (body program.now) }
 {
     match program {
@@ -229,12 +251,13 @@ fn turns_fit_arms(standings: &[Standing], arms: &Arms) -> bool
 }
 
 /// The first of a machine's members that is wrong.
-pub fn members_fault(
+pub(crate) fn members_fault(
     given: &Given,
     declaration: &Declaration,
     standings: &[Standing],
 ) -> Option<BadMachine>
-    ensures { result ≡ members_fault (plain.given given.now) (plain.declaration declaration.now) standings.now }
+    ensures { result ≡ members_fault (plain.given given.now)
+        (plain.declaration declaration.now) standings.now }
 {
     let names = declaration.names.as_slice();
     if !are_registers(names) {
@@ -254,10 +277,10 @@ pub fn members_fault(
     {
         return Some(BadMachine::Turns);
     }
-    if declaration.outputs.len() > 64 {
+    if declaration.outputs.len() > MAX_OUTPUTS {
         return Some(BadMachine::OutputCount);
     }
-    if declaration.words.len() < 1 || declaration.words.len() > 64 {
+    if declaration.words.len() < 1 || declaration.words.len() > MAX_WORDS {
         return Some(BadMachine::WordCount);
     }
     if twice(standings, declaration.words.as_slice()) {
@@ -267,34 +290,38 @@ pub fn members_fault(
 }
 
 /// The first limit that is passed.
-pub fn limit(standings: &[Standing], declaration: &Declaration, parts: &Parts) -> Option<BadMachine>
+pub(crate) fn limit(
+    standings: &[Standing],
+    declaration: &Declaration,
+    parts: &Parts,
+) -> Option<BadMachine>
     ensures { result ≡ limit standings.now (plain.declaration declaration.now) (text_of parts.now) }
 {
-    if parts.cells.len() > 64 {
+    if parts.cells.len() > MAX_CELLS {
         return Some(BadMachine::TooManyCells);
     }
-    if parts.rooms.len() > 16 {
+    if parts.rooms.len() > MAX_QUEUES {
         return Some(BadMachine::TooManyQueues);
     }
-    if total_room(parts.rooms.as_slice()) > 4096 {
+    if total_room(parts.rooms.as_slice()) > MAX_ROOMS {
         return Some(BadMachine::TooMuchRoom);
     }
-    if parts.numbers.len() > 65536 {
+    if parts.numbers.len() > MAX_NUMBERS {
         return Some(BadMachine::TooManyNumbers);
     }
-    if all_nodes(declaration) > 4096 {
+    if all_nodes(declaration) > MAX_NODES {
         return Some(BadMachine::TooManyNodes);
     }
-    if block_work(standings, &declaration.internal) > 262144 {
+    if block_work(standings, &declaration.internal) > MAX_COMPUTATIONS {
         return Some(BadMachine::TooManyComputations);
     }
-    if block_work(standings, &declaration.external) > 262144 {
+    if block_work(standings, &declaration.external) > MAX_COMPUTATIONS {
         return Some(BadMachine::TooManyComputations);
     }
-    if outputs_work(standings, declaration.outputs.as_slice()) > 262144 {
+    if outputs_work(standings, declaration.outputs.as_slice()) > MAX_COMPUTATIONS {
         return Some(BadMachine::TooManyComputations);
     }
-    if words_work(standings, declaration.words.as_slice()) > 262144 {
+    if words_work(standings, declaration.words.as_slice()) > MAX_COMPUTATIONS {
         return Some(BadMachine::TooManyComputations);
     }
     None

@@ -6,7 +6,17 @@ ghost use Rattle.tw_machine_declaration.specs.Seen as plain;
 ghost use Rattle.tw_machine_declaration.specs.Names.{start_of};
 ghost use Rattle.tw_machine.specs.Seen.{seen, seen_target, seen_output, seen_word};
 ghost use Rattle.tw_machine_compiler.specs.Expressions.{number, queue};
-ghost use Rattle.tw_machine_compiler.specs.Program.{value, output, word_named, word_numbered, word_of, shown_word, seed, wait, ticks};
+ghost use Rattle.tw_machine_compiler.specs.Program.{
+  value,
+  output,
+  word_named,
+  word_numbered,
+  word_of,
+  shown_word,
+  seed,
+  wait,
+  ticks,
+};
 
 use crate::expressions::{expression, number, queue};
 use std::alloc::{AllocError, Global};
@@ -14,7 +24,7 @@ use tw_machine::language::{Expr, Leaf, Output, Span, Target, Word};
 use tw_machine_declaration::{
     Constant, Given, OutputText, Standing, Value, constant, standing_at, start_of,
 };
-use tw_machine_text::Expr as Tree;
+use tw_machine_text::SourceExpr;
 
 /// An expression in a member.
 fn value(alloc: Global, standings: &[Standing], written: &Value) -> Result<Expr, AllocError>
@@ -32,7 +42,8 @@ fn condition(
     standings: &[Standing],
     when: &Option<Value>,
 ) -> Result<Option<Expr>, AllocError>
-    ensures { IfOk result (λ test. option_map seen test ≡ option_map (value standings.now) (option_map plain.value when.now)) }
+    ensures { IfOk result (λ test. option_map seen test
+        ≡ option_map (value standings.now) (option_map plain.value when.now)) }
 {
     match when {
         Some(test) => Ok(Some(value(alloc, standings, test)?)),
@@ -44,9 +55,10 @@ fn condition(
 fn gone_through(
     alloc: Global,
     standings: &[Standing],
-    each: &Option<Tree>,
+    each: &Option<SourceExpr>,
 ) -> Result<Option<Target>, AllocError>
-    ensures { IfOk result (λ target. option_map seen_target target ≡ option_map (queue standings.now) (option_map tree each.now)) }
+    ensures { IfOk result (λ target. option_map seen_target target
+        ≡ option_map (queue standings.now) (option_map tree each.now)) }
 {
     match each {
         Some(tree) => Ok(Some(queue(alloc, standings, tree)?)),
@@ -96,14 +108,14 @@ fn word_numbered(standing: Standing, index: u64, shown: Expr) -> Word
 }
 
 /// What a text in `words` shows.
-fn word_of(alloc: Global, standings: &[Standing], written: &Tree) -> Result<Word, AllocError>
+fn word_of(alloc: Global, standings: &[Standing], written: &SourceExpr) -> Result<Word, AllocError>
     ensures { IfOk result (λ word. seen_word word ≡ word_of standings.now (tree written.now)) }
 {
     let shown = expression(alloc, standings, written)?;
     match written {
-        Tree::Name(name) => Ok(word_named(standing_at(standings, *name), shown)),
-        Tree::Indexed(name, index) => match &**index {
-            Tree::Number(place) => {
+        SourceExpr::Name(name) => Ok(word_named(standing_at(standings, *name), shown)),
+        SourceExpr::Indexed(name, index) => match &**index {
+            SourceExpr::Number(place) => {
                 Ok(word_numbered(standing_at(standings, *name), *place, shown))
             }
             _ => Ok(Word::Number(shown)),
@@ -114,7 +126,8 @@ fn word_of(alloc: Global, standings: &[Standing], written: &Tree) -> Result<Word
 
 /// What an entry of `words` shows.
 fn shown_word(alloc: Global, standings: &[Standing], written: &Value) -> Result<Word, AllocError>
-    ensures { IfOk result (λ word. seen_word word ≡ shown_word standings.now (plain.value written.now)) }
+    ensures { IfOk result
+        (λ word. seen_word word ≡ shown_word standings.now (plain.value written.now)) }
 {
     match written {
         Value::Number(number) => Ok(Word::Number(Expr::Plain(Leaf::Number(*number)))),
@@ -123,12 +136,13 @@ fn shown_word(alloc: Global, standings: &[Standing], written: &Value) -> Result<
 }
 
 /// What is sent. The only error is want of memory.
-pub fn outputs(
+pub(crate) fn outputs(
     alloc: Global,
     standings: &[Standing],
     texts: &[OutputText],
 ) -> Result<Vec<Output>, AllocError>
-    ensures { IfOk result (λ outputs. map seen_output outputs.items ≡ map (output standings.now) (map plain.output texts.now)) }
+    ensures { IfOk result (λ outputs. map seen_output outputs.items
+        ≡ map (output standings.now) (map plain.output texts.now)) }
 {
     let mut outputs = Vec::with_capacity(alloc, texts.len())?;
     for text in texts {
@@ -138,12 +152,13 @@ pub fn outputs(
 }
 
 /// The numbers by which a state is written. The only error is want of memory.
-pub fn words(
+pub(crate) fn words(
     alloc: Global,
     standings: &[Standing],
     texts: &[Value],
 ) -> Result<Vec<Word>, AllocError>
-    ensures { IfOk result (λ words. map seen_word words.items ≡ map (shown_word standings.now) (map plain.value texts.now)) }
+    ensures { IfOk result (λ words. map seen_word words.items
+        ≡ map (shown_word standings.now) (map plain.value texts.now)) }
 {
     let mut words = Vec::with_capacity(alloc, texts.len())?;
     for text in texts {
@@ -164,7 +179,7 @@ fn modulo(number: i64) -> u64
 }
 
 /// From which the random number is drawn at the start.
-pub fn seed(given: &Given, random: Constant) -> u64
+pub(crate) fn seed(given: &Given, random: Constant) -> u64
     ensures { result ≡ seed (start_of (plain.given given.now) random) }
 {
     modulo(start_of(given, random))
@@ -182,7 +197,7 @@ fn wait(number: i64) -> Option<u64>
 }
 
 /// A time that a constant says, if it is not negative.
-pub fn ticks(given: &Given, said: Option<Constant>) -> Option<u64>
+pub(crate) fn ticks(given: &Given, said: Option<Constant>) -> Option<u64>
     ensures { result ≡ ticks (plain.given given.now) said }
 {
     wait(constant(given, said?)?)

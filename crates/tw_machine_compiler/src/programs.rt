@@ -26,9 +26,12 @@ fn starts_of(
     given: &Given,
     names: &[Named],
 ) -> Result<(Vec<i64>, Vec<u16>, Vec<i64>), AllocError>
-    ensures cells { IfOk result (λ s. s.0.items ≡ flat_map (cells (plain.given given.now)) (things (map plain.name names.now))) }
-    ensures rooms { IfOk result (λ s. s.1.items ≡ flat_map (rooms (plain.given given.now)) (things (map plain.name names.now))) }
-    ensures numbers { IfOk result (λ s. s.2.items ≡ flat_map (numbers (plain.given given.now)) (things (map plain.name names.now))) }
+    ensures cells { IfOk result (λ s. s.0.items
+        ≡ flat_map (cells (plain.given given.now)) (things (map plain.name names.now))) }
+    ensures rooms { IfOk result (λ s. s.1.items
+        ≡ flat_map (rooms (plain.given given.now)) (things (map plain.name names.now))) }
+    ensures numbers { IfOk result (λ s. s.2.items
+        ≡ flat_map (numbers (plain.given given.now)) (things (map plain.name names.now))) }
 {
     let cells = all_cells(alloc, given, names)?;
     let rooms = all_rooms(alloc, given, names)?;
@@ -42,8 +45,10 @@ fn blocks_of(
     standings: &[Standing],
     declaration: &Declaration,
 ) -> Result<(Statement, Statement), AllocError>
-    ensures internal { IfOk result (λ s. seen_statement s.0 ≡ block standings.now (plain.declaration declaration.now).internal) }
-    ensures external { IfOk result (λ s. seen_statement s.1 ≡ block standings.now (plain.declaration declaration.now).external) }
+    ensures internal { IfOk result (λ s. seen_statement s.0
+        ≡ block standings.now (plain.declaration declaration.now).internal) }
+    ensures external { IfOk result (λ s. seen_statement s.1
+        ≡ block standings.now (plain.declaration declaration.now).external) }
 {
     let internal = block(alloc, standings, &declaration.internal)?;
     let external = block(alloc, standings, &declaration.external)?;
@@ -56,8 +61,10 @@ fn texts_of(
     standings: &[Standing],
     declaration: &Declaration,
 ) -> Result<(Vec<Output>, Vec<Word>), AllocError>
-    ensures outputs { IfOk result (λ s. map seen_output s.0.items ≡ map (output standings.now) (plain.declaration declaration.now).outputs) }
-    ensures words { IfOk result (λ s. map seen_word s.1.items ≡ map (shown_word standings.now) (plain.declaration declaration.now).words) }
+    ensures outputs { IfOk result (λ s. map seen_output s.0.items
+        ≡ map (output standings.now) (plain.declaration declaration.now).outputs) }
+    ensures words { IfOk result (λ s. map seen_word s.1.items
+        ≡ map (shown_word standings.now) (plain.declaration declaration.now).words) }
 {
     let outputs = outputs(alloc, standings, declaration.outputs.as_slice())?;
     let words = words(alloc, standings, declaration.words.as_slice())?;
@@ -72,8 +79,10 @@ fn parts_of(
     declaration: &Declaration,
     standings: &[Standing],
 ) -> Result<Parts, AllocError>
-    requires { standings.now ≡ standings_of (plain.given given.now) (plain.declaration declaration.now).names }
-    ensures { IfOk result (λ parts. seen_program (text_of parts) ≡ program_of (plain.given given.now) (plain.declaration declaration.now)) }
+    requires { standings.now
+        ≡ standings_of (plain.given given.now) (plain.declaration declaration.now).names }
+    ensures { IfOk result (λ parts. seen_program (text_of parts)
+        ≡ program_of (plain.given given.now) (plain.declaration declaration.now)) }
 {
     let (cells, rooms, numbers) = starts_of(alloc, given, declaration.names.as_slice())?;
     let (outputs, words) = texts_of(alloc, standings, declaration)?;
@@ -109,9 +118,13 @@ fn members_held(
     declaration: &Declaration,
     standings: &[Standing],
 ) -> Result<(), BadMachine>
-    requires { standings.now ≡ standings_of (plain.given given.now) (plain.declaration declaration.now).names }
-    ensures held { IfOk result (λ _. members_fault (plain.given given.now) (plain.declaration declaration.now) standings.now ≡ None) }
-    ensures refused { IfErr result (λ bad. fault_of (plain.given given.now) (plain.declaration declaration.now) ≡ Some bad) }
+    requires { standings.now
+        ≡ standings_of (plain.given given.now) (plain.declaration declaration.now).names }
+    ensures held { IfOk result
+        (λ _. members_fault (plain.given given.now)
+        (plain.declaration declaration.now) standings.now ≡ None) }
+    ensures refused { IfErr result
+        (λ bad. fault_of (plain.given given.now) (plain.declaration declaration.now) ≡ Some bad) }
 {
     held(members_fault(given, declaration, standings))
 }
@@ -134,11 +147,16 @@ fn limited(
     declaration: &Declaration,
     parts: Parts,
 ) -> Result<Program, BadMachine>
-    requires internal { seen_statement parts.internal ≡ block standings.now (plain.declaration declaration.now).internal }
-    requires external { seen_statement parts.external ≡ block standings.now (plain.declaration declaration.now).external }
+    requires internal { seen_statement parts.internal
+        ≡ block standings.now (plain.declaration declaration.now).internal }
+    requires external { seen_statement parts.external
+        ≡ block standings.now (plain.declaration declaration.now).external }
     ensures made { IfOk result (λ program. program ≡ text_of parts) }
-    ensures sound { IfOk result (λ _. limit standings.now (plain.declaration declaration.now) (text_of parts) ≡ None) }
-    ensures refused { IfErr result (λ bad. limit standings.now (plain.declaration declaration.now) (text_of parts) ≡ Some bad) }
+    ensures sound { IfOk result
+        (λ _. limit standings.now (plain.declaration declaration.now) (text_of parts) ≡ None) }
+    ensures refused { IfErr result
+        (λ bad. limit standings.now (plain.declaration declaration.now) (text_of parts)
+        ≡ Some bad) }
 {
     match limit(standings, declaration, &parts) {
         Some(bad) => {
@@ -151,14 +169,17 @@ fn limited(
 
 /// The program that a machine means with these numbers, or its first fault: 21 (BadShape). Want of memory (4) may come
 /// before any fault.
-pub fn declared(
+pub fn compile(
     alloc: Global,
     given: &Given,
     declaration: &Declaration,
 ) -> Result<Program, BadMachine>
-    ensures made { IfOk result (λ program. seen_program program ≡ program_of (plain.given given.now) (plain.declaration declaration.now)) }
-    ensures sound { IfOk result (λ _. fault_of (plain.given given.now) (plain.declaration declaration.now) ≡ None) }
-    ensures refused { IfErr result (λ bad. bad ≢ OutOfMemory → fault_of (plain.given given.now) (plain.declaration declaration.now) ≡ Some bad) }
+    ensures made { IfOk result (λ program. seen_program program
+        ≡ program_of (plain.given given.now) (plain.declaration declaration.now)) }
+    ensures sound { IfOk result
+        (λ _. fault_of (plain.given given.now) (plain.declaration declaration.now) ≡ None) }
+    ensures refused { IfErr result (λ bad. bad ≢ OutOfMemory
+        → fault_of (plain.given given.now) (plain.declaration declaration.now) ≡ Some bad) }
 {
     let standings = standings_of(alloc, given, declaration.names.as_slice())?;
     members_held(given, declaration, &standings)?;

@@ -2,15 +2,24 @@
 ghost use Rattle.std.specs.Prelude.{◌≡◌, map};
 ghost use Rattle.tw_machine_text.specs.Views.{tree};
 ghost use Rattle.tw_machine_declaration.specs.Seen as plain;
-ghost use Rattle.tw_machine_compiler.specs.Rows.{which, row_named, row_numbered, row_of, shown_row, rows, among, twice};
+ghost use Rattle.tw_machine_compiler.specs.Rows.{
+  which,
+  row_named,
+  row_numbered,
+  row_of,
+  shown_row,
+  rows,
+  among,
+  twice,
+};
 
 use tw_machine::language::Span;
 use tw_machine_declaration::{Standing, Value, standing_at};
-use tw_machine_text::Expr as Tree;
+use tw_machine_text::SourceExpr;
 
 /// A queue or an array register that is shown: its name, and which it is of an array of queues.
 #[derive(Clone, Copy, PartialEq, Eq)]
-pub struct Row {
+pub(crate) struct Row {
     pub name: usize,
     pub index: u64,
 }
@@ -50,13 +59,13 @@ fn row_numbered(name: usize, index: u64, standing: Standing) -> Option<Row>
 }
 
 /// The row that a text in `words` is; an expression is none.
-fn row_of(standings: &[Standing], written: &Tree) -> Option<Row>
+fn row_of(standings: &[Standing], written: &SourceExpr) -> Option<Row>
     ensures { result ≡ row_of standings.now (tree written.now) }
 {
     match written {
-        Tree::Name(name) => row_named(*name, standing_at(standings, *name)),
-        Tree::Indexed(name, index) => match &**index {
-            Tree::Number(index) => row_numbered(*name, *index, standing_at(standings, *name)),
+        SourceExpr::Name(name) => row_named(*name, standing_at(standings, *name)),
+        SourceExpr::Indexed(name, index) => match &**index {
+            SourceExpr::Number(index) => row_numbered(*name, *index, standing_at(standings, *name)),
             _ => None,
         },
         _ => None,
@@ -88,7 +97,7 @@ fn among(standings: &[Standing], one: Row, words: &[Value]) -> bool
 }
 
 /// Whether a row stands twice among the words.
-pub fn twice(standings: &[Standing], words: &[Value]) -> bool
+pub(crate) fn twice(standings: &[Standing], words: &[Value]) -> bool
     ensures { result ≡ twice (rows standings.now (map plain.value words.now)) }
 {
     let Some((first, rest)) = words.split_first() else {

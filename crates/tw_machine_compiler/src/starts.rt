@@ -10,7 +10,8 @@ use tw_machine_declaration::{
 
 /// Appends what the cells of an array register have at the start.
 fn push_starts(given: &Given, starts: &[Constant], cells: &mut Vec<i64>) -> Result<(), AllocError>
-    ensures { OnOk result (cells.new.items ≡ cells.old.items ++ map (start_of (plain.given given.now)) starts.now) }
+    ensures { OnOk result (cells.new.items
+        ≡ cells.old.items ++ map (start_of (plain.given given.now)) starts.now) }
 {
     for start in starts {
         cells.push(start_of(given, *start))?;
@@ -31,7 +32,8 @@ fn push_rooms(count: u32, room: u16, rooms: &mut Vec<u16>) -> Result<(), AllocEr
 
 /// Appends the cells of a name.
 fn push_cells(given: &Given, thing: &Thing, out: &mut Vec<i64>) -> Result<(), AllocError>
-    ensures { OnOk result (out.new.items ≡ out.old.items ++ cells (plain.given given.now) (plain.thing thing.now)) }
+    ensures { OnOk result (out.new.items
+        ≡ out.old.items ++ cells (plain.given given.now) (plain.thing thing.now)) }
 {
     match thing {
         Thing::Register(start) => out.push(start_of(given, *start))?,
@@ -43,7 +45,8 @@ fn push_cells(given: &Given, thing: &Thing, out: &mut Vec<i64>) -> Result<(), Al
 
 /// Appends the rooms of a name.
 fn push_queues(given: &Given, thing: &Thing, out: &mut Vec<u16>) -> Result<(), AllocError>
-    ensures { OnOk result (out.new.items ≡ out.old.items ++ rooms (plain.given given.now) (plain.thing thing.now)) }
+    ensures { OnOk result (out.new.items
+        ≡ out.old.items ++ rooms (plain.given given.now) (plain.thing thing.now)) }
 {
     match thing {
         Thing::Queue(room) => out.push(room_of(given, *room))?,
@@ -57,7 +60,8 @@ fn push_queues(given: &Given, thing: &Thing, out: &mut Vec<u16>) -> Result<(), A
 
 /// Appends the numbers of a table.
 fn push_numbers(given: &Given, thing: &Thing, out: &mut Vec<i64>) -> Result<(), AllocError>
-    ensures { OnOk result (out.new.items ≡ out.old.items ++ numbers (plain.given given.now) (plain.thing thing.now)) }
+    ensures { OnOk result (out.new.items
+        ≡ out.old.items ++ numbers (plain.given given.now) (plain.thing thing.now)) }
 {
     match thing {
         Thing::Table(numbers) => out.extend_from_slice(numbers)?,
@@ -68,8 +72,13 @@ fn push_numbers(given: &Given, thing: &Thing, out: &mut Vec<i64>) -> Result<(), 
 }
 
 /// The cells of all registers at the start. The only error is want of memory.
-pub fn all_cells(alloc: Global, given: &Given, names: &[Named]) -> Result<Vec<i64>, AllocError>
-    ensures { IfOk result (λ out. out.items ≡ flat_map (cells (plain.given given.now)) (things (map plain.name names.now))) }
+pub(crate) fn all_cells(
+    alloc: Global,
+    given: &Given,
+    names: &[Named],
+) -> Result<Vec<i64>, AllocError>
+    ensures { IfOk result (λ out. out.items
+        ≡ flat_map (cells (plain.given given.now)) (things (map plain.name names.now))) }
 {
     let mut out = Vec::new(alloc);
     for named in names {
@@ -79,8 +88,13 @@ pub fn all_cells(alloc: Global, given: &Given, names: &[Named]) -> Result<Vec<i6
 }
 
 /// The rooms of all queues. The only error is want of memory.
-pub fn all_rooms(alloc: Global, given: &Given, names: &[Named]) -> Result<Vec<u16>, AllocError>
-    ensures { IfOk result (λ out. out.items ≡ flat_map (rooms (plain.given given.now)) (things (map plain.name names.now))) }
+pub(crate) fn all_rooms(
+    alloc: Global,
+    given: &Given,
+    names: &[Named],
+) -> Result<Vec<u16>, AllocError>
+    ensures { IfOk result (λ out. out.items
+        ≡ flat_map (rooms (plain.given given.now)) (things (map plain.name names.now))) }
 {
     let mut out = Vec::new(alloc);
     for named in names {
@@ -90,8 +104,13 @@ pub fn all_rooms(alloc: Global, given: &Given, names: &[Named]) -> Result<Vec<u1
 }
 
 /// The numbers of all tables. The only error is want of memory.
-pub fn all_numbers(alloc: Global, given: &Given, names: &[Named]) -> Result<Vec<i64>, AllocError>
-    ensures { IfOk result (λ out. out.items ≡ flat_map (numbers (plain.given given.now)) (things (map plain.name names.now))) }
+pub(crate) fn all_numbers(
+    alloc: Global,
+    given: &Given,
+    names: &[Named],
+) -> Result<Vec<i64>, AllocError>
+    ensures { IfOk result (λ out. out.items
+        ≡ flat_map (numbers (plain.given given.now)) (things (map plain.name names.now))) }
 {
     let mut out = Vec::new(alloc);
     for named in names {

@@ -1,8 +1,20 @@
 //! Statements of texts in the machine's language.
 ghost use Rattle.std.specs.Prelude.{◌≡◌, ◌≤◌, IfOk};
+ghost use Rattle.tw_machine_text.specs.Limits.{max_turns};
 ghost use Rattle.tw_machine_text.specs.Views.{tree, told, body, chain};
 ghost use Rattle.tw_machine.specs.Seen.{seen, seen_target, seen_statement};
-ghost use Rattle.tw_machine_compiler.specs.Statements.{cell_named, cell_indexed, cell, assigned, put, acted, turns, statement, block, chosen};
+ghost use Rattle.tw_machine_compiler.specs.Statements.{
+  cell_named,
+  cell_indexed,
+  cell,
+  assigned,
+  put,
+  acted,
+  turns,
+  statement,
+  block,
+  chosen,
+};
 
 use crate::expressions::{expression, queue};
 use crate::making::{branch, repeated};
@@ -10,7 +22,7 @@ use std::alloc::{AllocError, Global};
 use tw_machine::language::{Change, Expr, Position, Statement, Target, Which};
 use tw_machine_declaration::{Standing, standing_at, written_turns};
 use tw_machine_text::{
-    Arms, Block, Change as Sign, Expr as Tree, Operator, Statement as Said, Verb,
+    Arms, Block, MAX_TURNS, Operator, SourceChange, SourceExpr, SourceStatement, Verb,
 };
 
 /// A register by its name.
@@ -34,12 +46,12 @@ fn cell_indexed(standing: Standing, index: Expr) -> Target
 }
 
 /// The register that a statement changes.
-fn cell(alloc: Global, standings: &[Standing], place: &Tree) -> Result<Target, AllocError>
+fn cell(alloc: Global, standings: &[Standing], place: &SourceExpr) -> Result<Target, AllocError>
     ensures { IfOk result (λ target. seen_target target ≡ cell standings.now (tree place.now)) }
 {
     match place {
-        Tree::Name(name) => Ok(cell_named(standing_at(standings, *name))),
-        Tree::Indexed(name, index) => {
+        SourceExpr::Name(name) => Ok(cell_named(standing_at(standings, *name))),
+        SourceExpr::Indexed(name, index) => {
             let index = expression(alloc, standings, index)?;
             Ok(cell_indexed(standing_at(standings, *name), index))
         }
@@ -48,14 +60,14 @@ fn cell(alloc: Global, standings: &[Standing], place: &Tree) -> Result<Target, A
 }
 
 /// A register is changed.
-fn assigned(change: Sign, target: Target, by: Expr) -> Statement
+fn assigned(change: SourceChange, target: Target, by: Expr) -> Statement
     ensures { seen_statement result ≡ assigned change (seen_target target) (seen by) }
 {
     match change {
-        Sign::Set => Statement::Set(target, by),
-        Sign::Add => Statement::Alter(Change::Add, target, by),
-        Sign::Subtract => Statement::Alter(Change::Subtract, target, by),
-        Sign::Xor => Statement::Alter(Change::Flip, target, by),
+        SourceChange::Set => Statement::Set(target, by),
+        SourceChange::Add => Statement::Alter(Change::Add, target, by),
+        SourceChange::Subtract => Statement::Alter(Change::Subtract, target, by),
+        SourceChange::Xor => Statement::Alter(Change::Flip, target, by),
     }
 }
 
@@ -64,12 +76,13 @@ fn put(
     alloc: Global,
     standings: &[Standing],
     queue: Target,
-    operands: &Tree,
+    operands: &SourceExpr,
 ) -> Result<Statement, AllocError>
-    ensures { IfOk result (λ s. seen_statement s ≡ put standings.now (seen_target queue) (tree operands.now)) }
+    ensures { IfOk result
+        (λ s. seen_statement s ≡ put standings.now (seen_target queue) (tree operands.now)) }
 {
     match operands {
-        Tree::Binary(Operator::Comma, place, value) => {
+        SourceExpr::Binary(Operator::Comma, place, value) => {
             let place = expression(alloc, standings, place)?;
             let value = expression(alloc, standings, value)?;
             Ok(Statement::Put(queue, Position::Given(place), value))
@@ -84,9 +97,10 @@ fn acted(
     standings: &[Standing],
     verb: Verb,
     queue: Target,
-    operands: &Tree,
+    operands: &SourceExpr,
 ) -> Result<Statement, AllocError>
-    ensures { IfOk result (λ s. seen_statement s ≡ acted standings.now verb (seen_target queue) (tree operands.now)) }
+    ensures { IfOk result
+        (λ s. seen_statement s ≡ acted standings.now verb (seen_target queue) (tree operands.now)) }
 {
     match verb {
         Verb::Push => {
@@ -106,44 +120,53 @@ fn acted(
 }
 
 /// How often a block is repeated.
-pub fn turns(written: Option<i128>) -> u8
+pub(crate) fn turns(written: Option<i128>) -> u8
     ensures value { result ≡ turns written }
-    ensures small { result ≤ 64 }
+    ensures small { result ≤ max_turns }
 {
     match written {
-        Some(number) => number.max(0).min(64) as u8,
+        Some(number) => number.max(0).min(MAX_TURNS as i128) as u8,
         None => 0,
     }
 }
 
 /// A statement in the machine's language.
 #[cycle(statements)]
-fn statement(alloc: Global, standings: &[Standing], said: &Said) -> Result<Statement, AllocError>
+fn statement(
+    alloc: Global,
+    standings: &[Standing],
+    said: &SourceStatement,
+) -> Result<Statement, AllocError>
     ensures { IfOk result (λ s. seen_statement s ≡ statement standings.now (told said.now)) }
 {
     match said {
-        Said::Assign(place, change, by) => {
+        SourceStatement::Assign(place, change, by) => {
             let target = cell(alloc, standings, place)?;
             let by = expression(alloc, standings, by)?;
             Ok(assigned(*change, target, by))
         }
-        Said::Act(verb, queued, operands) => {
+        SourceStatement::Act(verb, queued, operands) => {
             let queue = queue(alloc, standings, queued)?;
             acted(alloc, standings, *verb, queue, operands)
         }
-        Said::Pop(queued) => {
+        SourceStatement::Pop(queued) => {
             let queue = queue(alloc, standings, queued)?;
             Ok(Statement::Take(queue, Which::Foremost))
         }
-        Said::Draw => Ok(Statement::Draw),
-        Said::Wait(ticks) => Ok(Statement::Wait(expression(alloc, standings, ticks)?)),
-        Said::Passivate => Ok(Statement::Passivate),
-        Said::If(arms) => chosen(alloc, standings, arms, Box::new(alloc, Statement::Skip)?),
-        Said::IfElse(arms, last) => {
+        SourceStatement::Draw => Ok(Statement::Draw),
+        SourceStatement::Wait(ticks) => Ok(Statement::Wait(expression(alloc, standings, ticks)?)),
+        SourceStatement::Passivate => Ok(Statement::Passivate),
+        SourceStatement::If(arms) => chosen(
+            alloc,
+            standings,
+            arms,
+            Box::new(alloc, Statement::Skip)?,
+        ),
+        SourceStatement::IfElse(arms, last) => {
             let last = block(alloc, standings, last)?;
             chosen(alloc, standings, arms, Box::new(alloc, last)?)
         }
-        Said::Repeat(count, each) => {
+        SourceStatement::Repeat(count, each) => {
             let each = block(alloc, standings, each)?;
             repeated(alloc, turns(written_turns(standings, count)), each)
         }
@@ -152,7 +175,7 @@ fn statement(alloc: Global, standings: &[Standing], said: &Said) -> Result<State
 
 /// A program in the machine's language. The only error is want of memory.
 #[cycle(statements)]
-pub fn block(
+pub(crate) fn block(
     alloc: Global,
     standings: &[Standing],
     program: &Block,
@@ -177,7 +200,8 @@ fn chosen(
     arms: &Arms,
     last: Box<Statement>,
 ) -> Result<Statement, AllocError>
-    ensures { IfOk result (λ s. seen_statement s ≡ chosen standings.now (chain arms.now) (seen_statement last.value)) }
+    ensures { IfOk result (λ s. seen_statement s
+        ≡ chosen standings.now (chain arms.now) (seen_statement last.value)) }
 {
     match arms {
         Arms::One(test, then) => {

@@ -1,5 +1,6 @@
 -- What each name of a machine stands for, once the numbers of a component are put in.
 use Rattle.std.specs.Prelude.{ℕ, ◌+◌, ℤ, pos, min, List, [], ◌∷◌, ◌++◌, map, length, Option, Some, None, slice_get, slice_index_or, unwrap_or, replicate, if◌then◌else◌}
+use Rattle.tw_machine.specs.Limits.{cells_end, max_queues, max_room, numbers_end, queues_end}
 use Rattle.tw_machine.specs.Values.{natural}
 use Rattle.tw_machine_text.specs.Letters.{functions, same_text}
 use Rattle.tw_machine_declaration.specs.declared.declaration.Constant.{Constant}
@@ -20,11 +21,11 @@ start_of given c = unwrap_or (constant given c) (pos 0)
 
 -- the room of a queue; one past 1,024 is refused
 abbrev pub room_of : Given → Constant → ℕ
-room_of given c = min (natural (start_of given c)) 1024
+room_of given c = min (natural (start_of given c)) max_room
 
 -- how many queues an array has; more than 16 are refused
 abbrev pub count_of : Given → Constant → ℕ
-count_of given c = min (natural (start_of given c)) 16
+count_of given c = min (natural (start_of given c)) max_queues
 
 -- the list that is given for a parameter, empty where none is
 abbrev pub list_given : Given → ℕ → List ℤ
@@ -61,9 +62,9 @@ given_number None = s.Unknown
 abbrev pub taken : Given → Places → Declares → Places
 taken given at thing =
     record {
-      cells = min (at.cells + length (cells given thing)) 65;
-      queues = min (at.queues + length (rooms given thing)) 17;
-      numbers = min (at.numbers + length (numbers given thing)) 65537;
+      cells = min (at.cells + length (cells given thing)) cells_end;
+      queues = min (at.queues + length (rooms given thing)) queues_end;
+      numbers = min (at.numbers + length (numbers given thing)) numbers_end;
     }
 
 -- what a name stands for, where so much is taken before it
@@ -71,11 +72,11 @@ abbrev pub standing_of : Given → Places → Declares → Standing
 standing_of given at (parameter k) = given_number (slice_get given.numbers k)
 standing_of given at (list_parameter k) = s.Nothing
 standing_of given at (register c) = s.Cell at.cells
-standing_of given at (registers cs) = s.Cells (record { first = at.cells; count = min (length cs) 65 })
+standing_of given at (registers cs) = s.Cells (record { first = at.cells; count = min (length cs) cells_end })
 standing_of given at (queue c) = s.Queue at.queues (room_of given c)
 standing_of given at (queues n c) = s.Queues (record { first = at.queues; count = count_of given n }) (room_of given c)
-standing_of given at (table ns) = s.Table (record { first = at.numbers; count = min (length ns) 65537 })
-standing_of given at (list_table k) = s.Table (record { first = at.numbers; count = min (length (list_given given k)) 65537 })
+standing_of given at (table ns) = s.Table (record { first = at.numbers; count = min (length ns) numbers_end })
+standing_of given at (list_table k) = s.Table (record { first = at.numbers; count = min (length (list_given given k)) numbers_end })
 
 -- what the names that are declared stand for
 abbrev pub own_standings : Given → Places → List Declares → List Standing

@@ -2,10 +2,11 @@
 use Rattle.std.specs.Prelude.{ℕ, ℤ, ◌+◌, ◌*◌, min, max, List, Option, Some, None}
 use Rattle.tw_machine.specs.declared.language.Measure.TheVariants.{Sum}
 use Rattle.tw_machine.specs.Values.{natural}
+use Rattle.tw_machine_text.specs.Limits.{max_turns}
 use Rattle.tw_machine_text.specs.declared.words.Verb.{Verb}
 use Rattle.tw_machine_text.specs.declared.words.Verb.TheVariants.{Push, Insert, Remove, Put}
 use Rattle.tw_machine_text.specs.declared.words.Operator.TheVariants.{Comma}
-use Rattle.tw_machine_text.specs.Tree.{Tree, Number, Name, Known, Indexed, Call, RandomBelow, Group, Negate, Not, Binary, Statement, Assign, Act, Pop, Draw, Wait, Passivate, If, IfElse, Repeat, Block, Empty, Then, Arms, One, More}
+use Rattle.tw_machine_text.specs.Tree.{Tree, Number, Name, Known, Indexed, Call, RandomBelow, Group, Negate, Not, Binary, SourceStatement, Assign, Act, Pop, Draw, Wait, Passivate, If, IfElse, Repeat, Block, Empty, Then, Arms, One, More}
 use Rattle.tw_machine_declaration.specs.declared.functions.Function.{Function}
 use Rattle.tw_machine_declaration.specs.declared.functions.Function.TheVariants.{Measured, Applied}
 use Rattle.tw_machine_declaration.specs.declared.functions.Joining.TheVariants.{Place}
@@ -56,7 +57,7 @@ moved Put room = room
 
 -- how many turns are counted: one where a parameter says it of which nothing is given
 abbrev pub counted_turns : Option ℤ → ℕ
-counted_turns (Some n) = min (natural n) 64
+counted_turns (Some n) = min (natural n) max_turns
 counted_turns None = 1
 
 -- the tests of an `if`
@@ -65,7 +66,7 @@ tests_work ss (One test b) = work ss test
 tests_work ss (More before test b) = tests_work ss before + work ss test
 
 abbrev mutual
-  pub statement_work : List Standing → Statement → ℕ
+  pub statement_work : List Standing → SourceStatement → ℕ
   statement_work ss (Assign place change e) = 1 + (work ss place + work ss e)
   statement_work ss (Act verb q e) = 1 + (work ss q + work ss e + moved verb (queue_room ss q))
   statement_work ss (Pop q) = 1 + work ss q

@@ -1,6 +1,6 @@
 //! A machine as it is declared.
 
-use tw_machine_text::{Block, Expr};
+use tw_machine_text::{Block, SourceExpr};
 
 /// A constant.
 #[derive(Clone, Copy, Debug, PartialEq, Eq)]
@@ -42,7 +42,7 @@ pub struct Named {
 #[derive(Drop)]
 pub enum Value {
     Number(i64),
-    Text(Expr),
+    Text(SourceExpr),
 }
 
 /// An entry of what is sent.
@@ -52,7 +52,7 @@ pub struct OutputText {
     pub value: Value,
     pub when: Option<Value>,
     /// A queue.
-    pub each: Option<Expr>,
+    pub each: Option<SourceExpr>,
 }
 
 /// A machine. The numbers of names in its trees are those of the texts' reader: 0 to 9 for the functions' names, and

@@ -1,12 +1,14 @@
 //! What a machine declares, what its names stand for, and what its trees cost.
 //!
-//! - [`Declaration`]: what a machine declares, as the reader of files hands it over, its texts read into trees.
-//! - [`Given`]: what a component gives for its machine's parameters.
-//! - [`Standing`], [`standings_of`]: what each name stands for: cells, queues and numbers of tables, one after another.
-//! - [`constant`], [`start_of`], [`room_of`], [`count_of`], [`list_given`]: numbers and lists, once they are given.
-//! - [`all_nodes`]: how many nodes a machine has.
-//! - [`block_work`], [`outputs_work`], [`words_work`]: how many computations a run makes at the most.
-//! - [`function_of`], [`written_turns`]: the function of a number, and how often a block is repeated.
+//! - `declaration`: [`Declaration`], what a machine declares, its texts read into trees; [`Given`], what a component gives
+//!   for its machine's parameters.
+//! - `names`: [`Standing`] and [`standings_of`], what each name stands for: cells, queues and numbers of tables, one after
+//!   another; [`constant`], [`start_of`], [`room_of`], [`count_of`], [`list_given`], numbers and lists once they are given.
+//! - `functions`: [`function_of`], the function of a number.
+//! - `nodes`: [`all_nodes`], how many nodes a machine has.
+//! - `turns`: [`written_turns`], how often a block is repeated.
+//! - `work`: [`block_work`], how many computations a run of a program makes at the most.
+//! - `computing`: [`outputs_work`] and [`words_work`], the same of what is sent and of the words.
 //!
 //! A tree leans to the left, as deep as it has nodes: the walks over it call themselves up to 4,096 deep. How deep
 //! blocks and parentheses stand in one another is held by the texts' reader.

@@ -1,13 +1,35 @@
 //! What each name of a machine stands for.
 ghost use Rattle.std.specs.Prelude.{◌≡◌, ◌+◌, ◌≤◌, min, IfOk, map, length, slice_index_or};
-ghost use Rattle.tw_machine_text.specs.Letters.{functions, same_text};
+ghost use Rattle.tw_machine.specs.Limits.{cells_end, max_queues, max_room, numbers_end};
+ghost use Rattle.tw_machine_text.specs.Letters.{functions};
 ghost use Rattle.tw_machine_declaration.specs.Seen as plain;
-ghost use Rattle.tw_machine_declaration.specs.Names.{constant, start_of, room_of, count_of, list_given, cells, rooms, numbers, given_number, none_taken, taken, things, place_named, standing_of, own_standings, texts, standings_of, standing_at};
+ghost use Rattle.tw_machine_declaration.specs.Names.{
+  constant,
+  start_of,
+  room_of,
+  count_of,
+  list_given,
+  cells,
+  rooms,
+  numbers,
+  given_number,
+  none_taken,
+  taken,
+  things,
+  place_named,
+  standing_of,
+  own_standings,
+  texts,
+  standings_of,
+  standing_at,
+};
 ghost use Rattle.tw_machine_declaration.specs.declared.names.Standing.TheVariants.{Nothing};
 
 use crate::declaration::{Constant, Given, Named, Thing};
 use std::alloc::{AllocError, Global};
 use tw_machine::language::Span;
+use tw_machine::limits::{CELLS_END, MAX_QUEUES, MAX_ROOM, NUMBERS_END, QUEUES_END};
+use tw_machine_text::{FUNCTIONS, same_text};
 
 /// What a name stands for.
 #[derive(Clone, Copy, Debug, PartialEq, Eq)]
@@ -32,7 +54,7 @@ pub enum Standing {
 
 /// How many cells, queues and numbers of tables are taken by the names before.
 #[derive(Clone, Copy, PartialEq, Eq)]
-pub struct Places {
+pub(crate) struct Places {
     pub cells: u32,
     pub queues: u32,
     pub numbers: u32,
@@ -58,17 +80,17 @@ pub fn start_of(given: &Given, start: Constant) -> i64
 /// The room of a queue, at most 1,024.
 pub fn room_of(given: &Given, room: Constant) -> u16
     ensures value { result ≡ room_of (plain.given given.now) room }
-    ensures small { result ≤ 1024 }
+    ensures small { result ≤ max_room }
 {
-    start_of(given, room).max(0).min(1024) as u16
+    start_of(given, room).max(0).min(MAX_ROOM as i64) as u16
 }
 
 /// How many queues an array has, at most 16.
 pub fn count_of(given: &Given, count: Constant) -> u32
     ensures value { result ≡ count_of (plain.given given.now) count }
-    ensures small { result ≤ 16 }
+    ensures small { result ≤ max_queues }
 {
-    start_of(given, count).max(0).min(16) as u32
+    start_of(given, count).max(0).min(MAX_QUEUES as i64) as u32
 }
 
 /// The list that is given for a parameter; empty where none is.
@@ -90,13 +112,14 @@ pub fn standing_at(standings: &[Standing], name: usize) -> Standing
 
 /// How many cells a name takes, at most 65.
 fn cell_count(given: &Given, thing: &Thing) -> u32
-    ensures value { result ≡ min (length (cells (plain.given given.now) (plain.thing thing.now))) 65 }
-    ensures small { result ≤ 65 }
+    ensures value { result
+        ≡ min (length (cells (plain.given given.now) (plain.thing thing.now))) cells_end }
+    ensures small { result ≤ cells_end }
 {
     let _ = given;
     match thing {
         Thing::Register(_) => 1,
-        Thing::RegisterArray(starts) => starts.len().min(65) as u32,
+        Thing::RegisterArray(starts) => starts.len().min(CELLS_END) as u32,
         _ => 0,
     }
 }
@@ -104,7 +127,7 @@ fn cell_count(given: &Given, thing: &Thing) -> u32
 /// How many queues a name takes.
 fn queue_count(given: &Given, thing: &Thing) -> u32
     ensures value { result ≡ length (rooms (plain.given given.now) (plain.thing thing.now)) }
-    ensures small { result ≤ 16 }
+    ensures small { result ≤ max_queues }
 {
     match thing {
         Thing::Queue(_) => 1,
@@ -115,19 +138,20 @@ fn queue_count(given: &Given, thing: &Thing) -> u32
 
 /// How many numbers of tables a name takes, at most 65,537.
 fn number_count(given: &Given, thing: &Thing) -> u32
-    ensures value { result ≡ min (length (numbers (plain.given given.now) (plain.thing thing.now))) 65537 }
-    ensures small { result ≤ 65537 }
+    ensures value { result
+        ≡ min (length (numbers (plain.given given.now) (plain.thing thing.now))) numbers_end }
+    ensures small { result ≤ numbers_end }
 {
     match thing {
-        Thing::Table(numbers) => numbers.len().min(65537) as u32,
-        Thing::ListTable(place) => list_given(given, *place).len().min(65537) as u32,
+        Thing::Table(numbers) => numbers.len().min(NUMBERS_END) as u32,
+        Thing::ListTable(place) => list_given(given, *place).len().min(NUMBERS_END) as u32,
         _ => 0,
     }
 }
 
 /// A count, to one past what is allowed.
 fn added(at: u32, more: u32, most: u32) -> u32
-    requires { more ≤ 65537 }
+    requires { more ≤ numbers_end }
     ensures { result ≡ min (at + more) most }
 {
     (at as u64 + more as u64).min(most as u64) as u32
@@ -138,9 +162,9 @@ fn taken(given: &Given, at: Places, thing: &Thing) -> Places
     ensures { result ≡ taken (plain.given given.now) at (plain.thing thing.now) }
 {
     Places {
-        cells: added(at.cells, cell_count(given, thing), 65),
-        queues: added(at.queues, queue_count(given, thing), 17),
-        numbers: added(at.numbers, number_count(given, thing), 65537),
+        cells: added(at.cells, cell_count(given, thing), CELLS_END as u32),
+        queues: added(at.queues, queue_count(given, thing), QUEUES_END as u32),
+        numbers: added(at.numbers, number_count(given, thing), NUMBERS_END as u32),
     }
 }
 
@@ -183,7 +207,8 @@ fn standing_of(given: &Given, at: Places, thing: &Thing) -> Standing
 
 /// What the names that are declared stand for.
 fn own_standings(alloc: Global, given: &Given, names: &[Named]) -> Result<Vec<Standing>, AllocError>
-    ensures { IfOk result (λ standings. standings.items ≡ own_standings (plain.given given.now) none_taken (things (map plain.name names.now))) }
+    ensures { IfOk result (λ standings. standings.items
+        ≡ own_standings (plain.given given.now) none_taken (things (map plain.name names.now))) }
 {
     let mut standings = Vec::with_capacity(alloc, names.len())?;
     let mut at = Places {
@@ -198,13 +223,6 @@ fn own_standings(alloc: Global, given: &Given, names: &[Named]) -> Result<Vec<St
     Ok(standings)
 }
 
-/// Whether two texts are the same.
-fn same_text(a: &[u8], b: &[u8]) -> bool
-    ensures { result ≡ same_text a.now b.now }
-{
-    a == b
-}
-
 /// The place of the first name that is this text; their count where there is none.
 fn place_named(names: &[Named], text: &[u8]) -> usize
     ensures { result ≡ place_named 0 (texts (map plain.name names.now)) text.now }
@@ -217,23 +235,21 @@ fn place_named(names: &[Named], text: &[u8]) -> usize
     names.len()
 }
 
-/// The names of the functions, which may be names of registers and queues too.
-const FUNCTION_NAMES: [&[u8]; 10] = [
-    b"min", b"max", b"choose", b"length", b"room", b"front", b"last", b"sum", b"at", b"place",
-];
-
 /// What each of these names stands for.
 fn named_standings(
     alloc: Global,
     names: &[Named],
     own: &[Standing],
-    functions: &[&[u8]],
+    functions: &[&str],
 ) -> Result<Vec<Standing>, AllocError>
-    ensures { IfOk result (λ standings. standings.items ≡ map (λ f. standing_at own.now (place_named 0 (texts (map plain.name names.now)) f.now)) functions.now) }
+    ensures { IfOk result
+        (λ standings. standings.items ≡ map
+        (λ f. standing_at own.now (place_named 0
+        (texts (map plain.name names.now)) f.now)) functions.now) }
 {
     let mut standings = Vec::with_capacity(alloc, functions.len())?;
     for function in functions {
-        standings.push(standing_at(own, place_named(names, function)))?;
+        standings.push(standing_at(own, place_named(names, function.as_bytes())))?;
     }
     Ok(standings)
 }
@@ -245,10 +261,11 @@ pub fn standings_of(
     given: &Given,
     names: &[Named],
 ) -> Result<Vec<Standing>, AllocError>
-    ensures { IfOk result (λ standings. standings.items ≡ standings_of (plain.given given.now) (map plain.name names.now)) }
+    ensures { IfOk result (λ standings. standings.items
+        ≡ standings_of (plain.given given.now) (map plain.name names.now)) }
 {
     let own = own_standings(alloc, given, names)?;
-    let mut standings = named_standings(alloc, names, &own, &FUNCTION_NAMES)?;
+    let mut standings = named_standings(alloc, names, &own, &FUNCTIONS)?;
     standings.extend_from_slice(&own)?;
     Ok(standings)
 }

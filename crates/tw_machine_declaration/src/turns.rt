@@ -4,7 +4,7 @@ ghost use Rattle.tw_machine_text.specs.Views.{tree};
 ghost use Rattle.tw_machine_declaration.specs.Turns.{number_of, written_turns};
 
 use crate::names::{Standing, standing_at};
-use tw_machine_text::Expr as Tree;
+use tw_machine_text::SourceExpr;
 
 /// The number of a parameter, if it is given.
 fn number_of(standing: Standing) -> Option<i64>
@@ -17,12 +17,12 @@ fn number_of(standing: Standing) -> Option<i64>
 }
 
 /// How often a block is repeated, as it is written, if that is given.
-pub fn written_turns(standings: &[Standing], count: &Tree) -> Option<i128>
+pub fn written_turns(standings: &[Standing], count: &SourceExpr) -> Option<i128>
     ensures { result ≡ written_turns standings.now (tree count.now) }
 {
     match count {
-        Tree::Number(number) => Some(*number as i128),
-        Tree::Name(name) => match number_of(standing_at(standings, *name)) {
+        SourceExpr::Number(number) => Some(*number as i128),
+        SourceExpr::Name(name) => match number_of(standing_at(standings, *name)) {
             Some(number) => Some(number as i128),
             None => None,
         },

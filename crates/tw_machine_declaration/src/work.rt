@@ -1,16 +1,30 @@
 //! How many computations a run makes at the most. Counts end at 262,145, one past what is allowed.
 ghost use Rattle.std.specs.Prelude.{◌≡◌, ◌≤◌, ◌*◌, min};
+ghost use Rattle.tw_machine.specs.Limits.{computations_end};
+ghost use Rattle.tw_machine_text.specs.Limits.{max_turns};
 ghost use Rattle.tw_machine_text.specs.Views.{tree, told, body, chain};
-ghost use Rattle.tw_machine_declaration.specs.Work.{room_at, queue_room, gone_over, work, moved, counted_turns, statement_work, block_work, tests_work, greatest_work};
+ghost use Rattle.tw_machine_declaration.specs.Work.{
+  room_at,
+  queue_room,
+  gone_over,
+  work,
+  moved,
+  counted_turns,
+  statement_work,
+  block_work,
+  tests_work,
+  greatest_work,
+};
 
 use crate::functions::{Function, Joining, function_of};
 use crate::names::{Standing, standing_at};
 use crate::turns::written_turns;
 use tw_machine::language::Measure;
-use tw_machine_text::{Arms, Block, Expr as Tree, Operator, Statement as Said, Verb};
+use tw_machine::limits::COMPUTATIONS_END;
+use tw_machine_text::{Arms, Block, MAX_TURNS, Operator, SourceExpr, SourceStatement, Verb};
 
 /// The room of a queue, or of each of an array.
-pub fn room_at(standing: Standing) -> usize
+pub(crate) fn room_at(standing: Standing) -> usize
     ensures value { result ≡ room_at standing }
     ensures small { result ≤ 65535 }
 {
@@ -22,14 +36,14 @@ pub fn room_at(standing: Standing) -> usize
 }
 
 /// The room of the queue that stands first.
-pub fn queue_room(standings: &[Standing], written: &Tree) -> usize
+pub(crate) fn queue_room(standings: &[Standing], written: &SourceExpr) -> usize
     ensures value { result ≡ queue_room standings.now (tree written.now) }
     ensures small { result ≤ 65535 }
 {
     match written {
-        Tree::Name(name) => room_at(standing_at(standings, *name)),
-        Tree::Indexed(name, _) => room_at(standing_at(standings, *name)),
-        Tree::Binary(Operator::Comma, queue, _) => queue_room(standings, queue),
+        SourceExpr::Name(name) => room_at(standing_at(standings, *name)),
+        SourceExpr::Indexed(name, _) => room_at(standing_at(standings, *name)),
+        SourceExpr::Binary(Operator::Comma, queue, _) => queue_room(standings, queue),
         _ => 0,
     }
 }
@@ -47,25 +61,27 @@ fn gone_over(function: Function, room: usize) -> usize
 }
 
 /// The computations of an expression, at most 262,145.
-pub fn work(standings: &[Standing], written: &Tree) -> usize
-    ensures value { result ≡ min (work standings.now (tree written.now)) 262145 }
-    ensures small { result ≤ 262145 }
+pub fn work(standings: &[Standing], written: &SourceExpr) -> usize
+    ensures value { result ≡ min (work standings.now (tree written.now)) computations_end }
+    ensures small { result ≤ computations_end }
 {
     match written {
-        Tree::Number(_) | Tree::Name(_) | Tree::Known(_) => 1,
-        Tree::Indexed(_, below)
-        | Tree::RandomBelow(below)
-        | Tree::Negate(below)
-        | Tree::Not(below) => (1 + work(standings, below)).min(262145),
-        Tree::Call(name, arguments) => {
+        SourceExpr::Number(_) | SourceExpr::Name(_) | SourceExpr::Known(_) => 1,
+        SourceExpr::Indexed(_, below)
+        | SourceExpr::RandomBelow(below)
+        | SourceExpr::Negate(below)
+        | SourceExpr::Not(below) => (1 + work(standings, below)).min(COMPUTATIONS_END),
+        SourceExpr::Call(name, arguments) => {
             let over = gone_over(function_of(*name), queue_room(standings, arguments));
-            (1 + (work(standings, arguments) + over)).min(262145)
+            (1 + (work(standings, arguments) + over)).min(COMPUTATIONS_END)
         }
-        Tree::Group(inner) => work(standings, inner),
-        Tree::Binary(Operator::Comma, a, b) => {
-            (work(standings, a) + work(standings, b)).min(262145)
+        SourceExpr::Group(inner) => work(standings, inner),
+        SourceExpr::Binary(Operator::Comma, a, b) => {
+            (work(standings, a) + work(standings, b)).min(COMPUTATIONS_END)
         }
-        Tree::Binary(_, a, b) => { (1 + (work(standings, a) + work(standings, b))).min(262145) }
+        SourceExpr::Binary(_, a, b) => {
+            (1 + (work(standings, a) + work(standings, b))).min(COMPUTATIONS_END)
+        }
     }
 }
 
@@ -83,54 +99,57 @@ fn moved(verb: Verb, room: usize) -> usize
 /// How many turns are counted.
 fn counted_turns(written: Option<i128>) -> usize
     ensures value { result ≡ counted_turns written }
-    ensures small { result ≤ 64 }
+    ensures small { result ≤ max_turns }
 {
     match written {
-        Some(turns) => turns.max(0).min(64) as usize,
+        Some(turns) => turns.max(0).min(MAX_TURNS as i128) as usize,
         None => 1,
     }
 }
 
 /// The computations of so many turns of a block, at most 262,145; `each` are those of the block.
 fn times(turns: usize, standings: &[Standing], block: &Block, each: usize) -> usize
-    requires few { turns ≤ 64 }
-    requires each { each ≡ min (block_work standings.now (body block.now)) 262145 }
-    ensures value { result ≡ min (turns * block_work standings.now (body block.now)) 262145 }
-    ensures small { result ≤ 262145 }
+    requires few { turns ≤ max_turns }
+    requires each { each ≡ min (block_work standings.now (body block.now)) computations_end }
+    ensures value { result
+        ≡ min (turns * block_work standings.now (body block.now)) computations_end }
+    ensures small { result ≤ computations_end }
 {
     let _ = standings;
     let _ = block;
-    (turns * each).min(262145)
+    (turns * each).min(COMPUTATIONS_END)
 }
 
 /// The computations of a statement, at most 262,145.
 #[cycle(counts)]
-fn statement_work(standings: &[Standing], said: &Said) -> usize
-    ensures value { result ≡ min (statement_work standings.now (told said.now)) 262145 }
-    ensures small { result ≤ 262145 }
+fn statement_work(standings: &[Standing], said: &SourceStatement) -> usize
+    ensures value { result ≡ min (statement_work standings.now (told said.now)) computations_end }
+    ensures small { result ≤ computations_end }
 {
     match said {
-        Said::Draw | Said::Passivate => 1,
-        Said::Assign(place, _, by) => {
-            (1 + (work(standings, place) + work(standings, by))).min(262145)
+        SourceStatement::Draw | SourceStatement::Passivate => 1,
+        SourceStatement::Assign(place, _, by) => {
+            (1 + (work(standings, place) + work(standings, by))).min(COMPUTATIONS_END)
         }
-        Said::Act(verb, queue, operands) => {
+        SourceStatement::Act(verb, queue, operands) => {
             let over = moved(*verb, queue_room(standings, queue));
-            (1 + (work(standings, queue) + work(standings, operands) + over)).min(262145)
+            (1 + (work(standings, queue) + work(standings, operands) + over)).min(COMPUTATIONS_END)
         }
-        Said::Pop(queue) => (1 + work(standings, queue)).min(262145),
-        Said::Wait(ticks) => (1 + work(standings, ticks)).min(262145),
-        Said::If(arms) => {
-            (1 + (tests_work(standings, arms) + greatest_work(standings, arms))).min(262145)
+        SourceStatement::Pop(queue) => (1 + work(standings, queue)).min(COMPUTATIONS_END),
+        SourceStatement::Wait(ticks) => (1 + work(standings, ticks)).min(COMPUTATIONS_END),
+        SourceStatement::If(arms) => {
+            (1 + (tests_work(standings, arms) + greatest_work(standings, arms))).min(
+                COMPUTATIONS_END,
+            )
         }
-        Said::IfElse(arms, last) => {
+        SourceStatement::IfElse(arms, last) => {
             let greatest = greatest_work(standings, arms).max(block_work(standings, last));
-            (1 + (tests_work(standings, arms) + greatest)).min(262145)
+            (1 + (tests_work(standings, arms) + greatest)).min(COMPUTATIONS_END)
         }
-        Said::Repeat(count, each) => {
+        SourceStatement::Repeat(count, each) => {
             let turns = counted_turns(written_turns(standings, count));
             let block = block_work(standings, each);
-            (2 + times(turns, standings, each, block)).min(262145)
+            (2 + times(turns, standings, each, block)).min(COMPUTATIONS_END)
         }
     }
 }
@@ -138,26 +157,26 @@ fn statement_work(standings: &[Standing], said: &Said) -> usize
 /// The computations of a program, at most 262,145.
 #[cycle(counts)]
 pub fn block_work(standings: &[Standing], program: &Block) -> usize
-    ensures value { result ≡ min (block_work standings.now (body program.now)) 262145 }
-    ensures small { result ≤ 262145 }
+    ensures value { result ≡ min (block_work standings.now (body program.now)) computations_end }
+    ensures small { result ≤ computations_end }
 {
     match program {
         Block::Empty => 0,
         Block::Then(before, last, _) => {
-            (block_work(standings, before) + statement_work(standings, last)).min(262145)
+            (block_work(standings, before) + statement_work(standings, last)).min(COMPUTATIONS_END)
         }
     }
 }
 
 /// The computations of the tests of an `if`, at most 262,145.
 fn tests_work(standings: &[Standing], arms: &Arms) -> usize
-    ensures value { result ≡ min (tests_work standings.now (chain arms.now)) 262145 }
-    ensures small { result ≤ 262145 }
+    ensures value { result ≡ min (tests_work standings.now (chain arms.now)) computations_end }
+    ensures small { result ≤ computations_end }
 {
     match arms {
         Arms::One(test, _) => work(standings, test),
         Arms::More(before, test, _) => {
-            (tests_work(standings, before) + work(standings, test)).min(262145)
+            (tests_work(standings, before) + work(standings, test)).min(COMPUTATIONS_END)
         }
     }
 }
@@ -165,8 +184,8 @@ fn tests_work(standings: &[Standing], arms: &Arms) -> usize
 /// The computations of its greatest block, at most 262,145.
 #[cycle(counts)]
 fn greatest_work(standings: &[Standing], arms: &Arms) -> usize
-    ensures value { result ≡ min (greatest_work standings.now (chain arms.now)) 262145 }
-    ensures small { result ≤ 262145 }
+    ensures value { result ≡ min (greatest_work standings.now (chain arms.now)) computations_end }
+    ensures small { result ≤ computations_end }
 {
     match arms {
         Arms::One(_, then) => block_work(standings, then),

@@ -3,6 +3,7 @@
 use crate::names::{bad_name, bad_parameter, is_list, is_parameter, parameters_of};
 use serde_json::Value;
 use std::alloc::{AllocError, Global};
+use tw_machine::limits::{MAX_CELLS, MAX_NUMBERS, MAX_QUEUES, MAX_ROOM};
 use tw_machine_text_faults::{Nearest, described, quoted};
 
 /// What a whole number with a sign is.
@@ -108,7 +109,7 @@ fn entry_fault(
     match (member, value.as_array()) {
         ("registers", None) => not_constant(alloc, machine, value, "is"),
         ("registers", Some(cells)) => cells_fault(alloc, machine, cells.as_slice()),
-        ("queues", None) => out_of_range(alloc, machine, value, "has room for", 1024),
+        ("queues", None) => out_of_range(alloc, machine, value, "has room for", MAX_ROOM as i64),
         ("queues", Some(parts)) => queues_fault(alloc, machine, parts.as_slice()),
         (_, None) => not_list(alloc, machine, value),
         (_, Some(numbers)) => numbers_fault(alloc, numbers.as_slice()),
@@ -122,8 +123,8 @@ fn cells_fault(
     cells: &[Value],
 ) -> Result<Option<String>, AllocError> {
     let count = cells.len();
-    if count < 1 || count > 64 {
-        return Ok(Some(format!(in alloc; "has {count} cells, 1 to 64")?));
+    if count < 1 || count > MAX_CELLS {
+        return Ok(Some(format!(in alloc; "has {count} cells, 1 to {MAX_CELLS}")?));
     }
     for (i, cell) in cells.iter().enumerate() {
         let has = format!(in alloc; "has at [{i}]")?;
@@ -145,17 +146,23 @@ fn queues_fault(
         let line = format!(in alloc; "is a list of {count}, not of two: a count and a room")?;
         return Ok(Some(line));
     };
-    if let Some(reason) = out_of_range(alloc, machine, count, "has a count of", 16)? {
+    if let Some(reason) = out_of_range(
+        alloc,
+        machine,
+        count,
+        "has a count of",
+        MAX_QUEUES as i64,
+    )? {
         return Ok(Some(reason));
     }
-    out_of_range(alloc, machine, room, "has room for", 1024)
+    out_of_range(alloc, machine, room, "has room for", MAX_ROOM as i64)
 }
 
 /// What is wrong with the numbers of a table.
 fn numbers_fault(alloc: Global, numbers: &[Value]) -> Result<Option<String>, AllocError> {
     let count = numbers.len();
-    if count < 1 || count > 65536 {
-        return Ok(Some(format!(in alloc; "has {count} numbers, 1 to 65536")?));
+    if count < 1 || count > MAX_NUMBERS {
+        return Ok(Some(format!(in alloc; "has {count} numbers, 1 to {MAX_NUMBERS}")?));
     }
     for (i, number) in numbers.iter().enumerate() {
         if !number.is_i64() {

@@ -3,19 +3,17 @@
 use crate::machines::Machine;
 use crate::members::member_text;
 use std::alloc::{AllocError, Global};
+use tw_machine::limits::{
+    MAX_CELLS, MAX_COMPUTATIONS, MAX_NUMBERS, MAX_QUEUES, MAX_ROOM, MAX_ROOMS,
+};
 use tw_machine_compiler::{BadMachine, Constant, Given, Thing};
 use tw_machine_declaration::{
     block_work, constant, count_of, list_given, outputs_work, room_of, standings_of, words_work,
 };
 use tw_machine_file::{FileMachine, Part};
+use tw_machine_text::{MAX_NODES, MAX_TURNS};
 use tw_machine_text_faults::{quoted, words_of};
 use tw_vtime::MAX_TICK;
-
-/// The most computations of a run.
-const MAX_WORK: usize = 262_144;
-
-/// The most turns of a block.
-const MAX_TURNS: i64 = 64;
 
 /// What is counted of a machine.
 #[derive(Clone, Copy)]
@@ -40,24 +38,23 @@ pub(crate) fn limit_fault(
         BadMachine::Turns => turns_fault(alloc, given, machine, bad),
         BadMachine::TooManyCells => {
             let cells = total(given, read, Counted::Cells);
-            format!(in alloc; "registers have {cells} cells together, at most 64")
+            format!(in alloc; "registers have {cells} cells together, at most {MAX_CELLS}")
         }
         BadMachine::TooManyQueues => {
             let queues = total(given, read, Counted::Queues);
-            format!(in alloc; "{queues} queues, at most 16")
+            format!(in alloc; "{queues} queues, at most {MAX_QUEUES}")
         }
         BadMachine::TooMuchRoom => {
             let room = total(given, read, Counted::Room);
-            format!(in alloc; "queues have room for {room} values together, at most 4096")
+            format!(in alloc; "queues have room for {room} values together, at most {MAX_ROOMS}")
         }
         BadMachine::TooManyNumbers => {
             let numbers = total(given, read, Counted::Numbers);
-            format!(in alloc; "tables have {numbers} numbers together, at most 65536")
+            format!(in alloc; "tables have {numbers} numbers together, at most {MAX_NUMBERS}")
         }
-        BadMachine::TooManyNodes => String::from_str(
-            alloc,
-            "more than 4096 nodes in programs, outputs and words together",
-        ),
+        BadMachine::TooManyNodes => {
+            format!(in alloc; "more than {MAX_NODES} nodes in programs, outputs and words together")
+        }
         BadMachine::TooManyComputations => work_fault(alloc, given, read),
         bad => format!(in alloc; "{bad}"),
     }
@@ -132,14 +129,14 @@ fn queue_words(alloc: Global, given: &Given, thing: &Thing) -> Result<Option<Str
     let room = match thing {
         Thing::Queue(room) => *room,
         Thing::QueueArray(count, room) => {
-            if let Some(words) = given_words(alloc, given, *count, 16)? {
+            if let Some(words) = given_words(alloc, given, *count, MAX_QUEUES as i64)? {
                 return Ok(Some(format!(in alloc; "has a count of {words}")?));
             }
             *room
         }
         _ => return Ok(None),
     };
-    match given_words(alloc, given, room, 1024)? {
+    match given_words(alloc, given, room, MAX_ROOM as i64)? {
         Some(words) => Ok(Some(format!(in alloc; "has room for {words}")?)),
         None => Ok(None),
     }
@@ -213,7 +210,7 @@ fn turns_words(
     for (i, number) in machine.numbers.iter().enumerate() {
         if number.as_str() == name {
             return match given.numbers.get(i) {
-                Some(number) => range_words(alloc, *number, 0, MAX_TURNS),
+                Some(number) => range_words(alloc, *number, 0, MAX_TURNS as i64),
                 None => Ok(None),
             };
         }
@@ -225,16 +222,16 @@ fn turns_words(
 fn work_fault(alloc: Global, given: &Given, machine: &FileMachine) -> Result<String, AllocError> {
     let declaration = &machine.declaration;
     let standings = standings_of(alloc, given, declaration.names.as_slice())?;
-    let what = if block_work(&standings, &declaration.internal) > MAX_WORK {
+    let what = if block_work(&standings, &declaration.internal) > MAX_COMPUTATIONS {
         "a run of internal"
-    } else if block_work(&standings, &declaration.external) > MAX_WORK {
+    } else if block_work(&standings, &declaration.external) > MAX_COMPUTATIONS {
         "an item of external"
-    } else if outputs_work(&standings, declaration.outputs.as_slice()) > MAX_WORK {
+    } else if outputs_work(&standings, declaration.outputs.as_slice()) > MAX_COMPUTATIONS {
         "output"
-    } else if words_work(&standings, declaration.words.as_slice()) > MAX_WORK {
+    } else if words_work(&standings, declaration.words.as_slice()) > MAX_COMPUTATIONS {
         "words"
     } else {
         "a part"
     };
-    format!(in alloc; "{what} may take more than {MAX_WORK} computations")
+    format!(in alloc; "{what} may take more than {MAX_COMPUTATIONS} computations")
 }

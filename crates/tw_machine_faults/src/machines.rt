@@ -3,19 +3,19 @@
 use crate::entries::{not_constant, out_of_range, parameters_fault, section_fault};
 use crate::limits::{limit_fault, own_numbers};
 use crate::members::{entry_fault, member_text, word_again};
-use crate::names::{MODELS, declared_in, is_list, parameter_names};
+use crate::names::{declared_in, is_list, parameter_names};
 use crate::stop::Stop;
-use crate::values::{items_at, name_of};
+use crate::values::name_of;
 use serde_json::Value;
 use std::alloc::{AllocError, Global};
-use tw_machine_compiler::{BadMachine, Given, declared};
+use tw_file_members::items_in;
+use tw_machine::limits::{MAX_MACHINES, MAX_WORDS};
+use tw_machine_compiler::{BadMachine, Given, compile};
 use tw_machine_file::{FileMachine, MachineFault, Part, Why, machine_of};
 use tw_machine_text::Place;
 use tw_machine_text_faults::{Nearest, described, listed, quoted, reason};
+use tw_models::is_kind_name;
 use tw_vtime::MAX_TICK;
-
-/// The most machines of a file.
-const MAX_MACHINES: usize = 256;
 
 /// The members of a machine.
 const MEMBERS: [&str; 12] = [
@@ -61,7 +61,7 @@ impl<'a> Machine<'a> {
 
     /// Stops at the first limit that it passes with these numbers; `place` is where the line says that this is.
     pub fn check_limits(&self, alloc: Global, place: &str, given: &Given) -> Result<(), Stop> {
-        match declared(alloc, given, &self.read.declaration) {
+        match compile(alloc, given, &self.read.declaration) {
             Ok(_) => Ok(()),
             Err(BadMachine::OutOfMemory) => Err(Stop::OutOfMemory),
             Err(bad) => {
@@ -74,7 +74,7 @@ impl<'a> Machine<'a> {
 
 /// The machines of a file in order; stops at the first fault of one.
 pub fn machines_of<'a>(alloc: Global, value: &'a Value) -> Result<Vec<Machine<'a>>, Stop> {
-    let models = items_at(value, "models");
+    let models = items_in(value, "models");
     let count = models.len();
     if count > MAX_MACHINES {
         let line = format!(in alloc;
@@ -220,7 +220,7 @@ fn name_fault(
         let first = first_named(models, name);
         return Ok(Some(format!(in alloc; "models[{first}] has this name")?));
     }
-    if MODELS.contains(&name) {
+    if is_kind_name(name.as_bytes()) {
         return Ok(Some(format!(in alloc; "the name {found} is that of a built-in model")?));
     }
     let line = format!(in alloc;
@@ -304,7 +304,7 @@ fn count_fault(
     if let Some(line) = other_type(alloc, model, member, "a list")? {
         return Ok(Some(line));
     }
-    let count = items_at(model, member).len();
-    let line = format!(in alloc; "{member} has {count} entries, {least} to 64")?;
+    let count = items_in(model, member).len();
+    let line = format!(in alloc; "{member} has {count} entries, {least} to {MAX_WORDS}")?;
     Ok(Some(line))
 }

@@ -1,9 +1,9 @@
 //! The outputs and words of a machine: their texts, and what is wrong with them.
 
 use crate::entries::WHOLE;
-use crate::values::items_at;
 use serde_json::Value;
 use std::alloc::{AllocError, Global};
+use tw_file_members::items_in;
 use tw_machine_file::Part;
 use tw_machine_text::Member;
 use tw_machine_text_faults::{described, quoted};
@@ -32,7 +32,7 @@ pub(crate) fn member_text(alloc: Global, machine: &Value, part: Part) -> Result<
         Part::Each(i) => output_text(alloc, machine, i, "each", Member::Each),
         Part::Word(i) => Ok(Said {
             place: format!(in alloc; "words[{i}]")?,
-            text: text_of(alloc, items_at(machine, "words").get(i))?,
+            text: text_of(alloc, items_in(machine, "words").get(i))?,
             member: Some(Member::Shown),
         }),
         _ => program_text(alloc, machine, ""),
@@ -42,7 +42,7 @@ pub(crate) fn member_text(alloc: Global, machine: &Value, part: Part) -> Result<
 /// The text of a member that is a program, its lines joined.
 fn program_text(alloc: Global, machine: &Value, member: &str) -> Result<Said, AllocError> {
     let mut text = text_of(alloc, machine.get(member))?;
-    for (i, line) in items_at(machine, member).iter().enumerate() {
+    for (i, line) in items_in(machine, member).iter().enumerate() {
         if i > 0 {
             text.push_str("\n")?;
         }
@@ -63,7 +63,7 @@ fn output_text(
     name: &str,
     member: Member,
 ) -> Result<Said, AllocError> {
-    let value = items_at(machine, "output")
+    let value = items_in(machine, "output")
         .get(i)
         .and_then(|entry| entry.get(name));
     Ok(Said {
@@ -90,7 +90,7 @@ pub(crate) fn entry_fault(
         Part::Value(i) => sent_fault(alloc, machine, i, "value"),
         Part::When(i) => sent_fault(alloc, machine, i, "when"),
         Part::Each(i) => sent_fault(alloc, machine, i, "each"),
-        Part::Word(i) => match items_at(machine, "words").get(i) {
+        Part::Word(i) => match items_in(machine, "words").get(i) {
             Some(word) => {
                 let found = described(alloc, word)?;
                 let line = format!(in alloc; "words[{i}] is {found}, neither a text nor {WHOLE}")?;
@@ -104,7 +104,7 @@ pub(crate) fn entry_fault(
 
 /// What is wrong with an output: it is no object, or has a member that none has.
 fn output_fault(alloc: Global, machine: &Value, i: usize) -> Result<Option<String>, AllocError> {
-    let Some(entry) = items_at(machine, "output").get(i) else {
+    let Some(entry) = items_in(machine, "output").get(i) else {
         return Ok(None);
     };
     let Some(members) = entry.as_object() else {
@@ -130,7 +130,7 @@ fn sent_fault(
     i: usize,
     name: &str,
 ) -> Result<Option<String>, AllocError> {
-    let value = items_at(machine, "output")
+    let value = items_in(machine, "output")
         .get(i)
         .and_then(|entry| entry.get(name));
     let Some(value) = value else {
@@ -148,7 +148,7 @@ fn sent_fault(
 
 /// The line for a queue or an array register that has come before in the words.
 pub(crate) fn word_again(alloc: Global, machine: &Value, i: usize) -> Result<String, AllocError> {
-    let word = items_at(machine, "words")
+    let word = items_in(machine, "words")
         .get(i)
         .and_then(Value::as_str)
         .unwrap_or("");

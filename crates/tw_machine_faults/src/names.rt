@@ -2,17 +2,11 @@
 
 use serde_json::Value;
 use std::alloc::{AllocError, Global};
-use tw_machine_text::{Declared, Kind};
-use tw_machine_text_faults::{is_reserved, quoted};
-
-/// The longest name, in bytes.
-const MAX_NAME: usize = 32;
+use tw_machine_text::{Declared, Kind, MAX_NAME, is_reserved};
+use tw_machine_text_faults::quoted;
 
 /// The members of a component that no parameter has the name of.
 const MEMBERS: [&str; 4] = ["name", "model", "components", "couplings"];
-
-/// The models that are no machines.
-pub const MODELS: [&str; 5] = ["gen", "tally", "relay", "queue", "hop"];
 
 /// What a machine's names stand for, as far as they are declared.
 pub(crate) fn declared_in(alloc: Global, machine: &Value) -> Result<Vec<Declared>, AllocError> {
@@ -130,7 +124,7 @@ pub(crate) fn is_parameter(machine: &Value, name: &str) -> bool {
 /// Why a name may not be one, if it may not.
 pub(crate) fn bad_name(alloc: Global, name: &str) -> Result<Option<String>, AllocError> {
     let shown = quoted(alloc, name)?;
-    if is_reserved(name) {
+    if is_reserved(name.as_bytes()) {
         return Ok(Some(format!(in alloc; "{shown} is a word of the language, and no name")?));
     }
     if !is_made(name) {

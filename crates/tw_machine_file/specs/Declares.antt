@@ -4,6 +4,7 @@ use Rattle.std.specs.Option.{option_map_or}
 use Rattle.serde_json.specs.Data.{Data, Items, no_items, item, Members, no_members, member}
 use Rattle.serde_json.specs.Find.{get, as_array, as_object, as_str, at}
 use Rattle.serde_json.specs.Events.{items_len}
+use Rattle.tw_machine.specs.Limits.{max_cells, max_numbers, max_queues, max_room}
 use Rattle.tw_machine_text.specs.Letters.{same_text}
 use Rattle.tw_machine_text.specs.Text.{position}
 use Rattle.tw_machine_declaration.specs.Seen.{Declares, Name, parameter, list_parameter, register, registers, queue, queues, table, list_table}
@@ -25,7 +26,7 @@ use Rattle.tw_machine_file.specs.declared.fault.Why.TheVariants as why
 abbrev pub register_by : List (List ℕ) → Data → Option Items → Result Declares Fault
 register_by numbers d None = made register (constant part.Registers numbers d)
 register_by numbers d (Some items) =
-    if is_long 64 items then made registers (constants part.Registers numbers items) else Err (wrong part.Registers why.Count)
+    if is_long max_cells items then made registers (constants part.Registers numbers items) else Err (wrong part.Registers why.Count)
 
 -- in an array: from 1 to this
 abbrev pub queue_part : ℕ → List (List ℕ) → Option Data → Result Constant Fault
@@ -33,16 +34,16 @@ queue_part most numbers d = once (expected part.Queues why.Shape d) (count part.
 
 -- a queue: a room of 1 to 1,024, or an array of a count of 1 to 16 and a room
 abbrev pub queue_by : List (List ℕ) → Data → Option Items → Result Declares Fault
-queue_by numbers d None = made queue (count part.Queues 1024 numbers d)
+queue_by numbers d None = made queue (count part.Queues max_room numbers d)
 queue_by numbers d (Some items) =
     if items_len items == 2
-    then once (queue_part 16 numbers (at 0 d)) (λ n. made (queues n) (queue_part 1024 numbers (at 1 d)))
+    then once (queue_part max_queues numbers (at 0 d)) (λ n. made (queues n) (queue_part max_room numbers (at 1 d)))
     else Err (wrong part.Queues why.Shape)
 
 -- a table: an array of 1 to 65,536 whole numbers, or the name of a parameter, which is a list then
 abbrev pub table_by : List (List ℕ) → Data → Option Items → Result Declares Fault
 table_by lists d None = expected part.Tables why.Constant (option_map list_table (option_and_then (position 0 lists) (as_str d)))
-table_by lists d (Some items) = if is_long 65536 items then made table (wholes part.Tables items) else Err (wrong part.Tables why.Count)
+table_by lists d (Some items) = if is_long max_numbers items then made table (wholes part.Tables items) else Err (wrong part.Tables why.Count)
 
 abbrev pub part_of : Section → Part
 part_of section.Registers = part.Registers

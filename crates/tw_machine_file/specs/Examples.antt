@@ -2,7 +2,7 @@
 use Rattle.std.specs.Prelude.{◌≡◌, ◌∷◌, [], ℕ, List, pos, true, false, Some, None, Result, Ok, Err, codes}
 use Rattle.serde_json.specs.Data.{Data, unsigned, Items, number, string, array, object, no_items, item, Members, no_members, member}
 use Rattle.tw_machine_text.specs.Tree.{Number, Name, Indexed, RandomBelow, Binary, Empty, Then, Assign, Wait, Draw}
-use Rattle.tw_machine_text.specs.declared.words.Change.TheVariants.{Add}
+use Rattle.tw_machine_text.specs.declared.words.SourceChange.TheVariants.{Add}
 use Rattle.tw_machine_text.specs.declared.words.Operator.TheVariants.{Plus}
 use Rattle.tw_machine_declaration.specs.Seen.{Given, parameter, list_parameter, register, list_table, whole, tree}
 use Rattle.tw_machine_declaration.specs.declared.declaration.Constant.TheVariants as c

@@ -4,6 +4,7 @@ use Rattle.std.specs.Option.{option_map_or}
 use Rattle.serde_json.specs.Data.{Data, Items}
 use Rattle.serde_json.specs.Events.{members_len}
 use Rattle.serde_json.specs.Find.{as_array, as_object, get}
+use Rattle.tw_machine.specs.Limits.{max_numbers}
 use Rattle.tw_machine_declaration.specs.Seen.{Given}
 use Rattle.tw_machine_file.specs.Constants.{whole_of, wholes}
 use Rattle.tw_machine_file.specs.Fault.{Fault, wrong, once, with_rest, expected, provided}
@@ -22,7 +23,7 @@ numbers_given d i (name ∷ names) = with_rest (number_given i (get name d)) (nu
 
 -- an array of 1 to 65,536 whole numbers for a list
 abbrev pub long_list : ℕ → Items → Result (List ℤ) Fault
-long_list i items = if is_long 65536 items then wholes (part.List i) items else Err (wrong (part.List i) why.Count)
+long_list i items = if is_long max_numbers items then wholes (part.List i) items else Err (wrong (part.List i) why.Count)
 
 abbrev pub list_given : ℕ → Option Data → Result (List ℤ) Fault
 list_given i d = once (expected (part.List i) why.Missing d) (λ d. once (expected (part.List i) why.Shape (as_array d)) (long_list i))

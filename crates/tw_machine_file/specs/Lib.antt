@@ -1,3 +1,4 @@
+pub mod Answers
 pub mod Constants
 pub mod Declares
 pub mod Examples

@@ -2,6 +2,7 @@
 use Rattle.std.specs.Prelude.{◌∷◌, [], ℕ, List, map, Option, Some, None, Result, Ok, Err, codes, pos, if◌then◌else◌}
 use Rattle.serde_json.specs.Data.{Data}
 use Rattle.serde_json.specs.Find.{as_object, as_str, get}
+use Rattle.tw_vtime.specs.Stamps.{max_tick}
 use Rattle.tw_machine_text.specs.Kinds.{kinds_of}
 use Rattle.tw_machine_text.specs.Tree.{Block}
 use Rattle.tw_machine_declaration.specs.Seen.{Declaration, Name, Output, Value}
@@ -53,7 +54,7 @@ first_in numbers (Some d) = made Some (constant part.First numbers d)
 -- from 1 to the last tick
 abbrev pub longest_in : List (List ℕ) → Option Data → Result (Option Constant) Fault
 longest_in numbers None = Ok None
-longest_in numbers (Some d) = made Some (count part.Longest 1099511627774 numbers d)
+longest_in numbers (Some d) = made Some (count part.Longest max_tick numbers d)
 
 abbrev pub starts_made : Constant → Option Constant → Option Constant → Starts
 starts_made random first longest = record { random = random; first = first; longest = longest }

@@ -1,10 +1,11 @@
 -- All machines of a file, and the program that a component makes of one.
 --     machines_in d      the machines of the member `models`, each behind those before it, or the first fault
 --     program_in m d      the program of machine m with what the component d gives, or the first fault
-use Rattle.std.specs.Prelude.{◌++◌, ◌∷◌, [], ℕ, List, Option, Some, None, Result, Ok, Err, nat_le, if◌then◌else◌}
+use Rattle.std.specs.Prelude.{◌++◌, ◌∷◌, [], ℕ, List, Option, Some, None, Result, Ok, Err, nat_le}
 use Rattle.serde_json.specs.Data.{Data, Items, no_items, item}
 use Rattle.serde_json.specs.Events.{items_len}
 use Rattle.serde_json.specs.Find.{as_array}
+use Rattle.tw_machine.specs.Limits.{max_machines}
 use Rattle.tw_machine_declaration.specs.Seen.{Declaration, Given}
 use Rattle.tw_machine_compiler.specs.Limits.{fault_of}
 use Rattle.tw_machine_compiler.specs.Program.{program_of}
@@ -52,7 +53,7 @@ machines_behind before (item d ds) = once (machine_behind before d) (λ m. made 
 
 -- an array of at most 256
 abbrev pub few : Data → Result Items Fault
-few d = once (expected part.Whole why.Shape (as_array d)) (λ items. provided (nat_le (items_len items) 256) (wrong part.Whole why.Count) items)
+few d = once (expected part.Whole why.Shape (as_array d)) (λ items. provided (nat_le (items_len items) max_machines) (wrong part.Whole why.Count) items)
 
 abbrev pub machines_in : Data → Result (List Machine) Fault
 machines_in d = once (few d) (machines_behind [])

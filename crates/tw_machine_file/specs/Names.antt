@@ -1,27 +1,18 @@
 -- What may be a name.
 use Rattle.std.specs.Prelude.{ℕ, Bool, false, not, ◌&&◌, ◌||◌, ◌==◌, List, [], ◌∷◌, length, nat_le, codes}
 use Rattle.std.specs.List.{list_all}
+use Rattle.tw_machine_text.specs.Limits.{max_name}
+use Rattle.tw_models.specs.Kinds.{is_kind_name}
 use Rattle.tw_machine_text.specs.Letters.{same_text}
-use Rattle.tw_machine_text.specs.Text.{is_digit, is_word}
+use Rattle.tw_machine_text.specs.Text.{is_digit, is_reserved, is_word}
 
 abbrev pub is_among : List (List ℕ) → List ℕ → Bool
 is_among [] text = false
 is_among (name ∷ names) text = same_text name text || is_among names text
 
--- the words of the language that no name may be
-abbrev pub reserved_words : List (List ℕ)
-reserved_words =
-    codes "random" ∷ codes "port" ∷ codes "value" ∷ codes "elapsed" ∷ codes "left" ∷ codes "now" ∷ codes "turn" ∷ codes "or" ∷ codes "and" ∷ codes "not"
-    ∷ codes "if" ∷ codes "else" ∷ codes "repeat" ∷ codes "wait" ∷ codes "passivate" ∷ codes "draw" ∷ codes "push" ∷ codes "insert" ∷ codes "put"
-    ∷ codes "remove" ∷ codes "pop" ∷ []
-
 -- the members of a component that are no parameters
 abbrev pub component_members : List (List ℕ)
 component_members = codes "name" ∷ codes "model" ∷ codes "components" ∷ codes "couplings" ∷ []
-
--- the models that need no machine
-abbrev pub model_names : List (List ℕ)
-model_names = codes "gen" ∷ codes "tally" ∷ codes "relay" ∷ codes "queue" ∷ codes "hop" ∷ []
 
 -- it begins with no digit
 abbrev pub is_letter : List ℕ → Bool
@@ -30,7 +21,7 @@ is_letter (c ∷ cs) = not (is_digit c)
 
 -- a letter or `_`, then letters, digits and `_`, at most 32; no word of the language
 abbrev pub is_name : List ℕ → Bool
-is_name text = is_letter text && list_all is_word text && nat_le (length text) 32 && not (is_among reserved_words text)
+is_name text = is_letter text && list_all is_word text && nat_le (length text) max_name && not (is_reserved text)
 
 -- of a parameter: no member of a component either
 abbrev pub is_own_name : List ℕ → Bool
@@ -39,6 +30,6 @@ is_own_name text = is_name text && not (is_among component_members text)
 abbrev pub is_word_or_dash : ℕ → Bool
 is_word_or_dash c = is_word c || c == 45
 
--- of a machine: 1 to 32 letters, digits, `_` and `-`; none of the models that need no machine
+-- of a machine: 1 to 32 letters, digits, `_` and `-`; no name of a kind of built-in models
 abbrev pub is_machine_name : List ℕ → Bool
-is_machine_name text = nat_le 1 (length text) && nat_le (length text) 32 && list_all is_word_or_dash text && not (is_among model_names text)
+is_machine_name text = nat_le 1 (length text) && nat_le (length text) max_name && list_all is_word_or_dash text && not (is_kind_name text)

@@ -3,6 +3,7 @@ use Rattle.std.specs.Prelude.{◌∷◌, [], ℕ, ◌+◌, List, Option, Some, N
 use Rattle.serde_json.specs.Data.{Data, Items, no_items, item, Members}
 use Rattle.serde_json.specs.Events.{items_len}
 use Rattle.serde_json.specs.Find.{as_array, as_object, get}
+use Rattle.tw_machine.specs.Limits.{max_outputs}
 use Rattle.tw_machine_text.specs.declared.kinds.Member.TheVariants as member
 use Rattle.tw_machine_text.specs.Tree.{Tree}
 use Rattle.tw_machine_declaration.specs.Seen.{Value, Output}
@@ -52,7 +53,7 @@ outputs_of l i (item d ds) = with_rest (output_of l i d) (outputs_of l (i + 1) d
 
 -- an array of at most 64
 abbrev pub few_outputs : Data → Result Items Fault
-few_outputs d = once (expected part.Output why.Shape (as_array d)) (λ items. provided (nat_le (items_len items) 64) (wrong part.Output why.Count) items)
+few_outputs d = once (expected part.Output why.Shape (as_array d)) (λ items. provided (nat_le (items_len items) max_outputs) (wrong part.Output why.Count) items)
 
 -- the member, if there is one
 abbrev pub outputs_in : Language → Option Data → Result (List Output) Fault

@@ -3,6 +3,7 @@ use Rattle.std.specs.Prelude.{◌++◌, ◌∷◌, [], ◌&&◌, ◌==◌, ◌+�
 use Rattle.std.specs.List.{list_any}
 use Rattle.serde_json.specs.Data.{Data, Items, no_items, item}
 use Rattle.serde_json.specs.Find.{as_array}
+use Rattle.tw_machine.specs.Limits.{max_words}
 use Rattle.tw_machine_text.specs.Kinds.{is_shown}
 use Rattle.tw_machine_text.specs.Tree.{Tree, Number, Name, Indexed}
 use Rattle.tw_machine_text.specs.declared.kinds.Kind.{Kind}
@@ -41,7 +42,7 @@ words_of l i before (item d ds) = once (word_of l i before d) (λ v. made (λ vs
 
 -- an array of 1 to 64
 abbrev pub some_words : Data → Result Items Fault
-some_words d = once (expected part.Words why.Shape (as_array d)) (λ items. provided (is_long 64 items) (wrong part.Words why.Count) items)
+some_words d = once (expected part.Words why.Shape (as_array d)) (λ items. provided (is_long max_words items) (wrong part.Words why.Count) items)
 
 -- the member, which must be there
 abbrev pub words_in : Language → Option Data → Result (List Value) Fault

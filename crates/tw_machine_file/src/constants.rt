@@ -1,9 +1,16 @@
 //! Constants: whole numbers, and names of parameters that are numbers.
-ghost use Rattle.std.specs.Prelude.{◌≡◌, ◌≢◌, Ok, Err, IfOk, IfErr, map, string_bytes};
+ghost use Rattle.std.specs.Prelude.{◌≡◌};
 ghost use Rattle.serde_json.specs.View.{view, items_view};
 ghost use Rattle.tw_machine_compiler.specs.Limits.{is_up_to};
-ghost use Rattle.tw_machine_file.specs.Constants.{constant, constant_of, constants, count, is_within, wholes};
-ghost use Rattle.tw_machine_file.specs.Fault.{fault};
+ghost use Rattle.tw_machine_file.specs.Answers.{Gives, FailsBy, names_in};
+ghost use Rattle.tw_machine_file.specs.Constants.{
+  constant,
+  constant_of,
+  constants,
+  count,
+  is_within,
+  wholes,
+};
 
 use crate::fault::{MachineFault, Part, Why};
 use crate::names::place_in;
@@ -12,7 +19,7 @@ use std::alloc::Global;
 use tw_machine_compiler::Constant;
 
 fn constant_of(numbers: &[String], value: &Value) -> Option<Constant>
-    ensures { result ≡ constant_of (map string_bytes numbers.now) (view value.now) }
+    ensures { result ≡ constant_of (names_in numbers.now) (view value.now) }
 {
     if let Some(number) = value.as_i64() {
         return Some(Constant::Number(number));
@@ -22,9 +29,13 @@ fn constant_of(numbers: &[String], value: &Value) -> Option<Constant>
 }
 
 /// A whole number, or the name of one of these parameters.
-pub fn constant(part: Part, numbers: &[String], value: &Value) -> Result<Constant, MachineFault>
-    ensures ok { IfOk result (λ c. constant part (map string_bytes numbers.now) (view value.now) ≡ Ok c) }
-    ensures err { IfErr result (λ e. e ≢ MachineFault.OutOfMemory → constant part (map string_bytes numbers.now) (view value.now) ≡ Err (fault e)) }
+pub(crate) fn constant(
+    part: Part,
+    numbers: &[String],
+    value: &Value,
+) -> Result<Constant, MachineFault>
+    ensures ok { Gives result (λ c. c) (constant part (names_in numbers.now) (view value.now)) }
+    ensures err { FailsBy result (constant part (names_in numbers.now) (view value.now)) }
 {
     match constant_of(numbers, value) {
         Some(constant) => Ok(constant),
@@ -48,14 +59,14 @@ fn is_within(most: u64, constant: Constant) -> bool
 }
 
 /// A constant from 1 to this, as far as its number stands in the file.
-pub fn count(
+pub(crate) fn count(
     part: Part,
     most: u64,
     numbers: &[String],
     value: &Value,
 ) -> Result<Constant, MachineFault>
-    ensures ok { IfOk result (λ c. count part most (map string_bytes numbers.now) (view value.now) ≡ Ok c) }
-    ensures err { IfErr result (λ e. e ≢ MachineFault.OutOfMemory → count part most (map string_bytes numbers.now) (view value.now) ≡ Err (fault e)) }
+    ensures ok { Gives result (λ c. c) (count part most (names_in numbers.now) (view value.now)) }
+    ensures err { FailsBy result (count part most (names_in numbers.now) (view value.now)) }
 {
     let constant = constant(part, numbers, value)?;
     if is_within(most, constant) {
@@ -67,14 +78,15 @@ pub fn count(
 
 /// Each of these values as a constant.
 #[tactic(auto, using(crate::proofs::Loops::behind_none, crate::proofs::Loops::behind_more))]
-pub fn constants(
+pub(crate) fn constants(
     alloc: Global,
     part: Part,
     numbers: &[String],
     values: &[Value],
 ) -> Result<Vec<Constant>, MachineFault>
-    ensures ok { IfOk result (λ v. constants part (map string_bytes numbers.now) (items_view values.now) ≡ Ok v.items) }
-    ensures err { IfErr result (λ e. e ≢ MachineFault.OutOfMemory → constants part (map string_bytes numbers.now) (items_view values.now) ≡ Err (fault e)) }
+    ensures ok { Gives result
+        (λ v. v.items) (constants part (names_in numbers.now) (items_view values.now)) }
+    ensures err { FailsBy result (constants part (names_in numbers.now) (items_view values.now)) }
 {
     let mut read = Vec::new(alloc);
     for value in values {
@@ -85,9 +97,9 @@ pub fn constants(
 
 /// Each of these values as a whole number.
 #[tactic(auto, using(crate::proofs::Loops::behind_none, crate::proofs::Loops::behind_more))]
-pub fn wholes(alloc: Global, part: Part, values: &[Value]) -> Result<Vec<i64>, MachineFault>
-    ensures ok { IfOk result (λ v. wholes part (items_view values.now) ≡ Ok v.items) }
-    ensures err { IfErr result (λ e. e ≢ MachineFault.OutOfMemory → wholes part (items_view values.now) ≡ Err (fault e)) }
+pub(crate) fn wholes(alloc: Global, part: Part, values: &[Value]) -> Result<Vec<i64>, MachineFault>
+    ensures ok { Gives result (λ v. v.items) (wholes part (items_view values.now)) }
+    ensures err { FailsBy result (wholes part (items_view values.now)) }
 {
     let mut read = Vec::new(alloc);
     for value in values {

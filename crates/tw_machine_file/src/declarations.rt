@@ -1,48 +1,27 @@
 //! What a machine declares: parameters, registers, queues and tables.
-ghost use Rattle.std.specs.Prelude.{◌≡◌, ◌≢◌, ◌++◌, ◌∷◌, [], Ok, Err, IfOk, IfErr, map, codes, option_and_then, option_map, string_bytes};
-ghost use Rattle.serde_json.specs.Find.{as_array, as_object, as_str, at, get};
+ghost use Rattle.std.specs.Prelude.{◌≡◌, [], IfOk, map, option_and_then};
+ghost use Rattle.serde_json.specs.Find.{as_array, as_str, at};
 ghost use Rattle.serde_json.specs.View.{view, items_view, members_view};
 ghost use Rattle.tw_machine_text.specs.Text.{position};
 ghost use Rattle.tw_machine_declaration.specs.Seen.{name, thing};
-ghost use Rattle.tw_machine_file.specs.Declares.{
-  declare,
-  declare_all,
-  declared_in,
-  is_list,
-  is_text,
-  names_list,
-  new_name,
-  nothing_declared,
-  parameter_named,
-  parameter_of,
-  parameters_in,
-  parameters_of,
-  part_of,
-  queue_by,
-  queue_part,
-  register_by,
-  scope_of,
-  table_by,
-  texts,
-  thing_of,
-  with_name,
-  with_parameter,
-};
-ghost use Rattle.tw_machine_file.specs.Fault.{fault};
+ghost use Rattle.tw_machine_file.specs.Answers.{Gives, FailsBy, data_of, names_in};
+ghost use Rattle.tw_machine_file.specs.Declares.{declare, declare_all, declared_in, is_list, is_text, names_list, new_name, nothing_declared, parameter_named, parameter_of, parameters_in, parameters_of, part_of, queue_by, queue_part, register_by, scope_of, table_by, texts, thing_of, with_parameter};
 ghost use Rattle.tw_machine_file.specs.Names.{is_among};
 ghost use Rattle.tw_machine_file.specs.Seen.{scope};
 
 use crate::constants::{constant, constants, count, wholes};
 use crate::fault::{MachineFault, Part, Why};
-use crate::names::{is_name, is_own_name, place_in, same_text};
+use crate::names::{is_name, is_own_name, place_in};
 use crate::values::{has_items, is_long, items_of};
 use serde_json::{Map, Value};
 use std::alloc::{AllocError, Global};
+use tw_machine::limits::{MAX_CELLS, MAX_NUMBERS, MAX_QUEUES, MAX_ROOM};
 use tw_machine_compiler::{Constant, Named, Thing};
+use tw_machine_text::same_text;
 
 /// What is declared so far: all names in order, and of these the parameters that are numbers and those that are lists.
 #[derive(Drop)]
-pub struct Scope {
+pub(crate) struct Scope {
     pub names: Vec<Named>,
     pub numbers: Vec<String>,
     pub lists: Vec<String>,
@@ -50,7 +29,7 @@ pub struct Scope {
 
 /// A member of a machine whose members are names.
 #[derive(Clone, Copy, Debug, PartialEq, Eq)]
-pub enum Section {
+pub(crate) enum Section {
     Registers,
     Queues,
     Tables,
@@ -69,13 +48,15 @@ impl Section {
 }
 
 fn register(alloc: Global, numbers: &[String], value: &Value) -> Result<Thing, MachineFault>
-    ensures ok { IfOk result (λ t. register_by (map string_bytes numbers.now) (view value.now) (as_array (view value.now)) ≡ Ok (thing t)) }
-    ensures err { IfErr result (λ e. e ≢ MachineFault.OutOfMemory → register_by (map string_bytes numbers.now) (view value.now) (as_array (view value.now)) ≡ Err (fault e)) }
+    ensures ok { Gives result thing (register_by (names_in numbers.now) (view value.now)
+        (as_array (view value.now))) }
+    ensures err { FailsBy result (register_by (names_in numbers.now) (view value.now)
+        (as_array (view value.now))) }
 {
     let Some(starts) = items_of(value) else {
         return Ok(Thing::Register(constant(Part::Registers, numbers, value)?));
     };
-    if !is_long(64, starts) {
+    if !is_long(MAX_CELLS, starts) {
         return Err(MachineFault::Wrong(Part::Registers, Why::Count));
     }
     Ok(Thing::RegisterArray(constants(alloc, Part::Registers, numbers, starts)?))
@@ -88,8 +69,10 @@ fn queue_part(
     value: &Value,
     index: usize,
 ) -> Result<Constant, MachineFault>
-    ensures ok { IfOk result (λ c. queue_part most (map string_bytes numbers.now) (at index (view value.now)) ≡ Ok c) }
-    ensures err { IfErr result (λ e. e ≢ MachineFault.OutOfMemory → queue_part most (map string_bytes numbers.now) (at index (view value.now)) ≡ Err (fault e)) }
+    ensures ok { Gives result
+        (λ c. c) (queue_part most (names_in numbers.now) (at index (view value.now))) }
+    ensures err { FailsBy result (queue_part most (names_in numbers.now)
+        (at index (view value.now))) }
 {
     match value.get(index) {
         Some(part) => count(Part::Queues, most, numbers, part),
@@ -98,30 +81,34 @@ fn queue_part(
 }
 
 fn queue(numbers: &[String], value: &Value) -> Result<Thing, MachineFault>
-    ensures ok { IfOk result (λ t. queue_by (map string_bytes numbers.now) (view value.now) (as_array (view value.now)) ≡ Ok (thing t)) }
-    ensures err { IfErr result (λ e. e ≢ MachineFault.OutOfMemory → queue_by (map string_bytes numbers.now) (view value.now) (as_array (view value.now)) ≡ Err (fault e)) }
+    ensures ok { Gives result thing (queue_by (names_in numbers.now) (view value.now)
+        (as_array (view value.now))) }
+    ensures err { FailsBy result (queue_by (names_in numbers.now) (view value.now)
+        (as_array (view value.now))) }
 {
     let Some(parts) = items_of(value) else {
-        return Ok(Thing::Queue(count(Part::Queues, 1024, numbers, value)?));
+        return Ok(Thing::Queue(count(Part::Queues, MAX_ROOM as u64, numbers, value)?));
     };
     if !has_items(2, parts) {
         return Err(MachineFault::Wrong(Part::Queues, Why::Shape));
     }
-    let many = queue_part(16, numbers, value, 0)?;
-    let room = queue_part(1024, numbers, value, 1)?;
+    let many = queue_part(MAX_QUEUES as u64, numbers, value, 0)?;
+    let room = queue_part(MAX_ROOM as u64, numbers, value, 1)?;
     Ok(Thing::QueueArray(many, room))
 }
 
 /// The place of a parameter among the lists, if the value is its name.
 fn list_named(lists: &[String], value: &Value) -> Option<usize>
-    ensures { result ≡ option_and_then (position 0 (map string_bytes lists.now)) (as_str (view value.now)) }
+    ensures { result ≡ option_and_then (position 0 (names_in lists.now)) (as_str (view value.now)) }
 {
     place_in(lists, value.as_str()?.as_bytes())
 }
 
 fn table(alloc: Global, lists: &[String], value: &Value) -> Result<Thing, MachineFault>
-    ensures ok { IfOk result (λ t. table_by (map string_bytes lists.now) (view value.now) (as_array (view value.now)) ≡ Ok (thing t)) }
-    ensures err { IfErr result (λ e. e ≢ MachineFault.OutOfMemory → table_by (map string_bytes lists.now) (view value.now) (as_array (view value.now)) ≡ Err (fault e)) }
+    ensures ok { Gives result thing (table_by (names_in lists.now) (view value.now)
+        (as_array (view value.now))) }
+    ensures err { FailsBy result (table_by (names_in lists.now) (view value.now)
+        (as_array (view value.now))) }
 {
     let Some(numbers) = items_of(value) else {
         return match list_named(lists, value) {
@@ -129,7 +116,7 @@ fn table(alloc: Global, lists: &[String], value: &Value) -> Result<Thing, Machin
             None => Err(MachineFault::Wrong(Part::Tables, Why::Constant)),
         };
     };
-    if !is_long(65536, numbers) {
+    if !is_long(MAX_NUMBERS, numbers) {
         return Err(MachineFault::Wrong(Part::Tables, Why::Count));
     }
     Ok(Thing::Table(wholes(alloc, Part::Tables, numbers)?))
@@ -142,8 +129,8 @@ fn thing_of(
     so_far: &Scope,
     value: &Value,
 ) -> Result<Thing, MachineFault>
-    ensures ok { IfOk result (λ t. thing_of section (scope so_far.now) (view value.now) ≡ Ok (thing t)) }
-    ensures err { IfErr result (λ e. e ≢ MachineFault.OutOfMemory → thing_of section (scope so_far.now) (view value.now) ≡ Err (fault e)) }
+    ensures ok { Gives result thing (thing_of section (scope so_far.now) (view value.now)) }
+    ensures err { FailsBy result (thing_of section (scope so_far.now) (view value.now)) }
 {
     match section {
         Section::Registers => register(alloc, so_far.numbers.as_slice(), value),
@@ -166,8 +153,8 @@ fn is_declared(names: &[Named], text: &[u8]) -> bool
 
 /// Looks at a name: whether it may be one, as is said, and has not come before.
 fn new_name(part: Part, may: bool, names: &[Named], text: &str) -> Result<(), MachineFault>
-    ensures ok { IfOk result (λ _. new_name part may (map name names.now) text.now ≡ Ok text.now) }
-    ensures err { IfErr result (λ e. e ≢ MachineFault.OutOfMemory → new_name part may (map name names.now) text.now ≡ Err (fault e)) }
+    ensures ok { Gives result (λ _. text.now) (new_name part may (map name names.now) text.now) }
+    ensures err { FailsBy result (new_name part may (map name names.now) text.now) }
 {
     if !may {
         return Err(MachineFault::Wrong(part, Why::Name));
@@ -186,8 +173,8 @@ fn declare(
     text: &str,
     value: &Value,
 ) -> Result<Scope, MachineFault>
-    ensures ok { IfOk result (λ s. declare section (scope so_far) text.now (view value.now) ≡ Ok (scope s)) }
-    ensures err { IfErr result (λ e. e ≢ MachineFault.OutOfMemory → declare section (scope so_far) text.now (view value.now) ≡ Err (fault e)) }
+    ensures ok { Gives result scope (declare section (scope so_far) text.now (view value.now)) }
+    ensures err { FailsBy result (declare section (scope so_far) text.now (view value.now)) }
 {
     let mut so_far = so_far;
     let may = is_name(text.as_bytes());
@@ -205,8 +192,10 @@ fn declare_all(
     so_far: Scope,
     members: &Map<String, Value>,
 ) -> Result<Scope, MachineFault>
-    ensures ok { IfOk result (λ s. declare_all section (scope so_far) (members_view members.now.entries) ≡ Ok (scope s)) }
-    ensures err { IfErr result (λ e. e ≢ MachineFault.OutOfMemory → declare_all section (scope so_far) (members_view members.now.entries) ≡ Err (fault e)) }
+    ensures ok { Gives result scope (declare_all section (scope so_far)
+        (members_view members.now.entries)) }
+    ensures err { FailsBy result (declare_all section (scope so_far)
+        (members_view members.now.entries)) }
 {
     let mut all = so_far;
     for (name, value) in members.iter() {
@@ -221,8 +210,8 @@ fn declared_in(
     so_far: Scope,
     member: Option<&Value>,
 ) -> Result<Scope, MachineFault>
-    ensures ok { IfOk result (λ s. declared_in section (scope so_far) (option_map (λ v. view v.now) member.entry) ≡ Ok (scope s)) }
-    ensures err { IfErr result (λ e. e ≢ MachineFault.OutOfMemory → declared_in section (scope so_far) (option_map (λ v. view v.now) member.entry) ≡ Err (fault e)) }
+    ensures ok { Gives result scope (declared_in section (scope so_far) (data_of member.entry)) }
+    ensures err { FailsBy result (declared_in section (scope so_far) (data_of member.entry)) }
 {
     let Some(value) = member else {
         return Ok(so_far);
@@ -255,7 +244,7 @@ fn names_list(text: &[u8], tables: &Map<String, Value>) -> bool
 
 /// Whether a table is named after a parameter.
 fn is_list(tables: Option<&Value>, text: &[u8]) -> bool
-    ensures { result ≡ is_list (option_map (λ v. view v.now) tables.entry) text.now }
+    ensures { result ≡ is_list (data_of tables.entry) text.now }
 {
     let Some(tables) = tables else {
         return false;
@@ -296,8 +285,9 @@ fn parameter_named(
     so_far: Scope,
     text: &str,
 ) -> Result<Scope, MachineFault>
-    ensures ok { IfOk result (λ s. parameter_named (option_map (λ v. view v.now) tables.entry) (scope so_far) text.now ≡ Ok (scope s)) }
-    ensures err { IfErr result (λ e. e ≢ MachineFault.OutOfMemory → parameter_named (option_map (λ v. view v.now) tables.entry) (scope so_far) text.now ≡ Err (fault e)) }
+    ensures ok { Gives result scope (parameter_named (data_of tables.entry)
+        (scope so_far) text.now) }
+    ensures err { FailsBy result (parameter_named (data_of tables.entry) (scope so_far) text.now) }
 {
     let may = is_own_name(text.as_bytes());
     new_name(Part::Parameters, may, so_far.names.as_slice(), text)?;
@@ -311,8 +301,10 @@ fn parameter_of(
     so_far: Scope,
     value: &Value,
 ) -> Result<Scope, MachineFault>
-    ensures ok { IfOk result (λ s. parameter_of (option_map (λ v. view v.now) tables.entry) (scope so_far) (view value.now) ≡ Ok (scope s)) }
-    ensures err { IfErr result (λ e. e ≢ MachineFault.OutOfMemory → parameter_of (option_map (λ v. view v.now) tables.entry) (scope so_far) (view value.now) ≡ Err (fault e)) }
+    ensures ok { Gives result scope (parameter_of (data_of tables.entry) (scope so_far)
+        (view value.now)) }
+    ensures err { FailsBy result (parameter_of (data_of tables.entry) (scope so_far)
+        (view value.now)) }
 {
     match value.as_str() {
         Some(text) => parameter_named(alloc, tables, so_far, text),
@@ -325,8 +317,10 @@ fn parameters_of(
     tables: Option<&Value>,
     values: &[Value],
 ) -> Result<Scope, MachineFault>
-    ensures ok { IfOk result (λ s. parameters_of (option_map (λ v. view v.now) tables.entry) nothing_declared (items_view values.now) ≡ Ok (scope s)) }
-    ensures err { IfErr result (λ e. e ≢ MachineFault.OutOfMemory → parameters_of (option_map (λ v. view v.now) tables.entry) nothing_declared (items_view values.now) ≡ Err (fault e)) }
+    ensures ok { Gives result scope (parameters_of (data_of tables.entry) nothing_declared
+        (items_view values.now)) }
+    ensures err { FailsBy result (parameters_of (data_of tables.entry) nothing_declared
+        (items_view values.now)) }
 {
     let mut all = Scope {
         names: Vec::new(alloc),
@@ -344,8 +338,8 @@ fn parameters_in(
     tables: Option<&Value>,
     member: Option<&Value>,
 ) -> Result<Scope, MachineFault>
-    ensures ok { IfOk result (λ s. parameters_in (option_map (λ v. view v.now) tables.entry) (option_map (λ v. view v.now) member.entry) ≡ Ok (scope s)) }
-    ensures err { IfErr result (λ e. e ≢ MachineFault.OutOfMemory → parameters_in (option_map (λ v. view v.now) tables.entry) (option_map (λ v. view v.now) member.entry) ≡ Err (fault e)) }
+    ensures ok { Gives result scope (parameters_in (data_of tables.entry) (data_of member.entry)) }
+    ensures err { FailsBy result (parameters_in (data_of tables.entry) (data_of member.entry)) }
 {
     let Some(value) = member else {
         return parameters_of(alloc, tables, &[]);
@@ -357,9 +351,9 @@ fn parameters_in(
 }
 
 /// All names of a machine, in this order: its parameters, registers, queues and tables.
-pub fn scope_of(alloc: Global, value: &Value) -> Result<Scope, MachineFault>
-    ensures ok { IfOk result (λ s. scope_of (view value.now) ≡ Ok (scope s)) }
-    ensures err { IfErr result (λ e. e ≢ MachineFault.OutOfMemory → scope_of (view value.now) ≡ Err (fault e)) }
+pub(crate) fn scope_of(alloc: Global, value: &Value) -> Result<Scope, MachineFault>
+    ensures ok { Gives result scope (scope_of (view value.now)) }
+    ensures err { FailsBy result (scope_of (view value.now)) }
 {
     let tables = value.get("tables");
     let all = parameters_in(alloc, tables, value.get("parameters"))?;

@@ -1,10 +1,19 @@
 //! What a component gives for the parameters of its machine.
-ghost use Rattle.std.specs.Prelude.{◌≡◌, ◌≢◌, ◌+◌, Ok, Err, IfOk, IfErr, is_some, length, map, option_map, string_bytes};
+ghost use Rattle.std.specs.Prelude.{◌≡◌, ◌+◌, Ok, IfOk, is_some, map};
 ghost use Rattle.serde_json.specs.Find.{get};
 ghost use Rattle.serde_json.specs.View.{view, items_view};
 ghost use Rattle.tw_machine_declaration.specs.Seen.{given};
-ghost use Rattle.tw_machine_file.specs.Fault.{fault};
-ghost use Rattle.tw_machine_file.specs.Given.{given_of, has_count, has_exactly, list_given, lists_given, long_list, number_given, numbers_given};
+ghost use Rattle.tw_machine_file.specs.Answers.{Gives, FailsBy, data_of, names_in};
+ghost use Rattle.tw_machine_file.specs.Given.{
+  given_of,
+  has_count,
+  has_exactly,
+  list_given,
+  lists_given,
+  long_list,
+  number_given,
+  numbers_given,
+};
 
 use crate::constants::wholes;
 use crate::fault::{MachineFault, Part, Why};
@@ -12,11 +21,12 @@ use crate::machine::FileMachine;
 use crate::values::{is_long, items_of};
 use serde_json::Value;
 use std::alloc::Global;
+use tw_machine::limits::MAX_NUMBERS;
 use tw_machine_compiler::Given;
 
 fn number_given(index: usize, member: Option<&Value>) -> Result<i64, MachineFault>
-    ensures ok { IfOk result (λ n. number_given index (option_map (λ v. view v.now) member.entry) ≡ Ok n) }
-    ensures err { IfErr result (λ e. e ≢ MachineFault.OutOfMemory → number_given index (option_map (λ v. view v.now) member.entry) ≡ Err (fault e)) }
+    ensures ok { Gives result (λ n. n) (number_given index (data_of member.entry)) }
+    ensures err { FailsBy result (number_given index (data_of member.entry)) }
 {
     let Some(value) = member else {
         return Err(MachineFault::Wrong(Part::Number(index), Why::Missing));
@@ -29,8 +39,9 @@ fn number_given(index: usize, member: Option<&Value>) -> Result<i64, MachineFaul
 
 #[tactic(auto, using(crate::proofs::Loops::behind_none, crate::proofs::Loops::behind_more))]
 fn numbers_given(alloc: Global, value: &Value, names: &[String]) -> Result<Vec<i64>, MachineFault>
-    ensures ok { IfOk result (λ v. numbers_given (view value.now) 0 (map string_bytes names.now) ≡ Ok v.items) }
-    ensures err { IfErr result (λ e. e ≢ MachineFault.OutOfMemory → numbers_given (view value.now) 0 (map string_bytes names.now) ≡ Err (fault e)) }
+    ensures ok { Gives result
+        (λ v. v.items) (numbers_given (view value.now) 0 (names_in names.now)) }
+    ensures err { FailsBy result (numbers_given (view value.now) 0 (names_in names.now)) }
 {
     let mut numbers = Vec::with_capacity(alloc, names.len())?;
     for (index, name) in names.iter().enumerate() {
@@ -40,18 +51,18 @@ fn numbers_given(alloc: Global, value: &Value, names: &[String]) -> Result<Vec<i
 }
 
 fn long_list(alloc: Global, index: usize, values: &[Value]) -> Result<Vec<i64>, MachineFault>
-    ensures ok { IfOk result (λ v. long_list index (items_view values.now) ≡ Ok v.items) }
-    ensures err { IfErr result (λ e. e ≢ MachineFault.OutOfMemory → long_list index (items_view values.now) ≡ Err (fault e)) }
+    ensures ok { Gives result (λ v. v.items) (long_list index (items_view values.now)) }
+    ensures err { FailsBy result (long_list index (items_view values.now)) }
 {
-    if !is_long(65536, values) {
+    if !is_long(MAX_NUMBERS, values) {
         return Err(MachineFault::Wrong(Part::List(index), Why::Count));
     }
     wholes(alloc, Part::List(index), values)
 }
 
 fn list_given(alloc: Global, index: usize, member: Option<&Value>) -> Result<Vec<i64>, MachineFault>
-    ensures ok { IfOk result (λ v. list_given index (option_map (λ v. view v.now) member.entry) ≡ Ok v.items) }
-    ensures err { IfErr result (λ e. e ≢ MachineFault.OutOfMemory → list_given index (option_map (λ v. view v.now) member.entry) ≡ Err (fault e)) }
+    ensures ok { IfOk result (λ v. list_given index (data_of member.entry) ≡ Ok v.items) }
+    ensures err { FailsBy result (list_given index (data_of member.entry)) }
 {
     let Some(value) = member else {
         return Err(MachineFault::Wrong(Part::List(index), Why::Missing));
@@ -68,8 +79,9 @@ fn lists_given(
     value: &Value,
     names: &[String],
 ) -> Result<Vec<Vec<i64>>, MachineFault>
-    ensures ok { IfOk result (λ v. lists_given (view value.now) 0 (map string_bytes names.now) ≡ Ok (map (λ list. list.items) v.items)) }
-    ensures err { IfErr result (λ e. e ≢ MachineFault.OutOfMemory → lists_given (view value.now) 0 (map string_bytes names.now) ≡ Err (fault e)) }
+    ensures ok { Gives result (λ v. map
+        (λ list. list.items) v.items) (lists_given (view value.now) 0 (names_in names.now)) }
+    ensures err { FailsBy result (lists_given (view value.now) 0 (names_in names.now)) }
 {
     let mut lists = Vec::with_capacity(alloc, names.len())?;
     for (index, name) in names.iter().enumerate() {
@@ -108,8 +120,10 @@ fn has_exactly(numbers: usize, lists: usize, value: &Value) -> bool
 /// answered ([`MachineFault`], refusal 21): numbers in order, lists in order, another member. Want of memory (4) may
 /// come at any point instead. After any of them nothing is left.
 pub fn given_of(alloc: Global, machine: &FileMachine, value: &Value) -> Result<Given, MachineFault>
-    ensures ok { IfOk result (λ g. given_of (map string_bytes machine.now.numbers.items) (map string_bytes machine.now.lists.items) (view value.now) ≡ Ok (given g)) }
-    ensures err { IfErr result (λ e. e ≢ MachineFault.OutOfMemory → given_of (map string_bytes machine.now.numbers.items) (map string_bytes machine.now.lists.items) (view value.now) ≡ Err (fault e)) }
+    ensures ok { Gives result given (given_of (names_in machine.now.numbers.items)
+        (names_in machine.now.lists.items) (view value.now)) }
+    ensures err { FailsBy result (given_of (names_in machine.now.numbers.items)
+        (names_in machine.now.lists.items) (view value.now)) }
 {
     let names = machine.numbers.as_slice();
     let lists_named = machine.lists.as_slice();

@@ -1,11 +1,17 @@
 //! A machine of a network file of format `tw-3`: from the JSON value of one object of `models` to what it declares.
 //!
-//! - [`machine_of`]: the machine that a value declares, or the first thing that is wrong with it and where.
-//! - [`FileMachine`]: its name, its declaration, and the names of its parameters that are numbers and lists.
-//! - [`machines_in`]: all machines of a file, each within its limits.
-//! - [`given_of`], [`program_in`]: what a component gives for the parameters of its machine, and the program that this makes.
-//! - [`MachineFault`], [`Part`], [`Why`]: what is wrong, in which part, and how.
-//! - [`said_law`]: the program that a text says is the one that the language's grammar gives it, and no other.
+//! - `machines`: [`machines_in`], all machines of a file, each within its limits; [`program_in`], the program that a
+//!   component makes of one.
+//! - `machine`: [`machine_of`], the machine that a value declares ([`FileMachine`]), or the first thing that is wrong with it.
+//! - `declarations`: its parameters, registers, queues and tables.
+//! - `constants`: whole numbers, and names of parameters that are numbers.
+//! - `names`: what may be a name.
+//! - `texts`: programs, and expressions in members; [`said_law`] says that the program that a text says is the one that the
+//!   language's grammar gives it, and no other.
+//! - `outputs`: what a machine sends. `words`: what it shows.
+//! - `given`: [`given_of`], what a component gives for the parameters of its machine.
+//! - `values`: members of a JSON value.
+//! - `fault`: [`MachineFault`], [`Part`] and [`Why`], what is wrong, in which part, and how.
 //! - [`examples`]: machines by hand.
 //!
 //! The limits of a machine that no component uses are looked at with nothing given for its parameters.

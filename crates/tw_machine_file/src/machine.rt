@@ -1,8 +1,18 @@
 //! A machine of its JSON value.
-ghost use Rattle.std.specs.Prelude.{◌≡◌, ◌≢◌, Ok, Err, IfOk, IfErr, map, option_map, string_bytes};
 ghost use Rattle.serde_json.specs.View.{view};
-ghost use Rattle.tw_machine_file.specs.Fault.{fault};
-ghost use Rattle.tw_machine_file.specs.Machine.{first_in, head_of, language, longest_in, machine_of, name_of, new_name, random_in, starts_of, texts_of};
+ghost use Rattle.tw_machine_file.specs.Answers.{Gives, FailsBy, data_of, names_in};
+ghost use Rattle.tw_machine_file.specs.Machine.{
+  first_in,
+  head_of,
+  language,
+  longest_in,
+  machine_of,
+  name_of,
+  new_name,
+  random_in,
+  starts_of,
+  texts_of,
+};
 ghost use Rattle.tw_machine_file.specs.Seen.{machine, scope, starts, texts};
 ghost use Rattle.tw_machine_file.specs.Texts.{language_of};
 
@@ -33,7 +43,7 @@ pub struct FileMachine {
 
 /// What a machine starts with, and its greatest wait.
 #[derive(Clone, Copy, Debug, PartialEq, Eq)]
-pub struct Starts {
+pub(crate) struct Starts {
     pub random: Constant,
     pub first: Option<Constant>,
     pub longest: Option<Constant>,
@@ -41,7 +51,7 @@ pub struct Starts {
 
 /// What a machine does, sends and shows.
 #[derive(Drop)]
-pub struct Texts {
+pub(crate) struct Texts {
     pub internal: Block,
     pub external: Block,
     pub outputs: Vec<OutputText>,
@@ -66,8 +76,8 @@ const MEMBERS: [&[u8]; 12] = [
 
 /// Looks at the name of a machine: whether it may be one, and has not come before.
 fn new_name(before: &[String], name: &str) -> Result<(), MachineFault>
-    ensures ok { IfOk result (λ _. new_name (map string_bytes before.now) name.now ≡ Ok name.now) }
-    ensures err { IfErr result (λ e. e ≢ MachineFault.OutOfMemory → new_name (map string_bytes before.now) name.now ≡ Err (fault e)) }
+    ensures ok { Gives result (λ _. name.now) (new_name (names_in before.now) name.now) }
+    ensures err { FailsBy result (new_name (names_in before.now) name.now) }
 {
     if !is_machine_name(name.as_bytes()) {
         return Err(MachineFault::Wrong(Part::Name, Why::Name));
@@ -80,8 +90,8 @@ fn new_name(before: &[String], name: &str) -> Result<(), MachineFault>
 
 /// The name of a machine, which must be there.
 fn name_of<'a>(before: &[String], member: Option<&'a Value>) -> Result<&'a str, MachineFault>
-    ensures ok { IfOk result (λ t. name_of (map string_bytes before.now) (option_map (λ v. view v.now) member.entry) ≡ Ok t.now) }
-    ensures err { IfErr result (λ e. e ≢ MachineFault.OutOfMemory → name_of (map string_bytes before.now) (option_map (λ v. view v.now) member.entry) ≡ Err (fault e)) }
+    ensures ok { Gives result (λ t. t.now) (name_of (names_in before.now) (data_of member.entry)) }
+    ensures err { FailsBy result (name_of (names_in before.now) (data_of member.entry)) }
 {
     let Some(value) = member else {
         return Err(MachineFault::Wrong(Part::Name, Why::Missing));
@@ -95,8 +105,8 @@ fn name_of<'a>(before: &[String], member: Option<&'a Value>) -> Result<&'a str, 
 
 /// The name of an object that has no member that no machine has.
 fn head_of<'a>(before: &[String], value: &'a Value) -> Result<&'a str, MachineFault>
-    ensures ok { IfOk result (λ t. head_of (map string_bytes before.now) (view value.now) ≡ Ok t.now) }
-    ensures err { IfErr result (λ e. e ≢ MachineFault.OutOfMemory → head_of (map string_bytes before.now) (view value.now) ≡ Err (fault e)) }
+    ensures ok { Gives result (λ t. t.now) (head_of (names_in before.now) (view value.now)) }
+    ensures err { FailsBy result (head_of (names_in before.now) (view value.now)) }
 {
     let Some(members) = value.as_object() else {
         return Err(MachineFault::Wrong(Part::Whole, Why::Shape));
@@ -109,8 +119,8 @@ fn head_of<'a>(before: &[String], value: &'a Value) -> Result<&'a str, MachineFa
 }
 
 fn random_in(numbers: &[String], member: Option<&Value>) -> Result<Constant, MachineFault>
-    ensures ok { IfOk result (λ c. random_in (map string_bytes numbers.now) (option_map (λ v. view v.now) member.entry) ≡ Ok c) }
-    ensures err { IfErr result (λ e. e ≢ MachineFault.OutOfMemory → random_in (map string_bytes numbers.now) (option_map (λ v. view v.now) member.entry) ≡ Err (fault e)) }
+    ensures ok { Gives result (λ c. c) (random_in (names_in numbers.now) (data_of member.entry)) }
+    ensures err { FailsBy result (random_in (names_in numbers.now) (data_of member.entry)) }
 {
     match member {
         Some(value) => constant(Part::Random, numbers, value),
@@ -119,8 +129,8 @@ fn random_in(numbers: &[String], member: Option<&Value>) -> Result<Constant, Mac
 }
 
 fn first_in(numbers: &[String], member: Option<&Value>) -> Result<Option<Constant>, MachineFault>
-    ensures ok { IfOk result (λ c. first_in (map string_bytes numbers.now) (option_map (λ v. view v.now) member.entry) ≡ Ok c) }
-    ensures err { IfErr result (λ e. e ≢ MachineFault.OutOfMemory → first_in (map string_bytes numbers.now) (option_map (λ v. view v.now) member.entry) ≡ Err (fault e)) }
+    ensures ok { Gives result (λ c. c) (first_in (names_in numbers.now) (data_of member.entry)) }
+    ensures err { FailsBy result (first_in (names_in numbers.now) (data_of member.entry)) }
 {
     match member {
         Some(value) => Ok(Some(constant(Part::First, numbers, value)?)),
@@ -129,8 +139,8 @@ fn first_in(numbers: &[String], member: Option<&Value>) -> Result<Option<Constan
 }
 
 fn longest_in(numbers: &[String], member: Option<&Value>) -> Result<Option<Constant>, MachineFault>
-    ensures ok { IfOk result (λ c. longest_in (map string_bytes numbers.now) (option_map (λ v. view v.now) member.entry) ≡ Ok c) }
-    ensures err { IfErr result (λ e. e ≢ MachineFault.OutOfMemory → longest_in (map string_bytes numbers.now) (option_map (λ v. view v.now) member.entry) ≡ Err (fault e)) }
+    ensures ok { Gives result (λ c. c) (longest_in (names_in numbers.now) (data_of member.entry)) }
+    ensures err { FailsBy result (longest_in (names_in numbers.now) (data_of member.entry)) }
 {
     match member {
         Some(value) => Ok(Some(count(Part::Longest, MAX_TICK, numbers, value)?)),
@@ -140,8 +150,8 @@ fn longest_in(numbers: &[String], member: Option<&Value>) -> Result<Option<Const
 
 /// The members that are constants.
 fn constants_of(numbers: &[String], value: &Value) -> Result<Starts, MachineFault>
-    ensures ok { IfOk result (λ s. starts_of (view value.now) (map string_bytes numbers.now) ≡ Ok (starts s)) }
-    ensures err { IfErr result (λ e. e ≢ MachineFault.OutOfMemory → starts_of (view value.now) (map string_bytes numbers.now) ≡ Err (fault e)) }
+    ensures ok { Gives result starts (starts_of (view value.now) (names_in numbers.now)) }
+    ensures err { FailsBy result (starts_of (view value.now) (names_in numbers.now)) }
 {
     let random = random_in(numbers, value.get("random"))?;
     let first = first_in(numbers, value.get("first"))?;
@@ -155,16 +165,16 @@ fn constants_of(numbers: &[String], value: &Value) -> Result<Starts, MachineFaul
 
 /// What a machine of these names starts with.
 fn starts_of(all: &Scope, value: &Value) -> Result<Starts, MachineFault>
-    ensures ok { IfOk result (λ s. starts_of (view value.now) (scope all.now).numbers ≡ Ok (starts s)) }
-    ensures err { IfErr result (λ e. e ≢ MachineFault.OutOfMemory → starts_of (view value.now) (scope all.now).numbers ≡ Err (fault e)) }
+    ensures ok { Gives result starts (starts_of (view value.now) (scope all.now).numbers) }
+    ensures err { FailsBy result (starts_of (view value.now) (scope all.now).numbers) }
 {
     constants_of(&all.numbers, value)
 }
 
 /// What is said by these names.
 fn texts_of(alloc: Global, declared: &[Declared], value: &Value) -> Result<Texts, MachineFault>
-    ensures ok { IfOk result (λ t. texts_of (view value.now) (language_of declared.now) ≡ Ok (texts t)) }
-    ensures err { IfErr result (λ e. e ≢ MachineFault.OutOfMemory → texts_of (view value.now) (language_of declared.now) ≡ Err (fault e)) }
+    ensures ok { Gives result texts (texts_of (view value.now) (language_of declared.now)) }
+    ensures err { FailsBy result (texts_of (view value.now) (language_of declared.now)) }
 {
     let internal = program_in(alloc, declared, Part::Internal, value.get("internal"))?;
     let external = program_in(alloc, declared, Part::External, value.get("external"))?;
@@ -180,8 +190,8 @@ fn texts_of(alloc: Global, declared: &[Declared], value: &Value) -> Result<Texts
 
 /// What is said in the language of a machine of these names.
 fn texts_in(alloc: Global, all: &Scope, value: &Value) -> Result<Texts, MachineFault>
-    ensures ok { IfOk result (λ t. texts_of (view value.now) (language (scope all.now).names) ≡ Ok (texts t)) }
-    ensures err { IfErr result (λ e. e ≢ MachineFault.OutOfMemory → texts_of (view value.now) (language (scope all.now).names) ≡ Err (fault e)) }
+    ensures ok { Gives result texts (texts_of (view value.now) (language (scope all.now).names)) }
+    ensures err { FailsBy result (texts_of (view value.now) (language (scope all.now).names)) }
 {
     let declared = declared_of(alloc, &all.names)?;
     texts_of(alloc, &declared, value)
@@ -201,8 +211,8 @@ pub fn machine_of(
     before: &[String],
     value: &Value,
 ) -> Result<FileMachine, MachineFault>
-    ensures ok { IfOk result (λ m. machine_of (map string_bytes before.now) (view value.now) ≡ Ok (machine m)) }
-    ensures err { IfErr result (λ e. e ≢ MachineFault.OutOfMemory → machine_of (map string_bytes before.now) (view value.now) ≡ Err (fault e)) }
+    ensures ok { Gives result machine (machine_of (names_in before.now) (view value.now)) }
+    ensures err { FailsBy result (machine_of (names_in before.now) (view value.now)) }
 {
     let name = head_of(before, value)?;
     let scope = scope_of(alloc, value)?;

@@ -1,10 +1,18 @@
 //! All machines of a file, and the program that a component makes of one.
-ghost use Rattle.std.specs.Prelude.{◌≡◌, ◌≢◌, [], Ok, Err, IfOk, IfErr, OnOk, map, string_bytes};
+ghost use Rattle.std.specs.Prelude.{◌≡◌, [], Ok, OnOk, map, string_bytes};
 ghost use Rattle.serde_json.specs.View.{view, items_view};
 ghost use Rattle.tw_machine_declaration.specs.Seen as plain;
 ghost use Rattle.tw_machine.specs.Seen.{seen_program};
-ghost use Rattle.tw_machine_file.specs.Fault.{fault};
-ghost use Rattle.tw_machine_file.specs.Machines.{few, machine_behind, machines_behind, machines_in, program_given, program_in, within_limits};
+ghost use Rattle.tw_machine_file.specs.Answers.{Gives, FailsBy};
+ghost use Rattle.tw_machine_file.specs.Machines.{
+  few,
+  machine_behind,
+  machines_behind,
+  machines_in,
+  program_given,
+  program_in,
+  within_limits,
+};
 ghost use Rattle.tw_machine_file.specs.Seen as file;
 ghost use Rattle.tw_machine_file.specs.Seen.{machine};
 
@@ -14,11 +22,9 @@ use crate::machine::{FileMachine, machine_of};
 use crate::values::{are_few, items_of};
 use serde_json::Value;
 use std::alloc::Global;
+use tw_machine::limits::MAX_MACHINES;
 use tw_machine::program::Program;
-use tw_machine_compiler::{Declaration, Given, declared};
-
-/// How many machines a file may have.
-const MACHINES: usize = 256;
+use tw_machine_compiler::{Declaration, Given, compile};
 
 /// The program that a declaration means with what is given, or the first limit that it passes.
 fn program_given(
@@ -26,10 +32,12 @@ fn program_given(
     declaration: &Declaration,
     given: &Given,
 ) -> Result<Program, MachineFault>
-    ensures ok { IfOk result (λ p. program_given (plain.declaration declaration.now) (plain.given given.now) ≡ Ok (seen_program p)) }
-    ensures err { IfErr result (λ e. e ≢ MachineFault.OutOfMemory → program_given (plain.declaration declaration.now) (plain.given given.now) ≡ Err (fault e)) }
+    ensures ok { Gives result seen_program
+        (program_given (plain.declaration declaration.now) (plain.given given.now)) }
+    ensures err { FailsBy result (program_given (plain.declaration declaration.now)
+        (plain.given given.now)) }
 {
-    match declared(alloc, given, declaration) {
+    match compile(alloc, given, declaration) {
         Ok(program) => Ok(program),
         Err(bad) => Err(MachineFault::from(bad)),
     }
@@ -45,8 +53,9 @@ pub fn program_in(
     machine: &FileMachine,
     component: &Value,
 ) -> Result<Program, MachineFault>
-    ensures ok { IfOk result (λ p. program_in (file.machine machine.now) (view component.now) ≡ Ok (seen_program p)) }
-    ensures err { IfErr result (λ e. e ≢ MachineFault.OutOfMemory → program_in (file.machine machine.now) (view component.now) ≡ Err (fault e)) }
+    ensures ok { Gives result seen_program
+        (program_in (file.machine machine.now) (view component.now)) }
+    ensures err { FailsBy result (program_in (file.machine machine.now) (view component.now)) }
 {
     let given = given_of(alloc, machine, component)?;
     program_given(alloc, &machine.declaration, &given)
@@ -55,7 +64,7 @@ pub fn program_in(
 /// Looks at the limits of a declaration with nothing given.
 fn within_limits(alloc: Global, declaration: &Declaration) -> Result<(), MachineFault>
     ensures ok { OnOk result (within_limits (plain.declaration declaration.now) ≡ Ok tt) }
-    ensures err { IfErr result (λ e. e ≢ MachineFault.OutOfMemory → within_limits (plain.declaration declaration.now) ≡ Err (fault e)) }
+    ensures err { FailsBy result (within_limits (plain.declaration declaration.now)) }
 {
     let nothing = Given {
         numbers: Vec::new(alloc),
@@ -76,8 +85,8 @@ fn machine_behind(
     before: &[String],
     value: &Value,
 ) -> Result<FileMachine, MachineFault>
-    ensures ok { IfOk result (λ m. machine_behind (map string_bytes before.now) (view value.now) ≡ Ok (machine m)) }
-    ensures err { IfErr result (λ e. e ≢ MachineFault.OutOfMemory → machine_behind (map string_bytes before.now) (view value.now) ≡ Err (fault e)) }
+    ensures ok { Gives result machine (machine_behind (map string_bytes before.now) (view value.now)) }
+    ensures err { FailsBy result (machine_behind (map string_bytes before.now) (view value.now)) }
 {
     let machine = machine_of(alloc, before, value)?;
     within_limits(alloc, &machine.declaration)?;
@@ -87,8 +96,9 @@ fn machine_behind(
 /// The machines that these values declare, each behind those before it.
 #[tactic(auto, using(crate::proofs::Loops::behind_none, crate::proofs::Loops::behind_more))]
 fn machines_behind(alloc: Global, values: &[Value]) -> Result<Vec<FileMachine>, MachineFault>
-    ensures ok { IfOk result (λ ms. machines_behind [] (items_view values.now) ≡ Ok (map machine ms.items)) }
-    ensures err { IfErr result (λ e. e ≢ MachineFault.OutOfMemory → machines_behind [] (items_view values.now) ≡ Err (fault e)) }
+    ensures ok { Gives result
+        (λ ms. map machine ms.items) (machines_behind [] (items_view values.now)) }
+    ensures err { FailsBy result (machines_behind [] (items_view values.now)) }
 {
     let mut names = Vec::new(alloc);
     let mut machines = Vec::new(alloc);
@@ -102,13 +112,13 @@ fn machines_behind(alloc: Global, values: &[Value]) -> Result<Vec<FileMachine>, 
 
 /// An array of at most 256.
 fn few(models: &Value) -> Result<&[Value], MachineFault>
-    ensures ok { IfOk result (λ vs. few (view models.now) ≡ Ok (items_view vs.now)) }
-    ensures err { IfErr result (λ e. e ≢ MachineFault.OutOfMemory → few (view models.now) ≡ Err (fault e)) }
+    ensures ok { Gives result (λ vs. items_view vs.now) (few (view models.now)) }
+    ensures err { FailsBy result (few (view models.now)) }
 {
     let Some(values) = items_of(models) else {
         return Err(MachineFault::Wrong(Part::Whole, Why::Shape));
     };
-    if !are_few(MACHINES, values) {
+    if !are_few(MAX_MACHINES, values) {
         return Err(MachineFault::Wrong(Part::Whole, Why::Count));
     }
     Ok(values)
@@ -120,8 +130,8 @@ fn few(models: &Value) -> Result<&[Value], MachineFault>
 /// what [`machine_of`] refuses behind those before it, and then the first limit that it passes with nothing given for
 /// its parameters. Want of memory (4) may come at any point instead. After any of them nothing is left.
 pub fn machines_in(alloc: Global, models: &Value) -> Result<Vec<FileMachine>, MachineFault>
-    ensures ok { IfOk result (λ ms. machines_in (view models.now) ≡ Ok (map machine ms.items)) }
-    ensures err { IfErr result (λ e. e ≢ MachineFault.OutOfMemory → machines_in (view models.now) ≡ Err (fault e)) }
+    ensures ok { Gives result (λ ms. map machine ms.items) (machines_in (view models.now)) }
+    ensures err { FailsBy result (machines_in (view models.now)) }
 {
     let values = few(models)?;
     machines_behind(alloc, values)

@@ -1,10 +1,19 @@
 //! What a machine sends.
-ghost use Rattle.std.specs.Prelude.{◌≡◌, ◌≢◌, Ok, Err, IfOk, IfErr, map, option_map};
+ghost use Rattle.std.specs.Prelude.{◌≡◌, Ok, IfOk, map, option_map};
 ghost use Rattle.serde_json.specs.View.{view, items_view, members_view};
 ghost use Rattle.tw_machine_text.specs.Views.{tree};
 ghost use Rattle.tw_machine_declaration.specs.Seen.{output, value};
-ghost use Rattle.tw_machine_file.specs.Fault.{fault};
-ghost use Rattle.tw_machine_file.specs.Outputs.{each_of, entry_of, few_outputs, output_of, outputs_in, outputs_of, sent_value, when_of};
+ghost use Rattle.tw_machine_file.specs.Answers.{Gives, FailsBy, data_of};
+ghost use Rattle.tw_machine_file.specs.Outputs.{
+  each_of,
+  entry_of,
+  few_outputs,
+  output_of,
+  outputs_in,
+  outputs_of,
+  sent_value,
+  when_of,
+};
 ghost use Rattle.tw_machine_file.specs.Texts.{language_of};
 
 use crate::fault::{MachineFault, Part, Why};
@@ -12,16 +21,18 @@ use crate::texts::{tree_in, value_in};
 use crate::values::{are_among, are_few, items_of};
 use serde_json::{Map, Value};
 use std::alloc::Global;
+use tw_machine::limits::MAX_OUTPUTS;
 use tw_machine_compiler::{OutputText, Value as Said};
-use tw_machine_text::{Declared, Expr, Member};
+use tw_machine_text::{Declared, Member, SourceExpr};
 
 /// The members of an entry.
 const MEMBERS: [&[u8]; 4] = [b"port", b"value", b"when", b"each"];
 
 /// The members of an entry, an object of these alone.
 fn entry(index: usize, written: &Value) -> Result<&Map<String, Value>, MachineFault>
-    ensures ok { IfOk result (λ ms. entry_of index (view written.now) ≡ Ok (members_view ms.now.entries)) }
-    ensures err { IfErr result (λ e. e ≢ MachineFault.OutOfMemory → entry_of index (view written.now) ≡ Err (fault e)) }
+    ensures ok { Gives result
+        (λ ms. members_view ms.now.entries) (entry_of index (view written.now)) }
+    ensures err { FailsBy result (entry_of index (view written.now)) }
 {
     let Some(members) = written.as_object() else {
         return Err(MachineFault::Wrong(Part::Entry(index), Why::Shape));
@@ -39,8 +50,10 @@ fn sent_value(
     part: Part,
     member: Option<&Value>,
 ) -> Result<Said, MachineFault>
-    ensures ok { IfOk result (λ v. sent_value (language_of declared.now) part (option_map (λ v. view v.now) member.entry) ≡ Ok (value v)) }
-    ensures err { IfErr result (λ e. e ≢ MachineFault.OutOfMemory → sent_value (language_of declared.now) part (option_map (λ v. view v.now) member.entry) ≡ Err (fault e)) }
+    ensures ok { IfOk result
+        (λ v. sent_value (language_of declared.now) part (data_of member.entry) ≡ Ok (value v)) }
+    ensures err { FailsBy result (sent_value (language_of declared.now) part
+        (data_of member.entry)) }
 {
     match member {
         Some(written) => value_in(alloc, declared, part, Member::Value, written),
@@ -54,8 +67,10 @@ fn when_of(
     index: usize,
     member: Option<&Value>,
 ) -> Result<Option<Said>, MachineFault>
-    ensures ok { IfOk result (λ w. when_of (language_of declared.now) index (option_map (λ v. view v.now) member.entry) ≡ Ok (option_map value w)) }
-    ensures err { IfErr result (λ e. e ≢ MachineFault.OutOfMemory → when_of (language_of declared.now) index (option_map (λ v. view v.now) member.entry) ≡ Err (fault e)) }
+    ensures ok { Gives result
+        (λ w. option_map value w) (when_of (language_of declared.now) index
+        (data_of member.entry)) }
+    ensures err { FailsBy result (when_of (language_of declared.now) index (data_of member.entry)) }
 {
     match member {
         Some(written) => Ok(Some(value_in(
@@ -74,9 +89,10 @@ fn each_of(
     declared: &[Declared],
     index: usize,
     member: Option<&Value>,
-) -> Result<Option<Expr>, MachineFault>
-    ensures ok { IfOk result (λ q. each_of (language_of declared.now) index (option_map (λ v. view v.now) member.entry) ≡ Ok (option_map tree q)) }
-    ensures err { IfErr result (λ e. e ≢ MachineFault.OutOfMemory → each_of (language_of declared.now) index (option_map (λ v. view v.now) member.entry) ≡ Err (fault e)) }
+) -> Result<Option<SourceExpr>, MachineFault>
+    ensures ok { Gives result
+        (λ q. option_map tree q) (each_of (language_of declared.now) index (data_of member.entry)) }
+    ensures err { FailsBy result (each_of (language_of declared.now) index (data_of member.entry)) }
 {
     match member {
         Some(written) => Ok(Some(tree_in(
@@ -97,8 +113,9 @@ fn output_of(
     index: usize,
     written: &Value,
 ) -> Result<OutputText, MachineFault>
-    ensures ok { IfOk result (λ o. output_of (language_of declared.now) index (view written.now) ≡ Ok (output o)) }
-    ensures err { IfErr result (λ e. e ≢ MachineFault.OutOfMemory → output_of (language_of declared.now) index (view written.now) ≡ Err (fault e)) }
+    ensures ok { Gives result output (output_of (language_of declared.now) index
+        (view written.now)) }
+    ensures err { FailsBy result (output_of (language_of declared.now) index (view written.now)) }
 {
     let _ = entry(index, written)?;
     let port = sent_value(alloc, declared, Part::Port(index), written.get("port"))?;
@@ -119,8 +136,10 @@ fn outputs_of(
     declared: &[Declared],
     values: &[Value],
 ) -> Result<Vec<OutputText>, MachineFault>
-    ensures ok { IfOk result (λ v. outputs_of (language_of declared.now) 0 (items_view values.now) ≡ Ok (map output v.items)) }
-    ensures err { IfErr result (λ e. e ≢ MachineFault.OutOfMemory → outputs_of (language_of declared.now) 0 (items_view values.now) ≡ Err (fault e)) }
+    ensures ok { Gives result
+        (λ v. map output v.items) (outputs_of (language_of declared.now) 0
+        (items_view values.now)) }
+    ensures err { FailsBy result (outputs_of (language_of declared.now) 0 (items_view values.now)) }
 {
     let mut outputs = Vec::new(alloc);
     for (index, value) in values.iter().enumerate() {
@@ -131,26 +150,27 @@ fn outputs_of(
 
 /// An array of at most 64.
 fn few_outputs(written: &Value) -> Result<&[Value], MachineFault>
-    ensures ok { IfOk result (λ vs. few_outputs (view written.now) ≡ Ok (items_view vs.now)) }
-    ensures err { IfErr result (λ e. e ≢ MachineFault.OutOfMemory → few_outputs (view written.now) ≡ Err (fault e)) }
+    ensures ok { Gives result (λ vs. items_view vs.now) (few_outputs (view written.now)) }
+    ensures err { FailsBy result (few_outputs (view written.now)) }
 {
     let Some(values) = items_of(written) else {
         return Err(MachineFault::Wrong(Part::Output, Why::Shape));
     };
-    if !are_few(64, values) {
+    if !are_few(MAX_OUTPUTS, values) {
         return Err(MachineFault::Wrong(Part::Output, Why::Count));
     }
     Ok(values)
 }
 
 /// The member `output`; nothing is sent where there is none.
-pub fn outputs_in(
+pub(crate) fn outputs_in(
     alloc: Global,
     declared: &[Declared],
     member: Option<&Value>,
 ) -> Result<Vec<OutputText>, MachineFault>
-    ensures ok { IfOk result (λ v. outputs_in (language_of declared.now) (option_map (λ v. view v.now) member.entry) ≡ Ok (map output v.items)) }
-    ensures err { IfErr result (λ e. e ≢ MachineFault.OutOfMemory → outputs_in (language_of declared.now) (option_map (λ v. view v.now) member.entry) ≡ Err (fault e)) }
+    ensures ok { IfOk result (λ v. outputs_in (language_of declared.now) (data_of member.entry)
+        ≡ Ok (map output v.items)) }
+    ensures err { FailsBy result (outputs_in (language_of declared.now) (data_of member.entry)) }
 {
     match member {
         Some(written) => outputs_of(alloc, declared, few_outputs(written)?),

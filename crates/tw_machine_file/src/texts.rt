@@ -1,13 +1,23 @@
 //! The texts of a machine: programs, and expressions in members.
-ghost use Rattle.std.specs.Prelude.{◌≡◌, ◌≢◌, ◌++◌, ◌∷◌, [], Some, None, Ok, Err, IfOk, IfErr, map, option_map, string_bytes};
+ghost use Rattle.std.specs.Prelude.{◌≡◌, ◌++◌, [], IfOk, map, option_map, string_bytes};
 ghost use Rattle.serde_json.specs.View.{view, items_view};
-ghost use Rattle.tw_machine_text.specs.TextViews.{declarations, names_of};
+ghost use Rattle.tw_machine_text.specs.TextViews.{declarations};
 ghost use Rattle.tw_machine_text.specs.Views.{body, tree};
 ghost use Rattle.tw_machine_declaration.specs.Seen.{name, thing, value};
-ghost use Rattle.tw_machine_file.specs.Fault.{fault};
+ghost use Rattle.tw_machine_file.specs.Answers.{Gives, FailsBy, data_of};
 ghost use Rattle.tw_machine_file.specs.Said.{SaysPrograms, SaysTrees};
 ghost use Rattle.tw_machine_file.specs.Seen.{kind_of};
-ghost use Rattle.tw_machine_file.specs.Texts.{language_of, lines, more_lines, program_in, program_text, text_of, tree_in, tree_text, value_in};
+ghost use Rattle.tw_machine_file.specs.Texts.{
+  language_of,
+  lines,
+  more_lines,
+  program_in,
+  program_text,
+  text_of,
+  tree_in,
+  tree_text,
+  value_in,
+};
 
 use crate::fault::{MachineFault, Part, Why};
 use crate::values::items_of;
@@ -15,7 +25,8 @@ use serde_json::Value;
 use std::alloc::{AllocError, Global};
 use tw_machine_compiler::{Named, Thing, Value as Said};
 use tw_machine_text::{
-    Block, Declared, Expr, Kind, Member, NODES, TextRefused, kinds_of, read_member, read_program,
+    Block, Declared, Kind, MAX_NODES, Member, SourceExpr, TextRefused, kinds_of, read_member,
+    read_program,
 };
 
 /// What a thing is, for the texts' reader.
@@ -35,8 +46,9 @@ fn kind_of(declared: &Thing) -> Kind
 }
 
 /// The names that may stand in a machine's texts.
-pub fn declared_of(alloc: Global, names: &[Named]) -> Result<Vec<Declared>, AllocError>
-    ensures { IfOk result (λ v. declarations v.items ≡ map (λ n. (n.0, kind_of n.1)) (map name names.now)) }
+pub(crate) fn declared_of(alloc: Global, names: &[Named]) -> Result<Vec<Declared>, AllocError>
+    ensures { IfOk result
+        (λ v. declarations v.items ≡ map (λ n. (n.0, kind_of n.1)) (map name names.now)) }
 {
     let mut declared = Vec::with_capacity(alloc, names.len())?;
     for named in names {
@@ -48,7 +60,7 @@ pub fn declared_of(alloc: Global, names: &[Named]) -> Result<Vec<Declared>, Allo
 }
 
 /// What each name stands for, by its number.
-pub fn kinds_in(alloc: Global, declared: &[Declared]) -> Result<Vec<Kind>, AllocError>
+pub(crate) fn kinds_in(alloc: Global, declared: &[Declared]) -> Result<Vec<Kind>, AllocError>
     ensures { IfOk result (λ v. v.items ≡ (language_of declared.now).kinds) }
 {
     kinds_of(alloc, declared)
@@ -57,7 +69,8 @@ pub fn kinds_in(alloc: Global, declared: &[Declared]) -> Result<Vec<Kind>, Alloc
 /// A first line, and the lines behind it.
 #[tactic(auto, using(crate::proofs::Loops::one_line_more))]
 fn lines_behind(alloc: Global, first: &str, values: &[Value]) -> Result<Option<String>, AllocError>
-    ensures { IfOk result (λ o. option_map string_bytes o ≡ option_map (λ rest. first.now ++ rest) (more_lines (items_view values.now))) }
+    ensures { IfOk result (λ o. option_map string_bytes o
+        ≡ option_map (λ rest. first.now ++ rest) (more_lines (items_view values.now))) }
 {
     let mut text = String::from_str(alloc, first)?;
     for value in values {
@@ -103,10 +116,10 @@ fn program(
     part: Part,
     text: &str,
 ) -> Result<Block, MachineFault>
-    ensures ok { IfOk result (λ b. program_text (language_of declared.now) part text.now ≡ Ok (body b)) }
-    ensures err { IfErr result (λ e. e ≢ MachineFault.OutOfMemory → program_text (language_of declared.now) part text.now ≡ Err (fault e)) }
+    ensures ok { Gives result body (program_text (language_of declared.now) part text.now) }
+    ensures err { FailsBy result (program_text (language_of declared.now) part text.now) }
 {
-    match read_program(alloc, declared, text, NODES) {
+    match read_program(alloc, declared, text, MAX_NODES) {
         Ok(read) => Ok(read.block),
         Err(TextRefused::OutOfMemory) => Err(MachineFault::OutOfMemory),
         Err(TextRefused::Wrong(place)) => Err(MachineFault::Text(part, place)),
@@ -120,11 +133,11 @@ fn expression(
     part: Part,
     member: Member,
     text: &str,
-) -> Result<Expr, MachineFault>
-    ensures ok { IfOk result (λ e. tree_text (language_of declared.now) part member text.now ≡ Ok (tree e)) }
-    ensures err { IfErr result (λ e. e ≢ MachineFault.OutOfMemory → tree_text (language_of declared.now) part member text.now ≡ Err (fault e)) }
+) -> Result<SourceExpr, MachineFault>
+    ensures ok { Gives result tree (tree_text (language_of declared.now) part member text.now) }
+    ensures err { FailsBy result (tree_text (language_of declared.now) part member text.now) }
 {
-    match read_member(alloc, member, declared, text, NODES) {
+    match read_member(alloc, member, declared, text, MAX_NODES) {
         Ok(read) => Ok(read.tree),
         Err(TextRefused::OutOfMemory) => Err(MachineFault::OutOfMemory),
         Err(TextRefused::Wrong(place)) => Err(MachineFault::Text(part, place)),
@@ -138,8 +151,10 @@ pub fn program_in(
     part: Part,
     member: Option<&Value>,
 ) -> Result<Block, MachineFault>
-    ensures ok { IfOk result (λ b. program_in (language_of declared.now) part (option_map (λ v. view v.now) member.entry) ≡ Ok (body b)) }
-    ensures err { IfErr result (λ e. e ≢ MachineFault.OutOfMemory → program_in (language_of declared.now) part (option_map (λ v. view v.now) member.entry) ≡ Err (fault e)) }
+    ensures ok { Gives result body (program_in (language_of declared.now) part
+        (data_of member.entry)) }
+    ensures err { FailsBy result (program_in (language_of declared.now) part
+        (data_of member.entry)) }
 {
     let Some(value) = member else {
         return Ok(Block::Empty);
@@ -151,15 +166,16 @@ pub fn program_in(
 }
 
 /// The text of a member.
-pub fn tree_in(
+pub(crate) fn tree_in(
     alloc: Global,
     declared: &[Declared],
     part: Part,
     member: Member,
     value: &Value,
-) -> Result<Expr, MachineFault>
-    ensures ok { IfOk result (λ e. tree_in (language_of declared.now) part member (view value.now) ≡ Ok (tree e)) }
-    ensures err { IfErr result (λ e. e ≢ MachineFault.OutOfMemory → tree_in (language_of declared.now) part member (view value.now) ≡ Err (fault e)) }
+) -> Result<SourceExpr, MachineFault>
+    ensures ok { Gives result tree (tree_in (language_of declared.now) part member
+        (view value.now)) }
+    ensures err { FailsBy result (tree_in (language_of declared.now) part member (view value.now)) }
 {
     match value.as_str() {
         Some(text) => expression(alloc, declared, part, member, text),
@@ -168,15 +184,17 @@ pub fn tree_in(
 }
 
 /// A whole number, or a text.
-pub fn value_in(
+pub(crate) fn value_in(
     alloc: Global,
     declared: &[Declared],
     part: Part,
     member: Member,
     written: &Value,
 ) -> Result<Said, MachineFault>
-    ensures ok { IfOk result (λ v. value_in (language_of declared.now) part member (view written.now) ≡ Ok (value v)) }
-    ensures err { IfErr result (λ e. e ≢ MachineFault.OutOfMemory → value_in (language_of declared.now) part member (view written.now) ≡ Err (fault e)) }
+    ensures ok { Gives result value (value_in (language_of declared.now) part member
+        (view written.now)) }
+    ensures err { FailsBy result (value_in (language_of declared.now) part member
+        (view written.now)) }
 {
     match written.as_i64() {
         Some(number) => Ok(Said::Number(number)),

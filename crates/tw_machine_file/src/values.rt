@@ -9,35 +9,35 @@ use crate::names::is_among;
 use serde_json::{Map, Value};
 
 /// The items of an array.
-pub fn items_of(value: &Value) -> Option<&[Value]>
+pub(crate) fn items_of(value: &Value) -> Option<&[Value]>
     ensures { option_map (λ vs. items_view vs.now) result ≡ as_array (view value.now) }
 {
     Some(value.as_array()?.as_slice())
 }
 
 /// Whether there are as many.
-pub fn has_items(count: usize, values: &[Value]) -> bool
+pub(crate) fn has_items(count: usize, values: &[Value]) -> bool
     ensures { result ≡ (items_len (items_view values.now) == count) }
 {
     values.len() == count
 }
 
 /// Whether there are 1 to so many.
-pub fn is_long(most: usize, values: &[Value]) -> bool
+pub(crate) fn is_long(most: usize, values: &[Value]) -> bool
     ensures { result ≡ is_long most (items_view values.now) }
 {
     values.len() >= 1 && values.len() <= most
 }
 
 /// Whether there are at most so many.
-pub fn are_few(most: usize, values: &[Value]) -> bool
+pub(crate) fn are_few(most: usize, values: &[Value]) -> bool
     ensures { result ≡ nat_le (items_len (items_view values.now)) most }
 {
     values.len() <= most
 }
 
 /// Whether each member has one of these names.
-pub fn are_among(names: &[&[u8]], members: &Map<String, Value>) -> bool
+pub(crate) fn are_among(names: &[&[u8]], members: &Map<String, Value>) -> bool
     ensures { result ≡ are_among (map (λ n. n.now) names.now) (members_view members.now.entries) }
 {
     for (name, _) in members.iter() {

@@ -1,28 +1,37 @@
 //! What a machine shows.
-ghost use Rattle.std.specs.Prelude.{◌≡◌, ◌≢◌, [], Ok, Err, IfOk, IfErr, map, option_map};
+ghost use Rattle.std.specs.Prelude.{◌≡◌, [], Ok, IfOk, map};
 ghost use Rattle.std.specs.List.{list_any};
 ghost use Rattle.serde_json.specs.View.{view, items_view};
 ghost use Rattle.tw_machine_text.specs.Views.{tree as spelled};
 ghost use Rattle.tw_machine_declaration.specs.Seen.{value};
-ghost use Rattle.tw_machine_file.specs.Fault.{fault};
+ghost use Rattle.tw_machine_file.specs.Answers.{Gives, FailsBy, data_of};
 ghost use Rattle.tw_machine_file.specs.Texts.{language_of};
-ghost use Rattle.tw_machine_file.specs.Words.{is_again, is_same_number, is_same_tree, some_words, word_of, words_in, words_of};
+ghost use Rattle.tw_machine_file.specs.Words.{
+  is_again,
+  is_same_number,
+  is_same_tree,
+  some_words,
+  word_of,
+  words_in,
+  words_of,
+};
 
 use crate::fault::{MachineFault, Part, Why};
 use crate::texts::{kinds_in, value_in};
 use crate::values::{is_long, items_of};
 use serde_json::Value;
 use std::alloc::Global;
+use tw_machine::limits::MAX_WORDS;
 use tw_machine_compiler::Value as Said;
-use tw_machine_text::{Declared, Expr, Kind, Member, is_shown};
+use tw_machine_text::{Declared, Kind, Member, SourceExpr, is_shown};
 
 /// Whether two indices are one number.
-fn is_same_number(a: &Expr, b: &Expr) -> bool
+fn is_same_number(a: &SourceExpr, b: &SourceExpr) -> bool
     ensures { result ≡ is_same_number (spelled a.now) (spelled b.now) }
 {
     match a {
-        Expr::Number(i) => match b {
-            Expr::Number(j) => *i == *j,
+        SourceExpr::Number(i) => match b {
+            SourceExpr::Number(j) => *i == *j,
             _ => false,
         },
         _ => false,
@@ -30,16 +39,16 @@ fn is_same_number(a: &Expr, b: &Expr) -> bool
 }
 
 /// Whether two trees are one name, or one name with one number.
-fn is_same_tree(a: &Expr, b: &Expr) -> bool
+fn is_same_tree(a: &SourceExpr, b: &SourceExpr) -> bool
     ensures { result ≡ is_same_tree (spelled a.now) (spelled b.now) }
 {
     match a {
-        Expr::Name(a) => match b {
-            Expr::Name(b) => *a == *b,
+        SourceExpr::Name(a) => match b {
+            SourceExpr::Name(b) => *a == *b,
             _ => false,
         },
-        Expr::Indexed(a, i) => match b {
-            Expr::Indexed(b, j) => *a == *b && is_same_number(i, j),
+        SourceExpr::Indexed(a, i) => match b {
+            SourceExpr::Indexed(b, j) => *a == *b && is_same_number(i, j),
             _ => false,
         },
         _ => false,
@@ -80,8 +89,10 @@ fn word_of(
     written: &Value,
 ) -> Result<Said, MachineFault>
     requires { kinds.now ≡ (language_of declared.now).kinds }
-    ensures ok { IfOk result (λ w. word_of (language_of declared.now) index (map value before.now) (view written.now) ≡ Ok (value w)) }
-    ensures err { IfErr result (λ e. e ≢ MachineFault.OutOfMemory → word_of (language_of declared.now) index (map value before.now) (view written.now) ≡ Err (fault e)) }
+    ensures ok { Gives result value (word_of (language_of declared.now) index
+        (map value before.now) (view written.now)) }
+    ensures err { FailsBy result (word_of (language_of declared.now) index (map value before.now)
+        (view written.now)) }
 {
     let word = value_in(alloc, declared, Part::Word(index), Member::Shown, written)?;
     if is_among_words(kinds, &word, before) {
@@ -96,8 +107,11 @@ fn words_of(
     declared: &[Declared],
     values: &[Value],
 ) -> Result<Vec<Said>, MachineFault>
-    ensures ok { IfOk result (λ v. words_of (language_of declared.now) 0 [] (items_view values.now) ≡ Ok (map value v.items)) }
-    ensures err { IfErr result (λ e. e ≢ MachineFault.OutOfMemory → words_of (language_of declared.now) 0 [] (items_view values.now) ≡ Err (fault e)) }
+    ensures ok { Gives result
+        (λ v. map value v.items) (words_of (language_of declared.now) 0 []
+        (items_view values.now)) }
+    ensures err { FailsBy result (words_of (language_of declared.now) 0 []
+        (items_view values.now)) }
 {
     let kinds = kinds_in(alloc, declared)?;
     let mut words = Vec::new(alloc);
@@ -110,26 +124,27 @@ fn words_of(
 
 /// An array of 1 to 64.
 fn some_words(written: &Value) -> Result<&[Value], MachineFault>
-    ensures ok { IfOk result (λ vs. some_words (view written.now) ≡ Ok (items_view vs.now)) }
-    ensures err { IfErr result (λ e. e ≢ MachineFault.OutOfMemory → some_words (view written.now) ≡ Err (fault e)) }
+    ensures ok { Gives result (λ vs. items_view vs.now) (some_words (view written.now)) }
+    ensures err { FailsBy result (some_words (view written.now)) }
 {
     let Some(values) = items_of(written) else {
         return Err(MachineFault::Wrong(Part::Words, Why::Shape));
     };
-    if !is_long(64, values) {
+    if !is_long(MAX_WORDS, values) {
         return Err(MachineFault::Wrong(Part::Words, Why::Count));
     }
     Ok(values)
 }
 
 /// The member `words`, which must be there.
-pub fn words_in(
+pub(crate) fn words_in(
     alloc: Global,
     declared: &[Declared],
     member: Option<&Value>,
 ) -> Result<Vec<Said>, MachineFault>
-    ensures ok { IfOk result (λ v. words_in (language_of declared.now) (option_map (λ v. view v.now) member.entry) ≡ Ok (map value v.items)) }
-    ensures err { IfErr result (λ e. e ≢ MachineFault.OutOfMemory → words_in (language_of declared.now) (option_map (λ v. view v.now) member.entry) ≡ Err (fault e)) }
+    ensures ok { IfOk result
+        (λ v. words_in (language_of declared.now) (data_of member.entry) ≡ Ok (map value v.items)) }
+    ensures err { FailsBy result (words_in (language_of declared.now) (data_of member.entry)) }
 {
     match member {
         Some(written) => words_of(alloc, declared, some_words(written)?),

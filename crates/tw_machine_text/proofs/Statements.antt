@@ -6,7 +6,7 @@ use Rattle.std.proofs.lemmas.Bool.{lt-ltb}
 use Rattle.tw_machine_text.specs.declared.words.Verb.{Verb}
 use Rattle.tw_machine_text.specs.declared.words.Word.{Word}
 use Rattle.tw_machine_text.specs.declared.words.Word.TheVariants as word
-use Rattle.tw_machine_text.specs.Tree.{Tree, Number, Name, Indexed, Binary, spelled, rank, level, is_count, IsExpr, deep, Statement, Assign, Act, Pop, Draw, Wait, Passivate, If, IfElse, Repeat, Block, Empty, Then, Arms, One, More, said, said_block, said_arms, IsStatement, IsBlock, AreArms, deep_statement, deep_block, deep_arms, Means}
+use Rattle.tw_machine_text.specs.Tree.{Tree, Number, Name, Indexed, Binary, spelled, rank, level, is_count, IsExpr, deep, SourceStatement, Assign, Act, Pop, Draw, Wait, Passivate, If, IfElse, Repeat, Block, Empty, Then, Arms, One, More, said, said_block, said_arms, IsStatement, IsBlock, AreArms, deep_statement, deep_block, deep_arms, Means}
 use Rattle.tw_machine_text.specs.Machine.{Frame, Operand, InNot, InNegative, InGroup, InIndex, InCall, InRandom, InPlace, InChange, InQueue, InItem, InPop, InWait, InIf, InElseIf, InCount, InThen, InElseThen, InElse, InTurns, State, Need, Have, Begin, After, AfterThen, AfterElse, demand, depth, reduce, becomes, open_block, enter, finished, ended, close_block, start, named, marked, have, step, run, whole, program_of}
 use Rattle.tw_machine_text.proofs.Expressions.{Comes, come, ahead, ranks, still_past}
 
@@ -23,7 +23,7 @@ starts word.Repeat = true
 starts word.CloseBrace = true
 starts _ = false
 
-starts-after : (w : Word) (s : List Frame) (b : Block) (last : Statement) → starts w ≡ true → Rattle.tw_machine_text.specs.Machine.after w s b last ≡ start w (s, Then b last false)
+starts-after : (w : Word) (s : List Frame) (b : Block) (last : SourceStatement) → starts w ≡ true → Rattle.tw_machine_text.specs.Machine.after w s b last ≡ start w (s, Then b last false)
 starts-after word.Semicolon s b last h = absurd (cc)
 starts-after _ s b last h = refl
 
@@ -81,7 +81,7 @@ count_fits (Number n) h = (omega arith, tt, refl)
 count_fits (Name n) h = (omega arith, tt, refl)
 count_fits _ h = absurd (cc)
 
-pub record Tells (most : ℕ) (s : List Frame) (b : Block) (x : Statement) (st : State) : Type 0 where
+pub record Tells (most : ℕ) (s : List Frame) (b : Block) (x : SourceStatement) (st : State) : Type 0 where
   pub next : State
   pub go : (ws : List Word) → run most (said x ws) st ≡ run most ws next
   pub plain : ended false next ≡ Some (s, Then b x false)
@@ -96,7 +96,7 @@ entered : (most : ℕ) (f : Frame) (s : List Frame) → depth s < most → enter
 entered most f s h = rw (lt-ltb (depth s) most h) refl
 
 -- an operand that ends its statement
-last_operand : (most : ℕ) (f : Frame) (s : List Frame) (b : Block) (x : Statement) (st : State) (t : Tree) (c : Comes most (f ∷ s) t) →
+last_operand : (most : ℕ) (f : Frame) (s : List Frame) (b : Block) (x : SourceStatement) (st : State) (t : Tree) (c : Comes most (f ∷ s) t) →
     ((ws : List Word) → run most (said x ws) st ≡ run most (spelled t ws) (Need (f ∷ s))) →
     reduce 0 (f ∷ s) t ≡ (f ∷ s, t) →
     ((m : Bool) → finished m (f ∷ s, t) ≡ Some (s, Then b x m)) →
@@ -111,7 +111,7 @@ last_operand most f s b x st t c before top done =
     }
 
 mutual
-  pub tell : (most : ℕ) (x : Statement) (st : State) (s : List Frame) (b : Block) → IsStatement x → ended false st ≡ Some (s, b) → depth s + deep_statement x ≤ most → Tells most s b x st
+  pub tell : (most : ℕ) (x : SourceStatement) (st : State) (s : List Frame) (b : Block) → IsStatement x → ended false st ≡ Some (s, b) → depth s + deep_statement x ≤ most → Tells most s b x st
   tell most (Assign p c e) st s b fits can room =
       let place = come most p (InPlace b ∷ s) fits.0.1 fits.0.0 (omega arith) in
       last_operand most (InChange b p c) s b (Assign p c e) st e (come most e (InChange b p c ∷ s) fits.1.1 fits.1.0 (omega arith))

@@ -8,10 +8,10 @@ use Rattle.std.proofs.Math.Dec.{leb, ltb}
 use Rattle.tw_machine_text.specs.declared.words.Operator.{Operator}
 use Rattle.tw_machine_text.specs.declared.words.Operator.TheVariants.{Minus}
 use Rattle.tw_machine_text.specs.declared.words.Builtin.TheVariants.{Random}
-use Rattle.tw_machine_text.specs.declared.words.Change.{Change}
+use Rattle.tw_machine_text.specs.declared.words.SourceChange.{SourceChange}
 use Rattle.tw_machine_text.specs.declared.words.Word.{Word}
 use Rattle.tw_machine_text.specs.declared.words.Word.TheVariants as word
-use Rattle.tw_machine_text.specs.Tree.{Tree, Number, Name, Known, Indexed, Call, RandomBelow, Group, Negate, Not, Binary, spelled, rank, left_rank, level, count, wanted, is_count, fits_call, IsExpr, deep, Statement, Assign, Act, Pop, Draw, Wait, Passivate, If, IfElse, Repeat, Block, Empty, Then, Arms, One, More, mark, said, said_block, said_arms, IsStatement, IsBlock, AreArms, deep_statement, deep_block, deep_arms, Means}
+use Rattle.tw_machine_text.specs.Tree.{Tree, Number, Name, Known, Indexed, Call, RandomBelow, Group, Negate, Not, Binary, spelled, rank, left_rank, level, count, wanted, is_count, fits_call, IsExpr, deep, SourceStatement, Assign, Act, Pop, Draw, Wait, Passivate, If, IfElse, Repeat, Block, Empty, Then, Arms, One, More, mark, said, said_block, said_arms, IsStatement, IsBlock, AreArms, deep_statement, deep_block, deep_arms, Means}
 use Rattle.tw_machine_text.specs.Machine.{Frame, Operand, InNot, InNegative, InGroup, InIndex, InCall, InRandom, InPlace, InChange, InQueue, InItem, InPop, InWait, InIf, InElseIf, InCount, InThen, InElseThen, InElse, InTurns, State, Need, Have, Begin, After, AfterThen, AfterElse, demand, depth, reduce, nest, operand, need, item, shift, called, indexed, close, close_index, becomes, open_block, enter, finished, ended, close_block, start, named, marked, have, after_arm, after_else, after, step, run, whole, program_of, weigh}
 use Rattle.tw_machine_text.proofs.Expressions.{ranks}
 use Rattle.tw_machine_text.proofs.Weights.{weigh_block}
@@ -249,7 +249,7 @@ close_index_kept most before (InIndex n ∷ s) t next h e = got (Kept most (λ w
 close_index_kept most before [] t next h e = absurd (cc)
 close_index_kept most before (f ∷ s) t next h e = absurd (cc)
 
-becomes_kept : (most : ℕ) (before : List Word → List Word) (c : Change) (s : List Frame) (t : Tree) (next : State) → Top most 0 before s t → becomes c (s, t) ≡ Some next → Kept most (λ ws. before (word.Becomes c ∷ ws)) next
+becomes_kept : (most : ℕ) (before : List Word → List Word) (c : SourceChange) (s : List Frame) (t : Tree) (next : State) → Top most 0 before s t → becomes c (s, t) ≡ Some next → Kept most (λ ws. before (word.Becomes c ∷ ws)) next
 becomes_kept most before c (InPlace b ∷ s) t next h e = got (Kept most (λ ws. before (word.Becomes c ∷ ws))) (Need (InChange b t c ∷ s)) next e
     (record { words = λ ws. h.words (word.Becomes c ∷ ws); fits = (h.fits.0, (h.fit, h.expr, h.room), h.fits.1) })
 becomes_kept most before c [] t next h e = absurd (cc)
@@ -350,13 +350,13 @@ have_kept most before word.OpenBrace s t next h e = let r = reduce 0 s t in open
 have_kept most before word.Semicolon s t next h e = let r = reduce 0 s t in marked_kept most before r.0 r.1 next (reduced most 0 before s t (loosened most before 8 0 s t (omega arith) h)) e
 have_kept most before w s t next h e = let r = reduce 0 s t in restart_kept most before w r.0 r.1 next (reduced most 0 before s t (loosened most before 8 0 s t (omega arith) h)) e
 
-done : (most : ℕ) (s : List Frame) (b : Block) (x : Statement) (m : Bool) → BlockIn most s b → IsStatement x → depth s + deep_statement x ≤ most → Fits most s → Blocked most (λ ws. told s (said_block b (said x (mark m ws)))) (s, Then b x m)
+done : (most : ℕ) (s : List Frame) (b : Block) (x : SourceStatement) (m : Bool) → BlockIn most s b → IsStatement x → depth s + deep_statement x ≤ most → Fits most s → Blocked most (λ ws. told s (said_block b (said x (mark m ws)))) (s, Then b x m)
 done most s b x m inside expr room fits = record { words = λ ws. refl; inside = ((inside.0, expr), omega (arith, inside.1, room)); fits = fits }
 
-semicolon : (most : ℕ) (before : List Word → List Word) (s : List Frame) (b : Block) (x : Statement) → Blocked most before (s, Then b x true) → Kept most before (Begin s (Then b x true))
+semicolon : (most : ℕ) (before : List Word → List Word) (s : List Frame) (b : Block) (x : SourceStatement) → Blocked most before (s, Then b x true) → Kept most before (Begin s (Then b x true))
 semicolon most before s b x k = record { words = k.words; fits = (k.inside, k.fits) }
 
-after_kept : (most : ℕ) (w : Word) (s : List Frame) (b : Block) (x : Statement) (next : State) → FitsState most (After s b x) → after w s b x ≡ Some next → Kept most (λ ws. told s (said_block b (said x (w ∷ ws)))) next
+after_kept : (most : ℕ) (w : Word) (s : List Frame) (b : Block) (x : SourceStatement) (next : State) → FitsState most (After s b x) → after w s b x ≡ Some next → Kept most (λ ws. told s (said_block b (said x (w ∷ ws)))) next
 after_kept most word.Semicolon s b x next h e = got (Kept most (λ ws. told s (said_block b (said x (word.Semicolon ∷ ws))))) (Begin s (Then b x true)) next e (semicolon most _ s b x (done most s b x true h.0 h.1 h.2 h.3))
 after_kept most w s b x next h e = start_kept most (λ ws. told s (said_block b (said x ws))) w s (Then b x false) next (done most s b x false h.0 h.1 h.2 h.3) e
 

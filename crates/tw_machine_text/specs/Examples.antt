@@ -3,8 +3,9 @@ use Rattle.std.specs.Prelude.{List, [], ◌∷◌, true, false}
 use Rattle.tw_machine_text.specs.declared.words.Operator.TheVariants.{Comma, Or, And, Equal, Less, Minus, Times}
 use Rattle.tw_machine_text.specs.declared.words.Word.{Word}
 use Rattle.tw_machine_text.specs.declared.words.Word.TheVariants as word
-use Rattle.tw_machine_text.specs.declared.words.Change.TheVariants.{Set}
+use Rattle.tw_machine_text.specs.declared.words.SourceChange.TheVariants.{Set}
 use Rattle.tw_machine_text.specs.declared.words.Verb.TheVariants.{Push, Put}
+use Rattle.tw_machine_text.specs.Limits.{max_levels, max_nodes}
 use Rattle.tw_machine_text.specs.Tree.{Tree, Number, Name, Negate, Not, Binary, Block, Empty, Then, Assign, Act, Wait, Draw, IfElse, One, More, Means}
 
 abbrev pub a : Tree
@@ -21,7 +22,7 @@ d = Name 13
 
 -- the program that waits for this
 abbrev pub Waiting : List Word → Tree → Type 0
-Waiting ws e = Means 64 4096 (word.Wait ∷ ws) (Then Empty (Wait e) false)
+Waiting ws e = Means max_levels max_nodes (word.Wait ∷ ws) (Then Empty (Wait e) false)
 
 -- not a == b
 abbrev pub not_equal : Type 0
@@ -41,16 +42,16 @@ and_or = Waiting (word.Name 10 ∷ word.Sign Less ∷ word.Name 11 ∷ word.Sign
 
 -- put q 0, a - 1 push q -a draw: a sign behind a queue begins what is pushed
 abbrev pub behind_queues : Type 0
-behind_queues = Means 64 4096
+behind_queues = Means max_levels max_nodes
     (word.Begins Put ∷ word.Name 12 ∷ word.Number 0 ∷ word.Sign Comma ∷ word.Name 10 ∷ word.Sign Minus ∷ word.Number 1 ∷ word.Begins Push ∷ word.Name 12 ∷ word.Sign Minus ∷ word.Name 10 ∷ word.Draw ∷ [])
     (Then (Then (Then Empty (Act Put c (Binary Comma (Number 0) (Binary Minus a (Number 1)))) false) (Act Push c (Negate a)) false) Draw false)
 
 -- if a { draw; } else if b { } else { c = 1 }
 abbrev pub chains : Type 0
-chains = Means 64 4096
+chains = Means max_levels max_nodes
     (word.If ∷ word.Name 10 ∷ word.OpenBrace ∷ word.Draw ∷ word.Semicolon ∷ word.CloseBrace ∷ word.Else ∷ word.If ∷ word.Name 11 ∷ word.OpenBrace ∷ word.CloseBrace ∷ word.Else ∷ word.OpenBrace ∷ word.Name 12 ∷ word.Becomes Set ∷ word.Number 1 ∷ word.CloseBrace ∷ [])
     (Then Empty (IfElse (More (One a (Then Empty Draw true)) b Empty) (Then Empty (Assign c Set (Number 1)) false)) false)
 
 -- a < b < c means nothing
 abbrev pub no_chain : Type 0
-no_chain = (program : Block) → Means 64 4096 (word.Wait ∷ word.Name 10 ∷ word.Sign Less ∷ word.Name 11 ∷ word.Sign Less ∷ word.Name 12 ∷ []) program → ⊥
+no_chain = (program : Block) → Means max_levels max_nodes (word.Wait ∷ word.Name 10 ∷ word.Sign Less ∷ word.Name 11 ∷ word.Sign Less ∷ word.Name 12 ∷ []) program → ⊥

@@ -6,7 +6,8 @@ use Rattle.tw_machine_text.specs.declared.kinds.Member.{Member}
 use Rattle.tw_machine_text.specs.declared.kinds.Member.TheVariants.{Value, Each, Shown}
 use Rattle.tw_machine_text.specs.declared.kinds.Kind.TheVariants.{Nothing, Register, RegisterArray, Queue, QueueArray, Table, Parameter}
 use Rattle.tw_machine_text.specs.Letters.{same_text, functions}
-use Rattle.tw_machine_text.specs.Tree.{Tree, Number, Name, Known, Indexed, Call, RandomBelow, Group, Negate, Not, Binary, Statement, Assign, Act, Pop, Draw, Wait, Passivate, If, IfElse, Repeat, Block, Empty, Then, Arms, One, More}
+use Rattle.tw_machine_text.specs.Limits.{max_turns}
+use Rattle.tw_machine_text.specs.Tree.{Tree, Number, Name, Known, Indexed, Call, RandomBelow, Group, Negate, Not, Binary, SourceStatement, Assign, Act, Pop, Draw, Wait, Passivate, If, IfElse, Repeat, Block, Empty, Then, Arms, One, More}
 
 -- what is declared by a name; where it is declared twice, by the first
 abbrev pub kind_named : List (List ℕ × Kind) → List ℕ → Kind
@@ -80,12 +81,12 @@ bound_place kinds _ = false
 
 -- how many turns are made: 0 to 64, or a parameter
 abbrev pub bound_count : List Kind → Tree → Bool
-bound_count kinds (Number n) = nat_le n 64
+bound_count kinds (Number n) = nat_le n max_turns
 bound_count kinds (Name n) = is_parameter (stands_for kinds n)
 bound_count kinds _ = false
 
 abbrev mutual
-  pub bound_statement : List Kind → Statement → Bool
+  pub bound_statement : List Kind → SourceStatement → Bool
   bound_statement kinds (Assign p c e) = bound_place kinds p && bound kinds e
   bound_statement kinds (Act v q e) = bound_queue kinds q && bound kinds e
   bound_statement kinds (Pop q) = bound_queue kinds q
@@ -120,7 +121,7 @@ abbrev pub is_empty : Block → Bool
 is_empty Empty = true
 is_empty _ = false
 
-abbrev pub waits : Statement → Option Tree
+abbrev pub waits : SourceStatement → Option Tree
 waits (Wait e) = Some e
 waits _ = None
 

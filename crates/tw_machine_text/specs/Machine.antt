@@ -4,11 +4,11 @@ use Rattle.std.specs.Option.{option_and_then}
 use Rattle.tw_machine_text.specs.declared.words.Operator.{Operator}
 use Rattle.tw_machine_text.specs.declared.words.Operator.TheVariants.{Comma, Minus}
 use Rattle.tw_machine_text.specs.declared.words.Builtin.TheVariants.{Random}
-use Rattle.tw_machine_text.specs.declared.words.Change.{Change}
+use Rattle.tw_machine_text.specs.declared.words.SourceChange.{SourceChange}
 use Rattle.tw_machine_text.specs.declared.words.Verb.{Verb}
 use Rattle.tw_machine_text.specs.declared.words.Word.{Word}
 use Rattle.tw_machine_text.specs.declared.words.Word.TheVariants as word
-use Rattle.tw_machine_text.specs.Tree.{Tree, Number, Name, Known, Indexed, Call, RandomBelow, Group, Negate, Not, Binary, rank, left_rank, count, fits_call, Statement, Assign, Act, Pop, Draw, Wait, Passivate, If, IfElse, Repeat, Block, Empty, Then, Arms, One, More, is_count, wanted}
+use Rattle.tw_machine_text.specs.Tree.{Tree, Number, Name, Known, Indexed, Call, RandomBelow, Group, Negate, Not, Binary, rank, left_rank, count, fits_call, SourceStatement, Assign, Act, Pop, Draw, Wait, Passivate, If, IfElse, Repeat, Block, Empty, Then, Arms, One, More, is_count, wanted}
 
 -- what has begun and is not done, the innermost first
 pub data Frame : Type 0 where
@@ -20,7 +20,7 @@ pub data Frame : Type 0 where
   InCall : (n : ℕ) → Frame
   InRandom : Frame
   InPlace : (b : Block) → Frame
-  InChange : (b : Block) (p : Tree) (c : Change) → Frame
+  InChange : (b : Block) (p : Tree) (c : SourceChange) → Frame
   InQueue : (b : Block) (v : Verb) → Frame
   InItem : (b : Block) (v : Verb) (q : Tree) → Frame
   InPop : (b : Block) → Frame
@@ -41,7 +41,7 @@ pub data State : Type 0 where
   -- a statement may begin
   Begin : (s : List Frame) (b : Block) → State
   -- a statement is done
-  After : (s : List Frame) (b : Block) (last : Statement) → State
+  After : (s : List Frame) (b : Block) (last : SourceStatement) → State
   -- an arm is done
   AfterThen : (s : List Frame) (b : Block) (arms : Arms) → State
   -- `else` has come
@@ -127,7 +127,7 @@ abbrev pub close_index : List Frame × Tree → Option State
 close_index (InIndex n ∷ s, t) = Some (Have s (Indexed n t))
 close_index _ = None
 
-abbrev pub becomes : Change → List Frame × Tree → Option State
+abbrev pub becomes : SourceChange → List Frame × Tree → Option State
 becomes c (InPlace b ∷ s, t) = Some (Need (InChange b t c ∷ s))
 becomes c _ = None
 
@@ -217,7 +217,7 @@ after_else most word.If s b arms = Some (Need (InElseIf b arms ∷ s))
 after_else most word.OpenBrace s b arms = enter most (InElse b arms) s
 after_else most _ s b arms = None
 
-abbrev pub after : Word → List Frame → Block → Statement → Option State
+abbrev pub after : Word → List Frame → Block → SourceStatement → Option State
 after word.Semicolon s b last = Some (Begin s (Then b last true))
 after w s b last = start w (s, Then b last false)
 

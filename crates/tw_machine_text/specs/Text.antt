@@ -1,9 +1,9 @@
 -- The words of a text.
-use Rattle.std.specs.Prelude.{◌≡◌, ℕ, ◌+◌, ◌-◌, ◌*◌, ◌^◌, ◌≤◌, Bool, true, false, not, ◌&&◌, ◌||◌, ◌⊎◌, List, [], ◌∷◌, ◌++◌, Option, Some, None, ◌==◌, nat_lt, nat_le, if◌then◌else◌, codes}
+use Rattle.std.specs.Prelude.{◌≡◌, ℕ, ◌+◌, ◌-◌, ◌*◌, ◌^◌, ◌≤◌, Bool, true, false, not, ◌&&◌, ◌||◌, ◌⊎◌, List, [], ◌∷◌, ◌++◌, Option, Some, None, is_some, ◌==◌, nat_lt, nat_le, if◌then◌else◌, codes}
 use Rattle.std.specs.Option.{option_map}
 use Rattle.tw_machine_text.specs.declared.words.Operator.TheVariants.{Comma, Or, And, Equal, NotEqual, Less, LessEqual, Greater, GreaterEqual, Plus, Minus, Times, Divide, Modulo}
 use Rattle.tw_machine_text.specs.declared.words.Builtin.TheVariants.{Random, Port, Value, Elapsed, Left, Now, Turn}
-use Rattle.tw_machine_text.specs.declared.words.Change.TheVariants.{Set, Add, Subtract, Xor}
+use Rattle.tw_machine_text.specs.declared.words.SourceChange.TheVariants.{Set, Add, Subtract, Xor}
 use Rattle.tw_machine_text.specs.declared.words.Verb.TheVariants.{Push, Insert, Remove, Put}
 use Rattle.tw_machine_text.specs.declared.words.Word.{Word}
 use Rattle.tw_machine_text.specs.declared.words.Word.TheVariants as word
@@ -40,12 +40,19 @@ reserved =
     ∷ (codes "draw", word.Draw) ∷ (codes "push", word.Begins Push) ∷ (codes "insert", word.Begins Insert) ∷ (codes "put", word.Begins Put) ∷ (codes "remove", word.Begins Remove)
     ∷ (codes "pop", word.Pop) ∷ []
 
+-- whether a text is a word of the language that no name may be
+abbrev pub is_reserved : List ℕ → Bool
+is_reserved text = is_some (lookup reserved text)
+
 abbrev pub signs : List (List ℕ × Word)
 signs =
     (codes "(", word.Open) ∷ (codes ")", word.Close) ∷ (codes "[", word.OpenBracket) ∷ (codes "]", word.CloseBracket) ∷ (codes "{", word.OpenBrace) ∷ (codes "}", word.CloseBrace)
     ∷ (codes ";", word.Semicolon) ∷ (codes ",", word.Sign Comma) ∷ (codes "+", word.Sign Plus) ∷ (codes "-", word.Sign Minus) ∷ (codes "*", word.Sign Times) ∷ (codes "/", word.Sign Divide)
     ∷ (codes "%", word.Sign Modulo) ∷ (codes "<", word.Sign Less) ∷ (codes ">", word.Sign Greater) ∷ (codes "=", word.Becomes Set) ∷ (codes "==", word.Sign Equal) ∷ (codes "!=", word.Sign NotEqual)
     ∷ (codes "<=", word.Sign LessEqual) ∷ (codes ">=", word.Sign GreaterEqual) ∷ (codes "+=", word.Becomes Add) ∷ (codes "-=", word.Becomes Subtract) ∷ (codes "^=", word.Becomes Xor) ∷ []
+
+abbrev pub is_sign : List ℕ → Bool
+is_sign text = is_some (lookup signs text)
 
 -- the number that digits are, with n before them, at most 2 ^ 63 - 1
 abbrev pub digits : ℕ → List ℕ → Option ℕ
@@ -132,6 +139,18 @@ pub record ReadsTree (most many : ℕ) (member : Member) (names : List (List ℕ
   pub levels : deep e ≤ most
   pub size : nodes e ≤ many
   pub bound : bound_as member kinds e ≡ true
+
+-- a text says one program at most, however deep
+abbrev pub OneText : Type 0
+OneText =
+    (names : List (List ℕ)) (kinds : List Kind) (text : List ℕ) (m n i j : ℕ) (a b : Block)
+    → Reads m i names kinds text a → Reads n j names kinds text b → a ≡ b
+
+-- and one expression at most
+abbrev pub OneTree : Type 0
+OneTree =
+    (names : List (List ℕ)) (kinds : List Kind) (text : List ℕ) (m n i j : ℕ) (s t : Member) (a b : Tree)
+    → ReadsTree m i s names kinds text a → ReadsTree n j t names kinds text b → a ≡ b
 
 -- the same by a machine that takes one byte after another: the words so far, and what is being read
 pub data Mode : Type 0 where

@@ -4,7 +4,11 @@ use Rattle.tw_machine_text.specs.declared.kinds.Declared.{Declared}
 use Rattle.tw_machine_text.specs.declared.kinds.Kind.{Kind}
 use Rattle.tw_machine_text.specs.declared.lexing.Mode as declared
 use Rattle.tw_machine_text.specs.declared.lexing.Mode.TheVariants as v
-use Rattle.tw_machine_text.specs.Text.{Mode, Between, InComment, Reading}
+use Rattle.tw_machine_text.specs.declared.kinds.Member.{Member}
+use Rattle.tw_machine_text.specs.Kinds.{kinds_of}
+use Rattle.tw_machine_text.specs.Limits.{max_levels}
+use Rattle.tw_machine_text.specs.Text.{Mode, Between, InComment, Reading, Reads, ReadsTree}
+use Rattle.tw_machine_text.specs.Tree.{Block, Tree}
 
 abbrev pub viewed : declared.Mode → Mode
 viewed v.Between = Between
@@ -18,3 +22,11 @@ declarations declared = map (λ d. (string_bytes d.name, d.kind)) declared
 -- the names alone
 abbrev pub names_of : List Declared → List (List ℕ)
 names_of declared = map (λ d. string_bytes d.name) declared
+
+-- a text says this program, by what a machine declares, of at most so many nodes
+abbrev pub SaysProgram : List Declared → ℕ → List ℕ → Block → Type 0
+SaysProgram declared many text program = Reads max_levels many (names_of declared) (kinds_of (declarations declared)) text program
+
+-- the text of a member says this expression, queue or array register
+abbrev pub SaysMember : List Declared → Member → ℕ → List ℕ → Tree → Type 0
+SaysMember declared member many text e = ReadsTree max_levels many member (names_of declared) (kinds_of (declarations declared)) text e

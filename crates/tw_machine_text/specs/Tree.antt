@@ -4,7 +4,7 @@ use Rattle.tw_machine_text.specs.declared.words.Operator.{Operator}
 use Rattle.tw_machine_text.specs.declared.words.Operator.TheVariants.{Comma, Or, And, Equal, NotEqual, Less, LessEqual, Greater, GreaterEqual, Plus, Minus, Times, Divide, Modulo}
 use Rattle.tw_machine_text.specs.declared.words.Builtin.{Builtin}
 use Rattle.tw_machine_text.specs.declared.words.Builtin.TheVariants.{Random}
-use Rattle.tw_machine_text.specs.declared.words.Change.{Change}
+use Rattle.tw_machine_text.specs.declared.words.SourceChange.{SourceChange}
 use Rattle.tw_machine_text.specs.declared.words.Verb.{Verb}
 use Rattle.tw_machine_text.specs.declared.words.Verb.TheVariants.{Push, Insert, Remove, Put}
 use Rattle.tw_machine_text.specs.declared.words.Word.{Word}
@@ -129,21 +129,21 @@ deep (Binary op a b) = max (deep a) (deep b)
 
 -- A statement as it is written, a block as it grows, and the arms of an `if`.
 mutual
-  pub data Statement : Type 0 where
-    Assign : (place : Tree) (change : Change) (e : Tree) → Statement
-    Act : (verb : Verb) (queue e : Tree) → Statement
-    Pop : (queue : Tree) → Statement
-    Draw : Statement
-    Wait : (e : Tree) → Statement
-    Passivate : Statement
-    If : (arms : Arms) → Statement
-    IfElse : (arms : Arms) (last : Block) → Statement
-    Repeat : (count : Tree) (each : Block) → Statement
+  pub data SourceStatement : Type 0 where
+    Assign : (place : Tree) (change : SourceChange) (e : Tree) → SourceStatement
+    Act : (verb : Verb) (queue e : Tree) → SourceStatement
+    Pop : (queue : Tree) → SourceStatement
+    Draw : SourceStatement
+    Wait : (e : Tree) → SourceStatement
+    Passivate : SourceStatement
+    If : (arms : Arms) → SourceStatement
+    IfElse : (arms : Arms) (last : Block) → SourceStatement
+    Repeat : (count : Tree) (each : Block) → SourceStatement
 
   pub data Block : Type 0 where
     Empty : Block
     -- a statement behind others, and whether a semicolon follows it
-    Then : (before : Block) (last : Statement) (marked : Bool) → Block
+    Then : (before : Block) (last : SourceStatement) (marked : Bool) → Block
 
   pub data Arms : Type 0 where
     One : (test : Tree) (b : Block) → Arms
@@ -154,7 +154,7 @@ mark true ws = word.Semicolon ∷ ws
 mark false ws = ws
 
 abbrev mutual
-  pub said : Statement → List Word → List Word
+  pub said : SourceStatement → List Word → List Word
   said (Assign p c e) ws = spelled p (word.Becomes c ∷ spelled e ws)
   said (Act v q e) ws = word.Begins v ∷ spelled q (spelled e ws)
   said (Pop q) ws = word.Pop ∷ spelled q ws
@@ -193,7 +193,7 @@ wanted Remove = 1
 wanted Put = 2
 
 abbrev mutual
-  pub IsStatement : Statement → Type 0
+  pub IsStatement : SourceStatement → Type 0
   IsStatement (Assign p c e) = IsPlace p × IsAlone e
   IsStatement (Act v q e) = IsPlace q × (nat_eq (count e) (wanted v) ≡ true) × IsExpr e
   IsStatement (Pop q) = IsPlace q
@@ -213,7 +213,7 @@ abbrev mutual
   AreArms (More a t b) = AreArms a × IsAlone t × IsBlock b
 
 abbrev mutual
-  pub deep_statement : Statement → ℕ
+  pub deep_statement : SourceStatement → ℕ
   deep_statement (Assign p c e) = max (deep p) (deep e)
   deep_statement (Act v q e) = max (deep q) (deep e)
   deep_statement (Pop q) = deep q
@@ -247,7 +247,7 @@ nodes (Binary Comma a b) = nodes a + nodes b
 nodes (Binary op a b) = 1 + (nodes a + nodes b)
 
 abbrev mutual
-  pub nodes_statement : Statement → ℕ
+  pub nodes_statement : SourceStatement → ℕ
   nodes_statement (Assign p c e) = 1 + (nodes p + nodes e)
   nodes_statement (Act v q e) = 1 + (nodes q + nodes e)
   nodes_statement (Pop q) = 1 + nodes q

@@ -1,9 +1,9 @@
 -- Trees and frames without where they lie in memory.
 use Rattle.std.specs.Prelude.{◌≡◌, ℕ, List, Option, Some, None, Result, Ok, Err, map, reverse}
-use Rattle.tw_machine_text.specs.declared.tree.Expr.{Expr}
-use Rattle.tw_machine_text.specs.declared.tree.Expr.TheVariants as expr
-use Rattle.tw_machine_text.specs.declared.tree.Statement.{Statement}
-use Rattle.tw_machine_text.specs.declared.tree.Statement.TheVariants as statement
+use Rattle.tw_machine_text.specs.declared.tree.SourceExpr.{SourceExpr}
+use Rattle.tw_machine_text.specs.declared.tree.SourceExpr.TheVariants as expr
+use Rattle.tw_machine_text.specs.declared.tree.SourceStatement.{SourceStatement}
+use Rattle.tw_machine_text.specs.declared.tree.SourceStatement.TheVariants as statement
 use Rattle.tw_machine_text.specs.declared.tree.Block.{Block}
 use Rattle.tw_machine_text.specs.declared.tree.Block.TheVariants as block
 use Rattle.tw_machine_text.specs.declared.tree.Arms.{Arms}
@@ -21,7 +21,7 @@ use Rattle.tw_machine_text.specs.declared.refusal.TextRefused.TheVariants as e
 use Rattle.tw_machine_text.specs.Tree as t
 use Rattle.tw_machine_text.specs.Machine as m
 
-abbrev pub tree : Expr → t.Tree
+abbrev pub tree : SourceExpr → t.Tree
 tree (expr.Number n) = t.Number n
 tree (expr.Name n) = t.Name n
 tree (expr.Known g) = t.Known g
@@ -34,7 +34,7 @@ tree (expr.Not' p e) = t.Not (tree e)
 tree (expr.Binary' op p a q b) = t.Binary op (tree a) (tree b)
 
 abbrev mutual
-  pub told : Statement → t.Statement
+  pub told : SourceStatement → t.SourceStatement
   told (statement.Assign p c e) = t.Assign (tree p) c (tree e)
   told (statement.Act v q e) = t.Act v (tree q) (tree e)
   told (statement.Pop q) = t.Pop (tree q)

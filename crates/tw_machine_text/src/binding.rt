@@ -1,87 +1,105 @@
 //! Whether each name in a program stands where what it stands for may.
 ghost use Rattle.std.specs.Prelude.{◌≡◌};
-ghost use Rattle.tw_machine_text.specs.Kinds.{bound, bound_queue, bound_place, bound_count, bound_statement, bound_block, bound_arms, is_shown, bound_as};
+ghost use Rattle.tw_machine_text.specs.Kinds.{
+  bound,
+  bound_queue,
+  bound_place,
+  bound_count,
+  bound_statement,
+  bound_block,
+  bound_arms,
+  is_shown,
+  bound_as,
+};
 ghost use Rattle.tw_machine_text.specs.Views.{tree, told, body, chain};
 
 use crate::kinds::{Kind, Member, stands_for};
-use crate::tree::{Arms, Block, Expr, Statement};
+use crate::limits::MAX_TURNS;
+use crate::tree::{Arms, Block, SourceExpr, SourceStatement};
 use crate::words::Operator;
 
 /// An expression, or arguments of which none is a queue.
 #[cycle(expressions)]
-pub fn bound(kinds: &[Kind], e: &Expr) -> bool
+pub(crate) fn bound(kinds: &[Kind], e: &SourceExpr) -> bool
     ensures { result ≡ bound kinds.now (tree e.now) }
 {
     match e {
-        Expr::Number(_) | Expr::Known(_) => true,
-        Expr::Name(name) => stands_for(kinds, *name).reads(),
-        Expr::Indexed(name, index) => stands_for(kinds, *name).indexes() && bound(kinds, index),
-        Expr::Call(name, arguments) => {
+        SourceExpr::Number(_) | SourceExpr::Known(_) => true,
+        SourceExpr::Name(name) => stands_for(kinds, *name).reads(),
+        SourceExpr::Indexed(name, index) => stands_for(kinds, *name).indexes()
+            && bound(kinds, index),
+        SourceExpr::Call(name, arguments) => {
             if *name < 3 {
                 bound(kinds, arguments)
             } else {
                 bound_queue(kinds, arguments)
             }
         }
-        Expr::RandomBelow(e) | Expr::Group(e) | Expr::Negate(e) | Expr::Not(e) => bound(kinds, e),
-        Expr::Binary(_, a, b) => bound(kinds, a) && bound(kinds, b),
+        SourceExpr::RandomBelow(e)
+        | SourceExpr::Group(e)
+        | SourceExpr::Negate(e)
+        | SourceExpr::Not(e) => bound(kinds, e),
+        SourceExpr::Binary(_, a, b) => bound(kinds, a) && bound(kinds, b),
     }
 }
 
 /// A queue, or arguments of which the first is one.
 #[cycle(expressions)]
-pub fn bound_queue(kinds: &[Kind], e: &Expr) -> bool
+pub(crate) fn bound_queue(kinds: &[Kind], e: &SourceExpr) -> bool
     ensures { result ≡ bound_queue kinds.now (tree e.now) }
 {
     match e {
-        Expr::Name(name) => stands_for(kinds, *name).is_queue(),
-        Expr::Indexed(name, index) => stands_for(kinds, *name).is_queue_array()
+        SourceExpr::Name(name) => stands_for(kinds, *name).is_queue(),
+        SourceExpr::Indexed(name, index) => stands_for(kinds, *name).is_queue_array()
             && bound(kinds, index),
-        Expr::Binary(Operator::Comma, a, b) => bound_queue(kinds, a) && bound(kinds, b),
+        SourceExpr::Binary(Operator::Comma, a, b) => bound_queue(kinds, a) && bound(kinds, b),
         _ => false,
     }
 }
 
-fn bound_place(kinds: &[Kind], e: &Expr) -> bool
+fn bound_place(kinds: &[Kind], e: &SourceExpr) -> bool
     ensures { result ≡ bound_place kinds.now (tree e.now) }
 {
     match e {
-        Expr::Name(name) => stands_for(kinds, *name).is_register(),
-        Expr::Indexed(name, index) => stands_for(kinds, *name).is_register_array()
+        SourceExpr::Name(name) => stands_for(kinds, *name).is_register(),
+        SourceExpr::Indexed(name, index) => stands_for(kinds, *name).is_register_array()
             && bound(kinds, index),
         _ => false,
     }
 }
 
-fn bound_count(kinds: &[Kind], e: &Expr) -> bool
+fn bound_count(kinds: &[Kind], e: &SourceExpr) -> bool
     ensures { result ≡ bound_count kinds.now (tree e.now) }
 {
     match e {
-        Expr::Number(number) => *number <= 64,
-        Expr::Name(name) => stands_for(kinds, *name).is_parameter(),
+        SourceExpr::Number(number) => *number <= MAX_TURNS,
+        SourceExpr::Name(name) => stands_for(kinds, *name).is_parameter(),
         _ => false,
     }
 }
 
 #[cycle(statements)]
-fn bound_statement(kinds: &[Kind], s: &Statement) -> bool
+fn bound_statement(kinds: &[Kind], s: &SourceStatement) -> bool
     ensures { result ≡ bound_statement kinds.now (told s.now) }
 {
     match s {
-        Statement::Draw | Statement::Passivate => true,
-        Statement::Assign(place, _, e) => bound_place(kinds, place) && bound(kinds, e),
-        Statement::Act(_, queue, e) => bound_queue(kinds, queue) && bound(kinds, e),
-        Statement::Pop(queue) => bound_queue(kinds, queue),
-        Statement::Wait(e) => bound(kinds, e),
-        Statement::If(arms) => bound_arms(kinds, arms),
-        Statement::IfElse(arms, last) => { bound_arms(kinds, arms) && bound_block(kinds, last) }
-        Statement::Repeat(count, each) => bound_count(kinds, count) && bound_block(kinds, each),
+        SourceStatement::Draw | SourceStatement::Passivate => true,
+        SourceStatement::Assign(place, _, e) => bound_place(kinds, place) && bound(kinds, e),
+        SourceStatement::Act(_, queue, e) => bound_queue(kinds, queue) && bound(kinds, e),
+        SourceStatement::Pop(queue) => bound_queue(kinds, queue),
+        SourceStatement::Wait(e) => bound(kinds, e),
+        SourceStatement::If(arms) => bound_arms(kinds, arms),
+        SourceStatement::IfElse(arms, last) => {
+            bound_arms(kinds, arms) && bound_block(kinds, last)
+        }
+        SourceStatement::Repeat(count, each) => bound_count(kinds, count)
+            && bound_block(kinds, each),
     }
 }
 
 /// All statements of a block.
 #[cycle(statements)]
-pub fn bound_block(kinds: &[Kind], b: &Block) -> bool
+pub(crate) fn bound_block(kinds: &[Kind], b: &Block) -> bool
     ensures { result ≡ bound_block kinds.now (body b.now) }
 {
     match b {
@@ -103,23 +121,23 @@ fn bound_arms(kinds: &[Kind], a: &Arms) -> bool
 }
 
 /// Whether it stands in words as what it is: a queue, one of an array by its number, or an array register.
-pub fn is_shown(kinds: &[Kind], e: &Expr) -> bool
+pub fn is_shown(kinds: &[Kind], e: &SourceExpr) -> bool
     ensures { result ≡ is_shown kinds.now (tree e.now) }
 {
     match e {
-        Expr::Name(name) => {
+        SourceExpr::Name(name) => {
             let kind = stands_for(kinds, *name);
             kind.is_queue() || kind.is_register_array()
         }
-        Expr::Indexed(name, index) => {
-            matches!(**index, Expr::Number(_)) && stands_for(kinds, *name).is_queue_array()
+        SourceExpr::Indexed(name, index) => {
+            matches!(**index, SourceExpr::Number(_)) && stands_for(kinds, *name).is_queue_array()
         }
         _ => false,
     }
 }
 
 /// Whether it may be the text of such a member.
-pub fn bound_as(member: Member, kinds: &[Kind], e: &Expr) -> bool
+pub(crate) fn bound_as(member: Member, kinds: &[Kind], e: &SourceExpr) -> bool
     ensures { result ≡ bound_as member kinds.now (tree e.now) }
 {
     match member {

@@ -1,75 +1,92 @@
 //! The word that a run of letters and digits is, or a sign.
-ghost use Rattle.std.specs.Prelude.{◌≡◌, ◌==◌, ◌<◌, ◌+◌, Some, None, map};
+ghost use Rattle.std.specs.Prelude.{◌≡◌, ◌==◌, ◌<◌, ◌+◌, map};
 ghost use Rattle.tw_machine_text.specs.Letters.{functions, same_text};
-ghost use Rattle.tw_machine_text.specs.Text.{name_of, is_digit, is_word, lookup, position, reserved, signs, digits, number, word_of};
+ghost use Rattle.tw_machine_text.specs.Text.{
+  name_of,
+  is_digit,
+  is_word,
+  lookup,
+  position,
+  reserved,
+  is_reserved,
+  signs,
+  is_sign,
+  digits,
+  number,
+  word_of,
+};
 ghost use Rattle.tw_machine_text.specs.TextViews.{names_of};
 
 use crate::kinds::Declared;
-use crate::words::{Builtin, Change, Operator, Verb, Word};
+use crate::words::{Builtin, Operator, SourceChange, Verb, Word};
 
-fn is_digit(c: u8) -> bool
+/// Whether a byte is a digit.
+pub fn is_digit(c: u8) -> bool
     ensures { result ≡ is_digit c }
 {
     c >= b'0' && c <= b'9'
 }
 
-/// A letter, a digit or `_`.
+/// Whether a byte is a letter, a digit or `_`.
 pub fn is_word(c: u8) -> bool
     ensures { result ≡ is_word c }
 {
     is_digit(c) || (c >= b'A' && c <= b'Z') || (c >= b'a' && c <= b'z') || c == b'_'
 }
 
-const RESERVED: [(&[u8], Word); 21] = [
-    (b"random", Word::Known(Builtin::Random)),
-    (b"port", Word::Known(Builtin::Port)),
-    (b"value", Word::Known(Builtin::Value)),
-    (b"elapsed", Word::Known(Builtin::Elapsed)),
-    (b"left", Word::Known(Builtin::Left)),
-    (b"now", Word::Known(Builtin::Now)),
-    (b"turn", Word::Known(Builtin::Turn)),
-    (b"or", Word::Sign(Operator::Or)),
-    (b"and", Word::Sign(Operator::And)),
-    (b"not", Word::Not),
-    (b"if", Word::If),
-    (b"else", Word::Else),
-    (b"repeat", Word::Repeat),
-    (b"wait", Word::Wait),
-    (b"passivate", Word::Passivate),
-    (b"draw", Word::Draw),
-    (b"push", Word::Begins(Verb::Push)),
-    (b"insert", Word::Begins(Verb::Insert)),
-    (b"put", Word::Begins(Verb::Put)),
-    (b"remove", Word::Begins(Verb::Remove)),
-    (b"pop", Word::Pop),
+/// The words of the language that no name may be, each with what it is.
+pub const RESERVED: [(&str, Word); 21] = [
+    ("random", Word::Known(Builtin::Random)),
+    ("port", Word::Known(Builtin::Port)),
+    ("value", Word::Known(Builtin::Value)),
+    ("elapsed", Word::Known(Builtin::Elapsed)),
+    ("left", Word::Known(Builtin::Left)),
+    ("now", Word::Known(Builtin::Now)),
+    ("turn", Word::Known(Builtin::Turn)),
+    ("or", Word::Sign(Operator::Or)),
+    ("and", Word::Sign(Operator::And)),
+    ("not", Word::Not),
+    ("if", Word::If),
+    ("else", Word::Else),
+    ("repeat", Word::Repeat),
+    ("wait", Word::Wait),
+    ("passivate", Word::Passivate),
+    ("draw", Word::Draw),
+    ("push", Word::Begins(Verb::Push)),
+    ("insert", Word::Begins(Verb::Insert)),
+    ("put", Word::Begins(Verb::Put)),
+    ("remove", Word::Begins(Verb::Remove)),
+    ("pop", Word::Pop),
 ];
 
-const SIGNS: [(&[u8], Word); 23] = [
-    (b"(", Word::Open),
-    (b")", Word::Close),
-    (b"[", Word::OpenBracket),
-    (b"]", Word::CloseBracket),
-    (b"{", Word::OpenBrace),
-    (b"}", Word::CloseBrace),
-    (b";", Word::Semicolon),
-    (b",", Word::Sign(Operator::Comma)),
-    (b"+", Word::Sign(Operator::Plus)),
-    (b"-", Word::Sign(Operator::Minus)),
-    (b"*", Word::Sign(Operator::Times)),
-    (b"/", Word::Sign(Operator::Divide)),
-    (b"%", Word::Sign(Operator::Modulo)),
-    (b"<", Word::Sign(Operator::Less)),
-    (b">", Word::Sign(Operator::Greater)),
-    (b"=", Word::Becomes(Change::Set)),
-    (b"==", Word::Sign(Operator::Equal)),
-    (b"!=", Word::Sign(Operator::NotEqual)),
-    (b"<=", Word::Sign(Operator::LessEqual)),
-    (b">=", Word::Sign(Operator::GreaterEqual)),
-    (b"+=", Word::Becomes(Change::Add)),
-    (b"-=", Word::Becomes(Change::Subtract)),
-    (b"^=", Word::Becomes(Change::Xor)),
+/// The signs, each with what it is.
+const SIGNS: [(&str, Word); 23] = [
+    ("(", Word::Open),
+    (")", Word::Close),
+    ("[", Word::OpenBracket),
+    ("]", Word::CloseBracket),
+    ("{", Word::OpenBrace),
+    ("}", Word::CloseBrace),
+    (";", Word::Semicolon),
+    (",", Word::Sign(Operator::Comma)),
+    ("+", Word::Sign(Operator::Plus)),
+    ("-", Word::Sign(Operator::Minus)),
+    ("*", Word::Sign(Operator::Times)),
+    ("/", Word::Sign(Operator::Divide)),
+    ("%", Word::Sign(Operator::Modulo)),
+    ("<", Word::Sign(Operator::Less)),
+    (">", Word::Sign(Operator::Greater)),
+    ("=", Word::Becomes(SourceChange::Set)),
+    ("==", Word::Sign(Operator::Equal)),
+    ("!=", Word::Sign(Operator::NotEqual)),
+    ("<=", Word::Sign(Operator::LessEqual)),
+    (">=", Word::Sign(Operator::GreaterEqual)),
+    ("+=", Word::Becomes(SourceChange::Add)),
+    ("-=", Word::Becomes(SourceChange::Subtract)),
+    ("^=", Word::Becomes(SourceChange::Xor)),
 ];
 
+/// Whether two texts are the same.
 pub fn same_text(a: &[u8], b: &[u8]) -> bool
     ensures { result ≡ same_text a.now b.now }
 {
@@ -77,11 +94,11 @@ pub fn same_text(a: &[u8], b: &[u8]) -> bool
 }
 
 /// The word of a text in a table.
-fn lookup(table: &[(&[u8], Word)], text: &[u8]) -> Option<Word>
+fn lookup(table: &[(&str, Word)], text: &[u8]) -> Option<Word>
     ensures { result ≡ lookup (map (λ e. (e.0.now, e.1)) table.now) text.now }
 {
     for entry in table {
-        if same_text(entry.0, text) {
+        if same_text(entry.0.as_bytes(), text) {
             return Some(entry.1);
         }
     }
@@ -89,16 +106,16 @@ fn lookup(table: &[(&[u8], Word)], text: &[u8]) -> Option<Word>
 }
 
 /// The names of the functions, in the order of their numbers.
-pub const FUNCTIONS: [&[u8]; 10] = [
-    b"min", b"max", b"choose", b"length", b"room", b"front", b"last", b"sum", b"at", b"place",
+pub const FUNCTIONS: [&str; 10] = [
+    "min", "max", "choose", "length", "room", "front", "last", "sum", "at", "place",
 ];
 
 /// The number of a function in a list.
-fn function_in(functions: &[&[u8]], text: &[u8]) -> Option<usize>
+fn function_in(functions: &[&str], text: &[u8]) -> Option<usize>
     ensures { result ≡ position 0 (map (λ f. f.now) functions.now) text.now }
 {
     for (index, function) in functions.iter().enumerate() {
-        if same_text(function, text) {
+        if same_text(function.as_bytes(), text) {
             return Some(index);
         }
     }
@@ -162,21 +179,36 @@ fn number(text: &[u8]) -> Option<u64>
     }
 }
 
-/// The words that no name may be.
+/// The word of the language that no name may be, where the text is one.
 fn reserved(text: &[u8]) -> Option<Word>
     ensures { result ≡ lookup reserved text.now }
 {
     lookup(&RESERVED, text)
 }
 
+/// Whether a text is a word of the language that no name may be.
+pub fn is_reserved(text: &[u8]) -> bool
+    ensures { result ≡ is_reserved text.now }
+{
+    reserved(text).is_some()
+}
+
+/// The sign that a text is.
 fn sign(text: &[u8]) -> Option<Word>
     ensures { result ≡ lookup signs text.now }
 {
     lookup(&SIGNS, text)
 }
 
+/// Whether a text is a sign.
+pub fn is_sign(text: &[u8]) -> bool
+    ensures { result ≡ is_sign text.now }
+{
+    sign(text).is_some()
+}
+
 /// The word of a run or a sign.
-pub fn word_of(declared: &[Declared], text: &[u8]) -> Option<Word>
+pub(crate) fn word_of(declared: &[Declared], text: &[u8]) -> Option<Word>
     ensures { result ≡ word_of (names_of declared.now) text.now }
 {
     let first = *text.first()?;

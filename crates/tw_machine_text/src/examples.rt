@@ -1,5 +1,13 @@
 //! How tightly operators bind, by examples that the check computes.
-ghost use Rattle.tw_machine_text.specs.Examples.{not_equal, two_less, minus_times, and_or, behind_queues, chains, no_chain};
+ghost use Rattle.tw_machine_text.specs.Examples.{
+  not_equal,
+  two_less,
+  minus_times,
+  and_or,
+  behind_queues,
+  chains,
+  no_chain,
+};
 
 /// Each of these words is that program.
 pub fn binding()

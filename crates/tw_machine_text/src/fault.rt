@@ -6,7 +6,7 @@ use std::alloc::{AllocError, AllocFailed};
 
 /// Why a program is not read.
 #[derive(Clone, Copy, Debug, PartialEq, Eq)]
-pub enum Fault {
+pub(crate) enum Fault {
     OutOfMemory,
     /// The words are no program.
     Wrong,

@@ -1,7 +1,17 @@
 //! What names stand for.
 ghost use Rattle.std.specs.Prelude.{◌≡◌, IfOk, map};
-ghost use Rattle.tw_machine_text.specs.Kinds.{stands_for, reads, indexes, is_register, is_register_array, is_queue, is_queue_array, is_parameter, kind_named, kinds_of};
-ghost use Rattle.tw_machine_text.specs.Letters.{functions};
+ghost use Rattle.tw_machine_text.specs.Kinds.{
+  stands_for,
+  reads,
+  indexes,
+  is_register,
+  is_register_array,
+  is_queue,
+  is_queue_array,
+  is_parameter,
+  kind_named,
+  kinds_of,
+};
 ghost use Rattle.tw_machine_text.specs.TextViews.{declarations};
 
 use crate::dictionary::{FUNCTIONS, same_text};
@@ -59,13 +69,14 @@ fn kind_named(declared: &[Declared], name: &[u8]) -> Kind
 fn kinds_named(
     alloc: Global,
     declared: &[Declared],
-    names: &[&[u8]],
+    names: &[&str],
 ) -> Result<Vec<Kind>, AllocError>
-    ensures { IfOk result (λ kinds. kinds.items ≡ map (λ name. kind_named (declarations declared.now) name.now) names.now) }
+    ensures { IfOk result (λ kinds. kinds.items
+        ≡ map (λ name. kind_named (declarations declared.now) name.now) names.now) }
 {
     let mut kinds = Vec::with_capacity(alloc, names.len())?;
     for name in names {
-        kinds.push(kind_named(declared, name))?;
+        kinds.push(kind_named(declared, name.as_bytes()))?;
     }
     Ok(kinds)
 }
@@ -93,7 +104,7 @@ pub fn kinds_of(alloc: Global, declared: &[Declared]) -> Result<Vec<Kind>, Alloc
 }
 
 /// What is declared by the name of this number.
-pub fn stands_for(kinds: &[Kind], name: usize) -> Kind
+pub(crate) fn stands_for(kinds: &[Kind], name: usize) -> Kind
     ensures { result ≡ stands_for kinds.now name }
 {
     kinds.get(name).copied().unwrap_or(Kind::Nothing)

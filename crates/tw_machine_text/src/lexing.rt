@@ -1,7 +1,16 @@
 //! The words of a text, and where they stand.
-ghost use Rattle.std.specs.Prelude.{◌≡◌, ◌∷◌, ◌++◌, [], ◌==◌, IfOk, OnOk};
-ghost use Rattle.std.specs.Option.{option_and_then, option_map};
-ghost use Rattle.tw_machine_text.specs.Text.{is_blank, word_of, goes_on, begin, byte, scanned, words_of, Lexed};
+ghost use Rattle.std.specs.Prelude.{◌≡◌, ◌∷◌, ◌++◌, [], ◌==◌, IfOk};
+ghost use Rattle.std.specs.Option.{option_map};
+ghost use Rattle.tw_machine_text.specs.Text.{
+  is_blank,
+  word_of,
+  goes_on,
+  begin,
+  byte,
+  scanned,
+  words_of,
+  Lexed,
+};
 ghost use Rattle.tw_machine_text.specs.TextViews.{viewed, names_of};
 ghost use Rattle.tw_machine_text.specs.Views.{Gives};
 
@@ -43,7 +52,7 @@ fn goes_on(text: &[u8], c: u8) -> bool
 
 /// What is being read.
 #[derive(Drop)]
-pub enum Mode {
+pub(crate) enum Mode {
     Between,
     InComment,
     Reading(Vec<u8>),
@@ -72,7 +81,8 @@ fn add(
     text: &[u8],
     end: usize,
 ) -> Result<(), Fault>
-    ensures { Gives (λ _. words.new.items) result (option_map (λ w. words.old.items ++ w ∷ []) (word_of (names_of declared.now) text.now)) }
+    ensures { Gives (λ _. words.new.items) result (option_map
+        (λ w. words.old.items ++ w ∷ []) (word_of (names_of declared.now) text.now)) }
 {
     spans.push(Span {
         begin: end.saturating_sub(text.len()),
@@ -97,7 +107,8 @@ fn byte(
     at: usize,
     mode: Mode,
 ) -> Result<Mode, Fault>
-    ensures { Gives (λ mode. (words.new.items, viewed mode)) result (byte (names_of declared.now) c (words.old.items, viewed mode)) }
+    ensures { Gives (λ mode. (words.new.items, viewed mode)) result
+        (byte (names_of declared.now) c (words.old.items, viewed mode)) }
 {
     match mode {
         Mode::Between => Ok(begin(alloc, c)?),
@@ -130,7 +141,8 @@ fn last(
     at: usize,
     mode: Mode,
 ) -> Result<(), Fault>
-    ensures { Gives (λ _. words.new.items) result (scanned (names_of declared.now) (words.old.items, viewed mode)) }
+    ensures { Gives (λ _. words.new.items) result
+        (scanned (names_of declared.now) (words.old.items, viewed mode)) }
 {
     match mode {
         Mode::Reading(text) => add(declared, words, spans, &text, at),
@@ -140,14 +152,14 @@ fn last(
 
 /// Where a word begins in the text, and where it ends.
 #[derive(Clone, Copy)]
-pub struct Span {
+pub(crate) struct Span {
     pub begin: usize,
     pub end: usize,
 }
 
 /// The words of a text and their spans; of one that has none, those before the first that is no word, and its place too.
 #[derive(Drop)]
-pub struct Words {
+pub(crate) struct Words {
     pub words: Vec<Word>,
     pub spans: Vec<Span>,
     pub complete: bool,
@@ -167,8 +179,9 @@ impl Words {
 }
 
 /// The words of a text.
-pub fn lex(alloc: Global, declared: &[Declared], text: &[u8]) -> Result<Words, AllocError>
-    ensures { IfOk result (λ words. Lexed words.complete words.words.items (words_of (names_of declared.now) text.now)) }
+pub(crate) fn lex(alloc: Global, declared: &[Declared], text: &[u8]) -> Result<Words, AllocError>
+    ensures { IfOk result
+        (λ words. Lexed words.complete words.words.items (words_of (names_of declared.now) text.now)) }
 {
     let mut words = Vec::new(alloc);
     let mut spans = Vec::new(alloc);

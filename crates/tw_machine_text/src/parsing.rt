@@ -1,8 +1,9 @@
 //! A program of its words.
-ghost use Rattle.std.specs.Prelude.{◌≡◌, ℕ, ◌≤◌, nat_le, Bool, true, false, Some, IfOk, List, [], ◌∷◌};
+ghost use Rattle.std.specs.Prelude.{◌≡◌, ℕ, ◌≤◌, nat_le, false, Some, IfOk, List, [], ◌∷◌};
+ghost use Rattle.tw_machine_text.specs.Limits.{max_levels};
 ghost use Rattle.tw_machine_text.specs.Machine.{program_of, weigh};
 ghost use Rattle.tw_machine_text.specs.Tree.{Means, Block as Tree};
-ghost use Rattle.tw_machine_text.specs.Views.{body, held, seen, Tells, refused};
+ghost use Rattle.tw_machine_text.specs.Views.{body, Tells, refused};
 ghost use Rattle.tw_machine_text.specs.declared.words.Word.{Word};
 
 use crate::fault::Fault;
@@ -10,13 +11,13 @@ use crate::frames::State;
 use crate::kinds::{Kind, Member};
 use crate::reading::{ended, step};
 use crate::refused::Refused;
-use crate::stack::{LEVELS, Stack};
+use crate::stack::Stack;
 use crate::tree::Block;
 use crate::watching::{note, watch};
 use crate::words::Word;
 use std::alloc::Global;
 
-pub fn refused(fault: Fault, index: usize) -> Refused
+pub(crate) fn refused(fault: Fault, index: usize) -> Refused
     ensures { result ≡ refused fault index }
 {
     match fault {
@@ -33,7 +34,7 @@ fn all(
     words: &[Word],
     first: &mut Option<usize>,
 ) -> Result<Block, Refused>
-    ensures { Tells body result (program_of LEVELS words.now) }
+    ensures { Tells body result (program_of max_levels words.now) }
 {
     let mut stack = Stack::new(alloc);
     let mut state = State::Begin(Block::Empty);
@@ -87,7 +88,7 @@ fn is_light(words: &[Word], many: usize) -> bool
 }
 
 /// The program that the words are.
-pub fn parse(
+pub(crate) fn parse(
     alloc: Global,
     member: Option<Member>,
     kinds: &[Kind],
@@ -96,9 +97,10 @@ pub fn parse(
     first: &mut Option<usize>,
 ) -> Result<Block, Refused>
     // What is read means this program.
-    ensures found { IfOk result (λ program. Means LEVELS many words.now (body program)) }
+    ensures found { IfOk result (λ program. Means max_levels many words.now (body program)) }
     // Words that are a program are read as it, unless memory runs out.
-    ensures only { (program : Tree) → Means LEVELS many words.now program → Tells body result (Some program) }
+    ensures only { (program : Tree) → Means max_levels many words.now program
+        → Tells body result (Some program) }
 {
     if is_light(words, many) {
         all(alloc, member, kinds, words, first)
@@ -108,6 +110,7 @@ pub fn parse(
 }
 
 /// Words are one program at most, however deep.
-pub fn one_program()
-    ensures { (ws : List Word) (m n i j : ℕ) (a b : Tree) → Means m i ws a → Means n j ws b → a ≡ b }
+pub(crate) fn one_program()
+    ensures { (ws : List Word) (m n i j : ℕ) (a b : Tree) → Means m i ws a → Means n j ws b
+        → a ≡ b }
 {}

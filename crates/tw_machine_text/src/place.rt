@@ -1,5 +1,5 @@
 //! A place in a text, as people count.
-ghost use Rattle.std.specs.Prelude.{◌≡◌, ◌≤◌, ◌<◌, ◌+◌, ◌||◌, length, count_by, nat_lt, nat_le};
+ghost use Rattle.std.specs.Prelude.{◌≡◌, ◌≤◌, ◌<◌, ◌+◌, ◌||◌, length, count_by};
 ghost use Rattle.tw_machine_text.specs.Place.{begins_letter, last_line, line_at, column_at};
 
 /// A place in a text: the line, and the column in letters, both from 1.

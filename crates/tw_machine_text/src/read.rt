@@ -1,23 +1,21 @@
 //! The program of a text, and the expression of the text of a member. A wrong text is told by the byte at which the
 //! first word begins that cannot stand there.
-ghost use Rattle.std.specs.Prelude.{◌≡◌, ℕ, ◌≤◌, ◌∷◌, Some, IfOk, List};
+ghost use Rattle.std.specs.Prelude.{◌≡◌, ◌≤◌, ◌∷◌, Some, IfOk};
 ghost use Rattle.std.specs.Option.{option_map};
+ghost use Rattle.tw_machine_text.specs.Limits.{max_levels, max_nodes};
 ghost use Rattle.tw_machine_text.specs.Kinds.{is_empty, waits, waited};
-ghost use Rattle.tw_machine_text.specs.Text.{Reads, ReadsTree};
+ghost use Rattle.tw_machine_text.specs.Text.{Reads, ReadsTree, OneText, OneTree};
 ghost use Rattle.tw_machine_text.specs.TextViews.{names_of};
 ghost use Rattle.tw_machine_text.specs.Tree.{Block as Tree, Tree as Spelled};
 ghost use Rattle.tw_machine_text.specs.Views.{body, told, tree, Tells, IsWrong};
 ghost use Rattle.tw_machine_text.specs.declared.words.Word.TheVariants.{Wait};
-ghost use Rattle.tw_machine_text.specs.declared.kinds.Member.{Member};
-ghost use Rattle.tw_machine_text.specs.declared.kinds.Kind.{Kind};
 
 use crate::binding::{bound_as, bound_block};
 use crate::kinds::{Declared, Kind, Member};
 use crate::lexing::{Words, lex};
 use crate::parsing::parse;
 use crate::refused::Refused;
-use crate::stack::LEVELS;
-use crate::tree::{Block, Expr, Statement};
+use crate::tree::{Block, SourceExpr, SourceStatement};
 use crate::words::Word;
 use std::alloc::{AllocError, Global};
 
@@ -31,9 +29,12 @@ pub fn read(
     many: usize,
 ) -> Result<Block, Refused>
     // What is read is what the text means.
-    ensures found { IfOk result (λ program. Reads LEVELS many (names_of declared.now) kinds.now text.now (body program)) }
+    ensures found { IfOk result
+        (λ program. Reads max_levels many (names_of declared.now) kinds.now text.now (body program)) }
     // A text that means a program is read as it, unless memory runs out.
-    ensures only { (program : Tree) → Reads LEVELS many (names_of declared.now) kinds.now text.now program → Tells body result (Some program) }
+    ensures only { (program : Tree)
+        → Reads max_levels many (names_of declared.now) kinds.now text.now program
+        → Tells body result (Some program) }
 {
     let Ok(words) = lex(alloc, declared, text) else {
         return Err(Refused::OutOfMemory);
@@ -58,11 +59,11 @@ fn is_empty(block: &Block) -> bool
     matches!(block, Block::Empty)
 }
 
-fn waits(statement: Statement) -> Option<Expr>
+fn waits(statement: SourceStatement) -> Option<SourceExpr>
     ensures { option_map tree result ≡ waits (told statement) }
 {
     match statement {
-        Statement::Wait(e) => Some(e),
+        SourceStatement::Wait(e) => Some(e),
         other => {
             drop(other);
             None
@@ -71,7 +72,7 @@ fn waits(statement: Statement) -> Option<Expr>
 }
 
 /// The expression of a program that is one `wait`.
-fn waited(program: Block) -> Option<Expr>
+fn waited(program: Block) -> Option<SourceExpr>
     ensures { option_map tree result ≡ waited (body program) }
 {
     match program {
@@ -100,19 +101,22 @@ fn behind_wait(alloc: Global, words: &[Word]) -> Result<Vec<Word>, AllocError>
 }
 
 /// What the text of a member is: read as the program that waits for it.
-pub fn read_tree(
+pub(crate) fn read_tree(
     alloc: Global,
     member: Member,
     declared: &[Declared],
     kinds: &[Kind],
     text: &[u8],
     many: usize,
-) -> Result<Expr, Refused>
-    requires { many ≤ 4096 }
+) -> Result<SourceExpr, Refused>
+    requires { many ≤ max_nodes }
     // What is read is what the text is.
-    ensures found { IfOk result (λ e. ReadsTree LEVELS many member (names_of declared.now) kinds.now text.now (tree e)) }
+    ensures found { IfOk result
+        (λ e. ReadsTree max_levels many member (names_of declared.now) kinds.now text.now (tree e)) }
     // A text that is one is read as it, unless memory runs out.
-    ensures only { (e : Spelled) → ReadsTree LEVELS many member (names_of declared.now) kinds.now text.now e → Tells tree result (Some e) }
+    ensures only { (e : Spelled)
+        → ReadsTree max_levels many member (names_of declared.now) kinds.now text.now e
+        → Tells tree result (Some e) }
 {
     let Ok(words) = lex(alloc, declared, text) else {
         return Err(Refused::OutOfMemory);
@@ -146,10 +150,10 @@ fn wrong_at(words: &Words, first: Option<usize>, index: usize) -> Refused
 
 /// A text is one program at most, however deep.
 pub fn one_text()
-    ensures { (names : List (List ℕ)) (kinds : List Kind) (text : List ℕ) (m n i j : ℕ) (a b : Tree) → Reads m i names kinds text a → Reads n j names kinds text b → a ≡ b }
+    ensures { OneText }
 {}
 
 /// A text is one expression at most.
 pub fn one_tree()
-    ensures { (names : List (List ℕ)) (kinds : List Kind) (text : List ℕ) (m n i j : ℕ) (s t : Member) (a b : Spelled) → ReadsTree m i s names kinds text a → ReadsTree n j t names kinds text b → a ≡ b }
+    ensures { OneTree }
 {}

@@ -1,29 +1,72 @@
 //! The machine that reads: what each word does.
-ghost use Rattle.std.specs.Prelude.{◌≡◌, ◌∷◌, ◌≤◌, Bool, true, false, Some, None, IfOk, OnOk, length, nat_le, if◌then◌else◌};
+ghost use Rattle.std.specs.Prelude.{
+  ◌≡◌,
+  ◌∷◌,
+  ◌≤◌,
+  true,
+  false,
+  Some,
+  None,
+  IfOk,
+  nat_le,
+  if◌then◌else◌,
+};
 ghost use Rattle.std.specs.Option.{option_and_then};
-ghost use Rattle.tw_machine_text.specs.Machine.{joined, reduce, nest, demand, operand, need, item, shift, called, indexed, close, close_index, becomes, enter, open_block, finished, close_block, start, named, marked, settle, have, ended, Need, after_arm, after_else, after, step, nests};
-ghost use Rattle.tw_machine_text.specs.Tree.{count, fits_call, is_count, level, first_level, Then};
-ghost use Rattle.tw_machine_text.specs.Views.{tree, told, body, chain, framed, held, seen, Gives};
+ghost use Rattle.tw_machine_text.specs.Limits.{max_levels};
+ghost use Rattle.tw_machine_text.specs.Stacks.{frames_of, LeadsTo, Finishes};
+ghost use Rattle.tw_machine_text.specs.Machine.{
+  joined,
+  reduce,
+  nest,
+  demand,
+  operand,
+  need,
+  item,
+  shift,
+  called,
+  indexed,
+  close,
+  close_index,
+  becomes,
+  enter,
+  open_block,
+  finished,
+  close_block,
+  start,
+  named,
+  marked,
+  settle,
+  have,
+  ended,
+  Need,
+  after_arm,
+  after_else,
+  after,
+  step,
+  nests,
+};
+ghost use Rattle.tw_machine_text.specs.Tree.{Then};
+ghost use Rattle.tw_machine_text.specs.Views.{tree, told, body, chain, framed, seen};
 
 use crate::fault::Fault;
 use crate::frames::{Frame, State};
-use crate::stack::{LEVELS, Stack};
-use crate::tree::{Arms, Block, Expr, Statement};
-use crate::words::{Builtin, Change, Operator, Verb, Word};
+use crate::stack::Stack;
+use crate::tree::{Arms, Block, SourceExpr, SourceStatement};
+use crate::words::{Builtin, Operator, SourceChange, Verb, Word};
 use std::alloc::{AllocError, Global};
 
 /// What has begun, completed by its last operand.
-fn joined(alloc: Global, frame: Frame, operand: Expr) -> Result<Expr, AllocError>
+fn joined(alloc: Global, frame: Frame, operand: SourceExpr) -> Result<SourceExpr, AllocError>
     ensures { IfOk result (λ e. tree e ≡ joined (framed frame) (tree operand)) }
 {
     match frame {
-        Frame::Operand(left, operator) => Ok(Expr::Binary(
+        Frame::Operand(left, operator) => Ok(SourceExpr::Binary(
             operator,
             Box::new(alloc, left)?,
             Box::new(alloc, operand)?,
         )),
-        Frame::InNot => Ok(Expr::Not(Box::new(alloc, operand)?)),
-        Frame::InNegative => Ok(Expr::Negate(Box::new(alloc, operand)?)),
+        Frame::InNot => Ok(SourceExpr::Not(Box::new(alloc, operand)?)),
+        Frame::InNegative => Ok(SourceExpr::Negate(Box::new(alloc, operand)?)),
         other => {
             drop(other);
             Ok(operand)
@@ -32,8 +75,14 @@ fn joined(alloc: Global, frame: Frame, operand: Expr) -> Result<Expr, AllocError
 }
 
 /// Completes what binds at least so tightly.
-fn reduce(alloc: Global, stack: &mut Stack, rank: usize, operand: Expr) -> Result<Expr, AllocError>
-    ensures { IfOk result (λ e. (held stack.new.frames.items, tree e) ≡ reduce rank (held stack.old.frames.items) (tree operand)) }
+fn reduce(
+    alloc: Global,
+    stack: &mut Stack,
+    rank: usize,
+    operand: SourceExpr,
+) -> Result<SourceExpr, AllocError>
+    ensures { IfOk result
+        (λ e. (frames_of stack.new, tree e) ≡ reduce rank (frames_of stack.old) (tree operand)) }
 {
     let mut operand = operand;
     'more: while stack.closes(rank) {
@@ -47,7 +96,7 @@ fn reduce(alloc: Global, stack: &mut Stack, rank: usize, operand: Expr) -> Resul
 /// A level of an expression begins.
 fn nested(stack: &mut Stack, frame: Frame) -> Result<State, Fault>
     requires { nests (framed frame) ≡ true }
-    ensures { Gives (seen (held stack.new.frames.items)) result (nest LEVELS (framed frame) (held stack.old.frames.items)) }
+    ensures { LeadsTo stack.new result (nest max_levels (framed frame) (frames_of stack.old)) }
 {
     match stack.nest(frame) {
         Ok(()) => Ok(State::Need),
@@ -56,8 +105,8 @@ fn nested(stack: &mut Stack, frame: Frame) -> Result<State, Fault>
 }
 
 /// An operand of one word, where one that binds so tightly may stand.
-fn operand(stack: &Stack, rank: usize, expr: Expr) -> Result<State, Fault>
-    ensures { Gives (seen (held stack.now.frames.items)) result (operand rank (held stack.now.frames.items) (tree expr)) }
+fn operand(stack: &Stack, rank: usize, expr: SourceExpr) -> Result<State, Fault>
+    ensures { LeadsTo stack.now result (operand rank (frames_of stack.now) (tree expr)) }
 {
     if stack.demand() <= rank {
         Ok(State::Have(expr))
@@ -70,7 +119,8 @@ fn operand(stack: &Stack, rank: usize, expr: Expr) -> Result<State, Fault>
 /// A level of an expression begins, where one that binds so tightly may stand.
 fn prefix(stack: &mut Stack, rank: usize, frame: Frame) -> Result<State, Fault>
     requires { nests (framed frame) ≡ true }
-    ensures { Gives (seen (held stack.new.frames.items)) result (if nat_le (demand (held stack.old.frames.items)) rank then nest LEVELS (framed frame) (held stack.old.frames.items) else None) }
+    ensures { LeadsTo stack.new result (if nat_le (demand (frames_of stack.old)) rank
+        then nest max_levels (framed frame) (frames_of stack.old) else None) }
 {
     if stack.demand() <= rank {
         nested(stack, frame)
@@ -82,12 +132,12 @@ fn prefix(stack: &mut Stack, rank: usize, frame: Frame) -> Result<State, Fault>
 
 /// A word where an operand is to come.
 fn need(stack: &mut Stack, word: Word) -> Result<State, Fault>
-    ensures { Gives (seen (held stack.new.frames.items)) result (need LEVELS word (held stack.old.frames.items)) }
+    ensures { LeadsTo stack.new result (need max_levels word (frames_of stack.old)) }
 {
     match word {
-        Word::Number(number) => operand(stack, 8, Expr::Number(number)),
-        Word::Name(name) => Ok(State::Have(Expr::Name(name))),
-        Word::Known(given) => operand(stack, 8, Expr::Known(given)),
+        Word::Number(number) => operand(stack, 8, SourceExpr::Number(number)),
+        Word::Name(name) => Ok(State::Have(SourceExpr::Name(name))),
+        Word::Known(given) => operand(stack, 8, SourceExpr::Known(given)),
         Word::Open => prefix(stack, 8, Frame::InGroup),
         Word::Sign(Operator::Minus) => prefix(stack, 7, Frame::InNegative),
         Word::Not => prefix(stack, 3, Frame::InNot),
@@ -96,8 +146,8 @@ fn need(stack: &mut Stack, word: Word) -> Result<State, Fault>
 }
 
 /// A word that begins what is done to a queue that has come.
-fn item(stack: &mut Stack, word: Word, operand: Expr) -> Result<State, Fault>
-    ensures { Gives (seen (held stack.new.frames.items)) result (item LEVELS word (held stack.old.frames.items, tree operand)) }
+fn item(stack: &mut Stack, word: Word, operand: SourceExpr) -> Result<State, Fault>
+    ensures { LeadsTo stack.new result (item max_levels word (frames_of stack.old, tree operand)) }
 {
     match stack.pop() {
         Some(Frame::InQueue(block, verb)) => {
@@ -112,8 +162,9 @@ fn item(stack: &mut Stack, word: Word, operand: Expr) -> Result<State, Fault>
 }
 
 /// An operator, where what binds more tightly is complete.
-fn shift(stack: &mut Stack, operator: Operator, operand: Expr) -> Result<State, Fault>
-    ensures { Gives (seen (held stack.new.frames.items)) result (shift LEVELS operator (held stack.old.frames.items, tree operand)) }
+fn shift(stack: &mut Stack, operator: Operator, operand: SourceExpr) -> Result<State, Fault>
+    ensures { LeadsTo stack.new result (shift max_levels operator
+        (frames_of stack.old, tree operand)) }
 {
     if stack.demand() <= operator.rank() {
         stack.push(Frame::Operand(operand, operator))?;
@@ -124,12 +175,12 @@ fn shift(stack: &mut Stack, operator: Operator, operand: Expr) -> Result<State, 
 }
 
 /// The arguments of a function begin.
-fn called(stack: &mut Stack, operand: Expr) -> Result<State, Fault>
-    ensures { Gives (seen (held stack.new.frames.items)) result (called LEVELS (held stack.old.frames.items) (tree operand)) }
+fn called(stack: &mut Stack, operand: SourceExpr) -> Result<State, Fault>
+    ensures { LeadsTo stack.new result (called max_levels (frames_of stack.old) (tree operand)) }
 {
     match operand {
-        Expr::Name(name) => nested(stack, Frame::InCall(name)),
-        Expr::Known(Builtin::Random) => nested(stack, Frame::InRandom),
+        SourceExpr::Name(name) => nested(stack, Frame::InCall(name)),
+        SourceExpr::Known(Builtin::Random) => nested(stack, Frame::InRandom),
         other => {
             drop(other);
             Err(Fault::Wrong)
@@ -138,11 +189,11 @@ fn called(stack: &mut Stack, operand: Expr) -> Result<State, Fault>
 }
 
 /// An index begins.
-fn indexed(stack: &mut Stack, operand: Expr) -> Result<State, Fault>
-    ensures { Gives (seen (held stack.new.frames.items)) result (indexed LEVELS (held stack.old.frames.items) (tree operand)) }
+fn indexed(stack: &mut Stack, operand: SourceExpr) -> Result<State, Fault>
+    ensures { LeadsTo stack.new result (indexed max_levels (frames_of stack.old) (tree operand)) }
 {
     match operand {
-        Expr::Name(name) => nested(stack, Frame::InIndex(name)),
+        SourceExpr::Name(name) => nested(stack, Frame::InIndex(name)),
         other => {
             drop(other);
             Err(Fault::Wrong)
@@ -151,19 +202,21 @@ fn indexed(stack: &mut Stack, operand: Expr) -> Result<State, Fault>
 }
 
 /// A parenthesis is closed.
-fn close(alloc: Global, stack: &mut Stack, operand: Expr) -> Result<State, Fault>
-    ensures { Gives (seen (held stack.new.frames.items)) result (close (held stack.old.frames.items, tree operand)) }
+fn close(alloc: Global, stack: &mut Stack, operand: SourceExpr) -> Result<State, Fault>
+    ensures { LeadsTo stack.new result (close (frames_of stack.old, tree operand)) }
 {
     match stack.pop() {
-        Some(Frame::InGroup) => Ok(State::Have(Expr::Group(Box::new(alloc, operand)?))),
+        Some(Frame::InGroup) => Ok(State::Have(SourceExpr::Group(Box::new(alloc, operand)?))),
         Some(Frame::InCall(name)) => {
             if operand.fits_call(name) {
-                Ok(State::Have(Expr::Call(name, Box::new(alloc, operand)?)))
+                Ok(State::Have(SourceExpr::Call(name, Box::new(alloc, operand)?)))
             } else {
                 Err(Fault::Wrong)
             }
         }
-        Some(Frame::InRandom) => Ok(State::Have(Expr::RandomBelow(Box::new(alloc, operand)?))),
+        Some(Frame::InRandom) => Ok(State::Have(SourceExpr::RandomBelow(Box::new(
+            alloc, operand,
+        )?))),
         other => {
             drop(other);
             Err(Fault::Wrong)
@@ -172,21 +225,21 @@ fn close(alloc: Global, stack: &mut Stack, operand: Expr) -> Result<State, Fault
 }
 
 /// A bracket is closed.
-fn close_index(alloc: Global, stack: &mut Stack, operand: Expr) -> Result<State, Fault>
-    ensures { Gives (seen (held stack.new.frames.items)) result (close_index (held stack.old.frames.items, tree operand)) }
+fn close_index(alloc: Global, stack: &mut Stack, operand: SourceExpr) -> Result<State, Fault>
+    ensures { LeadsTo stack.new result (close_index (frames_of stack.old, tree operand)) }
 {
     let frame = stack.pop();
     if let Some(Frame::InIndex(name)) = frame {
         drop(frame);
-        return Ok(State::Have(Expr::Indexed(name, Box::new(alloc, operand)?)));
+        return Ok(State::Have(SourceExpr::Indexed(name, Box::new(alloc, operand)?)));
     }
     drop(frame);
     Err(Fault::Wrong)
 }
 
 /// The place is read, and what changes it comes.
-fn becomes(stack: &mut Stack, change: Change, operand: Expr) -> Result<State, Fault>
-    ensures { Gives (seen (held stack.new.frames.items)) result (becomes change (held stack.old.frames.items, tree operand)) }
+fn becomes(stack: &mut Stack, change: SourceChange, operand: SourceExpr) -> Result<State, Fault>
+    ensures { LeadsTo stack.new result (becomes change (frames_of stack.old, tree operand)) }
 {
     match stack.pop() {
         Some(Frame::InPlace(block)) => {
@@ -203,7 +256,7 @@ fn becomes(stack: &mut Stack, change: Change, operand: Expr) -> Result<State, Fa
 /// A block begins.
 fn enter(stack: &mut Stack, frame: Frame) -> Result<State, Fault>
     requires { nests (framed frame) ≡ true }
-    ensures { Gives (seen (held stack.new.frames.items)) result (enter LEVELS (framed frame) (held stack.old.frames.items)) }
+    ensures { LeadsTo stack.new result (enter max_levels (framed frame) (frames_of stack.old)) }
 {
     match stack.nest(frame) {
         Ok(()) => Ok(State::Begin(Block::Empty)),
@@ -212,8 +265,8 @@ fn enter(stack: &mut Stack, frame: Frame) -> Result<State, Fault>
 }
 
 /// A block begins behind an operand.
-fn open_block(stack: &mut Stack, operand: Expr) -> Result<State, Fault>
-    ensures { Gives (seen (held stack.new.frames.items)) result (open_block LEVELS (held stack.old.frames.items, tree operand)) }
+fn open_block(stack: &mut Stack, operand: SourceExpr) -> Result<State, Fault>
+    ensures { LeadsTo stack.new result (open_block max_levels (frames_of stack.old, tree operand)) }
 {
     match stack.pop() {
         Some(Frame::InIf(block)) => enter(stack, Frame::InThen(block, operand)),
@@ -235,26 +288,36 @@ fn open_block(stack: &mut Stack, operand: Expr) -> Result<State, Fault>
 }
 
 /// A block and one statement more.
-fn then(alloc: Global, before: Block, last: Statement, marked: bool) -> Result<Block, AllocError>
+fn then(
+    alloc: Global,
+    before: Block,
+    last: SourceStatement,
+    marked: bool,
+) -> Result<Block, AllocError>
     ensures { IfOk result (λ block. body block ≡ Then (body before) (told last) marked) }
 {
     Ok(Block::Then(Box::new(alloc, before)?, Box::new(alloc, last)?, marked))
 }
 
 /// The block so far, where the operand is the last of its statement.
-fn finished(alloc: Global, stack: &mut Stack, operand: Expr, marked: bool) -> Result<Block, Fault>
-    ensures { Gives (λ block. (held stack.new.frames.items, body block)) result (finished marked (held stack.old.frames.items, tree operand)) }
+fn finished(
+    alloc: Global,
+    stack: &mut Stack,
+    operand: SourceExpr,
+    marked: bool,
+) -> Result<Block, Fault>
+    ensures { Finishes stack.new result (finished marked (frames_of stack.old, tree operand)) }
 {
     let (block, last) = match stack.pop() {
         Some(Frame::InChange(block, place, change)) => (
             block,
-            Statement::Assign(place, change, operand),
+            SourceStatement::Assign(place, change, operand),
         ),
         Some(Frame::InItem(block, verb, queue)) if operand.is_many(verb.wanted()) => {
-            (block, Statement::Act(verb, queue, operand))
+            (block, SourceStatement::Act(verb, queue, operand))
         }
-        Some(Frame::InPop(block)) => (block, Statement::Pop(operand)),
-        Some(Frame::InWait(block)) => (block, Statement::Wait(operand)),
+        Some(Frame::InPop(block)) => (block, SourceStatement::Pop(operand)),
+        Some(Frame::InWait(block)) => (block, SourceStatement::Wait(operand)),
         other => {
             drop(other);
             drop(operand);
@@ -266,7 +329,7 @@ fn finished(alloc: Global, stack: &mut Stack, operand: Expr, marked: bool) -> Re
 
 /// A block ends.
 fn close_block(alloc: Global, stack: &mut Stack, block: Block) -> Result<State, Fault>
-    ensures { Gives (seen (held stack.new.frames.items)) result (close_block (held stack.old.frames.items) (body block)) }
+    ensures { LeadsTo stack.new result (close_block (frames_of stack.old) (body block)) }
 {
     let block = Box::new(alloc, block)?;
     match stack.pop() {
@@ -277,10 +340,10 @@ fn close_block(alloc: Global, stack: &mut Stack, block: Block) -> Result<State, 
         )),
         Some(Frame::InElse(before, arms)) => Ok(State::After(
             before,
-            Statement::IfElse(Box::new(alloc, arms)?, block),
+            SourceStatement::IfElse(Box::new(alloc, arms)?, block),
         )),
         Some(Frame::InTurns(before, count)) => {
-            Ok(State::After(before, Statement::Repeat(count, block)))
+            Ok(State::After(before, SourceStatement::Repeat(count, block)))
         }
         other => {
             drop(other);
@@ -293,7 +356,7 @@ fn close_block(alloc: Global, stack: &mut Stack, block: Block) -> Result<State, 
 /// Something begins that asks for an operand.
 fn asks(stack: &mut Stack, frame: Frame) -> Result<State, Fault>
     requires { nests (framed frame) ≡ false }
-    ensures { Gives (seen (held stack.new.frames.items)) result (Some (Need (framed frame ∷ held stack.old.frames.items))) }
+    ensures { LeadsTo stack.new result (Some (Need (framed frame ∷ frames_of stack.old))) }
 {
     stack.push(frame)?;
     Ok(State::Need)
@@ -301,18 +364,18 @@ fn asks(stack: &mut Stack, frame: Frame) -> Result<State, Fault>
 
 /// A word behind what is done in a block.
 fn start(alloc: Global, stack: &mut Stack, word: Word, block: Block) -> Result<State, Fault>
-    ensures { Gives (seen (held stack.new.frames.items)) result (start word (held stack.old.frames.items, body block)) }
+    ensures { LeadsTo stack.new result (start word (frames_of stack.old, body block)) }
 {
     match word {
         Word::Name(name) => {
             stack.push(Frame::InPlace(block))?;
-            Ok(State::Have(Expr::Name(name)))
+            Ok(State::Have(SourceExpr::Name(name)))
         }
         Word::Begins(verb) => asks(stack, Frame::InQueue(block, verb)),
         Word::Pop => asks(stack, Frame::InPop(block)),
-        Word::Draw => Ok(State::After(block, Statement::Draw)),
+        Word::Draw => Ok(State::After(block, SourceStatement::Draw)),
         Word::Wait => asks(stack, Frame::InWait(block)),
-        Word::Passivate => Ok(State::After(block, Statement::Passivate)),
+        Word::Passivate => Ok(State::After(block, SourceStatement::Passivate)),
         Word::If => asks(stack, Frame::InIf(block)),
         Word::Repeat => asks(stack, Frame::InCount(block)),
         Word::CloseBrace => close_block(alloc, stack, block),
@@ -321,8 +384,14 @@ fn start(alloc: Global, stack: &mut Stack, word: Word, block: Block) -> Result<S
 }
 
 /// A word behind an operand that is the last of its statement.
-fn restart(alloc: Global, stack: &mut Stack, word: Word, operand: Expr) -> Result<State, Fault>
-    ensures { Gives (seen (held stack.new.frames.items)) result (option_and_then (start word) (finished false (held stack.old.frames.items, tree operand))) }
+fn restart(
+    alloc: Global,
+    stack: &mut Stack,
+    word: Word,
+    operand: SourceExpr,
+) -> Result<State, Fault>
+    ensures { LeadsTo stack.new result (option_and_then (start word)
+        (finished false (frames_of stack.old, tree operand))) }
 {
     match finished(alloc, stack, operand, false) {
         Ok(block) => start(alloc, stack, word, block),
@@ -331,8 +400,9 @@ fn restart(alloc: Global, stack: &mut Stack, word: Word, operand: Expr) -> Resul
 }
 
 /// A semicolon behind such an operand.
-fn mark(alloc: Global, stack: &mut Stack, operand: Expr) -> Result<State, Fault>
-    ensures { Gives (seen (held stack.new.frames.items)) result (option_and_then marked (finished true (held stack.old.frames.items, tree operand))) }
+fn mark(alloc: Global, stack: &mut Stack, operand: SourceExpr) -> Result<State, Fault>
+    ensures { LeadsTo stack.new result (option_and_then marked
+        (finished true (frames_of stack.old, tree operand))) }
 {
     match finished(alloc, stack, operand, true) {
         Ok(block) => Ok(State::Begin(block)),
@@ -341,8 +411,8 @@ fn mark(alloc: Global, stack: &mut Stack, operand: Expr) -> Result<State, Fault>
 }
 
 /// A name behind an operand.
-fn named(alloc: Global, stack: &mut Stack, name: usize, operand: Expr) -> Result<State, Fault>
-    ensures { Gives (seen (held stack.new.frames.items)) result (named name (held stack.old.frames.items, tree operand)) }
+fn named(alloc: Global, stack: &mut Stack, name: usize, operand: SourceExpr) -> Result<State, Fault>
+    ensures { LeadsTo stack.new result (named name (frames_of stack.old, tree operand)) }
 {
     if stack.wants() {
         item(stack, Word::Name(name), operand)
@@ -352,8 +422,9 @@ fn named(alloc: Global, stack: &mut Stack, name: usize, operand: Expr) -> Result
 }
 
 /// A word behind an operand, where all is complete that an operand completes.
-fn settle(alloc: Global, stack: &mut Stack, word: Word, operand: Expr) -> Result<State, Fault>
-    ensures { Gives (seen (held stack.new.frames.items)) result (settle LEVELS word (held stack.old.frames.items, tree operand)) }
+fn settle(alloc: Global, stack: &mut Stack, word: Word, operand: SourceExpr) -> Result<State, Fault>
+    ensures { LeadsTo stack.new result (settle max_levels word
+        (frames_of stack.old, tree operand)) }
 {
     match word {
         Word::Name(name) => named(alloc, stack, name, operand),
@@ -367,8 +438,8 @@ fn settle(alloc: Global, stack: &mut Stack, word: Word, operand: Expr) -> Result
 }
 
 /// A word behind an operand.
-fn have(alloc: Global, stack: &mut Stack, word: Word, operand: Expr) -> Result<State, Fault>
-    ensures { Gives (seen (held stack.new.frames.items)) result (have LEVELS word (held stack.old.frames.items) (tree operand)) }
+fn have(alloc: Global, stack: &mut Stack, word: Word, operand: SourceExpr) -> Result<State, Fault>
+    ensures { LeadsTo stack.new result (have max_levels word (frames_of stack.old) (tree operand)) }
 {
     match word {
         Word::Sign(operator) => {
@@ -397,9 +468,9 @@ fn after(
     stack: &mut Stack,
     word: Word,
     block: Block,
-    last: Statement,
+    last: SourceStatement,
 ) -> Result<State, Fault>
-    ensures { Gives (seen (held stack.new.frames.items)) result (after word (held stack.old.frames.items) (body block) (told last)) }
+    ensures { LeadsTo stack.new result (after word (frames_of stack.old) (body block) (told last)) }
 {
     match word {
         Word::Semicolon => Ok(State::Begin(then(alloc, block, last, true)?)),
@@ -418,12 +489,13 @@ fn after_arm(
     block: Block,
     arms: Arms,
 ) -> Result<State, Fault>
-    ensures { Gives (seen (held stack.new.frames.items)) result (after_arm word (held stack.old.frames.items) (body block) (chain arms)) }
+    ensures { LeadsTo stack.new result (after_arm word (frames_of stack.old) (body block)
+        (chain arms)) }
 {
     match word {
         Word::Else => Ok(State::AfterElse(block, arms)),
         _ => {
-            let choice = Statement::If(Box::new(alloc, arms)?);
+            let choice = SourceStatement::If(Box::new(alloc, arms)?);
             after(alloc, stack, word, block, choice)
         }
     }
@@ -431,7 +503,8 @@ fn after_arm(
 
 /// A word behind `else`.
 fn after_else(stack: &mut Stack, word: Word, block: Block, arms: Arms) -> Result<State, Fault>
-    ensures { Gives (seen (held stack.new.frames.items)) result (after_else LEVELS word (held stack.old.frames.items) (body block) (chain arms)) }
+    ensures { LeadsTo stack.new result (after_else max_levels word (frames_of stack.old)
+        (body block) (chain arms)) }
 {
     match word {
         Word::If => asks(stack, Frame::InElseIf(block, arms)),
@@ -441,8 +514,13 @@ fn after_else(stack: &mut Stack, word: Word, block: Block, arms: Arms) -> Result
 }
 
 /// A word.
-pub fn step(alloc: Global, stack: &mut Stack, word: Word, state: State) -> Result<State, Fault>
-    ensures { Gives (seen (held stack.new.frames.items)) result (step LEVELS word (seen (held stack.old.frames.items) state)) }
+pub(crate) fn step(
+    alloc: Global,
+    stack: &mut Stack,
+    word: Word,
+    state: State,
+) -> Result<State, Fault>
+    ensures { LeadsTo stack.new result (step max_levels word (seen (frames_of stack.old) state)) }
 {
     match state {
         State::Need => need(stack, word),
@@ -455,8 +533,8 @@ pub fn step(alloc: Global, stack: &mut Stack, word: Word, state: State) -> Resul
 }
 
 /// The block so far, once its last statement is done.
-pub fn ended(alloc: Global, stack: &mut Stack, state: State) -> Result<Block, Fault>
-    ensures { Gives (λ block. (held stack.new.frames.items, body block)) result (ended false (seen (held stack.old.frames.items) state)) }
+pub(crate) fn ended(alloc: Global, stack: &mut Stack, state: State) -> Result<Block, Fault>
+    ensures { Finishes stack.new result (ended false (seen (frames_of stack.old) state)) }
 {
     match state {
         State::Need => Err(Fault::Wrong),
@@ -467,7 +545,7 @@ pub fn ended(alloc: Global, stack: &mut Stack, state: State) -> Result<Block, Fa
         State::Begin(block) => Ok(block),
         State::After(block, last) => Ok(then(alloc, block, last, false)?),
         State::AfterThen(block, arms) => {
-            let choice = Statement::If(Box::new(alloc, arms)?);
+            let choice = SourceStatement::If(Box::new(alloc, arms)?);
             Ok(then(alloc, block, choice, false)?)
         }
         State::AfterElse(block, arms) => {

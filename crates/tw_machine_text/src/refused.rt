@@ -6,7 +6,7 @@ use std::alloc::{AllocError, AllocFailed};
 
 /// Why a program is not read.
 #[derive(Clone, Copy, Debug, PartialEq, Eq)]
-pub enum Refused {
+pub(crate) enum Refused {
     OutOfMemory,
     /// It is no program: the first word that none continues with has this number, or there are so many words and more
     /// are wanted.

@@ -1,20 +1,31 @@
 //! What has begun, the innermost last, and how deep it is.
-ghost use Rattle.std.specs.Prelude.{◌≡◌, ◌∷◌, [], Bool, true, false, Some, None, OnOk, MatchOption, nat_lt, if◌then◌else◌};
+ghost use Rattle.std.specs.Prelude.{
+  ◌≡◌,
+  ◌∷◌,
+  [],
+  true,
+  false,
+  Some,
+  None,
+  OnOk,
+  MatchOption,
+  nat_lt,
+  if◌then◌else◌,
+};
+ghost use Rattle.tw_machine_text.specs.Limits.{max_levels};
 ghost use Rattle.tw_machine_text.specs.Machine.{nests, closes, demand, depth, wants, is_bottom};
 ghost use Rattle.tw_machine_text.specs.Views.{framed, held, Gives};
 
 use crate::fault::Fault;
 use crate::frames::Frame;
 use crate::kinds::{Kind, Member, stands_for};
+use crate::limits::MAX_LEVELS;
 use crate::tree::arity;
 use crate::words::{Operator, Verb};
 use std::alloc::{AllocError, Global};
 
-/// How deep blocks, parentheses, brackets, `not` and signs may stand in one another.
-pub const LEVELS: usize = 64;
-
 #[derive(Drop)]
-pub struct Stack {
+pub(crate) struct Stack {
     frames: Vec<Frame>,
     deep: usize,
     ghost counted: { deep ≡ depth (held frames.items) },
@@ -22,7 +33,7 @@ pub struct Stack {
 
 /// What an operand is to stand for.
 #[derive(Clone, Copy, PartialEq, Eq)]
-pub enum Role {
+pub(crate) enum Role {
     Value,
     Place,
     Queue,
@@ -71,7 +82,8 @@ impl Stack {
     /// Something begins that is no level.
     pub fn push(&mut self, frame: Frame) -> Result<(), AllocError>
         requires { nests (framed frame) ≡ false }
-        ensures { OnOk result (held self.new.frames.items ≡ framed frame ∷ held self.old.frames.items) }
+        ensures { OnOk result (held self.new.frames.items
+            ≡ framed frame ∷ held self.old.frames.items) }
     {
         self.frames.push(frame)?;
         Ok(())
@@ -80,9 +92,11 @@ impl Stack {
     /// A level begins, if it is not too deep.
     pub fn nest(&mut self, frame: Frame) -> Result<(), Fault>
         requires { nests (framed frame) ≡ true }
-        ensures { Gives (λ _. held self.new.frames.items) result (if nat_lt (depth (held self.old.frames.items)) LEVELS then Some (framed frame ∷ held self.old.frames.items) else None) }
+        ensures { Gives (λ _. held self.new.frames.items) result
+            (if nat_lt (depth (held self.old.frames.items)) max_levels
+            then Some (framed frame ∷ held self.old.frames.items) else None) }
     {
-        if self.deep >= LEVELS {
+        if self.deep >= MAX_LEVELS {
             drop(frame);
             return Err(Fault::Wrong);
         }
@@ -93,7 +107,8 @@ impl Stack {
 
     /// What has begun last is done.
     pub fn pop(&mut self) -> Option<Frame>
-        ensures { MatchOption result (held self.old.frames.items ≡ []) (λ frame. held self.old.frames.items ≡ framed frame ∷ held self.new.frames.items) }
+        ensures { MatchOption result (held self.old.frames.items ≡ [])
+            (λ frame. held self.old.frames.items ≡ framed frame ∷ held self.new.frames.items) }
     {
         let frame = self.frames.pop()?;
         if frame.nests() {

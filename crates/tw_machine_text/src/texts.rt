@@ -1,11 +1,10 @@
 //! The texts of a machine: its programs, and the expressions, queues and words of its other members.
-ghost use Rattle.std.specs.Prelude.{◌≡◌, ◌≢◌, ◌≤◌, IfOk, IfErr, List, ℕ};
-ghost use Rattle.tw_machine_text.specs.Kinds.{kinds_of};
+ghost use Rattle.std.specs.Prelude.{◌≡◌, ◌≢◌, ◌≤◌, IfOk, IfErr};
+ghost use Rattle.tw_machine_text.specs.Limits.{max_nodes};
 ghost use Rattle.tw_machine_text.specs.Place.{IsInText};
-ghost use Rattle.tw_machine_text.specs.Text.{Reads, ReadsTree};
-ghost use Rattle.tw_machine_text.specs.TextViews.{names_of, declarations};
+ghost use Rattle.tw_machine_text.specs.TextViews.{SaysProgram, SaysMember};
 ghost use Rattle.tw_machine_text.specs.Tree.{Block as Tree, Tree as Spelled, nodes, nodes_block};
-ghost use Rattle.tw_machine_text.specs.Views.{body, tree, IsReadAs, Tells};
+ghost use Rattle.tw_machine_text.specs.Views.{body, tree, IsReadAs};
 ghost use Rattle.tw_machine_text.specs.declared.refused.Refused.{Refused};
 
 use crate::counting::{nodes, nodes_block};
@@ -14,12 +13,8 @@ use crate::place::place_at;
 use crate::read::{read, read_tree};
 use crate::refusal::TextRefused;
 use crate::refused::Refused;
-use crate::stack::LEVELS;
-use crate::tree::{Block, Expr};
+use crate::tree::{Block, SourceExpr};
 use std::alloc::Global;
-
-/// How many nodes the programs, outputs and words of a machine may have together.
-pub const NODES: usize = 4096;
 
 /// A program, and how many nodes it has.
 #[derive(Drop)]
@@ -31,7 +26,7 @@ pub struct Program {
 /// An expression, a queue or an array register, and how many nodes it has.
 #[derive(Drop)]
 pub struct Expression {
-    pub tree: Expr,
+    pub tree: SourceExpr,
     pub nodes: usize,
 }
 
@@ -56,12 +51,14 @@ pub fn read_program(
     text: &str,
     left: usize,
 ) -> Result<Program, TextRefused>
-    requires { left ≤ NODES }
+    requires { left ≤ max_nodes }
     // What is read is what the text says.
-    ensures found { IfOk result (λ program. Reads LEVELS left (names_of declared.now) (kinds_of (declarations declared.now)) text.now (body program.block)) }
+    ensures found { IfOk result
+        (λ program. SaysProgram declared.now left text.now (body program.block)) }
     ensures nodes { IfOk result (λ program. program.nodes ≡ nodes_block (body program.block)) }
     // A text that says a program is read as it, unless memory runs out.
-    ensures only { (program : Tree) → Reads LEVELS left (names_of declared.now) (kinds_of (declarations declared.now)) text.now program → IsReadAs (λ p. body p.block) result program }
+    ensures only { (program : Tree) → SaysProgram declared.now left text.now program
+        → IsReadAs (λ p. body p.block) result program }
     ensures place { IfErr result (IsInText text.now) }
 {
     let kinds = kinds_of(alloc, declared)?;
@@ -83,12 +80,13 @@ pub fn read_member(
     text: &str,
     left: usize,
 ) -> Result<Expression, TextRefused>
-    requires { left ≤ NODES }
+    requires { left ≤ max_nodes }
     // What is read is what the text says.
-    ensures found { IfOk result (λ e. ReadsTree LEVELS left member (names_of declared.now) (kinds_of (declarations declared.now)) text.now (tree e.tree)) }
+    ensures found { IfOk result (λ e. SaysMember declared.now member left text.now (tree e.tree)) }
     ensures nodes { IfOk result (λ e. e.nodes ≡ nodes (tree e.tree)) }
     // A text that says one is read as it, unless memory runs out.
-    ensures only { (e : Spelled) → ReadsTree LEVELS left member (names_of declared.now) (kinds_of (declarations declared.now)) text.now e → IsReadAs (λ x. tree x.tree) result e }
+    ensures only { (e : Spelled) → SaysMember declared.now member left text.now e
+        → IsReadAs (λ x. tree x.tree) result e }
     ensures place { IfErr result (IsInText text.now) }
 {
     let kinds = kinds_of(alloc, declared)?;

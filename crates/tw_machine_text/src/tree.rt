@@ -3,40 +3,40 @@ ghost use Rattle.std.specs.Prelude.{◌≡◌, ◌==◌, nat_eq};
 ghost use Rattle.tw_machine_text.specs.Tree.{level, count, first_level, arity, fits_call, is_count};
 ghost use Rattle.tw_machine_text.specs.Views.{tree};
 
-use crate::words::{Builtin, Change, Operator, Verb};
+use crate::words::{Builtin, Operator, SourceChange, Verb};
 
 /// An expression. A place and a queue are one too: a name, with or without an index.
 #[derive(Drop)]
-pub enum Expr {
+pub enum SourceExpr {
     Number(u64),
     Name(usize),
     Known(Builtin),
-    Indexed(usize, Box<Expr>),
+    Indexed(usize, Box<SourceExpr>),
     /// A function of this number, and its arguments: one expression, or several joined by commas.
-    Call(usize, Box<Expr>),
+    Call(usize, Box<SourceExpr>),
     /// `random(n)`
-    RandomBelow(Box<Expr>),
-    Group(Box<Expr>),
-    Negate(Box<Expr>),
-    Not(Box<Expr>),
-    Binary(Operator, Box<Expr>, Box<Expr>),
+    RandomBelow(Box<SourceExpr>),
+    Group(Box<SourceExpr>),
+    Negate(Box<SourceExpr>),
+    Not(Box<SourceExpr>),
+    Binary(Operator, Box<SourceExpr>, Box<SourceExpr>),
 }
 
 /// A statement.
 #[derive(Drop)]
 #[cycle(program)]
-pub enum Statement {
+pub enum SourceStatement {
     /// A place, how it is changed, and by what.
-    Assign(Expr, Change, Expr),
+    Assign(SourceExpr, SourceChange, SourceExpr),
     /// What is done to a queue; `put` has a place, a comma and a value.
-    Act(Verb, Expr, Expr),
-    Pop(Expr),
+    Act(Verb, SourceExpr, SourceExpr),
+    Pop(SourceExpr),
     Draw,
-    Wait(Expr),
+    Wait(SourceExpr),
     Passivate,
     If(Box<Arms>),
     IfElse(Box<Arms>, Box<Block>),
-    Repeat(Expr, Box<Block>),
+    Repeat(SourceExpr, Box<Block>),
 }
 
 /// Statements in order.
@@ -45,32 +45,32 @@ pub enum Statement {
 pub enum Block {
     Empty,
     /// A statement behind others, and whether a semicolon follows it.
-    Then(Box<Block>, Box<Statement>, bool),
+    Then(Box<Block>, Box<SourceStatement>, bool),
 }
 
 /// The arms of an `if`.
 #[derive(Drop)]
 #[cycle(program)]
 pub enum Arms {
-    One(Expr, Box<Block>),
-    More(Box<Arms>, Expr, Box<Block>),
+    One(SourceExpr, Box<Block>),
+    More(Box<Arms>, SourceExpr, Box<Block>),
 }
 
-impl Expr {
+impl SourceExpr {
     /// How tightly it is bound.
     pub fn level(&self) -> usize
         ensures { result ≡ level (tree self.now) }
     {
         match self {
-            Expr::Name(_) | Expr::Indexed(..) => 9,
-            Expr::Number(_)
-            | Expr::Known(_)
-            | Expr::Call(..)
-            | Expr::RandomBelow(_)
-            | Expr::Group(_) => 8,
-            Expr::Negate(_) => 7,
-            Expr::Not(_) => 3,
-            Expr::Binary(operator, _, _) => operator.rank(),
+            SourceExpr::Name(_) | SourceExpr::Indexed(..) => 9,
+            SourceExpr::Number(_)
+            | SourceExpr::Known(_)
+            | SourceExpr::Call(..)
+            | SourceExpr::RandomBelow(_)
+            | SourceExpr::Group(_) => 8,
+            SourceExpr::Negate(_) => 7,
+            SourceExpr::Not(_) => 3,
+            SourceExpr::Binary(operator, _, _) => operator.rank(),
         }
     }
 
@@ -79,7 +79,7 @@ impl Expr {
         ensures { result ≡ nat_eq (count (tree self.now)) many }
     {
         match self {
-            Expr::Binary(Operator::Comma, before, _) => many > 0 && before.is_many(many - 1),
+            SourceExpr::Binary(Operator::Comma, before, _) => many > 0 && before.is_many(many - 1),
             _ => many == 1,
         }
     }
@@ -89,7 +89,7 @@ impl Expr {
         ensures { result ≡ first_level (tree self.now) }
     {
         match self {
-            Expr::Binary(Operator::Comma, before, _) => before.first_level(),
+            SourceExpr::Binary(Operator::Comma, before, _) => before.first_level(),
             _ => self.level(),
         }
     }
@@ -106,7 +106,7 @@ impl Expr {
     pub fn is_count(&self) -> bool
         ensures { result ≡ is_count (tree self.now) }
     {
-        matches!(self, Expr::Number(_) | Expr::Name(_))
+        matches!(self, SourceExpr::Number(_) | SourceExpr::Name(_))
     }
 }
 
@@ -114,7 +114,7 @@ impl Expr {
 const ARITIES: [usize; 10] = [2, 2, 3, 1, 1, 1, 1, 1, 2, 2];
 
 /// How many arguments a function takes.
-pub fn arity(name: usize) -> usize
+pub(crate) fn arity(name: usize) -> usize
     ensures { result ≡ arity name }
 {
     ARITIES.get(name).copied().unwrap_or(0)

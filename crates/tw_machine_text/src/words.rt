@@ -36,7 +36,7 @@ pub enum Builtin {
 
 /// How a place is changed: `=`, `+=`, `-=`, `^=`.
 #[derive(Clone, Copy, Debug, PartialEq, Eq)]
-pub enum Change {
+pub enum SourceChange {
     Set,
     Add,
     Subtract,
@@ -67,7 +67,7 @@ pub enum Word {
     OpenBrace,
     CloseBrace,
     Semicolon,
-    Becomes(Change),
+    Becomes(SourceChange),
     Begins(Verb),
     Pop,
     Draw,

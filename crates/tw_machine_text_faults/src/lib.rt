@@ -4,12 +4,10 @@
 //! stopped; what may stand there says what is wrong. Of the words nothing is proved but that they are made safely and that
 //! the search ends: they are shown by tests, one for each kind of fault.
 //!
-//! - `texts`: [`reason`], why a text goes wrong at a place; [`is_reserved`], whether a word is one of the language that no
-//!   name may be.
-//! - `spelling`: [`words_of`] and [`Spelled`], all words of a text, each with its place.
-//! - `reading`: what is open behind the words so far, and so what may stand next.
+//! - `texts`: [`reason`], why a text goes wrong at a place; `reading`, what may stand behind the words before it.
+//! - `spelling`: [`words_of`], [`Spelled`], all words of a text, each with its place.
 //! - `nearest`: [`Nearest`], the name that was meant, where one is misspelt.
-//! - `words`: [`quoted`], [`described`] and [`listed`], of which a line is made.
+//! - `words`: [`quoted`], [`described`], [`listed`], words of which a line is made.
 #![tactic(auto)]
 
 mod nearest;
@@ -20,5 +18,5 @@ mod words;
 
 pub use nearest::Nearest;
 pub use spelling::{Spelled, words_of};
-pub use texts::{is_reserved, reason};
+pub use texts::reason;
 pub use words::{described, listed, quoted};

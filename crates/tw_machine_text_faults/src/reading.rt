@@ -4,9 +4,6 @@ use crate::spelling::is_word;
 use std::alloc::{AllocError, Global};
 use tw_machine_text::{Declared, Kind, Member};
 
-/// The deepest level of blocks, parentheses, brackets and signs in one another.
-pub(crate) const MAX_LEVELS: usize = 64;
-
 /// The arguments that a function takes.
 #[derive(Clone, Copy, PartialEq)]
 pub(crate) struct Called {

@@ -109,7 +109,10 @@ fn mode_of(letter: char) -> Mode {
 
 /// Whether a letter is one of a name or a number.
 pub(crate) fn is_word(letter: char) -> bool {
-    letter.is_ascii_alphanumeric() || letter == '_'
+    match u8::try_from(letter) {
+        Ok(byte) => tw_machine_text::is_word(byte),
+        Err(_) => false,
+    }
 }
 
 /// Ends the word that is read, if there is one.

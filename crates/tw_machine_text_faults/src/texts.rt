@@ -1,45 +1,19 @@
 //! What is wrong in a machine's text, in words.
 
 use crate::nearest::Nearest;
-use crate::reading::{Called, Head, Last, MAX_LEVELS, Open, Reading, Role, is_name, kind_of};
+use crate::reading::{Called, Head, Last, Open, Reading, Role, is_name, kind_of};
 use crate::spelling::{Spelled, words_of};
 use crate::words::quoted;
 use std::alloc::{AllocError, Global};
-use tw_machine_text::{Declared, Kind, Member, NODES, Place};
+use tw_machine_text::{
+    Declared, FUNCTIONS, Kind, MAX_LEVELS, MAX_NODES, Member, Place, RESERVED, Word, is_reserved,
+    is_sign,
+};
 
 /// The greatest number that a text may have.
 const MAX_NUMBER: &str = "9223372036854775807";
 
 const TOO_MANY_NODES: &str = "more than 4096 nodes";
-
-/// The words that begin a statement and are no names.
-const STATEMENTS: [&str; 10] = [
-    "push",
-    "insert",
-    "put",
-    "pop",
-    "remove",
-    "draw",
-    "wait",
-    "passivate",
-    "if",
-    "repeat",
-];
-
-/// The names that stand for a number in every machine.
-const KNOWN: [&str; 7] = ["port", "value", "elapsed", "left", "now", "turn", "random"];
-
-const FUNCTIONS: [&str; 10] = [
-    "min", "max", "choose", "length", "room", "front", "last", "sum", "at", "place",
-];
-
-/// The other words of the language.
-const OTHERS: [&str; 4] = ["and", "or", "not", "else"];
-
-const SIGNS: [&str; 23] = [
-    "(", ")", "[", "]", "{", "}", ";", ",", "+", "-", "*", "/", "%", "<", ">", "=", "==", "!=",
-    "<=", ">=", "+=", "-=", "^=",
-];
 
 /// Why a text goes wrong at a place: a program, or the text of such a member.
 ///
@@ -63,7 +37,7 @@ pub fn reason(
         }
     }
     let Some(i) = wrong else {
-        if reading.nodes > NODES {
+        if reading.nodes > MAX_NODES {
             return String::from_str(alloc, TOO_MANY_NODES);
         }
         let wanted = wanted(&reading);
@@ -111,7 +85,7 @@ fn no_word(alloc: Global, word: &str) -> Result<Option<String>, AllocError> {
     if is_number(word) {
         return no_number(alloc, word, shown.as_str());
     }
-    if !is_name(word) && !SIGNS.contains(&word) {
+    if !is_name(word) && !is_sign(word.as_bytes()) {
         return Ok(Some(format!(in alloc; "the language has no sign {shown}")?));
     }
     Ok(None)
@@ -154,7 +128,7 @@ fn limit(reading: &Reading, word: &str) -> Option<&'static str> {
             "more than 64 levels of blocks, parentheses, brackets and signs in one another",
         );
     }
-    if reading.nodes >= NODES {
+    if reading.nodes >= MAX_NODES {
         return Some(TOO_MANY_NODES);
     }
     None
@@ -162,12 +136,7 @@ fn limit(reading: &Reading, word: &str) -> Option<&'static str> {
 
 /// Whether a name is declared, or one of the language.
 fn is_known(declared: &[Declared], word: &str) -> bool {
-    kind_of(declared, word).is_some() || is_reserved(word) || FUNCTIONS.contains(&word)
-}
-
-/// Whether a word is one of the language that no name may be.
-pub fn is_reserved(word: &str) -> bool {
-    STATEMENTS.contains(&word) || KNOWN.contains(&word) || OTHERS.contains(&word)
+    kind_of(declared, word).is_some() || is_reserved(word.as_bytes()) || FUNCTIONS.contains(&word)
 }
 
 /// The line for a name that nothing has.
@@ -182,8 +151,7 @@ fn unknown(
     let mut nearest = Nearest::new(word);
     let nothing = match reading.last {
         _ if can_begin_statement(reading) => {
-            nearest.look_all(alloc, &STATEMENTS)?;
-            nearest.look_all(alloc, &OTHERS)?;
+            look_at_words(alloc, &mut nearest, false)?;
             "statement begins with"
         }
         Last::NoQueue => "queue is named",
@@ -224,7 +192,21 @@ fn look_at_names<'b>(
     }
     if last == Last::Operator || last == Last::Queue {
         nearest.look_all(alloc, &FUNCTIONS)?;
-        nearest.look_all(alloc, &KNOWN)?;
+        look_at_words(alloc, nearest, true)?;
+    }
+    Ok(())
+}
+
+/// Looks at the words of the language: those that stand for a number, or all others.
+fn look_at_words<'b>(
+    alloc: Global,
+    nearest: &mut Nearest<'_, 'b>,
+    numbers: bool,
+) -> Result<(), AllocError> {
+    for (text, word) in &RESERVED {
+        if matches!(word, Word::Known(_)) == numbers {
+            nearest.look(alloc, text)?;
+        }
     }
     Ok(())
 }

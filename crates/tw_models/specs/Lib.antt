@@ -17,4 +17,5 @@ pub mod Hop
 pub mod HopLaws
 pub mod Model
 pub mod ModelLaws
+pub mod Kinds
 pub mod Waits

@@ -20,10 +20,10 @@ const INVERSE: u64 = 13_877_824_140_714_322_085;
 const SUMMAND: u64 = 1_442_695_040_888_963_407;
 
 /// The greatest number of ports.
-const MAX_PORTS: u64 = 16;
+pub(crate) const MAX_PORTS: u64 = 16;
 
 /// The greatest number of waiting times.
-const MAX_SPREAD: u64 = 1_048_576;
+pub(crate) const MAX_SPREAD: u64 = 1_048_576;
 
 /// The parameters of a hop, in range.
 #[derive(Clone, Copy, Debug, PartialEq, Eq)]

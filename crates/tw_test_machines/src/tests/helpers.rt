@@ -5,7 +5,7 @@ use std::alloc::Global;
 use std::process::Abort;
 use tw_any_model::AnyModel;
 use tw_machine::machine::{Machine, Shared};
-use tw_machine_compiler::declared;
+use tw_machine_compiler::compile;
 use tw_machine_file::{FileMachine, given_of, machine_of};
 use tw_msgs::Record;
 use tw_network::{Coupling, Input, Network};
@@ -41,7 +41,7 @@ fn model(rt: &impl Abort, alloc: Global, scene: &Scene, part: &Part) -> AnyModel
     let machine = read(rt, alloc, text);
     let value = Value::from_slice(alloc, part.2.as_bytes()).expect(rt, "JSON");
     let given = given_of(alloc, &machine, &value).expect(rt, "numbers");
-    let program = declared(alloc, &given, &machine.declaration).expect(rt, "a program");
+    let program = compile(alloc, &given, &machine.declaration).expect(rt, "a program");
     AnyModel::Machine(Machine {
         program: Shared::new(alloc, program).expect(rt, "memory"),
     })

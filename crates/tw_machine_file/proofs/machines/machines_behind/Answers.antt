@@ -1,4 +1,4 @@
-use Rattle.std.proofs.Common.{◌≡◌, ◌∙◌, ap, get_or, map, string_bytes, sym}
+use Rattle.std.proofs.Common.{◌∙◌, ap, map, string_bytes, sym}
 use Rattle.std.proofs.lemmas.List.{map-append}
 use Rattle.serde_json.specs.View.{view}
 use Rattle.tw_machine_file.specs.Machines.{machine_behind}

@@ -1,4 +1,4 @@
-use Rattle.std.proofs.Common.{◌≡◌, [], List, ap, map, sym, ◌∙◌}
+use Rattle.std.proofs.Common.{◌≡◌, ap, map, sym, ◌∙◌}
 use Rattle.tw_machine_declaration.specs.Seen as plain
 use Rattle.tw_machine_file.specs.Fault.{made}
 use Rattle.tw_machine_file.specs.Machines.{nothing_given, program_given}

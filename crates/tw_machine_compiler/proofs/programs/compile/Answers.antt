@@ -6,7 +6,7 @@ use Rattle.tw_machine_compiler.specs.Limits.{members_fault, limit, fault_of}
 use Rattle.tw_machine_compiler.specs.declared.limits.BadMachine.{BadMachine}
 use Rattle.tw_machine_compiler.specs.declared.limits.BadMachine.TheVariants.{OutOfMemory}
 use Rattle.tw_machine_compiler.proofs.Faults.{behind_members}
-use Rattle.tw_machine_compiler.proofs.programs.declared.Goals as goal
+use Rattle.tw_machine_compiler.proofs.programs.compile.Goals as goal
 
 no_fault : {A : Type 0} (r : Result A BadMachine) (f g : Option BadMachine) → f ≡ g → IfOk r (λ _. g ≡ None) → IfOk r (λ _. f ≡ None)
 no_fault (Ok x) f g e h = e ∙ h

@@ -1,0 +1,15 @@
+//! The limits of a text.
+
+/// The most nodes of all texts of a machine together, and where counting them ends.
+pub const MAX_NODES: usize = 4096;
+
+pub const NODES_END: usize = MAX_NODES + 1;
+
+/// How deep blocks, parentheses, brackets, `not` and signs may stand in one another.
+pub const MAX_LEVELS: usize = 64;
+
+/// How often a block may be repeated.
+pub const MAX_TURNS: u64 = 64;
+
+/// The longest name, in bytes.
+pub const MAX_NAME: usize = 32;

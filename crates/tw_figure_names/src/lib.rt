@@ -7,7 +7,7 @@
 //! - `machine`: the name and the figures of a machine, which stand in its file alone. `shown`: what an entry of its `words`
 //!   shows.
 //!
-//! Of these names nothing is proved: they are shown by tests.
+//! Of the names and figures of machines nothing is proved: they are shown by tests.
 #![tactic(auto)]
 
 mod atoms;

@@ -50,10 +50,13 @@ impl Hop {
     /// ticks. Refused with [`BadModel::BadPort`] (6) exactly where `ports` is not 1 to 16, and else
     /// with [`BadModel::BadTick`] (10) exactly where `spread` is not 1 to 1,048,576.
     pub fn new(seed: u64, ports: u64, spread: u64) -> Result<Hop, BadModel>
-        ensures made { IfOk result (λ h. h ≡ record { seed = seed; ports = ports; spread = spread }) }
-        ensures in_range { IsOk result ↔ ((1 ≤ ports) × (ports ≤ 16) × (1 ≤ spread) × (spread ≤ 1048576)) }
+        ensures made { IfOk result
+            (λ h. h ≡ record { seed = seed; ports = ports; spread = spread }) }
+        ensures in_range { IsOk result
+            ↔ ((1 ≤ ports) × (ports ≤ 16) × (1 ≤ spread) × (spread ≤ 1048576)) }
         ensures bad_port { IsErrOf result BadPort ↔ ((ports < 1) ⊎ (16 < ports)) }
-        ensures bad_tick { IsErrOf result BadTick ↔ ((1 ≤ ports) × (ports ≤ 16) × ((spread < 1) ⊎ (1048576 < spread))) }
+        ensures bad_tick { IsErrOf result BadTick
+            ↔ ((1 ≤ ports) × (ports ≤ 16) × ((spread < 1) ⊎ (1048576 < spread))) }
     {
         if ports < 1 || ports > MAX_PORTS {
             return Err(BadModel::BadPort);

@@ -33,7 +33,8 @@ impl Model {
     /// A generator that sends `value` on port 0 each `period` ticks. Refused with
     /// [`BadModel::BadTick`] (10) exactly where the period is not 1 to 1,099,511,627,774.
     pub fn generator(period: u64, value: i64) -> Result<Model, BadModel>
-        ensures made { IfOk result (λ m. m ≡ Model.Gen (record { period = period; value = value })) }
+        ensures made { IfOk result
+            (λ m. m ≡ Model.Gen (record { period = period; value = value })) }
         ensures in_range { IsOk result ↔ ((1 ≤ period) × (period ≤ 1099511627774)) }
         ensures bad_tick { IfErr result (λ e. e ≡ BadTick) }
     {
@@ -71,10 +72,13 @@ impl Model {
     /// ticks. Refused with [`BadModel::BadPort`] (6) exactly where `ports` is not 1 to 16, and else
     /// with [`BadModel::BadTick`] (10) exactly where `spread` is not 1 to 1,048,576.
     pub fn hop(seed: u64, ports: u64, spread: u64) -> Result<Model, BadModel>
-        ensures made { IfOk result (λ m. m ≡ Model.Hop (record { seed = seed; ports = ports; spread = spread })) }
-        ensures in_range { IsOk result ↔ ((1 ≤ ports) × (ports ≤ 16) × (1 ≤ spread) × (spread ≤ 1048576)) }
+        ensures made { IfOk result
+            (λ m. m ≡ Model.Hop (record { seed = seed; ports = ports; spread = spread })) }
+        ensures in_range { IsOk result
+            ↔ ((1 ≤ ports) × (ports ≤ 16) × (1 ≤ spread) × (spread ≤ 1048576)) }
         ensures bad_port { IsErrOf result BadPort ↔ ((ports < 1) ⊎ (16 < ports)) }
-        ensures bad_tick { IsErrOf result BadTick ↔ ((1 ≤ ports) × (ports ≤ 16) × ((spread < 1) ⊎ (1048576 < spread))) }
+        ensures bad_tick { IsErrOf result BadTick
+            ↔ ((1 ≤ ports) × (ports ≤ 16) × ((spread < 1) ⊎ (1048576 < spread))) }
     {
         Ok(Model::Hop(Hop::new(seed, ports, spread)?))
     }
@@ -207,7 +211,8 @@ impl Atomic for Model {
         elapsed: u64,
         bag: &[(u8, i64)],
     ) -> Result<(), AllocError>
-        requires { CanTurn (IsModel self.now) (model_meaning self.now) turn state.old elapsed bag.now }
+        requires { CanTurn (IsModel self.now)
+            (model_meaning self.now) turn state.old elapsed bag.now }
         ensures state { state.new ≡ turned (model_meaning self.now) turn state.old elapsed bag.now }
         ensures succeeds { result ≡ Ok tt }
     {
@@ -304,5 +309,6 @@ impl Atomic for Model {
 /// Models of one meaning take back alike, so that each can take back what the other made: a chain of one is run back by the
 /// other. It does nothing.
 pub fn alike_law()
-    ensures { (m n : Model) → model_meaning m ≡ model_meaning n → AreAlike model_meaning model_undone m n }
+    ensures { (m n : Model) → model_meaning m ≡ model_meaning n
+        → AreAlike model_meaning model_undone m n }
 {}

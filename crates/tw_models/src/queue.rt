@@ -159,7 +159,8 @@ fn take_in(state: &mut QueueState, service: u64, elapsed: u64, bag: &[(u8, i64)]
 
 /// Cuts off as many jobs as a bag of so many items brought.
 fn cut_off(state: &mut QueueState, items: usize, accepted: usize)
-    ensures jobs { state.new.jobs.items ≡ take (length state.old.jobs.items - accepted) state.old.jobs.items }
+    ensures jobs { state.new.jobs.items
+        ≡ take (length state.old.jobs.items - accepted) state.old.jobs.items }
     ensures dropped { state.new.dropped ≡ dropped_before state.old.dropped items accepted }
     ensures left { state.new.left ≡ state.old.left }
 {
@@ -222,7 +223,8 @@ impl Atomic for Queue {
         elapsed: u64,
         bag: &[(u8, i64)],
     ) -> Result<QueueResidue, AllocError>
-        requires { CanTurn (IsQueue self.now) (queue_meaning self.now) turn state.old elapsed bag.now }
+        requires { CanTurn (IsQueue self.now)
+            (queue_meaning self.now) turn state.old elapsed bag.now }
         ensures state { state.new ≡ turned (queue_meaning self.now) turn state.old elapsed bag.now }
         ensures residue { result ≡ Ok (queue_residue turn state.old bag.now) }
     {
@@ -250,7 +252,8 @@ impl Atomic for Queue {
         elapsed: u64,
         bag: &[(u8, i64)],
     ) -> Result<(), AllocError>
-        requires { CanTurn (IsQueue self.now) (queue_meaning self.now) turn state.old elapsed bag.now }
+        requires { CanTurn (IsQueue self.now)
+            (queue_meaning self.now) turn state.old elapsed bag.now }
         ensures state { state.new ≡ turned (queue_meaning self.now) turn state.old elapsed bag.now }
         ensures succeeds { result ≡ Ok tt }
     {

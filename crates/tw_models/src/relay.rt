@@ -207,7 +207,8 @@ impl Atomic for Relay {
         elapsed: u64,
         bag: &[(u8, i64)],
     ) -> Result<(), AllocError>
-        requires { CanTurn (IsRelay self.now) (relay_meaning self.now) turn state.old elapsed bag.now }
+        requires { CanTurn (IsRelay self.now)
+            (relay_meaning self.now) turn state.old elapsed bag.now }
         ensures state { state.new ≡ turned (relay_meaning self.now) turn state.old elapsed bag.now }
         ensures succeeds { result ≡ Ok tt }
     {

@@ -19,7 +19,8 @@ pub enum Response {
 ///
 /// Where memory is wanting (refusal 4) the text stays as it was.
 pub fn push_response(text: &mut String, answer: &Response) -> Result<(), AllocError>
-    ensures ok { OnOk result (string_bytes text.new ≡ string_bytes text.old ++ response_text answer.now) }
+    ensures ok { OnOk result
+        (string_bytes text.new ≡ string_bytes text.old ++ response_text answer.now) }
     ensures err { OnErr result (string_bytes text.new ≡ string_bytes text.old) }
 {
     match answer {

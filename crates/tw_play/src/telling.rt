@@ -30,8 +30,12 @@ pub fn play_script<M: Atomic, W: Write>(
     commands: &[Command],
     out: &mut W,
 ) -> Result<(), NotWritten>
-    ensures played { OnOk result (IsPlayed M.meaning commands.now player.old player.new (W.contents out.old) (W.contents out.new)) }
-    ensures wanting { IfErr result (λ why. why ≡ NotWritten.OutOfMemory → IsCutShort M.meaning commands.now player.old (W.contents out.old) (W.contents out.new)) }
+    ensures played { OnOk result
+        (IsPlayed M.meaning commands.now player.old player.new (W.contents out.old)
+        (W.contents out.new)) }
+    ensures wanting { IfErr result
+        (λ why. why ≡ NotWritten.OutOfMemory
+        → IsCutShort M.meaning commands.now player.old (W.contents out.old) (W.contents out.new)) }
 {
     let mut replies = String::new(alloc);
     for command in commands {
@@ -51,8 +55,13 @@ pub fn play_seed<M: Atomic, W: Write>(
     steps: u64,
     out: &mut W,
 ) -> Result<(), NotWritten>
-    ensures played { OnOk result (IsWhollyDrawn M.meaning (seeded seed) steps player.old player.new (W.contents out.old) (W.contents out.new)) }
-    ensures wanting { IfErr result (λ why. why ≡ NotWritten.OutOfMemory → IsDrawnShort M.meaning (seeded seed) steps player.old (W.contents out.old) (W.contents out.new)) }
+    ensures played { OnOk result
+        (IsWhollyDrawn M.meaning (seeded seed) steps player.old player.new (W.contents out.old)
+        (W.contents out.new)) }
+    ensures wanting { IfErr result
+        (λ why. why ≡ NotWritten.OutOfMemory
+        → IsDrawnShort M.meaning (seeded seed) steps player.old (W.contents out.old)
+        (W.contents out.new)) }
 {
     let mut replies = String::new(alloc);
     let mut schedule = Schedule::new(seed);
@@ -68,7 +77,9 @@ pub fn play_seed<M: Atomic, W: Write>(
 
 /// Adds what is written for an answer to a text that goes out in portions. Nothing is told after want of memory.
 fn tell<W: Write>(answer: &Response, replies: &mut String, out: &mut W) -> Result<(), NotWritten>
-    ensures told { OnOk result (MovesBytes (W.contents out.old) (W.contents out.new) (string_bytes replies.old ++ response_text answer.now) (string_bytes replies.new)) }
+    ensures told { OnOk result
+        (MovesBytes (W.contents out.old) (W.contents out.new)
+        (string_bytes replies.old ++ response_text answer.now) (string_bytes replies.new)) }
     ensures enough { OnOk result (answer.now ≢ wants_memory) }
     ensures wanting { IfErr result (λ why. why ≡ NotWritten.OutOfMemory
         → Appends (W.contents out.old) (W.contents out.new) (string_bytes replies.old) ⊎ Appends (W.contents out.old) (W.contents out.new) (string_bytes replies.old ++ refused_text)) }

@@ -6,6 +6,7 @@
 //!
 //! | File | Draws |
 //! |---|---|
+//! | `whole` | [`picture`]: the parts below, one over the other |
 //! | `scene` | what is drawn, with the words that are told of each action |
 //! | `plan` | where it stands |
 //! | `keys` | title, facts and legend |

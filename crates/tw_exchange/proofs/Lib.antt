@@ -16,7 +16,7 @@ pub mod UnderWay
 -- which of them is never refused
 pub mod Refusing
 -- whether anything is left to post and deliver
-pub mod Idle
+pub mod IdleLemmas
 -- a delivery more, a pass more
 pub mod PassByPass
 -- a step at gvt made and taken back

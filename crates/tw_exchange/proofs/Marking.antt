@@ -16,7 +16,7 @@ use Rattle.tw_exchange.specs.Queues.{AreMarked, AreMarkedBut, AreMarkedUpTo, IsK
 use Rattle.tw_exchange.specs.Sweeping.{is_idle}
 use Rattle.tw_exchange.specs.declared.queues.Queues.{Queues}
 use Rattle.tw_exchange.proofs.Following.{exact_but}
-use Rattle.tw_exchange.proofs.Idle.{empty_all, idle_all}
+use Rattle.tw_exchange.proofs.IdleLemmas.{empty_all, idle_all}
 use Rattle.tw_exchange.proofs.SameBut.{map_same_but, nothing_else, set_same}
 
 -- ## Marks that fall behind at one component

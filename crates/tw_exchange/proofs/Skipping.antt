@@ -21,7 +21,7 @@ use Rattle.tw_exchange.specs.Agenda.{AllLate, IsLeast}
 use Rattle.tw_exchange.specs.Queues.{IsElsewhereSame, IsSameBut, box_mark}
 use Rattle.tw_exchange.specs.Sweeping.{IsUnderWay, is_idle, replayed}
 use Rattle.tw_exchange.proofs.Following.{acts_on_one}
-use Rattle.tw_exchange.proofs.Idle.{less_but}
+use Rattle.tw_exchange.proofs.IdleLemmas.{less_but}
 use Rattle.tw_exchange.proofs.Marking.{done_all, done_before, least_there}
 use Rattle.tw_exchange.proofs.SameBut.{nothing_else, one_set, then_same}
 use Rattle.tw_exchange.proofs.UnderWay.{begun, finished, joined, next_post, no_post, stepped}

@@ -5,6 +5,7 @@
 --     IsOver meaning e end      the run of an executive stands so, and all before its end is committed
 --     IsOnly given n until      what is given is of this network and this end tick
 --     IsDue valid meaning n until order      an order of a component of this network, of steps before this end tick
+--     AreAlikeIn meaning undone n prepareds      its model takes back as the component's own does
 --     IsMadeFor meaning undone n until prepareds      what was worked out from such an order
 use Rattle.std.specs.Prelude.{◌≡◌, ◌<◌, ◌≤◌, ℕ, List, length, Some, slice_get, true}
 use Rattle.atomic_table.specs.Seated.{TableId}
@@ -17,8 +18,8 @@ use Rattle.tw_network.specs.Contents.{Contents, network_of}
 use Rattle.tw_theory.specs.Chains.{Chain, Start}
 use Rattle.tw_theory.specs.Outcomes as theory
 use Rattle.tw_theory.specs.Outcomes.{IsOutcome, all_past}
-use Rattle.tw_theory.specs.Standing.{IsReady}
 use Rattle.tw_vtime.specs.Stamps.{max_microstep, stamp}
+use Rattle.tw_exchange.specs.Exchanged.{IsReadyIn}
 use Rattle.tw_exchange.specs.States.{state_of}
 use Rattle.tw_exchange.specs.declared.outcome.Outcome.{Outcome}
 use Rattle.tw_exchange.specs.declared.outcome.Outcome.TheVariants.{Complete, Fault}
@@ -49,12 +50,15 @@ IsOnly {M} given n until = (m : Contents M) (u : ℕ) (board : TableId) → give
 
 pub record IsDue {M S : Type 0} (valid : M → S → Type 0) (meaning : M → Meaning S) (n : Contents M) (until : ℕ) (order : Start S) : Type 0 where
   pub near : order.component < length n.models
-  pub ready : (m : M) → slice_get n.models order.component ≡ Some m → IsReady (valid m) (meaning m) order.component order.now order.messages
+  pub ready : IsReadyIn valid meaning n order
   pub limit : order.micro_limit ≡ n.micro_limit
   pub low : order.micro_limit ≤ max_microstep
   pub before : order.before ≤ stamp until 0 0
 
+abbrev pub AreAlikeIn : {M S R : Type 0} → (M → Meaning S) → (M → Turn → S → ℕ → Bag → R → S) → Contents M → Chain M S → Type 0
+AreAlikeIn {M} meaning undone n prepareds = (m : M) → slice_get n.models prepareds.run.start.component ≡ Some m → AreAlike meaning undone m prepareds.model
+
 pub record IsMadeFor {M S R : Type 0} (meaning : M → Meaning S) (undone : M → Turn → S → ℕ → Bag → R → S) (n : Contents M) (until : ℕ) (prepareds : Chain M S) : Type 0 where
   pub limit : prepareds.run.start.micro_limit ≡ n.micro_limit
   pub before : prepareds.run.start.before ≤ stamp until 0 0
-  pub alike : (m : M) → slice_get n.models prepareds.run.start.component ≡ Some m → AreAlike meaning undone m prepareds.model
+  pub alike : AreAlikeIn meaning undone n prepareds

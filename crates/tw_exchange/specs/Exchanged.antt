@@ -7,18 +7,24 @@
 --     IsOrder window burst x order      its order
 --     IsNearOrder window burst reach x order      an order of it that goes less far
 --     NoneNext window x      there is none
+--     IsReadyIn valid meaning n order      where its component stands, it can take what comes
+--     IsGivenOut valid meaning window x x' result      an order of x comes out, and its component is given out; or none, where there is none
+--     posted e publisher      it has posted how far e has come
 --     IsExact stamps ps      each component that is free stands in the agenda under its next stamp
 --     IsExactBut b stamps ps, IsExactUpTo n stamps ps      each but b does; each below n
-use Rattle.std.specs.Prelude.{◌≡◌, ◌≢◌, ◌<◌, ◌+◌, ◌-◌, ◌==◌, ℕ, min, nat_le, if◌then◌else◌, Bool, true, false, List, map, length, Option, Some, None, slice_get, slice_set}
+use Rattle.std.specs.Prelude.{◌≡◌, ◌≢◌, ◌<◌, ◌≤◌, ◌+◌, ◌-◌, ◌==◌, ℕ, min, nat_le, if◌then◌else◌, Bool, true, false, List, map, length, Option, Some, None, Result, IfOk, IfSome, OnErr, slice_get, slice_set}
+use Rattle.tw_atomic.specs.Atomic.{Meaning}
 use Rattle.tw_board.specs.Known.{Known}
 use Rattle.tw_exec.specs.Chains.{start_at}
 use Rattle.tw_exec.specs.Running.{Running}
+use Rattle.tw_network.specs.Contents.{Contents}
 use Rattle.tw_theory.specs.Board.{AtMost, numbers_of}
 use Rattle.tw_theory.specs.Chains.{Start}
-use Rattle.tw_theory.specs.Contents as Contents
+use Rattle.tw_theory.specs.Contents as theory
 use Rattle.tw_theory.specs.Contents.{Process, next}
 use Rattle.tw_theory.specs.Exchange.{IsDrawn, bound_of}
-use Rattle.tw_vtime.specs.Stamps.{max_tick, never, stamp, tick_of}
+use Rattle.tw_theory.specs.Standing.{IsReady}
+use Rattle.tw_vtime.specs.Stamps.{max_microstep, max_tick, never, stamp, tick_of}
 
 pub record Exchanged (M S : Type 0) : Type 0 where
   pub executive : Running M S
@@ -32,6 +38,9 @@ IsNotAhead publisher e = AtMost publisher.numbers (numbers_of e.world)
 
 abbrev pub with_executive : {M S : Type 0} → Running M S → Exchanged M S → Exchanged M S
 with_executive e x = record x { executive = e }
+
+abbrev pub posted : {M S : Type 0} → Running M S → Known → Known
+posted e publisher = record { board = publisher.board; numbers = numbers_of e.world }
 
 -- a component is given out, or free again; of a component that is not there nothing changes
 abbrev pub with_busy : {M S : Type 0} → ℕ → Bool → Exchanged M S → Exchanged M S
@@ -62,10 +71,26 @@ pub record IsOrder {M S : Type 0} (window burst : ℕ) (x : Exchanged M S) (orde
 -- an order of that component that reaches only so many ticks beyond its next step, or, where that is 0, of one step
 pub record IsNearOrder {M S : Type 0} (window burst reach : ℕ) (x : Exchanged M S) (order : Start S) : Type 0 where
   pub next : IsNext window x order.component
-  pub start : order ≡ start_at (near_bound reach (bound_at window x) (Contents.next next.process)) (near_burst reach burst) order.component x.executive.network next.process
+  pub start : order ≡ start_at (near_bound reach (bound_at window x) (theory.next next.process)) (near_burst reach burst) order.component x.executive.network next.process
 
 abbrev pub NoneNext : {M S : Type 0} → ℕ → Exchanged M S → Type 0
 NoneNext window x = (c : ℕ) → IsNext window x c → ⊥
+
+-- of the model of its component
+abbrev pub IsReadyIn : {M S : Type 0} → (M → S → Type 0) → (M → Meaning S) → Contents M → Start S → Type 0
+IsReadyIn {M} valid meaning n order = (m : M) → slice_get n.models order.component ≡ Some m → IsReady (valid m) (meaning m) order.component order.now order.messages
+
+pub record IsGivenOut {M S E : Type 0} (valid : M → S → Type 0) (meaning : M → Meaning S) (window : ℕ) (x x' : Exchanged M S) (result : Result (Option (Start S)) E) : Type 0 where
+  -- what comes out
+  pub known : IfOk result (λ drawn. IfSome drawn (λ order. order.component < length x.executive.network.models))
+  pub ready : IfOk result (λ drawn. IfSome drawn (IsReadyIn valid meaning x.executive.network))
+  pub limit : IfOk result (λ drawn. IfSome drawn (λ order. order.micro_limit ≤ max_microstep))
+  pub busy : IfOk result (λ drawn. IfSome drawn (λ order. x' ≡ with_busy order.component true x))
+  -- none, exactly where there is no such component
+  pub none : IfOk result (λ drawn. drawn ≡ None → NoneNext window x)
+  pub none_stays : IfOk result (λ drawn. drawn ≡ None → x' ≡ x)
+  -- refused
+  pub stays : OnErr result (x' ≡ x)
 
 -- ---- how it is held
 

@@ -1,8 +1,10 @@
 -- How far an executive has come.
 --     Reached, reached w      of a world: how each process cancels, what each component has committed, and global virtual time
 --     IsFurther from to      each process cancels as it did, what was committed stays, and global virtual time has not fallen
+--     ComesFurther e e'      the same of two executives
 --     IsSince begun w      w has come further than where it was begun
 use Rattle.std.specs.Prelude.{ℕ, ◌≡◌, ◌≤◌, List, map}
+use Rattle.tw_exec.specs.Running.{Running}
 use Rattle.tw_laws.specs.Committed.{Grow}
 use Rattle.tw_msgs.specs.declared.record.Record.{Record}
 use Rattle.tw_theory.specs.Contents.{Cancel}
@@ -21,6 +23,9 @@ pub record IsFurther (from to : Reached) : Type 0 where
   -- each column begins with what it was
   pub columns : Grow from.columns to.columns
   pub gvt : from.gvt ≤ to.gvt
+
+abbrev pub ComesFurther : {M S : Type 0} → Running M S → Running M S → Type 0
+ComesFurther e e' = IsFurther (reached e.world) (reached e'.world)
 
 -- ---- what is known under a lock
 

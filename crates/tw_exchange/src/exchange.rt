@@ -1,6 +1,6 @@
 //! An exchange, how it begins and ends, and the executive's own actions.
 
-ghost use Rattle.std.specs.Prelude.{◌≡◌, ◌≢◌, ◌↔◌, None, IfOk, IfErr, IsErrOf, OnOk, OnErr, false, length, replicate};
+ghost use Rattle.std.specs.Prelude.{◌≡◌, ◌↔◌, None, IfOk, IfErr, IsErrOf, OnOk, OnErr, false, length, replicate};
 ghost use Rattle.tw_exchange.specs.Exchanged.{IsNotAhead, with_executive};
 ghost use Rattle.tw_exec.specs.Actions.{reason};
 ghost use Rattle.tw_exec.specs.Running.{answer, after, AreExact, IsDelivery, IsReason, IsSoundly, IsWanting, WantsRoom};
@@ -46,9 +46,14 @@ impl<M: Atomic> Model for Exchange<M> {
 
     ghost Value = { Exchanged M M.State };
 
-    ghost view = { λ x. record { executive = x.executive; busy = busy_in x.queues.free; publisher = x.publisher } };
+    ghost view = { λ x. record {
+      executive = x.executive;
+      busy = busy_in x.queues.free;
+      publisher = x.publisher;
+    } };
 
-    ghost invariant = { λ x. IsKept x.queues x.executive.world × IsNotAhead x.publisher x.executive };
+    ghost invariant = { λ x. IsKept x.queues x.executive.world
+        × IsNotAhead x.publisher x.executive };
 }
 
 impl<M: Atomic> Exchange<M> {
@@ -63,8 +68,11 @@ impl<M: Atomic> Exchange<M> {
         publisher: Publisher,
     ) -> Result<Exchange<M>, (Executive<M>, Publisher, AllocError)>
         requires { IsNotAhead publisher executive }
-        ensures made { IfOk result (λ x. x ≡ record { executive = executive; busy = replicate (length executive.network.models) false; publisher = publisher }) }
-        ensures handed_back { IfErr result (λ refused. (refused.0 ≡ executive) × (refused.1 ≡ publisher)) }
+        ensures made { let busy = replicate (length executive.network.models) false in
+            IfOk result (λ x. x
+            ≡ record { executive = executive; busy = busy; publisher = publisher }) }
+        ensures handed_back { IfErr result
+            (λ refused. (refused.0 ≡ executive) × (refused.1 ≡ publisher)) }
     {
         executive.network().facts();
         let mut queues = match Queues::new(alloc, executive.network().len()) {
@@ -128,12 +136,15 @@ impl<M: Atomic> Exchange<M> {
     ///
     /// Refused as there; then nothing changes. Beside the action it costs as many steps as there are components.
     pub fn act(&mut self, action: Action) -> Result<Done, Refused>
-        ensures done { OnOk result (self.new ≡ with_executive (after M.meaning action self.old.executive) self.old) }
-        ensures answer { IfOk result (λ done. answer M.meaning action self.old.executive ≡ Ok done) }
+        ensures done { let acted = after M.meaning action self.old.executive in
+            OnOk result (self.new ≡ with_executive acted self.old) }
+        ensures answer { IfOk result
+            (λ done. answer M.meaning action self.old.executive ≡ Ok done) }
         ensures refused { IfErr result (IsReason M.meaning action self.old.executive) }
         ensures exact { AreExact M.meaning action self.old.executive result }
         ensures full { IfErr result (IsWanting M.meaning action self.old.executive) }
-        ensures limit { IsDelivery action → (WantsRoom M.meaning action self.old.executive ↔ IsErrOf result refusals.Full) }
+        ensures limit { IsDelivery action
+            → (WantsRoom M.meaning action self.old.executive ↔ IsErrOf result refusals.Full) }
         ensures memory { IfErr result (λ why. reason why ≡ None → TakesMemory action) }
         ensures stays { OnErr result (self.new ≡ self.old) }
     {

@@ -1,13 +1,12 @@
 //! Components given out, and handed in.
 
-ghost use Rattle.std.specs.Prelude.{◌≡◌, ◌↔◌, ◌<◌, ◌≤◌, true, false, IfOk, IfSome, IsErr, None, OnErr, OnOk, Some, length, slice_get, slice_set};
-ghost use Rattle.tw_atomic.specs.Atomic.{AreAlike};
-ghost use Rattle.tw_exchange.specs.Exchanged.{IsNearOrder, IsNext, IsOrder, NoneNext, bound_at, near_bound, near_burst, window_end, with_busy};
-ghost use Rattle.tw_exchange.specs.Further.{reached, IsFurther};
+ghost use Rattle.std.specs.Prelude.{◌≡◌, ◌↔◌, ◌≤◌, false, IfOk, IfSome, IsErr, None, OnErr, OnOk, length, slice_set};
+ghost use Rattle.tw_exchange.specs.Exchanged.{IsNearOrder, IsNext, IsOrder, NoneNext, bound_at, near_bound, near_burst, window_end, with_busy, IsGivenOut};
 ghost use Rattle.tw_exec.specs.Chains.{IsInstalledOn};
 ghost use Rattle.tw_theory.specs.Exchange.{bound_of};
-ghost use Rattle.tw_theory.specs.Standing.{IsReady};
-ghost use Rattle.tw_vtime.specs.Stamps.{max_microstep, max_tick, stamp};
+ghost use Rattle.tw_vtime.specs.Stamps.{max_tick, stamp};
+ghost use Rattle.tw_exchange.specs.Further.{ComesFurther};
+ghost use Rattle.tw_exchange.specs.Ends.{AreAlikeIn};
 
 use crate::exchange::Exchange;
 use crate::keeping::free;
@@ -27,14 +26,7 @@ impl<M: Atomic> Exchange<M> {
     /// free. It costs as many steps as the logarithm of the number of components, beside the copies in the order.
     pub fn draw(&mut self, burst: usize, window: u64) -> Result<Option<Order<M>>, AllocError>
         ensures drawn { IfOk result (λ drawn. IfSome drawn (IsOrder window burst self.old)) }
-        ensures known { IfOk result (λ drawn. IfSome drawn (λ order. order.component < length self.old.executive.network.models)) }
-        ensures ready { IfOk result (λ drawn. IfSome drawn (λ order. (m : M) → slice_get self.old.executive.network.models order.component ≡ Some m
-            → IsReady (M.valid m) (M.meaning m) order.component order.now order.messages)) }
-        ensures limit { IfOk result (λ drawn. IfSome drawn (λ order. order.micro_limit ≤ max_microstep)) }
-        ensures busy { IfOk result (λ drawn. IfSome drawn (λ order. self.new ≡ with_busy order.component true self.old)) }
-        ensures none { IfOk result (λ drawn. drawn ≡ None → NoneNext window self.old) }
-        ensures none_stays { IfOk result (λ drawn. drawn ≡ None → self.new ≡ self.old) }
-        ensures stays { OnErr result (self.new ≡ self.old) }
+        ensures given { IsGivenOut M.valid M.meaning window self.old self.new result }
     {
         self.executive.facts();
         let bound = bound_of(self.executive.until(), self.executive.gvt(), window);
@@ -58,15 +50,9 @@ impl<M: Atomic> Exchange<M> {
         window: u64,
         reach: u64,
     ) -> Result<Option<Order<M>>, AllocError>
-        ensures drawn { IfOk result (λ drawn. IfSome drawn (IsNearOrder window burst reach self.old)) }
-        ensures known { IfOk result (λ drawn. IfSome drawn (λ order. order.component < length self.old.executive.network.models)) }
-        ensures ready { IfOk result (λ drawn. IfSome drawn (λ order. (m : M) → slice_get self.old.executive.network.models order.component ≡ Some m
-            → IsReady (M.valid m) (M.meaning m) order.component order.now order.messages)) }
-        ensures limit { IfOk result (λ drawn. IfSome drawn (λ order. order.micro_limit ≤ max_microstep)) }
-        ensures busy { IfOk result (λ drawn. IfSome drawn (λ order. self.new ≡ with_busy order.component true self.old)) }
-        ensures none { IfOk result (λ drawn. drawn ≡ None → NoneNext window self.old) }
-        ensures none_stays { IfOk result (λ drawn. drawn ≡ None → self.new ≡ self.old) }
-        ensures stays { OnErr result (self.new ≡ self.old) }
+        ensures drawn { IfOk result
+            (λ drawn. IfSome drawn (IsNearOrder window burst reach self.old)) }
+        ensures given { IsGivenOut M.valid M.meaning window self.old self.new result }
     {
         self.executive.facts();
         let bound = bound_of(self.executive.until(), self.executive.gvt(), window);
@@ -117,12 +103,15 @@ impl<M: Atomic> Exchange<M> {
     pub fn finish(&mut self, prepareds: Prepareds<M>) -> Result<Finished, NoSuch>
         requires limit { prepareds.run.start.micro_limit ≡ self.old.executive.network.micro_limit }
         requires bound { prepareds.run.start.before ≤ stamp self.old.executive.until 0 0 }
-        requires alike { (m : M) → slice_get self.old.executive.network.models prepareds.run.start.component ≡ Some m → AreAlike M.meaning M.undone m prepareds.model }
-        ensures installed { IfOk result (IsInstalledOn M.meaning prepareds self.old.executive self.new.executive) }
-        ensures further { IsFurther (reached self.old.executive.world) (reached self.new.executive.world) }
-        ensures free { OnOk result (self.new.busy ≡ slice_set self.old.busy prepareds.run.start.component false) }
+        requires alike { AreAlikeIn M.meaning M.undone self.old.executive.network prepareds }
+        ensures installed { IfOk result
+            (IsInstalledOn M.meaning prepareds self.old.executive self.new.executive) }
+        ensures further { ComesFurther self.old.executive self.new.executive }
+        ensures free { let component = prepareds.run.start.component in
+            OnOk result (self.new.busy ≡ slice_set self.old.busy component false) }
         ensures publisher { self.new.publisher ≡ self.old.publisher }
-        ensures no_such { IsErr result ↔ length self.old.executive.network.models ≤ prepareds.run.start.component }
+        ensures no_such { let component = prepareds.run.start.component in
+            IsErr result ↔ length self.old.executive.network.models ≤ component }
         ensures stays { OnErr result (self.new ≡ self.old) }
     {
         self.executive.facts();

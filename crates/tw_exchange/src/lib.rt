@@ -11,18 +11,21 @@
 //! | `orders` | [`Order`] and [`Prepareds`], which must be spent; [`compute`], which takes no part of the exchange |
 //! | `gate` | [`Gate`]: told of each order before it is worked out |
 //! | `giving` | `draw`, `draw_near`, `next`, `finish`, `give_back` |
-//! | `sweeping` | `settle`, `raise`, `sweep`; [`Undone`] counts what deliveries took back |
+//! | `sweeping` | `settle`, `raise`, `sweep` |
 //! | `states` | `state`: whether the run is complete, or in a fault |
 //! | `outcome` | [`find_end`], [`outcome_of`]: whether the run is over, and its [`Outcome`] then |
+//! | `undone` | [`Undone`]: what deliveries took back |
+//! | `refused` | [`NoSuch`], [`SweepRefused`]: what an exchange refuses |
 //!
 //! `queues` knows which component has the least next step, which have something to post and which mailboxes hold something, without
-//! looking at all of them (each an `agenda`), and is kept so (`keeping`); `posting` tells the board how far the executive came.
+//! looking at all of them (each an `agenda`), and is kept so (`keeping`); `idle`: whether there is anything to post or to deliver; `posting` tells the board how far the executive came.
 #![tactic(auto)]
 
 mod agenda;
 mod exchange;
 mod gate;
 mod giving;
+mod idle;
 mod keeping;
 mod orders;
 mod outcome;

@@ -2,8 +2,8 @@
 
 ghost use Rattle.std.specs.Prelude.{◌≡◌, ◌≤◌, length};
 ghost use Rattle.tw_theory.specs.Chains.{IsChain};
-ghost use Rattle.tw_theory.specs.Standing.{IsReady};
 ghost use Rattle.tw_vtime.specs.Stamps.{max_microstep};
+ghost use Rattle.tw_chain.specs.Kept.{IsReadyStart};
 
 use crate::gate::Gate;
 use std::marker::Model;
@@ -80,7 +80,7 @@ impl<M: Atomic> Prepareds<M> {
 ///
 /// Where memory is refused in the middle, the chain keeps the steps made before.
 pub fn compute<M: Atomic, G: Gate>(order: Order<M>, model: &M, gate: &G) -> Prepareds<M>
-    requires ready { IsReady (M.valid model.now) (M.meaning model.now) order.component order.now order.messages }
+    requires ready { IsReadyStart (M.valid model.now) (M.meaning model.now) order }
     requires limit { order.micro_limit ≤ max_microstep }
     ensures model { result.model ≡ model.now }
     ensures start { result.run.start ≡ order }

@@ -3,7 +3,6 @@
 ghost use Rattle.std.specs.Prelude.{◌≡◌, IfErr, IfOk, IfSome, IsTrue};
 ghost use Rattle.tw_exchange.specs.Ends.{IsEndOf, IsOver};
 ghost use Rattle.tw_exchange.specs.States.{state_of};
-ghost use Rattle.tw_vtime.specs.Stamps.{never};
 
 use crate::exchange::Exchange;
 use crate::states::all_past;

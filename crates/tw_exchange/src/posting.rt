@@ -1,8 +1,7 @@
 //! What is posted on the board.
 
 ghost use Rattle.std.specs.Prelude.{◌≡◌};
-ghost use Rattle.tw_exchange.specs.Exchanged.{IsNotAhead};
-ghost use Rattle.tw_theory.specs.Board.{numbers_of};
+ghost use Rattle.tw_exchange.specs.Exchanged.{IsNotAhead, posted};
 
 use tw_atomic::Atomic;
 use tw_board::Publisher;
@@ -11,7 +10,7 @@ use tw_exec::Executive;
 /// Posts global virtual time and how many records are committed. No more was posted before, so these are then the greatest.
 pub fn post<M: Atomic>(publisher: &mut Publisher, executive: &Executive<M>)
     requires { IsNotAhead publisher.old executive.now }
-    ensures { publisher.new ≡ record { board = publisher.old.board; numbers = numbers_of executive.now.world } }
+    ensures { publisher.new ≡ posted executive.now publisher.old }
 {
     publisher.post(executive.gvt(), executive.committed_len());
 }

@@ -8,8 +8,8 @@ ghost use Rattle.tw_exchange.specs.Queues.{box_mark, marked, post_mark, AreMarke
 ghost use Rattle.tw_theory.specs.Executive.{mail_of};
 
 use crate::agenda::Agenda;
+use crate::idle::is_idle;
 use crate::keeping::refresh;
-use crate::sweeping::is_idle;
 use crate::undone::Undone;
 use std::alloc::{AllocError, Global};
 use tw_atomic::Atomic;
@@ -100,7 +100,8 @@ impl Queues {
     fn note_post<M: Atomic>(&mut self, executive: &Executive<M>, component: usize)
         requires near { component < length executive.now.network.models }
         requires within { component < length self.old.posting }
-        ensures posting { IfSome (slice_get executive.now.world.processes component) (λ p. self.new.posting ≡ slice_set self.old.posting component (post_mark p)) }
+        ensures posting { IfSome (slice_get executive.now.world.processes component)
+            (λ p. self.new.posting ≡ slice_set self.old.posting component (post_mark p)) }
         ensures free { self.new.free ≡ self.old.free }
         ensures delivering { self.new.delivering ≡ self.old.delivering }
     {
@@ -113,7 +114,8 @@ impl Queues {
     fn note_box<M: Atomic>(&mut self, executive: &Executive<M>, component: usize)
         requires near { component < length executive.now.network.models }
         requires within { component < length self.old.delivering }
-        ensures delivering { self.new.delivering ≡ slice_set self.old.delivering component (box_mark (mail_of executive.now.world.mail component)) }
+        ensures delivering { let mark = box_mark (mail_of executive.now.world.mail component) in
+            self.new.delivering ≡ slice_set self.old.delivering component mark }
         ensures free { self.new.free ≡ self.old.free }
         ensures posting { self.new.posting ≡ self.old.posting }
     {

@@ -9,7 +9,7 @@ ghost use Rattle.tw_theory.specs.Outcomes.{all_past, all_quiet};
 ghost use Rattle.tw_vtime.specs.Stamps.{never, phase_of, stamp};
 
 use crate::exchange::Exchange;
-use crate::sweeping::all_empty;
+use crate::idle::all_empty;
 use std::alloc::AllocError;
 use tw_actions::{Fault, RunState};
 use tw_atomic::Atomic;
@@ -126,7 +126,9 @@ fn find_limit<M: Atomic>(
     requires near { component < length executive.old.network.models }
     requires before { executive.old.world.gvt < stamp executive.old.until 0 0 }
     requires odd { phase_of executive.old.world.gvt ≡ 1 }
-    ensures limit { IfOk result (λ limit. IfSome (slice_get executive.old.world.processes component) (λ p. limit ≡ limit_at M.meaning executive.old component p)) }
+    ensures limit { let found = slice_get executive.old.world.processes component in
+        IfOk result (λ limit.
+        IfSome found (λ p. limit ≡ limit_at M.meaning executive.old component p)) }
     ensures stays { executive.new ≡ executive.old }
 {
     executive.facts();

@@ -1,17 +1,14 @@
 //! All that is in transit posted and delivered, and all that can be committed committed.
 
-ghost use Rattle.std.specs.List.{AllByRecursion as Each};
 ghost use Rattle.std.specs.Prelude.{◌≡◌, ◌<◌, [], IfErr, IfOk, IsOk, OnErr, OnOk, length, suc, true};
-ghost use Rattle.tw_exchange.specs.Exchanged.{busy_in};
-ghost use Rattle.tw_exchange.specs.Further.{reached, IsFurther};
+ghost use Rattle.tw_exchange.specs.Exchanged.{busy_in, posted};
 ghost use Rattle.tw_exchange.specs.Queues.{IsElsewhereSame, IsKept, LooksSame};
-ghost use Rattle.tw_exchange.specs.Sweeping.{deliveries_from, is_idle, pass_of, passes_of, replayed, sweep_of, IsCutShort, IsUnderWay, IsWanting};
+ghost use Rattle.tw_exchange.specs.Sweeping.{deliveries_from, pass_of, passes_of, replayed, sweep_of, IsCutShort, IsUnderWay, IsWanting};
 ghost use Rattle.tw_exec.specs.Running.{after, answer};
-ghost use Rattle.tw_theory.specs.Board.{numbers_of};
-ghost use Rattle.tw_theory.specs.Exchange.{all_empty, deliveries, harvests, is_swept, posts};
+ghost use Rattle.tw_theory.specs.Exchange.{deliveries, harvests, is_swept, posts};
 ghost use Rattle.tw_theory.specs.Executive.{mail_of, Post, Raise};
 ghost use Rattle.tw_theory.specs.Memory.{TakesMemory};
-ghost use Rattle.tw_vtime.specs.Stamps.{never};
+ghost use Rattle.tw_exchange.specs.Further.{ComesFurther};
 
 use crate::exchange::Exchange;
 use crate::keeping::refresh;
@@ -22,7 +19,6 @@ use crate::undone::Undone;
 use tw_actions::Received;
 use tw_atomic::Atomic;
 use tw_exec::{Action, Done, Executive, Refused, to_post};
-use tw_process::Process;
 use tw_vtime::Stamp;
 
 impl<M: Atomic> Exchange<M> {
@@ -32,10 +28,12 @@ impl<M: Atomic> Exchange<M> {
     /// Refused for want of memory (4), or of nodes (12) where the lists of a process would have more than 1,048,576, at a post or a
     /// delivery; what was done before that stays done, and the next call, or a sweep, does the rest.
     pub fn settle(&mut self) -> Result<(), SweepRefused>
-        ensures settled { OnOk result (self.new.executive ≡ replayed M.meaning (passes_of M.meaning self.old.executive) self.old.executive) }
+        ensures settled { let actions = passes_of M.meaning self.old.executive in
+            OnOk result (self.new.executive ≡ replayed M.meaning actions self.old.executive) }
         ensures nothing_left { OnOk result (is_swept self.new.executive.world ≡ true) }
-        ensures cut_short { IfErr result (IsCutShort M.meaning (passes_of M.meaning self.old.executive) self.old.executive self.new.executive) }
-        ensures further { IsFurther (reached self.old.executive.world) (reached self.new.executive.world) }
+        ensures cut_short { let actions = passes_of M.meaning self.old.executive in
+            IfErr result (IsCutShort M.meaning actions self.old.executive self.new.executive) }
+        ensures further { ComesFurther self.old.executive self.new.executive }
         ensures publisher { self.new.publisher ≡ self.old.publisher }
         ensures busy { self.new.busy ≡ self.old.busy }
     {
@@ -52,11 +50,14 @@ impl<M: Atomic> Exchange<M> {
     /// done, and nothing is posted on the board. It costs as many steps as there are components and items that move, and what these
     /// undo.
     pub fn sweep(&mut self) -> Result<Stamp, SweepRefused>
-        ensures swept { OnOk result (self.new.executive ≡ replayed M.meaning (sweep_of M.meaning self.old.executive) self.old.executive) }
+        ensures swept { let actions = sweep_of M.meaning self.old.executive in
+            OnOk result (self.new.executive ≡ replayed M.meaning actions self.old.executive) }
         ensures gvt { IfOk result (λ gvt. gvt ≡ self.new.executive.world.gvt) }
-        ensures cut_short { IfErr result (IsCutShort M.meaning (sweep_of M.meaning self.old.executive) self.old.executive self.new.executive) }
-        ensures further { IsFurther (reached self.old.executive.world) (reached self.new.executive.world) }
-        ensures posted { OnOk result (self.new.publisher ≡ record { board = self.old.publisher.board; numbers = numbers_of self.new.executive.world }) }
+        ensures cut_short { let actions = sweep_of M.meaning self.old.executive in
+            IfErr result (IsCutShort M.meaning actions self.old.executive self.new.executive) }
+        ensures further { ComesFurther self.old.executive self.new.executive }
+        ensures posted { OnOk result
+            (self.new.publisher ≡ posted self.new.executive self.old.publisher) }
         ensures not_posted { OnErr result (self.new.publisher ≡ self.old.publisher) }
         ensures busy { self.new.busy ≡ self.old.busy }
     {
@@ -73,8 +74,8 @@ impl<M: Atomic> Exchange<M> {
     pub fn raise(&mut self) -> Stamp
         ensures raised { self.new.executive ≡ after M.meaning Raise self.old.executive }
         ensures gvt { result ≡ self.new.executive.world.gvt }
-        ensures further { IsFurther (reached self.old.executive.world) (reached self.new.executive.world) }
-        ensures posted { self.new.publisher ≡ record { board = self.old.publisher.board; numbers = numbers_of self.new.executive.world } }
+        ensures further { ComesFurther self.old.executive self.new.executive }
+        ensures posted { self.new.publisher ≡ posted self.new.executive self.old.publisher }
         ensures busy { self.new.busy ≡ self.old.busy }
     {
         self.executive.facts();
@@ -90,9 +91,11 @@ fn sweep_all<M: Atomic>(
     queues: &mut Queues,
 ) -> Result<Stamp, SweepRefused>
     requires { IsKept queues.old executive.old.world }
-    ensures swept { OnOk result (executive.new ≡ replayed M.meaning (sweep_of M.meaning executive.old) executive.old) }
+    ensures swept { let actions = sweep_of M.meaning executive.old in
+        OnOk result (executive.new ≡ replayed M.meaning actions executive.old) }
     ensures gvt { IfOk result (λ gvt. gvt ≡ executive.new.world.gvt) }
-    ensures cut_short { IfErr result (IsCutShort M.meaning (sweep_of M.meaning executive.old) executive.old executive.new) }
+    ensures cut_short { let actions = sweep_of M.meaning executive.old in
+        IfErr result (IsCutShort M.meaning actions executive.old executive.new) }
     ensures kept { IsKept queues.new executive.new.world }
     ensures busy { busy_in queues.new.free ≡ busy_in queues.old.free }
 {
@@ -110,9 +113,11 @@ fn settle_all<M: Atomic>(
     queues: &mut Queues,
 ) -> Result<(), SweepRefused>
     requires { IsKept queues.old executive.old.world }
-    ensures settled { OnOk result (executive.new ≡ replayed M.meaning (passes_of M.meaning executive.old) executive.old) }
+    ensures settled { let actions = passes_of M.meaning executive.old in
+        OnOk result (executive.new ≡ replayed M.meaning actions executive.old) }
     ensures nothing_left { OnOk result (is_swept executive.new.world ≡ true) }
-    ensures cut_short { IfErr result (IsCutShort M.meaning (passes_of M.meaning executive.old) executive.old executive.new) }
+    ensures cut_short { let actions = passes_of M.meaning executive.old in
+        IfErr result (IsCutShort M.meaning actions executive.old executive.new) }
     ensures kept { IsKept queues.new executive.new.world }
     ensures busy { busy_in queues.new.free ≡ busy_in queues.old.free }
 {
@@ -124,39 +129,13 @@ fn settle_all<M: Atomic>(
     Ok(())
 }
 
-/// Whether no mailbox holds anything.
-pub(crate) fn all_empty<M: Atomic>(executive: &Executive<M>) -> bool
-    ensures { result ≡ all_empty executive.now.world.mail }
-{
-    executive.facts();
-    for component in 0..executive.network().len() {
-        if !executive.mail(component).is_empty() {
-            return false;
-        }
-    }
-    true
-}
-
-/// Whether nothing of a component is outgoing, and nothing that it owes is overdue.
-pub(crate) fn is_idle<M: Atomic>(process: &Process<M>) -> bool
-    requires { Each (λ m. m.stamp < never) process.now.process.owed }
-    ensures { result ≡ is_idle process.now.process }
-{
-    let lists = process.lists();
-    if lists.outgoing_len() > 0 {
-        return false;
-    }
-    if lists.owed_len() == 0 {
-        return true;
-    }
-    !lists.least_owed().is_overdue(process.next())
-}
-
 /// A post of each component, and a delivery of each item that lies in a mailbox then.
 fn pass<M: Atomic>(executive: &mut Executive<M>, queues: &mut Queues) -> Result<(), SweepRefused>
     requires { IsKept queues.old executive.old.world }
-    ensures done { OnOk result (executive.new ≡ replayed M.meaning (pass_of M.meaning executive.old) executive.old) }
-    ensures cut_short { IfErr result (IsCutShort M.meaning (pass_of M.meaning executive.old) executive.old executive.new) }
+    ensures done { let actions = pass_of M.meaning executive.old in
+        OnOk result (executive.new ≡ replayed M.meaning actions executive.old) }
+    ensures cut_short { let actions = pass_of M.meaning executive.old in
+        IfErr result (IsCutShort M.meaning actions executive.old executive.new) }
     ensures kept { IsKept queues.new executive.new.world }
     ensures busy { busy_in queues.new.free ≡ busy_in queues.old.free }
 {
@@ -171,8 +150,10 @@ fn post_all<M: Atomic>(
     queues: &mut Queues,
 ) -> Result<(), SweepRefused>
     requires { IsKept queues.old executive.old.world }
-    ensures done { OnOk result (executive.new ≡ replayed M.meaning (posts 0 (length executive.old.world.processes)) executive.old) }
-    ensures cut_short { IfErr result (IsCutShort M.meaning (posts 0 (length executive.old.world.processes)) executive.old executive.new) }
+    ensures done { let actions = posts 0 (length executive.old.world.processes) in
+        OnOk result (executive.new ≡ replayed M.meaning actions executive.old) }
+    ensures cut_short { let actions = posts 0 (length executive.old.world.processes) in
+        IfErr result (IsCutShort M.meaning actions executive.old executive.new) }
     ensures kept { IsKept queues.new executive.new.world }
     ensures busy { busy_in queues.new.free ≡ busy_in queues.old.free }
 {
@@ -214,8 +195,10 @@ fn deliver_all<M: Atomic>(
     queues: &mut Queues,
 ) -> Result<(), SweepRefused>
     requires { IsKept queues.old executive.old.world }
-    ensures done { OnOk result (executive.new ≡ replayed M.meaning (deliveries 0 executive.old.world.mail) executive.old) }
-    ensures cut_short { IfErr result (IsCutShort M.meaning (deliveries 0 executive.old.world.mail) executive.old executive.new) }
+    ensures done { let actions = deliveries 0 executive.old.world.mail in
+        OnOk result (executive.new ≡ replayed M.meaning actions executive.old) }
+    ensures cut_short { let actions = deliveries 0 executive.old.world.mail in
+        IfErr result (IsCutShort M.meaning actions executive.old executive.new) }
     ensures kept { IsKept queues.new executive.new.world }
     ensures busy { busy_in queues.new.free ≡ busy_in queues.old.free }
 {
@@ -235,8 +218,11 @@ fn deliver_box<M: Atomic>(
 ) -> Result<(), SweepRefused>
     requires near { receiver < length executive.old.network.models }
     requires kept { IsKept queues.old executive.old.world }
-    ensures done { OnOk result (IsUnderWay M.meaning (deliveries_from receiver executive.old) (deliveries_from (suc receiver) executive.new) executive.old executive.new) }
-    ensures cut_short { IfErr result (IsCutShort M.meaning (deliveries_from receiver executive.old) executive.old executive.new) }
+    ensures done { let all = deliveries_from receiver executive.old in
+        let left = deliveries_from (suc receiver) executive.new in
+        OnOk result (IsUnderWay M.meaning all left executive.old executive.new) }
+    ensures cut_short { let all = deliveries_from receiver executive.old in
+        IfErr result (IsCutShort M.meaning all executive.old executive.new) }
     ensures emptied { OnOk result (mail_of executive.new.world.mail receiver ≡ []) }
     ensures elsewhere { IsElsewhereSame receiver executive.old.world executive.new.world }
     ensures kept { IsKept queues.new executive.new.world }
@@ -254,8 +240,11 @@ fn deliver_to<M: Atomic>(
     undone: &mut Undone,
 ) -> Result<(), SweepRefused>
     requires { receiver < length executive.old.network.models }
-    ensures done { OnOk result (IsUnderWay M.meaning (deliveries_from receiver executive.old) (deliveries_from (suc receiver) executive.new) executive.old executive.new) }
-    ensures cut_short { IfErr result (IsCutShort M.meaning (deliveries_from receiver executive.old) executive.old executive.new) }
+    ensures done { let all = deliveries_from receiver executive.old in
+        let left = deliveries_from (suc receiver) executive.new in
+        OnOk result (IsUnderWay M.meaning all left executive.old executive.new) }
+    ensures cut_short { let all = deliveries_from receiver executive.old in
+        IfErr result (IsCutShort M.meaning all executive.old executive.new) }
     ensures emptied { OnOk result (mail_of executive.new.world.mail receiver ≡ []) }
     ensures elsewhere { IsElsewhereSame receiver executive.old.world executive.new.world }
     ensures network { executive.new.network ≡ executive.old.network }
@@ -271,8 +260,10 @@ fn deliver_to<M: Atomic>(
 
 /// A harvest of each component.
 fn harvest_all<M: Atomic>(executive: &mut Executive<M>) -> Result<(), SweepRefused>
-    ensures done { OnOk result (executive.new ≡ replayed M.meaning (harvests 0 (length executive.old.world.processes)) executive.old) }
-    ensures cut_short { IfErr result (IsCutShort M.meaning (harvests 0 (length executive.old.world.processes)) executive.old executive.new) }
+    ensures done { let actions = harvests 0 (length executive.old.world.processes) in
+        OnOk result (executive.new ≡ replayed M.meaning actions executive.old) }
+    ensures cut_short { let actions = harvests 0 (length executive.old.world.processes) in
+        IfErr result (IsCutShort M.meaning actions executive.old executive.new) }
     ensures looks { LooksSame executive.old.world executive.new.world }
 {
     executive.facts();
@@ -286,7 +277,8 @@ fn harvest_all<M: Atomic>(executive: &mut Executive<M>) -> Result<(), SweepRefus
 fn take<M: Atomic>(executive: &mut Executive<M>, action: Action) -> Result<Done, SweepRefused>
     ensures done { OnOk result (executive.new ≡ after M.meaning action executive.old) }
     ensures wanting { IfErr result (IsWanting M.meaning executive.old action) }
-    ensures memory { IfErr result (λ why. IsOk (answer M.meaning action executive.old) → TakesMemory action) }
+    ensures memory { IfErr result
+        (λ why. IsOk (answer M.meaning action executive.old) → TakesMemory action) }
     ensures stays { OnErr result (executive.new ≡ executive.old) }
 {
     match executive.act(action) {

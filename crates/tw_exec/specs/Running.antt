@@ -6,9 +6,12 @@
 --     AreExact meaning action e result      no such component or item, a stamp before global virtual time, no step due: exactly where the theory says so
 --     WantsRoom meaning action e      its process would hold too many nodes
 --     IsWanting meaning action e why      where that is why, it would
+--     IsActed meaning action e result e'      what comes of an action, and of the executive
+--     AreRefusals meaning action e result      what is refused for want of nodes or of memory
 --     IsDelivery action      want of nodes is found before want of memory
+--     committed_records meaning e      what the sequential simulator records before its least commit line
 --     IsSoundly meaning e      what is true of every executive
-use Rattle.std.specs.Prelude.{ℕ, ◌≡◌, ◌≤◌, ◌↔◌, IfSome, IsErrOf, List, map, Result, Some, slice_get, ⊤, Err}
+use Rattle.std.specs.Prelude.{ℕ, ◌≡◌, ◌≤◌, ◌↔◌, IfErr, IfOk, IfSome, IsErrOf, OnErr, OnOk, List, map, None, Ok, Result, Some, slice_get, ⊤, Err}
 use Rattle.tw_atomic.specs.Atomic.{Meaning}
 use Rattle.tw_exec.specs.Actions.{reason}
 use Rattle.tw_actions.specs.declared.action.Done.{Done}
@@ -21,8 +24,10 @@ use Rattle.tw_process.specs.Process.{Held, IsNew}
 use Rattle.tw_theory.specs.Contents.{Cancel}
 use Rattle.tw_theory.specs.Executive as theory
 use Rattle.tw_theory.specs.Executive.{World, Action, Answer, act}
-use Rattle.tw_theory.specs.Memory.{WantsNodes}
+use Rattle.tw_theory.specs.Memory.{TakesMemory, WantsNodes}
 use Rattle.tw_theory.specs.Network.{IsNetwork}
+use Rattle.tw_theory.specs.Simulator.{sequential}
+use Rattle.tw_theory.specs.Traces.{before, least_line}
 use Rattle.tw_theory.specs.Soundness.{IsSound, new_world}
 use Rattle.tw_vtime.specs.Stamps.{max_tick, stamp}
 
@@ -77,11 +82,30 @@ IsDelivery (theory.Back c s) = ⊥
 IsDelivery theory.Raise = ⊥
 IsDelivery (theory.Harvest c) = ⊥
 
+-- what the theory's action answers and makes; refused, it changes nothing, and 15, 14 and 16 come exactly where the theory
+-- refuses it so, 12 only where there is no room
+pub record IsActed {M S : Type 0} (meaning : M → Meaning S) (action : Action) (e : Running M S) (result : Result Done Refused) (e' : Running M S) : Type 0 where
+  pub done : OnOk result (e' ≡ after meaning action e)
+  pub answer : IfOk result (λ came. answer meaning action e ≡ Ok came)
+  pub refused : IfErr result (IsReason meaning action e)
+  pub exact : AreExact meaning action e result
+  pub full : IfErr result (IsWanting meaning action e)
+  pub stays : OnErr result (e' ≡ e)
+
+-- of a delivery 12 exactly where there is no room; and want of memory only of an action that takes any
+pub record AreRefusals {M S : Type 0} (meaning : M → Meaning S) (action : Action) (e : Running M S) (result : Result Done Refused) : Type 0 where
+  pub limit : IsDelivery action → (WantsRoom meaning action e ↔ IsErrOf result Full)
+  pub memory : IfErr result (λ why. reason why ≡ None → TakesMemory action)
+
 -- its network is one, it ends at a tick that a stamp has, and it is sound
 pub record IsSoundly {M S : Type 0} (meaning : M → Meaning S) (e : Running M S) : Type 0 where
   pub network : IsNetwork (network_of meaning e.network)
   pub bound : e.until ≤ max_tick
   pub sound : IsSound (network_of meaning e.network) e.until e.world
+
+-- what the sequential simulator records before the least commit line
+abbrev pub committed_records : {M S : Type 0} → (M → Meaning S) → Running M S → List Record
+committed_records meaning e = before (least_line e.world.processes) (sequential (network_of meaning e.network) e.until).records
 
 -- ---- how it is held
 

@@ -1,8 +1,8 @@
 //! The actions.
 
-ghost use Rattle.std.specs.Prelude.{◌≡◌, ◌≢◌, ◌↔◌, ◌++◌, None, IfOk, IfErr, IsErrOf, OnOk, OnErr};
+ghost use Rattle.std.specs.Prelude.{◌≡◌, ◌≢◌, ◌↔◌, ◌++◌, None, IfOk, IfErr, IsErrOf, OnOk};
 ghost use Rattle.tw_exec.specs.Actions.{reason};
-ghost use Rattle.tw_exec.specs.Running.{answer, after, AreExact, IsDelivery, IsReason, IsWanting, WantsRoom};
+ghost use Rattle.tw_exec.specs.Running.{IsDelivery, WantsRoom, IsActed};
 ghost use Rattle.tw_exec.specs.declared.refused.Refused.TheVariants as refused;
 ghost use Rattle.tw_theory.specs.Bundles.{antis};
 ghost use Rattle.tw_theory.specs.Contents.{settle};
@@ -31,14 +31,10 @@ impl<M: Atomic> Executive<M> {
     /// after 18,446,744,073,709,551,615 of them would be answered by 4 too; no run comes so far. A refused action changes nothing: the item
     /// of a refused Deliver keeps its place.
     pub fn act(&mut self, action: Action) -> Result<Done, Refused>
-        ensures done { OnOk result (self.new ≡ after M.meaning action self.old) }
-        ensures answer { IfOk result (λ done. answer M.meaning action self.old ≡ Ok done) }
-        ensures refused { IfErr result (IsReason M.meaning action self.old) }
-        ensures exact { AreExact M.meaning action self.old result }
-        ensures full { IfErr result (IsWanting M.meaning action self.old) }
-        ensures limit { IsDelivery action → (WantsRoom M.meaning action self.old ↔ IsErrOf result refused.Full) }
+        ensures acted { IsActed M.meaning action self.old result self.new }
+        ensures limit { IsDelivery action
+            → (WantsRoom M.meaning action self.old ↔ IsErrOf result refused.Full) }
         ensures memory { IfErr result (λ why. reason why ≡ None → TakesMemory action) }
-        ensures stays { OnErr result (self.new ≡ self.old) }
     {
         match action {
             Action::Step(component) => self.step(component),
@@ -52,12 +48,7 @@ impl<M: Atomic> Executive<M> {
 
     /// The next step of a component is made.
     fn step(&mut self, component: usize) -> Result<Done, Refused>
-        ensures done { OnOk result (self.new ≡ after M.meaning (Step component) self.old) }
-        ensures answer { IfOk result (λ done. answer M.meaning (Step component) self.old ≡ Ok done) }
-        ensures refused { IfErr result (IsReason M.meaning (Step component) self.old) }
-        ensures exact { AreExact M.meaning (Step component) self.old result }
-        ensures full { IfErr result (IsWanting M.meaning (Step component) self.old) }
-        ensures stays { OnErr result (self.new ≡ self.old) }
+        ensures acted { IsActed M.meaning (Step component) self.old result self.new }
     {
         if component >= self.processes.len() {
             return Err(Refused::NoSuch);
@@ -72,12 +63,7 @@ impl<M: Atomic> Executive<M> {
 
     /// What a component sends goes to the mailboxes.
     fn post(&mut self, component: usize) -> Result<Done, Refused>
-        ensures done { OnOk result (self.new ≡ after M.meaning (Post component) self.old) }
-        ensures answer { IfOk result (λ done. answer M.meaning (Post component) self.old ≡ Ok done) }
-        ensures refused { IfErr result (IsReason M.meaning (Post component) self.old) }
-        ensures exact { AreExact M.meaning (Post component) self.old result }
-        ensures full { IfErr result (IsWanting M.meaning (Post component) self.old) }
-        ensures stays { OnErr result (self.new ≡ self.old) }
+        ensures acted { IsActed M.meaning (Post component) self.old result self.new }
     {
         if component >= self.processes.len() {
             return Err(Refused::NoSuch);
@@ -92,13 +78,9 @@ impl<M: Atomic> Executive<M> {
 
     /// A component receives an item of its mailbox; a refused one goes back to its place.
     fn deliver(&mut self, receiver: usize, place: usize) -> Result<Done, Refused>
-        ensures done { OnOk result (self.new ≡ after M.meaning (Deliver receiver place) self.old) }
-        ensures answer { IfOk result (λ done. answer M.meaning (Deliver receiver place) self.old ≡ Ok done) }
-        ensures refused { IfErr result (IsReason M.meaning (Deliver receiver place) self.old) }
-        ensures exact { AreExact M.meaning (Deliver receiver place) self.old result }
-        ensures full { IfErr result (IsWanting M.meaning (Deliver receiver place) self.old) }
-        ensures limit { WantsRoom M.meaning (Deliver receiver place) self.old ↔ IsErrOf result refused.Full }
-        ensures stays { OnErr result (self.new ≡ self.old) }
+        ensures acted { IsActed M.meaning (Deliver receiver place) self.old result self.new }
+        ensures limit { WantsRoom M.meaning (Deliver receiver place) self.old
+            ↔ IsErrOf result refused.Full }
     {
         if receiver >= self.processes.len() {
             return Err(Refused::NoSuch);
@@ -118,13 +100,8 @@ impl<M: Atomic> Executive<M> {
 
     /// The steps of a component at or after a stamp are taken back.
     fn back(&mut self, component: usize, stamp: Stamp) -> Result<Done, Refused>
-        ensures done { OnOk result (self.new ≡ after M.meaning (Back component stamp) self.old) }
-        ensures answer { IfOk result (λ done. answer M.meaning (Back component stamp) self.old ≡ Ok done) }
-        ensures refused { IfErr result (IsReason M.meaning (Back component stamp) self.old) }
-        ensures exact { AreExact M.meaning (Back component stamp) self.old result }
-        ensures full { IfErr result (IsWanting M.meaning (Back component stamp) self.old) }
+        ensures acted { IsActed M.meaning (Back component stamp) self.old result self.new }
         ensures known { IfErr result (λ why. reason why ≢ None) }
-        ensures stays { OnErr result (self.new ≡ self.old) }
     {
         if component >= self.processes.len() {
             return Err(Refused::NoSuch);
@@ -138,8 +115,7 @@ impl<M: Atomic> Executive<M> {
 
     /// Global virtual time rises.
     fn raise(&mut self) -> Done
-        ensures done { self.new ≡ after M.meaning Raise self.old }
-        ensures answer { answer M.meaning Raise self.old ≡ Ok result }
+        ensures acted { IsActed M.meaning Raise self.old (Ok result) self.new }
     {
         let gvt = least_of(self.processes.as_slice(), &self.mail);
         self.gvt = gvt;
@@ -148,12 +124,7 @@ impl<M: Atomic> Executive<M> {
 
     /// The records of a component from before global virtual time go to its column.
     fn harvest(&mut self, component: usize) -> Result<Done, Refused>
-        ensures done { OnOk result (self.new ≡ after M.meaning (Harvest component) self.old) }
-        ensures answer { IfOk result (λ done. answer M.meaning (Harvest component) self.old ≡ Ok done) }
-        ensures refused { IfErr result (IsReason M.meaning (Harvest component) self.old) }
-        ensures exact { AreExact M.meaning (Harvest component) self.old result }
-        ensures full { IfErr result (IsWanting M.meaning (Harvest component) self.old) }
-        ensures stays { OnErr result (self.new ≡ self.old) }
+        ensures acted { IsActed M.meaning (Harvest component) self.old result self.new }
     {
         if component >= self.processes.len() {
             return Err(Refused::NoSuch);

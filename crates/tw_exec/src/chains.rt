@@ -4,8 +4,8 @@ ghost use Rattle.std.specs.Prelude.{◌≡◌, ◌↔◌, ◌≤◌, ◌⊎◌, 
 ghost use Rattle.tw_atomic.specs.Atomic.{AreAlike};
 ghost use Rattle.tw_exec.specs.Chains.{start_at, IsInstalledOn};
 ghost use Rattle.tw_exec.specs.declared.refused.Refused.TheVariants.{NoSuch, OutOfMemory};
-ghost use Rattle.tw_theory.specs.Standing.{IsReady};
 ghost use Rattle.tw_vtime.specs.Stamps.{max_microstep, stamp};
+ghost use Rattle.tw_chain.specs.Kept.{IsReadyStart};
 
 use crate::executive::Executive;
 use crate::refused::Refused;
@@ -25,10 +25,13 @@ impl<M: Atomic> Executive<M> {
         before: Stamp,
         burst: usize,
     ) -> Result<Start<M::State>, Refused>
-        ensures start { IfOk result (λ start. IfSome (slice_get self.now.world.processes component) (λ p. start ≡ start_at before burst component self.now.network p)) }
+        ensures start { let network = self.now.network in
+            IfOk result (λ start. IfSome (slice_get self.now.world.processes component)
+            (λ p. start ≡ start_at before burst component network p)) }
         ensures limit { IfOk result (λ start. start.micro_limit ≤ max_microstep) }
-        ensures ready { IfOk result (λ start. (m : M) → slice_get self.now.network.models component ≡ Some m
-            → IsReady (M.valid m) (M.meaning m) start.component start.now start.messages) }
+        ensures ready { IfOk result (λ start. (m : M)
+            → slice_get self.now.network.models component ≡ Some m
+            → IsReadyStart (M.valid m) (M.meaning m) start) }
         ensures no_such { result ≡ Err NoSuch ↔ length self.now.network.models ≤ component }
         ensures only { IfErr result (λ why. (why ≡ NoSuch) ⊎ (why ≡ OutOfMemory)) }
     {
@@ -46,7 +49,8 @@ impl<M: Atomic> Executive<M> {
         requires component { chain.run.start.component ≡ component }
         requires limit { chain.run.start.micro_limit ≡ self.old.network.micro_limit }
         requires bound { chain.run.start.before ≤ stamp self.old.until 0 0 }
-        requires alike { (m : M) → slice_get self.old.network.models component ≡ Some m → AreAlike M.meaning M.undone m chain.model }
+        requires alike { (m : M) → slice_get self.old.network.models component ≡ Some m
+            → AreAlike M.meaning M.undone m chain.model }
         ensures installed { IfOk result (IsInstalledOn M.meaning chain self.old self.new) }
         ensures no_such { result ≡ Err NoSuch ↔ length self.old.network.models ≤ component }
         ensures only { IfErr result (λ why. why ≡ NoSuch) }

@@ -2,18 +2,18 @@
 
 ghost use Rattle.std.specs.Prelude.{◌≡◌, ◌≢◌, ◌<◌, ◌↔◌, IfOk, IfErr, IfSome, IsErrOf, Some, [], length, replicate, slice_get};
 ghost use Rattle.std.specs.Arc.{arc_value};
-ghost use Rattle.tw_exec.specs.Running.{start, AreNew, IsSoundly};
+ghost use Rattle.tw_exec.specs.Running.{start, AreNew, IsSoundly, committed_records};
 ghost use Rattle.tw_exec.specs.declared.refused.StartRefused.TheVariants as refused;
 ghost use Rattle.tw_msgs.specs.Counting.{total};
 ghost use Rattle.tw_network.specs.Contents.{network_of};
 ghost use Rattle.tw_theory.specs.Contents.{Aggressive};
 ghost use Rattle.tw_theory.specs.Executive.{column_of, mail_of};
-ghost use Rattle.tw_theory.specs.Simulator.{records_before, sequential};
-ghost use Rattle.tw_theory.specs.Traces.{IsMerged, before, least_line};
+ghost use Rattle.tw_theory.specs.Simulator.{records_before};
+ghost use Rattle.tw_theory.specs.Traces.{IsMerged, least_line};
 ghost use Rattle.tw_vtime.specs.Stamps.{max_tick};
 
+use crate::lines::least_line;
 use crate::refused::StartRefused;
-use crate::traces::least_line;
 use std::alloc::{AllocError, AllocFailed, Global};
 use std::marker::Model;
 use std::sync::Arc;
@@ -69,9 +69,15 @@ impl<M: Atomic> Model for Executive<M> {
 
     ghost Value = { Running M M.State };
 
-    ghost view = { λ e. record { network = arc_value e.network; until = e.until; world = shown e.processes.items e.mail.boxes e.columns.items e.gvt } };
+    ghost view = { λ e. record {
+      network = arc_value e.network;
+      until = e.until;
+      world = shown e.processes.items e.mail.boxes e.columns.items e.gvt;
+    } };
 
-    ghost invariant = { λ e. IsHeld M.meaning (arc_value e.network) e.until e.end e.gvt e.processes.items e.mail.boxes e.columns.items × (e.records ≡ total length e.columns.items) };
+    ghost invariant = { λ e. IsHeld M.meaning (arc_value e.network) e.until e.end e.gvt
+        e.processes.items e.mail.boxes e.columns.items
+        × (e.records ≡ total length e.columns.items) };
 }
 
 impl<M: Atomic> Executive<M> {
@@ -169,8 +175,9 @@ impl<M: Atomic> Executive<M> {
     pub fn committed(&self, component: usize) -> &[Record]
         requires { component < length self.now.network.models }
         ensures column { result.now ≡ column_of self.now.world.columns component }
-        ensures sequential { IfSome (slice_get self.now.world.processes component)
-            (λ p. result.now ≡ records_before (network_of M.meaning self.now.network) self.now.until component p.line) }
+        ensures sequential { let net = network_of M.meaning self.now.network in
+            IfSome (slice_get self.now.world.processes component)
+            (λ p. result.now ≡ records_before net self.now.until component p.line) }
     {
         self.columns[component].records()
     }
@@ -205,8 +212,9 @@ impl<M: Atomic> Executive<M> {
     ///
     /// It is refused for want of memory alone (4); then the executive is handed back as it was.
     pub fn into_trace(self, alloc: Global) -> Result<Vec<Record>, AllocFailed<Executive<M>>>
-        ensures sequential { IfOk result (λ trace. trace.items ≡ before (least_line self.world.processes) (sequential (network_of M.meaning self.network) self.until).records) }
-        ensures merged { IfOk result (λ trace. IsMerged (least_line self.world.processes) self.world trace.items) }
+        ensures sequential { IfOk result (λ trace. trace.items ≡ committed_records M.meaning self) }
+        ensures merged { IfOk result
+            (λ trace. IsMerged (least_line self.world.processes) self.world trace.items) }
         ensures handed_back { IfErr result (λ failed. failed.value ≡ self) }
     {
         let line = least_line(self.processes.as_slice());
@@ -248,7 +256,8 @@ fn processes_of<M: Atomic>(
     cancel: Cancel,
 ) -> Result<Vec<Process<M>>, StartRefused>
     requires { count ≡ length (arc_value network.now).models }
-    ensures made { IfOk result (λ made. AreNew M.meaning (arc_value network.now) cancel made.items) }
+    ensures made { IfOk result
+        (λ made. AreNew M.meaning (arc_value network.now) cancel made.items) }
     ensures count { IfOk result (λ made. length made.items ≡ count) }
     ensures no_tick { IfErr result (λ why. why ≢ refused.BadTick) }
 {

@@ -19,18 +19,25 @@ impl<M: Atomic> Executive<M> {
     /// for each message sent. And a rewind or Back that is not refused, whatever came before it, cuts its processes there: what is
     /// cut off a process stands at or after the stamp of the cut, and what it keeps before it.
     pub fn inverse_law()
-        ensures takes_back { (e : Running M M.State) → IsSoundly M.meaning e → TakesBack (network_of M.meaning e.network) e.until e.world }
-        ensures parts { (e : Running M M.State) (c s : ℕ) (p : Process M.State) → IsSoundly M.meaning e → slice_get e.world.processes c ≡ Some p → IsParted s p }
+        ensures takes_back { (e : Running M M.State) → IsSoundly M.meaning e
+            → TakesBack (network_of M.meaning e.network) e.until e.world }
+        ensures parts { (e : Running M M.State) (c s : ℕ) (p : Process M.State)
+            → IsSoundly M.meaning e → slice_get e.world.processes c ≡ Some p → IsParted s p }
     {}
 
     /// What is committed: each component's column is what the sequential simulator records of it before its commit line; no commit
     /// line passes the stamp at which that simulator ends in a fault; global virtual time never falls, by an action or a rewind, and
     /// Raise sets it to the exact least.
     pub fn committed_law()
-        ensures committed { (e : Running M M.State) → IsSoundly M.meaning e → HasCommitted (network_of M.meaning e.network) e.until e.world }
-        ensures before_fault { (e : Running M M.State) → IsSoundly M.meaning e → IsBeforeFault (network_of M.meaning e.network) e.until e.world }
-        ensures rises { (e : Running M M.State) (action : Action) → IsSoundly M.meaning e → e.world.gvt ≤ (after M.meaning action e).world.gvt }
-        ensures rewound { (e : Running M M.State) (ss : List ℕ) → (rewind e.world ss).1.gvt ≡ e.world.gvt }
-        ensures raised { (e : Running M M.State) → (after M.meaning Raise e).world.gvt ≡ least_of e.world }
+        ensures committed { (e : Running M M.State) → IsSoundly M.meaning e
+            → HasCommitted (network_of M.meaning e.network) e.until e.world }
+        ensures before_fault { (e : Running M M.State) → IsSoundly M.meaning e
+            → IsBeforeFault (network_of M.meaning e.network) e.until e.world }
+        ensures rises { (e : Running M M.State) (action : Action) → IsSoundly M.meaning e
+            → e.world.gvt ≤ (after M.meaning action e).world.gvt }
+        ensures rewound { (e : Running M M.State) (ss : List ℕ)
+            → (rewind e.world ss).1.gvt ≡ e.world.gvt }
+        ensures raised { (e : Running M M.State)
+            → (after M.meaning Raise e).world.gvt ≡ least_of e.world }
     {}
 }

@@ -13,14 +13,16 @@
 //! | `acting` | `act`: an action, its answer ([`Done`]) or why it is refused ([`Refused`]); `to_post`: what a post moves |
 //! | `marking` | `mark` and `rewind` ([`Mark`]); `replay`: a list of actions |
 //! | `chains` | `start`: what a chain is worked out from; `install`: the steps of a chain made here |
-//! | `traces` | `trace`: what all components have committed, merged |
+//! | `traces` | `trace`: what all components have committed, merged; `lines`: the least commit line |
 //! | `laws` | `inverse_law`, `committed_law`: what holds of every executive |
+//! | `refused` | [`Refused`] and [`StartRefused`]: what an executive refuses |
 #![tactic(auto)]
 
 mod acting;
 mod chains;
 mod executive;
 mod laws;
+mod lines;
 mod marking;
 mod refused;
 mod traces;

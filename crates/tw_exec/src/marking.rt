@@ -57,9 +57,12 @@ impl<M: Atomic> Executive<M> {
     /// has one before global virtual time (13). Then nothing changes. A count above 18,446,744,073,709,551,615 is answered as
     /// that number.
     pub fn rewind(&mut self, mark: &Mark) -> Result<u64, Refused>
-        ensures done { OnOk result (rewind self.old.world mark.now ≡ (Ok (Undone (rewound_steps mark.now self.old.world.processes)), self.new.world)) }
-        ensures count { IfOk result (λ n. n ≡ min (rewound_steps mark.now self.old.world.processes) greatest_count) }
-        ensures refused { IfErr result (λ why. IfSome (reason why) (λ r. (rewind self.old.world mark.now).0 ≡ Err r)) }
+        ensures done { let count = rewound_steps mark.now self.old.world.processes in
+            OnOk result (rewind self.old.world mark.now ≡ (Ok (Undone count), self.new.world)) }
+        ensures count { let count = rewound_steps mark.now self.old.world.processes in
+            IfOk result (λ n. n ≡ min count greatest_count) }
+        ensures refused { IfErr result
+            (λ why. IfSome (reason why) (λ r. (rewind self.old.world mark.now).0 ≡ Err r)) }
         ensures known { IfErr result (λ why. reason why ≢ None) }
         ensures others { self.new ≡ record self.old { world = self.new.world } }
         ensures stays { OnErr result (self.new ≡ self.old) }
@@ -81,7 +84,8 @@ impl<M: Atomic> Executive<M> {
 
     /// Takes each action in turn, and answers how many were not refused. A refused one changes nothing.
     pub fn replay(&mut self, actions: &[Action]) -> u64
-        ensures replayed { IsReplayed (network_of M.meaning self.old.network) self.old.until self.old.world actions.now result self.new.world }
+        ensures replayed { IsReplayed (network_of M.meaning self.old.network) self.old.until
+            self.old.world actions.now result self.new.world }
         ensures others { self.new ≡ record self.old { world = self.new.world } }
     {
         let mut taken = 0;
@@ -103,8 +107,10 @@ fn any_committed<M: Atomic>(
 ) -> bool
     requires processes { length processes.now ≡ length stamps.now }
     requires columns { length columns.now ≡ length stamps.now }
-    requires rising { Each (λ column. IsRising column × Each (λ r. r.stamp < gvt) column) columns.now }
-    ensures { result ≡ any_committed gvt stamps.now (map (λ p. p.process) processes.now) columns.now }
+    requires rising { Each
+        (λ column. IsRising column × Each (λ r. r.stamp < gvt) column) columns.now }
+    ensures { result ≡ any_committed gvt stamps.now
+        (map (λ p. p.process) processes.now) columns.now }
 {
     let mut any = false;
     for c in 0..stamps.len() {
@@ -122,7 +128,8 @@ fn is_committed_since<M: Atomic>(
 ) -> bool
     requires rising { IsRising column.now }
     requires before { Each (λ r. r.stamp < gvt) column.now }
-    ensures { result ≡ (any_between mark gvt column.now || any_between mark gvt (records_of process.now.process.history)) }
+    ensures { let records = records_of process.now.process.history in
+        result ≡ (any_between mark gvt column.now || any_between mark gvt records) }
 {
     reaches(column, gvt, mark) || process.has_step_between(mark, gvt)
 }
@@ -143,7 +150,8 @@ fn reaches(column: &Column, before: Stamp, from: Stamp) -> bool
 fn back_to_marks<M: Atomic>(processes: &mut Vec<Process<M>>, stamps: &[Stamp]) -> u64
     requires { length processes.old.items ≡ length stamps.now }
     ensures cut { processes.new.items ≡ at_marks stamps.now processes.old.items }
-    ensures count { result ≡ min (rewound_steps stamps.now (map (λ p. p.process) processes.old.items)) greatest_count }
+    ensures count { let old = map (λ p. p.process) processes.old.items in
+        result ≡ min (rewound_steps stamps.now old) greatest_count }
 {
     let mut count: u64 = 0;
     for c in 0..stamps.len() {

@@ -1,17 +1,15 @@
 //! The trace of what all components have committed.
 
-ghost use Rattle.std.specs.Prelude.{◌≡◌, IfOk, map};
-ghost use Rattle.tw_network.specs.Contents.{network_of};
-ghost use Rattle.tw_theory.specs.Simulator.{sequential};
-ghost use Rattle.tw_theory.specs.Traces.{IsMerged, before, least_line};
+ghost use Rattle.std.specs.Prelude.{◌≡◌, IfOk};
+ghost use Rattle.tw_theory.specs.Traces.{IsMerged, least_line};
+ghost use Rattle.tw_exec.specs.Running.{committed_records};
 
 use crate::executive::Executive;
+use crate::lines::least_line;
 use std::alloc::{AllocError, Global};
 use tw_atomic::Atomic;
 use tw_fossils::merge;
 use tw_msgs::Record;
-use tw_process::Process;
-use tw_vtime::Stamp;
 
 impl<M: Atomic> Executive<M> {
     /// The records before the least commit line of all components, by stamp and then component: what the sequential simulator
@@ -19,21 +17,12 @@ impl<M: Atomic> Executive<M> {
     ///
     /// It copies them, and is refused for want of memory alone (4).
     pub fn trace(&self, alloc: Global) -> Result<Vec<Record>, AllocError>
-        ensures sequential { IfOk result (λ trace. trace.items ≡ before (least_line self.now.world.processes) (sequential (network_of M.meaning self.now.network) self.now.until).records) }
-        ensures merged { IfOk result (λ trace. IsMerged (least_line self.now.world.processes) self.now.world trace.items) }
+        ensures sequential { IfOk result
+            (λ trace. trace.items ≡ committed_records M.meaning self.now) }
+        ensures merged { IfOk result
+            (λ trace. IsMerged (least_line self.now.world.processes) self.now.world trace.items) }
     {
         let line = least_line(self.processes.as_slice());
         merge(alloc, self.columns.as_slice(), line)
     }
-}
-
-/// The least commit line; the end, where there are no processes.
-pub(crate) fn least_line<M: Atomic>(processes: &[Process<M>]) -> Stamp
-    ensures { result ≡ least_line (map (λ p. p.process) processes.now) }
-{
-    let mut least = Stamp::END;
-    for process in processes {
-        least = least.min(process.line());
-    }
-    least
 }

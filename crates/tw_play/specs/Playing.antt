@@ -4,17 +4,17 @@
 --     response_text answer      what is written for it
 --     ArePlayed meaning commands p text p'      the same of commands one after another, with all that is written
 --     AreDrawn meaning g n p text p'      the same of the actions that a generator gives
-use Rattle.std.specs.Prelude.{ℕ, suc, ◌≡◌, ◌≢◌, ◌<◌, ◌≤◌, ◌⊎◌, ◌↔◌, ◌++◌, List, [], ◌∷◌, length, min, Option, Some, None, IfErr, IfSome, IsErrOf, Result, Ok, Err, string_bytes}
+use Rattle.std.specs.Prelude.{ℕ, suc, ◌≡◌, ◌≢◌, ◌<◌, ◌≤◌, ◌⊎◌, ◌++◌, List, [], ◌∷◌, length, min, Option, Some, None, IfSome, Result, Ok, Err, string_bytes}
 use Rattle.rand_pcg.specs.Lcg.{Lcg}
 use Rattle.tw_atomic.specs.Atomic.{Meaning}
 use Rattle.tw_exec.specs.Actions.{reason}
 use Rattle.tw_exec.specs.Rewinding.{greatest_count}
-use Rattle.tw_exec.specs.Running.{Running, answer, after, AreExact, IsDelivery, IsReason, IsWanting, WantsRoom}
+use Rattle.tw_exec.specs.Running.{AreRefusals, IsActed, Running}
 use Rattle.tw_actions.specs.declared.action.Action.{Action}
 use Rattle.tw_actions.specs.declared.action.Done as done
 use Rattle.tw_actions.specs.declared.action.Done.TheVariants.{Undone}
 use Rattle.tw_exec.specs.declared.refused.Refused as refused
-use Rattle.tw_exec.specs.declared.refused.Refused.TheVariants.{OutOfMemory, Full, NoSuch}
+use Rattle.tw_exec.specs.declared.refused.Refused.TheVariants.{OutOfMemory, NoSuch}
 use Rattle.tw_inspect.specs.Replies.{reply_text, replied}
 use Rattle.tw_inspect.specs.Reports.{describe_text, report_text}
 use Rattle.tw_inspect.specs.declared.replies.Reply.{Reply as Replied}
@@ -25,7 +25,6 @@ use Rattle.tw_seeded.specs.Schedules.{action_drawn, after as next_of, drawn}
 use Rattle.tw_script.specs.declared.command.Command.{Command}
 use Rattle.tw_script.specs.declared.command.Command.TheVariants.{Act, Mark, Rewind, Show, Describe}
 use Rattle.tw_theory.specs.Marks.{marks, rewind, rewound_steps}
-use Rattle.tw_theory.specs.Memory.{TakesMemory}
 
 pub record Played (M S : Type 0) : Type 0 where
   pub executive : Running M S
@@ -38,20 +37,9 @@ begun e = record { executive = e; mark = None }
 
 -- ---- an action
 
--- which refusals come of an action, as the executive says it: 15, 14 and 16 exactly where the theory refuses it so; 12 only where there is no
--- room, and of a delivery exactly there; and want of memory only of an action that takes any
-pub record AreRefusals {M S : Type 0} (meaning : M → Meaning S) (action : Action) (e : Running M S) (result : Result done.Done refused.Refused) : Type 0 where
-  pub exact : AreExact meaning action e result
-  pub limit : IsDelivery action → (WantsRoom meaning action e ↔ IsErrOf result Full)
-  pub memory : IfErr result (λ why. reason why ≡ None → TakesMemory action)
-
--- what comes of it: what the theory's action answers and makes; refused, it changes nothing
-abbrev pub IsOutcome : {M S : Type 0} → (M → Meaning S) → Action → Running M S → Result done.Done refused.Refused → Running M S → Type 0
-IsOutcome meaning action e (Ok done) e' = (answer meaning action e ≡ Ok done) × (e' ≡ after meaning action e)
-IsOutcome meaning action e (Err why) e' = IsReason meaning action e why × IsWanting meaning action e why × (e' ≡ e)
-
-abbrev pub IsActed : {M S : Type 0} → (M → Meaning S) → Action → Running M S → Result done.Done refused.Refused → Running M S → Type 0
-IsActed meaning action e result e' = IsOutcome meaning action e result e' × AreRefusals meaning action e result
+-- what comes of it, and what it is refused for, as the executive says it
+abbrev pub IsDone : {M S : Type 0} → (M → Meaning S) → Action → Running M S → Result done.Done refused.Refused → Running M S → Type 0
+IsDone meaning action e result e' = IsActed meaning action e result e' × AreRefusals meaning action e result
 
 -- ---- a rewind
 
@@ -90,7 +78,7 @@ IsDescribed meaning e c answer = ((length e.network.models ≤ c) × (answer ≡
 -- ---- any command
 
 abbrev pub IsObeyed : {M S : Type 0} → (M → Meaning S) → Command → Played M S → Response → Played M S → Type 0
-IsObeyed meaning (Act action) p answer p' = (result : Result done.Done refused.Refused) × (answer ≡ Reply (replied result)) × IsActed meaning action p.executive result p'.executive × (p'.mark ≡ p.mark)
+IsObeyed meaning (Act action) p answer p' = (result : Result done.Done refused.Refused) × (answer ≡ Reply (replied result)) × IsDone meaning action p.executive result p'.executive × (p'.mark ≡ p.mark)
 IsObeyed meaning Mark p answer p' = (reply : Replied) × (answer ≡ Reply reply) × IsMarked p reply p'
 IsObeyed meaning Rewind p answer p' = (result : Result done.Done refused.Refused) × (answer ≡ Reply (replied result)) × IsRewoundTo p.mark p.executive result p'.executive × (p'.mark ≡ p.mark)
 IsObeyed meaning Show p answer p' = IsShown (report_text meaning p.executive) answer × (p' ≡ p)

@@ -76,7 +76,8 @@ impl<M: Atomic, H: Given<M>> Model for Desk<M, H> {
 
     ghost view = { λ desk. desk.exchange };
 
-    ghost invariant = { λ desk. H.is_given desk.exchange.executive.network desk.exchange.executive.until desk.exchange.publisher.board
+    ghost invariant = { λ desk. H.is_given desk.exchange.executive.network
+        desk.exchange.executive.until desk.exchange.publisher.board
         × IfSome desk.end (λ end. IfOk end (IsOver M.meaning desk.exchange.executive))
         × IsSince H.is_begun desk.exchange.executive.world };
 }
@@ -88,7 +89,8 @@ impl<M: Atomic, H: Given<M>> Desk<M, H> {
         exchange: Exchange<M>,
         setting: Setting,
     ) -> Result<Desk<M, H>, Exchange<M>>
-        requires given { H.is_given exchange.executive.network exchange.executive.until exchange.publisher.board }
+        requires given { let e = exchange.executive in
+            H.is_given e.network e.until exchange.publisher.board }
         requires begun { H.is_begun (reached exchange.executive.world) }
         ensures made { IfOk result (λ desk. desk ≡ exchange) }
         ensures handed_back { IfErr result (λ back. back ≡ exchange) }
@@ -117,7 +119,8 @@ impl<M: Atomic, H: Given<M>> Desk<M, H> {
 
     /// The exchange after a run, how the run ended, and what it spent.
     pub(crate) fn into_parts(self) -> (Exchange<M>, Option<Result<RunState, SweepRefused>>, Effort)
-        ensures given { H.is_given result.0.executive.network result.0.executive.until result.0.publisher.board }
+        ensures given { let e = result.0.executive in
+            H.is_given e.network e.until result.0.publisher.board }
         ensures end { IfSome result.1 (λ end. IfOk end (IsOver M.meaning result.0.executive)) }
         ensures since { IsSince H.is_begun result.0.executive.world }
     {
@@ -223,8 +226,10 @@ impl<M: Atomic, H: Given<M>> Desk<M, H> {
     /// Gives out an order. None where there is nothing to be given out, or where memory for it is refused; then it sweeps, and where
     /// that brings global virtual time no further, the run has ended.
     pub(crate) fn draw(&mut self) -> Option<Order<M>>
-        ensures due { IfSome result (IsDue M.valid M.meaning self.old.executive.network self.old.executive.until) }
-        ensures given { H.is_given self.old.executive.network self.old.executive.until self.old.publisher.board }
+        ensures due { let e = self.old.executive in
+            IfSome result (IsDue M.valid M.meaning e.network e.until) }
+        ensures given { let e = self.old.executive in
+            H.is_given e.network e.until self.old.publisher.board }
     {
         let reach = self.begin();
         self.give_out(reach)
@@ -232,8 +237,10 @@ impl<M: Atomic, H: Given<M>> Desk<M, H> {
 
     /// Gives out the component that comes next, for as much as it may go.
     fn give_out(&mut self, reach: u64) -> Option<Order<M>>
-        ensures due { IfSome result (IsDue M.valid M.meaning self.old.executive.network self.old.executive.until) }
-        ensures given { H.is_given self.old.executive.network self.old.executive.until self.old.publisher.board }
+        ensures due { let e = self.old.executive in
+            IfSome result (IsDue M.valid M.meaning e.network e.until) }
+        ensures given { let e = self.old.executive in
+            H.is_given e.network e.until self.old.publisher.board }
     {
         let window = self.window.ticks();
         match self.exchange.draw_near(self.setting.burst, window, reach) {
@@ -279,7 +286,8 @@ impl<M: Atomic, H: Given<M>> Desk<M, H> {
     /// Hands in what was worked out from an order, and passes on what was sent, so that no component runs ahead of a message on its
     /// way to it; or sweeps where that is due, after so many chains. Once the run has ended neither is done any more.
     pub(crate) fn hand_in(&mut self, prepareds: Prepareds<M>)
-        requires { (n : Contents M) (until : ℕ) (board : TableId) → H.is_given n until board → IsMadeFor M.meaning M.undone n until prepareds }
+        requires { (n : Contents M) (until : ℕ) (board : TableId) → H.is_given n until board
+            → IsMadeFor M.meaning M.undone n until prepareds }
     {
         let component = prepareds.component();
         let Some(stop) = self.take_in(prepareds) else {
@@ -320,7 +328,8 @@ impl<M: Atomic, H: Given<M>> Desk<M, H> {
 
     /// Hands in what was worked out from an order. Answers why it went no further. Once the run has ended nothing is handed in any more.
     fn take_in(&mut self, prepareds: Prepareds<M>) -> Option<Stop>
-        requires { (n : Contents M) (until : ℕ) (board : TableId) → H.is_given n until board → IsMadeFor M.meaning M.undone n until prepareds }
+        requires { (n : Contents M) (until : ℕ) (board : TableId) → H.is_given n until board
+            → IsMadeFor M.meaning M.undone n until prepareds }
     {
         self.out = self.out.saturating_sub(1);
         self.handed_in = self.handed_in.saturating_add(1);

@@ -4,6 +4,7 @@
 //! [`run_counted`] tells beside it what was spent ([`Effort`]). What comes out depends neither on the [`Setting`] nor on who did what.
 //!
 //! `desk` is what lies under the lock of a run, `steering` how far it lets components run ahead, and `crew` who of its workers works.
+//! `setting` has the [`Setting`] and what comes back of a run that was given up ([`RunFault`]), `effort` the [`Effort`].
 //! All that this crate knows of threads stands in `running`.
 #![tactic(auto)]
 

@@ -1,12 +1,13 @@
 //! A run by workers.
 
 ghost use Rattle.std.specs.Arc.{arc_value};
-ghost use Rattle.std.specs.Prelude.{◌≡◌, ◌≤◌, IfErr, IfOk, IfSome, IsErrAnd, Ok, length};
-ghost use Rattle.tw_exchange.specs.Ends.{IsDue, IsEnd, IsEndOf, IsMadeFor, IsOnly, IsOver, trace_of};
+ghost use Rattle.std.specs.Prelude.{◌≡◌, ◌≤◌, IfErr, IfOk, IfSome, IsErrAnd};
+ghost use Rattle.tw_exchange.specs.Ends.{IsDue, IsEndOf, IsMadeFor, IsOnly, IsOver};
 ghost use Rattle.tw_exchange.specs.Exchanged.{IsNotAhead};
-ghost use Rattle.tw_exchange.specs.Further.{reached, IsFurther, IsSince};
+ghost use Rattle.tw_exchange.specs.Further.{reached, IsSince};
 ghost use Rattle.tw_theory.specs.Board.{numbers_of};
 ghost use Rattle.tw_vtime.specs.Stamps.{max_tick};
+ghost use Rattle.tw_workers.specs.Runs.{IsRunBy};
 
 use crate::crew::Looks;
 use crate::desk::{Desk, Given};
@@ -78,13 +79,7 @@ where
     requires burst { (1 ≤ setting.burst) × (setting.burst ≤ 256) }
     requires window { setting.window ≤ max_tick }
     requires not_ahead { IsNotAhead publisher executive }
-    ensures outcome { IfOk result.0 (IsEnd M.meaning executive.network executive.until) }
-    ensures network { IfErr result.0 (λ fault. fault.executive.network ≡ executive.network) }
-    ensures until { IfErr result.0 (λ fault. fault.executive.until ≡ executive.until) }
-    ensures further { IfErr result.0 (λ fault. IsFurther (reached executive.world) (reached fault.executive.world)) }
-    ensures board { result.1.board ≡ publisher.board }
-    ensures count { IfOk result.0 (λ outcome. result.1.numbers.1 ≡ length (trace_of outcome)) }
-    ensures numbers { IfErr result.0 (λ fault. result.1.numbers ≡ numbers_of fault.executive.world) }
+    ensures run { IsRunBy M.meaning executive publisher result.0 result.1 }
 {
     let (ended, publisher, _) = run_counted(rt, alloc, executive, setting, gate, publisher);
     (ended, publisher)
@@ -106,13 +101,7 @@ where
     requires burst { (1 ≤ setting.burst) × (setting.burst ≤ 256) }
     requires window { setting.window ≤ max_tick }
     requires not_ahead { IsNotAhead publisher executive }
-    ensures outcome { IfOk result.0 (IsEnd M.meaning executive.network executive.until) }
-    ensures network { IfErr result.0 (λ fault. fault.executive.network ≡ executive.network) }
-    ensures until { IfErr result.0 (λ fault. fault.executive.until ≡ executive.until) }
-    ensures further { IfErr result.0 (λ fault. IsFurther (reached executive.world) (reached fault.executive.world)) }
-    ensures board { result.1.board ≡ publisher.board }
-    ensures count { IfOk result.0 (λ outcome. result.1.numbers.1 ≡ length (trace_of outcome)) }
-    ensures numbers { IfErr result.0 (λ fault. result.1.numbers ≡ numbers_of fault.executive.world) }
+    ensures run { IsRunBy M.meaning executive publisher result.0 result.1 }
 {
     let nothing = Effort::nothing();
     let Ok(network) = Arc::try_clone(executive.network()) else {
@@ -194,10 +183,12 @@ fn run_given<
 where
     M::State: Send,
     M::Residue: Send,
-    requires given { H.is_given exchange.executive.network exchange.executive.until exchange.publisher.board }
+    requires given { let e = exchange.executive in
+        H.is_given e.network e.until exchange.publisher.board }
     requires begun { H.is_begun (reached exchange.executive.world) }
     requires only { IsOnly H.is_given (arc_value network) exchange.executive.until }
-    ensures given { H.is_given result.0.executive.network result.0.executive.until result.0.publisher.board }
+    ensures given { let e = result.0.executive in
+        H.is_given e.network e.until result.0.publisher.board }
     ensures end { IfSome result.1 (λ end. IfOk end (IsOver M.meaning result.0.executive)) }
     ensures since { IsSince H.is_begun result.0.executive.world }
 {
@@ -249,7 +240,8 @@ where
                 // Who cannot be started is left out.
                 let _ = scope.spawn(
                     move ||
-                        requires { IsOnly H.is_given (arc_value shared.now.network) shared.now.until }
+                        requires { IsOnly H.is_given
+                            (arc_value shared.now.network) shared.now.until }
                     { work(rt, shared, gate) },
                 );
             }
@@ -286,8 +278,10 @@ fn next_order<M: Atomic, H: Given<M>, R: Wait>(
     done: Option<Prepareds<M>>,
 ) -> Option<Order<M>>
     requires only { IsOnly H.is_given (arc_value shared.now.network) shared.now.until }
-    requires made { IfSome done (IsMadeFor M.meaning M.undone (arc_value shared.now.network) shared.now.until) }
-    ensures { IfSome result (IsDue M.valid M.meaning (arc_value shared.now.network) shared.now.until) }
+    requires made { let n = arc_value shared.now.network in
+        IfSome done (IsMadeFor M.meaning M.undone n shared.now.until) }
+    ensures { let n = arc_value shared.now.network in
+        IfSome result (IsDue M.valid M.meaning n shared.now.until) }
 {
     let mut desk = lock_soon(rt, &shared.desk, looks);
     if let Some(prepareds) = done {

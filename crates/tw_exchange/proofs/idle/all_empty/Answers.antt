@@ -1,8 +1,8 @@
 use Rattle.std.proofs.Common.{ap, sym, ◌∙◌, arith, length}
-use Rattle.tw_exchange.proofs.Idle.{empty_all, empty_not, not_empty, some_of}
+use Rattle.tw_exchange.proofs.IdleLemmas.{empty_all, empty_not, not_empty, some_of}
 use Rattle.tw_exchange.proofs.PassByPass.{mail_count}
 use Rattle.tw_theory.specs.Exchange.{is_empty}
-use Rattle.tw_exchange.proofs.sweeping.all_empty.Goals as goal
+use Rattle.tw_exchange.proofs.idle.all_empty.Goals as goal
 
 pub returns-then-not-is_empty : goal.returns-then-not-is_empty
 returns-then-not-is_empty g c =

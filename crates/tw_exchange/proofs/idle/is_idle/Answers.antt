@@ -4,8 +4,8 @@ use Rattle.tw_vtime.specs.Stamps.{is_overdue}
 use Rattle.tw_theory.specs.Bundles.{least_owed, overdue}
 use Rattle.tw_theory.specs.Contents.{next}
 use Rattle.tw_theory.specs.Exchange.{is_empty}
-use Rattle.tw_exchange.proofs.Idle.{empty_is, none_overdue, some_overdue}
-use Rattle.tw_exchange.proofs.sweeping.is_idle.Goals as goal
+use Rattle.tw_exchange.proofs.IdleLemmas.{empty_is, none_overdue, some_overdue}
+use Rattle.tw_exchange.proofs.idle.is_idle.Goals as goal
 
 pub returns : goal.returns
 returns g c =

@@ -18,7 +18,7 @@ returns-in-Ok-clause-limit g c =
     let p = c.contents.result.now.process in
     let here : next p ≡ e.world.gvt = sym c.next.ensures ∙ eqb-true _ _ (not-false _ (sym c.if-ne.ensures)) ∙ c.gvt-gvt.ensures in
     for_there (λ p. None ≡ limit_at m e c.args.component p) (slice_get e.world.processes c.args.component) p c.contents.ensures.process
-    (sym (limit_here m e c.args.component p here ∙ no_limit m e c.facts.ensures c.args.component p c.contents.ensures.process here c.requires.before c.requires.odd c.in-Ok.field-0 c.in-Ok.ensures.answer))
+    (sym (limit_here m e c.args.component p here ∙ no_limit m e c.facts.ensures c.args.component p c.contents.ensures.process here c.requires.before c.requires.odd c.in-Ok.field-0 c.in-Ok.ensures.acted.answer))
 
 pub returns-in-Ok-clause-stays : goal.returns-in-Ok-clause-stays
 returns-in-Ok-clause-stays g c =
@@ -26,8 +26,8 @@ returns-in-Ok-clause-stays g c =
     let e = c.args.executive.now in
     let p = c.contents.result.now.process in
     let here : next p ≡ e.world.gvt = sym c.next.ensures ∙ eqb-true _ _ (not-false _ (sym c.if-ne.ensures)) ∙ c.gvt-gvt.ensures in
-    restored m e c.facts.ensures c.args.component p c.contents.ensures.process here c.requires.before c.requires.odd c.in-Ok.field-0 c.in-Ok.ensures.answer
-    c.act.new.self c.act-in-Ok.new.self c.act-in-Ok.result c.in-Ok.ensures.done c.gvt-gvt.result c.gvt-gvt.ensures c.act-in-Ok.ensures.done c.act-in-Ok.ensures.refused c.act-in-Ok.ensures.memory
+    restored m e c.facts.ensures c.args.component p c.contents.ensures.process here c.requires.before c.requires.odd c.in-Ok.field-0 c.in-Ok.ensures.acted.answer
+    c.act.new.self c.act-in-Ok.new.self c.act-in-Ok.result c.in-Ok.ensures.acted.done c.gvt-gvt.result c.gvt-gvt.ensures c.act-in-Ok.ensures.acted.done c.act-in-Ok.ensures.acted.refused c.act-in-Ok.ensures.memory
 
 pub returns-in-Some-clause-limit : goal.returns-in-Some-clause-limit
 returns-in-Some-clause-limit g c =
@@ -35,6 +35,6 @@ returns-in-Some-clause-limit g c =
     let e = c.args.executive.now in
     let p = c.contents.result.now.process in
     let here : next p ≡ e.world.gvt = sym c.next.ensures ∙ eqb-true _ _ (not-false _ (sym c.if-ne.ensures)) ∙ c.gvt-gvt.ensures in
-    let refused = if_there (λ r. answer m (Step c.args.component) e ≡ Err r) (reason c.in-Err.refused) (OverLimit c.in-Some.limit) c.in-Some.ensures c.in-Err.ensures.refused in
+    let refused = if_there (λ r. answer m (Step c.args.component) e ≡ Err r) (reason c.in-Err.refused) (OverLimit c.in-Some.limit) c.in-Some.ensures c.in-Err.ensures.acted.refused in
     for_there (λ p. Some c.in-Some.limit ≡ limit_at m e c.args.component p) (slice_get e.world.processes c.args.component) p c.contents.ensures.process
     (sym (limit_here m e c.args.component p here ∙ its_limit m e c.facts.ensures c.args.component p c.contents.ensures.process here c.requires.before c.requires.odd c.in-Some.limit refused))

@@ -2,7 +2,7 @@ use Rattle.std.proofs.Common.{length, not, ap, sym, ◌∙◌, arith}
 use Rattle.std.specs.Prelude.{◌&&◌, ◌==◌}
 use Rattle.tw_theory.specs.Bundles.{least_owed}
 use Rattle.tw_theory.specs.Outcomes.{none_at}
-use Rattle.tw_exchange.proofs.Idle.{empty_is}
+use Rattle.tw_exchange.proofs.IdleLemmas.{empty_is}
 use Rattle.tw_exchange.proofs.Standing.{none_owed_at}
 use Rattle.tw_exchange.proofs.states.is_quiet.Goals as goal
 

@@ -4,7 +4,7 @@ use Rattle.std.proofs.lemmas.Option.{slice_get-get_or}
 use Rattle.std.proofs.lemmas.Result.{err_from_is_err_and}
 use Rattle.tw_theory.specs.Exchange.{deliveries}
 use Rattle.tw_theory.specs.Executive.{mail_of}
-use Rattle.tw_exchange.proofs.Idle.{less_but}
+use Rattle.tw_exchange.proofs.IdleLemmas.{less_but}
 use Rattle.tw_exchange.proofs.Marking.{fewer, standing}
 use Rattle.tw_exchange.proofs.PassByPass.{mail_count}
 use Rattle.tw_exchange.proofs.Skipping.{all_boxes, box_there, boxes_before, empty_boxes, no_boxes, same_box}

@@ -3,7 +3,7 @@ use Rattle.std.proofs.lemmas.List.{nil_from_length}
 use Rattle.std.proofs.lemmas.Result.{err_from_is_err_and}
 use Rattle.tw_theory.specs.Exchange.{work}
 use Rattle.tw_theory.specs.Executive.{Deliver, mail_of}
-use Rattle.tw_exchange.proofs.Idle.{none_of, some_of}
+use Rattle.tw_exchange.proofs.IdleLemmas.{none_of, some_of}
 use Rattle.tw_exchange.proofs.PassByPass.{delivery, no_delivery}
 use Rattle.tw_network.specs.Contents.{network_of}
 use Rattle.tw_exchange.proofs.Skipping.{all_same, deliver_elsewhere, then_elsewhere}

@@ -3,7 +3,7 @@ use Rattle.std.proofs.lemmas.List.{take_all}
 use Rattle.tw_vtime.proofs.Comparing.{ord_min-is}
 use Rattle.tw_theory.specs.Traces.{least_line}
 use Rattle.tw_exec.proofs.LeastLines.{line_more}
-use Rattle.tw_exec.proofs.traces.least_line.Goals as goal
+use Rattle.tw_exec.proofs.lines.least_line.Goals as goal
 
 pub loop-process-preserved : goal.loop-process-preserved
 loop-process-preserved g c =

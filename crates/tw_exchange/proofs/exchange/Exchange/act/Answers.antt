@@ -7,21 +7,21 @@ use Rattle.tw_exchange.proofs.exchange.Exchange.act.Goals as goal
 
 pub refresh_all-requires : goal.refresh_all-requires
 refresh_all-requires g c =
-    c.self.invariant.0.free.count ∙ process_count g.M.Atomic.meaning c.self.inside.executive c.facts.ensures ∙ sym (ap (λ x. length x.network.models) c.in_ok-done.ensures.done)
+    c.self.invariant.0.free.count ∙ process_count g.M.Atomic.meaning c.self.inside.executive c.facts.ensures ∙ sym (ap (λ x. length x.network.models) c.in_ok-done.ensures.acted.done)
 
 pub note_all-requires-clause-posting : goal.note_all-requires-clause-posting
 note_all-requires-clause-posting g c =
     (marks_count c.self.inside.queues c.self.inside.executive.world c.self.invariant.0.marks).0
-    ∙ process_count g.M.Atomic.meaning c.self.inside.executive c.facts.ensures ∙ sym (ap (λ x. length x.network.models) c.in_ok-done.ensures.done)
+    ∙ process_count g.M.Atomic.meaning c.self.inside.executive c.facts.ensures ∙ sym (ap (λ x. length x.network.models) c.in_ok-done.ensures.acted.done)
 
 pub note_all-requires-clause-delivering : goal.note_all-requires-clause-delivering
 note_all-requires-clause-delivering g c =
     (marks_count c.self.inside.queues c.self.inside.executive.world c.self.invariant.0.marks).1
-    ∙ mail_count g.M.Atomic.meaning c.self.inside.executive c.facts.ensures ∙ sym (ap (λ x. length x.network.models) c.in_ok-done.ensures.done)
+    ∙ mail_count g.M.Atomic.meaning c.self.inside.executive c.facts.ensures ∙ sym (ap (λ x. length x.network.models) c.in_ok-done.ensures.acted.done)
 
 pub invariant_of-self-2 : goal.invariant_of-self-2
 invariant_of-self-2 g c =
     let e = c.self.inside.executive in (
       record { free = subst (λ l. IsExact l c.act.new.self.world.processes) (sym c.note_all.ensures.free) c.refresh_all.ensures.exact; marks = c.note_all.ensures.marked },
-      still_behind g.M.Atomic.meaning (c.args.action ∷ []) e c.act.new.self c.self.inside.publisher c.facts.ensures c.in_ok-done.ensures.done c.self.invariant.1,
+      still_behind g.M.Atomic.meaning (c.args.action ∷ []) e c.act.new.self c.self.inside.publisher c.facts.ensures c.in_ok-done.ensures.acted.done c.self.invariant.1,
     )

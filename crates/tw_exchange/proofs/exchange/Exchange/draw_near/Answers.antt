@@ -1,4 +1,4 @@
-use Rattle.std.proofs.Common.{◌≡◌, ◌⊎◌, ◌<◌, ◌≤◌, ℕ, Some, false, sym, ap, ap₂, subst, ◌∙◌, true, arith}
+use Rattle.std.proofs.Common.{◌≡◌, ◌⊎◌, ◌<◌, ◌≤◌, ℕ, Some, false, sym, ap, ap₂, subst, ◌∙◌, true, arith, rules}
 use Rattle.std.proofs.lemmas.Option.{same_Some, slice_get_within}
 use Rattle.std.specs.Prelude.{slice_get, slice_set}
 use Rattle.tw_exec.specs.Chains.{start_at}
@@ -34,8 +34,16 @@ started g c =
 same : (g : Over) (c : After-take_out g) → c.in-Ok.start.component ≡ c.in-Some.component
 same g c = ap (λ s. s.component) (started g c)
 
-pub returns-in_default-clause-none : goal.returns-in_default-clause-none
-returns-in_default-clause-none g c = λ _. c.next_before.ensures.none c.in_default.is
+pub returns-in_default-clause-given : goal.returns-in_default-clause-given
+returns-in_default-clause-given g c = record {
+  known = search rules;
+  ready = search rules;
+  limit = search rules;
+  busy = search rules;
+  none = λ _. c.next_before.ensures.none c.in_default.is;
+  none_stays = search rules;
+  stays = search rules;
+}
 
 pub contents-requires : goal.contents-requires
 contents-requires g c =
@@ -82,11 +90,16 @@ returns-clause-drawn g c =
           ∙ (λ i. start_at ((c.near_bound-before.ensures ∙ ap₂ (near_bound c.args.reach) (bound_is g c) (next_is g c)) i) (c.near_burst.ensures i) (sym k i) (c.self.view_is i).executive.network next.process);
     }
 
-pub returns-clause-ready : goal.returns-clause-ready
-returns-clause-ready g c = λ m at.
-    c.in-Ok.ensures.ready m (ap (λ x. slice_get x.executive.network.models c.in-Some.component) c.self.view_is ∙ ap (slice_get c.args.self.now.executive.network.models) (sym (same g c)) ∙ at)
-
-pub returns-clause-busy : goal.returns-clause-busy
-returns-clause-busy g c =
+pub returns-clause-given : goal.returns-clause-given
+returns-clause-given g c =
     let busy = ap busy_in c.take_out.ensures ∙ busy_out c.self.inside.queues.free c.in-Some.component ∙ (λ i. slice_set (c.self.view_is i).busy (sym (same g c) i) true) in
-    λ i. record { executive = (c.self.view_is i).executive; busy = busy i; publisher = (c.self.view_is i).publisher }
+    record {
+      known = search rules;
+      ready = λ m at.
+          c.in-Ok.ensures.ready m (ap (λ x. slice_get x.executive.network.models c.in-Some.component) c.self.view_is ∙ ap (slice_get c.args.self.now.executive.network.models) (sym (same g c)) ∙ at);
+      limit = search rules;
+      busy = λ i. record { executive = (c.self.view_is i).executive; busy = busy i; publisher = (c.self.view_is i).publisher };
+      none = search rules;
+      none_stays = search rules;
+      stays = search rules;
+    }

@@ -14,7 +14,7 @@ use Rattle.tw_exchange.proofs.exchange.Exchange.raise.Goals.{After-act}
 use Rattle.tw_exchange.proofs.exchange.Exchange.raise.Goals as goal
 
 raised : (g : Over) (c : After-act g) → c.act.new.self ≡ after g.M.Atomic.meaning Raise c.self.inside.executive
-raised g c = raise_done g.M.Atomic.meaning c.self.inside.executive c.act.new.self c.act.result c.act.ensures.done c.act.ensures.refused c.act.ensures.memory
+raised g c = raise_done g.M.Atomic.meaning c.self.inside.executive c.act.new.self c.act.result c.act.ensures.acted.done c.act.ensures.acted.refused c.act.ensures.memory
 
 behind : (g : Over) (c : After-act g) → IsNotAhead c.self.inside.publisher c.act.new.self
 behind g c = still_behind g.M.Atomic.meaning (Raise ∷ []) c.self.inside.executive c.act.new.self c.self.inside.publisher c.facts.ensures (raised g c) c.self.invariant.1

@@ -1,4 +1,4 @@
-use Rattle.std.proofs.Common.{refl, ap, sym, subst, ◌∙◌, arith}
+use Rattle.std.proofs.Common.{refl, ap, sym, subst, ◌∙◌, arith, rules}
 use Rattle.std.specs.Arc.{arc_value}
 use Rattle.std.specs.Prelude.{slice_set, Ok}
 use Rattle.std.proofs.lemmas.Option.{slice_get_read}
@@ -16,16 +16,6 @@ use Rattle.tw_exec.proofs.executive.Executive.back.Given.{Over}
 use Rattle.tw_exec.proofs.Reasons.{is_known}
 use Rattle.tw_exec.proofs.executive.Executive.back.Goals as goal
 
-pub returns-then-component-len-clause-refused : goal.returns-then-component-len-clause-refused
-returns-then-component-len-clause-refused g c =
-    ap (λ e. answer g.M.Atomic.meaning (Back c.args.component c.args.stamp) e) (sym c.self.view_is)
-    ∙ ap (λ x. x.0) (back_none g.M.Atomic.meaning (arc_value c.self.inside.network) c.self.inside.until c.self.inside.gvt c.self.inside.processes.items c.self.inside.mail.boxes c.self.inside.columns.items c.args.component c.args.stamp (omega (arith, c.if-component-len.true, c.len.ensures, c.self.inside.processes.ok.0)))
-
-pub returns-then-lt-clause-refused : goal.returns-then-lt-clause-refused
-returns-then-lt-clause-refused g c =
-    ap (λ e. answer g.M.Atomic.meaning (Back c.args.component c.args.stamp) e) (sym c.self.view_is)
-    ∙ ap (λ x. x.0) (back_early g.M.Atomic.meaning (arc_value c.self.inside.network) c.self.inside.until c.self.inside.gvt c.self.inside.processes.items c.self.inside.mail.boxes c.self.inside.columns.items c.args.component c.args.stamp (omega (arith, c.if-component-len.false, c.len.ensures, c.self.inside.processes.ok.0)) (lt_from_is_lt c.args.stamp c.self.inside.gvt (sym c.if-lt.ensures)))
-
 acted : (g : Over) (c : goal.After-self-1 g) → IsActed g.M.Atomic.meaning (arc_value c.self.inside.network) c.self.inside.until c.self.inside.end c.self.inside.gvt c.self.inside.gvt c.self.inside.processes.items (slice_set c.self.inside.processes.items c.args.component c.back_to-undone.new.process) c.self.inside.mail.boxes c.self.inside.mail.boxes c.self.inside.columns.items c.self.inside.columns.items (Back c.args.component c.args.stamp) (Ok (Undone c.back_to-undone.result))
 acted g c =
     let ps = c.self.inside.processes in
@@ -37,20 +27,43 @@ acted g c =
 pub invariant_of-self : goal.invariant_of-self
 invariant_of-self g c = ((acted g c).held, c.self.invariant.1)
 
-pub returns-clause-done : goal.returns-clause-done
-returns-clause-done g c = ap (λ x. record { network = arc_value c.self.inside.network; until = c.self.inside.until; world = x.1 }) (sym (acted g c).acts) ∙ ap (λ e. after g.M.Atomic.meaning (Back c.args.component c.args.stamp) e) c.self.view_is
+pub returns-then-component-len-clause-acted : goal.returns-then-component-len-clause-acted
+returns-then-component-len-clause-acted g c =
+    let refused_is = ap (λ e. answer g.M.Atomic.meaning (Back c.args.component c.args.stamp) e) (sym c.self.view_is)
+    ∙ ap (λ x. x.0) (back_none g.M.Atomic.meaning (arc_value c.self.inside.network) c.self.inside.until c.self.inside.gvt c.self.inside.processes.items c.self.inside.mail.boxes c.self.inside.columns.items c.args.component c.args.stamp (omega (arith, c.if-component-len.true, c.len.ensures, c.self.inside.processes.ok.0))) in
+    record {
+      done = search rules;
+      answer = search rules;
+      refused = refused_is;
+      exact = exact_known g.M.Atomic.meaning (Back c.args.component c.args.stamp) c.args.self.now refused.NoSuch theory.NoSuch refl refused_is;
+      full = search rules;
+      stays = search rules;
+    }
 
-pub returns-clause-answer : goal.returns-clause-answer
-returns-clause-answer g c = ap (λ e. answer g.M.Atomic.meaning (Back c.args.component c.args.stamp) e) (sym c.self.view_is) ∙ ap (λ x. x.0) (acted g c).acts
+pub returns-then-lt-clause-acted : goal.returns-then-lt-clause-acted
+returns-then-lt-clause-acted g c =
+    let refused_is = ap (λ e. answer g.M.Atomic.meaning (Back c.args.component c.args.stamp) e) (sym c.self.view_is)
+    ∙ ap (λ x. x.0) (back_early g.M.Atomic.meaning (arc_value c.self.inside.network) c.self.inside.until c.self.inside.gvt c.self.inside.processes.items c.self.inside.mail.boxes c.self.inside.columns.items c.args.component c.args.stamp (omega (arith, c.if-component-len.false, c.len.ensures, c.self.inside.processes.ok.0)) (lt_from_is_lt c.args.stamp c.self.inside.gvt (sym c.if-lt.ensures))) in
+    record {
+      done = search rules;
+      answer = search rules;
+      refused = refused_is;
+      exact = exact_known g.M.Atomic.meaning (Back c.args.component c.args.stamp) c.args.self.now refused.BeforeGvt theory.BeforeGvt refl refused_is;
+      full = search rules;
+      stays = search rules;
+    }
 
-pub returns-then-component-len-clause-exact : goal.returns-then-component-len-clause-exact
-returns-then-component-len-clause-exact g c = exact_known g.M.Atomic.meaning (Back c.args.component c.args.stamp) c.args.self.now refused.NoSuch theory.NoSuch refl (returns-then-component-len-clause-refused g c)
-
-pub returns-then-lt-clause-exact : goal.returns-then-lt-clause-exact
-returns-then-lt-clause-exact g c = exact_known g.M.Atomic.meaning (Back c.args.component c.args.stamp) c.args.self.now refused.BeforeGvt theory.BeforeGvt refl (returns-then-lt-clause-refused g c)
-
-pub returns-clause-exact : goal.returns-clause-exact
-returns-clause-exact g c = exact_taken g.M.Atomic.meaning (Back c.args.component c.args.stamp) c.args.self.now (done.Undone c.back_to-undone.result) (returns-clause-answer g c)
+pub returns-clause-acted : goal.returns-clause-acted
+returns-clause-acted g c =
+    let answer_is = ap (λ e. answer g.M.Atomic.meaning (Back c.args.component c.args.stamp) e) (sym c.self.view_is) ∙ ap (λ x. x.0) (acted g c).acts in
+    record {
+      done = ap (λ x. record { network = arc_value c.self.inside.network; until = c.self.inside.until; world = x.1 }) (sym (acted g c).acts) ∙ ap (λ e. after g.M.Atomic.meaning (Back c.args.component c.args.stamp) e) c.self.view_is;
+      answer = answer_is;
+      refused = search rules;
+      exact = exact_taken g.M.Atomic.meaning (Back c.args.component c.args.stamp) c.args.self.now (done.Undone c.back_to-undone.result) answer_is;
+      full = search rules;
+      stays = search rules;
+    }
 
 pub returns-then-component-len-clause-known : goal.returns-then-component-len-clause-known
 returns-then-component-len-clause-known g c = is_known _

@@ -17,11 +17,6 @@ use Rattle.tw_actions.specs.declared.action.Done.TheVariants as done
 use Rattle.tw_exec.proofs.executive.Executive.harvest.Given.{Over}
 use Rattle.tw_exec.proofs.executive.Executive.harvest.Goals as goal
 
-pub returns-then-component-len-clause-refused : goal.returns-then-component-len-clause-refused
-returns-then-component-len-clause-refused g c =
-    ap (λ e. answer g.M.Atomic.meaning (Harvest c.args.component) e) (sym c.self.view_is)
-    ∙ ap (λ x. x.0) (harvest_none g.M.Atomic.meaning (arc_value c.self.inside.network) c.self.inside.until c.self.inside.gvt c.self.inside.processes.items c.self.inside.mail.boxes c.self.inside.columns.items c.args.component (omega (arith, c.if-component-len.true, c.len.ensures, c.self.inside.processes.ok.0)))
-
 same : (g : Over) (c : goal.After-self-3-1 g) → c.index.result.now ≡ c.index_mut.result.now
 same g c =
     let ps = c.self.inside.processes in
@@ -53,8 +48,52 @@ invariant_of-self-2 g c =
     let column = c.in_ok-committed.ensures.column ∙ ap (λ k. c.index_mut-column.result.now ++ records_of (take k history)) (sym n) in
     ((acted g c).held, added ∙ counted c.self.inside.columns.items c.args.component c.steps_before-count.result c.self.inside.records c.index_mut-column.result.now c.harvest.new.column history (column_at g c) within column c.self.invariant.1)
 
-pub returns-in_err-committed-clause-stays : goal.returns-in_err-committed-clause-stays
-returns-in_err-committed-clause-stays g c =
+pub returns-then-component-len : goal.returns-then-component-len
+returns-then-component-len g c =
+    let refused_is = ap (λ e. answer g.M.Atomic.meaning (Harvest c.args.component) e) (sym c.self.view_is)
+    ∙ ap (λ x. x.0) (harvest_none g.M.Atomic.meaning (arc_value c.self.inside.network) c.self.inside.until c.self.inside.gvt c.self.inside.processes.items c.self.inside.mail.boxes c.self.inside.columns.items c.args.component (omega (arith, c.if-component-len.true, c.len.ensures, c.self.inside.processes.ok.0))) in
+    record {
+      acted = record {
+        done = search rules;
+        answer = search rules;
+        refused = refused_is;
+        exact = exact_known g.M.Atomic.meaning (Harvest c.args.component) c.args.self.now refused.NoSuch theory.NoSuch refl refused_is;
+        full = search rules;
+        stays = search rules;
+      };
+    }
+
+pub returns : goal.returns
+returns g c =
+    let answer_is = ap (λ e. answer g.M.Atomic.meaning (Harvest c.args.component) e) (sym c.self.view_is) ∙ ap (λ x. x.0) (acted g c).acts in
+    record {
+      acted = record {
+        done = ap (λ x. record { network = arc_value c.self.inside.network; until = c.self.inside.until; world = x.1 }) (sym (acted g c).acts) ∙ ap (λ e. after g.M.Atomic.meaning (Harvest c.args.component) e) c.self.view_is;
+        answer = answer_is;
+        refused = search rules;
+        exact = exact_taken g.M.Atomic.meaning (Harvest c.args.component) c.args.self.now (done.Harvested c.in_ok-committed.committed) answer_is;
+        full = search rules;
+        stays = search rules;
+      };
+    }
+
+pub returns-in_default : goal.returns-in_default
+returns-in_default g c =
+    record {
+      acted = record {
+        done = search rules;
+        answer = search rules;
+        refused = search rules;
+        exact = subst (λ e. AreExact g.M.Atomic.meaning (Harvest c.args.component) e (Err refused.OutOfMemory)) c.self.view_is
+            (harvest_exact c.self.invariant.0 refused.OutOfMemory refl c.args.component (omega (arith, c.if-component-len.false, c.len.ensures, c.self.inside.processes.ok.0)));
+        full = search rules;
+        stays = search rules;
+      };
+    }
+
+pub returns-in_err-committed : goal.returns-in_err-committed
+returns-in_err-committed g c =
+    let p = err_from_is_err_and c.from_residual.result c.from_residual.ensures.1 in
     let ps = c.self.inside.processes in
     let old = c.index_mut.result.now in
     let at = slice_get_read ps.items _ c.args.component old ps.ok.0 (omega (arith, c.if-component-len.false, c.len.ensures, c.self.inside.processes.ok.0)) c.index_mut.ensures.value in
@@ -62,32 +101,18 @@ returns-in_err-committed-clause-stays g c =
     let column = slice_get_read columns.items _ c.args.component c.index_mut-column.result.now columns.ok.0 (omega (arith, c.if-component-len.false, c.len.ensures, c.self.inside.processes.ok.0, columns.ok.0, as_many_columns c.self.invariant.0)) c.index_mut-column.ensures.value in
     let processes = set_back ps.items c.args.component old c.harvest.new.process at c.in_err-committed.ensures.stays in
     let same_columns = set_back columns.items c.args.component c.index_mut-column.result.now c.harvest.new.column column c.in_err-committed.ensures.column_stays in
-    let p = err_from_is_err_and c.from_residual.result c.from_residual.ensures.1 in
-    rw (p.1) ((λ i. record { network = arc_value c.self.inside.network; until = c.self.inside.until; world = shown (processes i) c.self.inside.mail.boxes (same_columns i) c.self.inside.gvt }) ∙ c.self.view_is)
-
-pub returns-clause-done : goal.returns-clause-done
-returns-clause-done g c = ap (λ x. record { network = arc_value c.self.inside.network; until = c.self.inside.until; world = x.1 }) (sym (acted g c).acts) ∙ ap (λ e. after g.M.Atomic.meaning (Harvest c.args.component) e) c.self.view_is
-
-pub returns-clause-answer : goal.returns-clause-answer
-returns-clause-answer g c = ap (λ e. answer g.M.Atomic.meaning (Harvest c.args.component) e) (sym c.self.view_is) ∙ ap (λ x. x.0) (acted g c).acts
-
-pub returns-then-component-len-clause-exact : goal.returns-then-component-len-clause-exact
-returns-then-component-len-clause-exact g c = exact_known g.M.Atomic.meaning (Harvest c.args.component) c.args.self.now refused.NoSuch theory.NoSuch refl (returns-then-component-len-clause-refused g c)
-
-pub returns-clause-exact : goal.returns-clause-exact
-returns-clause-exact g c = exact_taken g.M.Atomic.meaning (Harvest c.args.component) c.args.self.now (done.Harvested c.in_ok-committed.committed) (returns-clause-answer g c)
-
-pub returns-in_default-clause-exact : goal.returns-in_default-clause-exact
-returns-in_default-clause-exact g c =
-    subst (λ e. AreExact g.M.Atomic.meaning (Harvest c.args.component) e (Err refused.OutOfMemory)) c.self.view_is
-    (harvest_exact c.self.invariant.0 refused.OutOfMemory refl c.args.component (omega (arith, c.if-component-len.false, c.len.ensures, c.self.inside.processes.ok.0)))
-
-pub returns-in_err-committed-clause-exact : goal.returns-in_err-committed-clause-exact
-returns-in_err-committed-clause-exact g c =
-    let p = err_from_is_err_and c.from_residual.result c.from_residual.ensures.1 in
-    rw (p.1, p.2)
-    (subst (λ e. AreExact g.M.Atomic.meaning (Harvest c.args.component) e (Err refused.OutOfMemory)) c.self.view_is
-    (harvest_exact c.self.invariant.0 refused.OutOfMemory refl c.args.component (omega (arith, c.if-component-len.false, c.len.ensures, c.self.inside.processes.ok.0))))
+    record {
+      acted = record {
+        done = search rules;
+        answer = search rules;
+        refused = search rules;
+        exact = rw (p.1, p.2)
+            (subst (λ e. AreExact g.M.Atomic.meaning (Harvest c.args.component) e (Err refused.OutOfMemory)) c.self.view_is
+            (harvest_exact c.self.invariant.0 refused.OutOfMemory refl c.args.component (omega (arith, c.if-component-len.false, c.len.ensures, c.self.inside.processes.ok.0))));
+        full = search rules;
+        stays = rw (p.1) ((λ i. record { network = arc_value c.self.inside.network; until = c.self.inside.until; world = shown (processes i) c.self.inside.mail.boxes (same_columns i) c.self.inside.gvt }) ∙ c.self.view_is);
+      };
+    }
 
 pub index_mut-column-requires : goal.index_mut-column-requires
 index_mut-column-requires g c = omega (arith, c.if-component-len.false, c.len.ensures, c.self.inside.processes.ok.0, c.self.inside.columns.ok.0, as_many_columns c.self.invariant.0)

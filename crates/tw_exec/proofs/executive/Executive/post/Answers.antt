@@ -1,9 +1,10 @@
-use Rattle.std.proofs.Common.{◌<◌, Err, refl, ap, sym, subst, ◌∙◌, arith, length}
+use Rattle.std.proofs.Common.{◌<◌, Err, refl, ap, sym, subst, ◌∙◌, arith, length, rules}
 use Rattle.std.specs.Arc.{arc_value}
 use Rattle.std.specs.List.{AllByRecursion as Each}
 use Rattle.std.specs.Prelude.{slice_set, Ok, Err}
 use Rattle.std.proofs.lemmas.Option.{slice_get_read}
 use Rattle.std.proofs.lemmas.Result.{err_from_is_err_and}
+use Rattle.std.proofs.lemmas.Grind.{common_steps}
 use Rattle.tw_exec.specs.Running.{AreExact, answer, after}
 use Rattle.tw_theory.proofs.Elements.{set_same}
 use Rattle.tw_exec.specs.Running.{shown}
@@ -17,11 +18,6 @@ use Rattle.tw_theory.specs.Executive as theory
 use Rattle.tw_actions.specs.declared.action.Done.TheVariants as done
 use Rattle.tw_exec.proofs.executive.Executive.post.Given.{Over}
 use Rattle.tw_exec.proofs.executive.Executive.post.Goals as goal
-
-pub returns-then-component-len-clause-refused : goal.returns-then-component-len-clause-refused
-returns-then-component-len-clause-refused g c =
-    ap (λ e. answer g.M.Atomic.meaning (Post c.args.component) e) (sym c.self.view_is)
-    ∙ ap (λ x. x.0) (post_none g.M.Atomic.meaning (arc_value c.self.inside.network) c.self.inside.until c.self.inside.gvt c.self.inside.processes.items c.self.inside.mail.boxes c.self.inside.columns.items c.args.component (omega (arith, c.if-component-len.true, c.len.ensures, c.self.inside.processes.ok.0)))
 
 pub post-requires : goal.post-requires
 post-requires g c =
@@ -42,38 +38,68 @@ acted g c =
 pub invariant_of-self-2 : goal.invariant_of-self-2
 invariant_of-self-2 g c = ((acted g c).held, c.self.invariant.1)
 
-pub returns-clause-done : goal.returns-clause-done
-returns-clause-done g c = ap (λ x. record { network = arc_value c.self.inside.network; until = c.self.inside.until; world = x.1 }) (sym (acted g c).acts) ∙ ap (λ e. after g.M.Atomic.meaning (Post c.args.component) e) c.self.view_is
+pub returns-then-component-len : goal.returns-then-component-len
+returns-then-component-len g c =
+    let refused_is = ap (λ e. answer g.M.Atomic.meaning (Post c.args.component) e) (sym c.self.view_is)
+    ∙ ap (λ x. x.0) (post_none g.M.Atomic.meaning (arc_value c.self.inside.network) c.self.inside.until c.self.inside.gvt c.self.inside.processes.items c.self.inside.mail.boxes c.self.inside.columns.items c.args.component (omega (arith, c.if-component-len.true, c.len.ensures, c.self.inside.processes.ok.0))) in
+    record {
+      acted = record {
+        done = search rules;
+        answer = search rules;
+        refused = refused_is;
+        exact = exact_known g.M.Atomic.meaning (Post c.args.component) c.args.self.now refused.NoSuch theory.NoSuch refl refused_is;
+        full = search rules;
+        stays = search rules;
+      };
+    }
 
-pub returns-clause-answer : goal.returns-clause-answer
-returns-clause-answer g c =
-    ap (λ e. answer g.M.Atomic.meaning (Post c.args.component) e) (sym c.self.view_is) ∙ ap (λ x. x.0) (acted g c).acts ∙ ap (λ n. Ok (Posted n)) ((sym c.in_ok-items.items.ok.0 ∙ sym c.len-2.ensures))
+pub returns : goal.returns
+returns g c =
+    let answer_is = ap (λ e. answer g.M.Atomic.meaning (Post c.args.component) e) (sym c.self.view_is) ∙ ap (λ x. x.0) (acted g c).acts ∙ ap (λ n. Ok (Posted n)) ((sym c.in_ok-items.items.ok.0 ∙ sym c.len-2.ensures)) in
+    record {
+      acted = record {
+        done = ap (λ x. record { network = arc_value c.self.inside.network; until = c.self.inside.until; world = x.1 }) (sym (acted g c).acts) ∙ ap (λ e. after g.M.Atomic.meaning (Post c.args.component) e) c.self.view_is;
+        answer = answer_is;
+        refused = search rules;
+        exact = exact_taken g.M.Atomic.meaning (Post c.args.component) c.args.self.now (done.Posted c.len-2.result) answer_is;
+        full = search rules;
+        stays = search rules;
+      };
+    }
 
-pub returns-then-component-len-clause-exact : goal.returns-then-component-len-clause-exact
-returns-then-component-len-clause-exact g c = exact_known g.M.Atomic.meaning (Post c.args.component) c.args.self.now refused.NoSuch theory.NoSuch refl (returns-then-component-len-clause-refused g c)
-
-pub returns-clause-exact : goal.returns-clause-exact
-returns-clause-exact g c = exact_taken g.M.Atomic.meaning (Post c.args.component) c.args.self.now (done.Posted c.len-2.result) (returns-clause-answer g c)
-
-pub returns-in_err-items-clause-exact : goal.returns-in_err-items-clause-exact
-returns-in_err-items-clause-exact g c =
+pub returns-in_err-items : goal.returns-in_err-items
+returns-in_err-items g c =
     let p = err_from_is_err_and c.from_residual.result c.from_residual.ensures.1 in
-    rw (p.1, p.2)
-    (subst (λ e. AreExact g.M.Atomic.meaning (Post c.args.component) e (Err refused.OutOfMemory)) c.self.view_is
-    (post_exact c.self.invariant.0 refused.OutOfMemory refl c.args.component (omega (arith, c.if-component-len.false, c.len.ensures, c.self.inside.processes.ok.0))))
+    record {
+      acted = record {
+        done = search rules;
+        answer = search rules;
+        refused = search rules;
+        exact = rw (p.1, p.2)
+            (subst (λ e. AreExact g.M.Atomic.meaning (Post c.args.component) e (Err refused.OutOfMemory)) c.self.view_is
+            (post_exact c.self.invariant.0 refused.OutOfMemory refl c.args.component (omega (arith, c.if-component-len.false, c.len.ensures, c.self.inside.processes.ok.0))));
+        full = search rules;
+        stays = grind (arith, common_steps);
+      };
+    }
 
-pub returns-in_err-post-clause-exact : goal.returns-in_err-post-clause-exact
-returns-in_err-post-clause-exact g c =
+pub returns-in_err-post : goal.returns-in_err-post
+returns-in_err-post g c =
     let p = err_from_is_err_and c.from_residual-in_err-post.result c.from_residual-in_err-post.ensures.1 in
-    rw (p.1, p.2)
-    (subst (λ e. AreExact g.M.Atomic.meaning (Post c.args.component) e (Err refused.OutOfMemory)) c.self.view_is
-    (post_exact c.self.invariant.0 refused.OutOfMemory refl c.args.component (omega (arith, c.if-component-len.false, c.len.ensures, c.self.inside.processes.ok.0))))
-
-pub returns-in_err-post-clause-stays : goal.returns-in_err-post-clause-stays
-returns-in_err-post-clause-stays g c =
     let f = c.self.inside in
     let ps = f.processes in
     let old = c.index_mut-process.result.now in
     let at = slice_get_read ps.items _ c.args.component old ps.ok.0 (omega (arith, c.if-component-len.false, c.len.ensures, ps.ok.0)) c.index_mut-process.ensures.value in
-    on_err_always _ c.from_residual-in_err-post.result
-    ((λ i. record { network = arc_value f.network; until = f.until; world = shown (set_same ps.items c.args.component old at i) (c.in_err-post.ensures.err i).boxes f.columns.items f.gvt }) ∙ c.self.view_is)
+    record {
+      acted = record {
+        done = search rules;
+        answer = search rules;
+        refused = search rules;
+        exact = rw (p.1, p.2)
+            (subst (λ e. AreExact g.M.Atomic.meaning (Post c.args.component) e (Err refused.OutOfMemory)) c.self.view_is
+            (post_exact c.self.invariant.0 refused.OutOfMemory refl c.args.component (omega (arith, c.if-component-len.false, c.len.ensures, c.self.inside.processes.ok.0))));
+        full = search rules;
+        stays = on_err_always _ c.from_residual-in_err-post.result
+            ((λ i. record { network = arc_value f.network; until = f.until; world = shown (set_same ps.items c.args.component old at i) (c.in_err-post.ensures.err i).boxes f.columns.items f.gvt }) ∙ c.self.view_is);
+      };
+    }

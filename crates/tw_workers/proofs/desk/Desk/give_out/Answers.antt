@@ -14,6 +14,6 @@ returns-in-Ok-Some-clause-due g c =
     subst (λ y. IsDue g.M.Atomic.valid g.M.Atomic.meaning y.executive.network y.executive.until drawn.order) c.self.view_is
     (drawn_due g.M.Atomic.valid g.M.Atomic.meaning c.ticks-window.result c.self.inside.setting.burst c.args.reach x drawn.order
     (subst (λ o. IfSome o (IsNearOrder c.ticks-window.result c.self.inside.setting.burst c.args.reach x)) drawn.field-0-is drawn.ensures.drawn)
-    (subst (λ o. IfSome o (λ order. order.component < length x.executive.network.models)) drawn.field-0-is drawn.ensures.known)
-    (subst (λ o. IfSome o (λ order. (m : _) → slice_get x.executive.network.models order.component ≡ Some m → IsReady (g.M.Atomic.valid m) (g.M.Atomic.meaning m) order.component order.now order.messages)) drawn.field-0-is drawn.ensures.ready)
-    (subst (λ o. IfSome o (λ order. order.micro_limit ≤ max_microstep)) drawn.field-0-is drawn.ensures.limit))
+    (subst (λ o. IfSome o (λ order. order.component < length x.executive.network.models)) drawn.field-0-is drawn.ensures.given.known)
+    (subst (λ o. IfSome o (λ order. (m : _) → slice_get x.executive.network.models order.component ≡ Some m → IsReady (g.M.Atomic.valid m) (g.M.Atomic.meaning m) order.component order.now order.messages)) drawn.field-0-is drawn.ensures.given.ready)
+    (subst (λ o. IfSome o (λ order. order.micro_limit ≤ max_microstep)) drawn.field-0-is drawn.ensures.given.limit))

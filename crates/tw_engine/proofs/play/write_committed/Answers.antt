@@ -17,6 +17,6 @@ returns-in_err-write_trace g c =
     let why = c.in_err-write_trace.field-0.0 in
     let network : c.deref.result.now ≡ e.network = search rules in
     let whole : trace_text (name_in c.deref.result.now.names) c.as_slice.result.now ≡ committed_text e
-    = ap₂ (λ n rs. trace_text (name_in n.names) rs) network (c.as_slice.ensures.value ∙ c.in_ok-records.ensures.sequential) in
+    = ap₂ (λ n rs. trace_text (name_in n.names) rs) network (c.as_slice.ensures.value ∙ c.in-Ok.ensures.sequential) in
     on_err (λ end. IsTraced e end old new) c.from_residual-in_err-write_trace.result (failed_of (not_written_refusal why)) c.from_residual-in_err-write_trace.ensures.1
     (trace_short e why old new (λ is. subst (AppendsBeginning old new) whole (c.in_err-write_trace.ensures.err is)))

@@ -12,83 +12,83 @@ Check { net: "n.json" }
 twarp check -- -n.json
 Check { net: "-n.json" }
 twarp seq n.json --until 5
-Seq { net: "n.json", until: 5, progress: false }
+Simulate { net: "n.json", until: 5, task: Seq { progress: false } }
 twarp seq n.json --until=5
-Seq { net: "n.json", until: 5, progress: false }
+Simulate { net: "n.json", until: 5, task: Seq { progress: false } }
 twarp seq --until 5 n.json
-Seq { net: "n.json", until: 5, progress: false }
+Simulate { net: "n.json", until: 5, task: Seq { progress: false } }
 twarp seq n.json --until 0
-Seq { net: "n.json", until: 0, progress: false }
+Simulate { net: "n.json", until: 0, task: Seq { progress: false } }
 twarp seq n.json --until +5
-Seq { net: "n.json", until: 5, progress: false }
+Simulate { net: "n.json", until: 5, task: Seq { progress: false } }
 twarp seq n.json --until 007
-Seq { net: "n.json", until: 7, progress: false }
+Simulate { net: "n.json", until: 7, task: Seq { progress: false } }
 twarp seq --until 5 -- -n.json
-Seq { net: "-n.json", until: 5, progress: false }
+Simulate { net: "-n.json", until: 5, task: Seq { progress: false } }
 twarp seq n.json --until 1099511627774
-Seq { net: "n.json", until: 1099511627774, progress: false }
+Simulate { net: "n.json", until: 1099511627774, task: Seq { progress: false } }
 twarp seq --progress n.json --until 5
-Seq { net: "n.json", until: 5, progress: true }
+Simulate { net: "n.json", until: 5, task: Seq { progress: true } }
 twarp stats n.json --until 5
-Stats { net: "n.json", until: 5, json: false, progress: false }
+Simulate { net: "n.json", until: 5, task: Stats { json: false, progress: false } }
 twarp stats --json --until=5 --progress n.json
-Stats { net: "n.json", until: 5, json: true, progress: true }
+Simulate { net: "n.json", until: 5, task: Stats { json: true, progress: true } }
 twarp table n.json --until 5
-Table { net: "n.json", until: 5, rows: Records, progress: false }
+Simulate { net: "n.json", until: 5, task: Table { rows: Records, progress: false } }
 twarp table n.json --until 5 --items
-Table { net: "n.json", until: 5, rows: Items, progress: false }
+Simulate { net: "n.json", until: 5, task: Table { rows: Items, progress: false } }
 twarp table --words --progress --until 5 -- --items
-Table { net: "--items", until: 5, rows: Words, progress: true }
+Simulate { net: "--items", until: 5, task: Table { rows: Words, progress: true } }
 twarp draw n.json --until 5
-Draw { net: "n.json", until: 5, picture: Run(View { from: 0, only: None, figure: None }) }
+Simulate { net: "n.json", until: 5, task: Draw { picture: Run(View { from: 0, only: None, figure: None }) } }
 twarp draw n.json --until 5 --from +2 --only a,b --figure jobs
-Draw { net: "n.json", until: 5, picture: Run(View { from: 2, only: Some("a,b"), figure: Some("jobs") }) }
+Simulate { net: "n.json", until: 5, task: Draw { picture: Run(View { from: 2, only: Some("a,b"), figure: Some("jobs") }) } }
 twarp draw n.json --until 5 --from 1099511627774
-Draw { net: "n.json", until: 5, picture: Run(View { from: 1099511627774, only: None, figure: None }) }
+Simulate { net: "n.json", until: 5, task: Draw { picture: Run(View { from: 1099511627774, only: None, figure: None }) } }
 twarp draw n.json --until 5 --script s
-Draw { net: "n.json", until: 5, picture: Warp { cancel: Aggressive, driver: Script("s") } }
+Simulate { net: "n.json", until: 5, task: Draw { picture: Warp { cancel: Aggressive, driver: Script("s") } } }
 twarp draw n.json --until 5 --cancel lazy --seed 1 --steps 2
-Draw { net: "n.json", until: 5, picture: Warp { cancel: Lazy, driver: Seed { seed: 1, steps: 2 } } }
+Simulate { net: "n.json", until: 5, task: Draw { picture: Warp { cancel: Lazy, driver: Seed { seed: 1, steps: 2 } } } }
 twarp run n.json --until 5
-Run { net: "n.json", until: 5, cancel: Aggressive, setting: RunOptions { workers: Count(2), burst: 64, window: 1099511627774, progress: false } }
+Simulate { net: "n.json", until: 5, task: Run { cancel: Aggressive, setting: RunOptions { workers: Count(2), burst: 64, window: 1099511627774, progress: false } } }
 twarp run n.json --until 0 --workers 1
-Run { net: "n.json", until: 0, cancel: Aggressive, setting: RunOptions { workers: Count(1), burst: 64, window: 1099511627774, progress: false } }
+Simulate { net: "n.json", until: 0, task: Run { cancel: Aggressive, setting: RunOptions { workers: Count(1), burst: 64, window: 1099511627774, progress: false } } }
 twarp run n.json --until 5 --workers 64
-Run { net: "n.json", until: 5, cancel: Aggressive, setting: RunOptions { workers: Count(64), burst: 64, window: 1099511627774, progress: false } }
+Simulate { net: "n.json", until: 5, task: Run { cancel: Aggressive, setting: RunOptions { workers: Count(64), burst: 64, window: 1099511627774, progress: false } } }
 twarp run n.json --until 5 --workers=auto
-Run { net: "n.json", until: 5, cancel: Aggressive, setting: RunOptions { workers: Auto, burst: 64, window: 1099511627774, progress: false } }
+Simulate { net: "n.json", until: 5, task: Run { cancel: Aggressive, setting: RunOptions { workers: Auto, burst: 64, window: 1099511627774, progress: false } } }
 twarp run n.json --until 5 --burst 1
-Run { net: "n.json", until: 5, cancel: Aggressive, setting: RunOptions { workers: Count(2), burst: 1, window: 1099511627774, progress: false } }
+Simulate { net: "n.json", until: 5, task: Run { cancel: Aggressive, setting: RunOptions { workers: Count(2), burst: 1, window: 1099511627774, progress: false } } }
 twarp run n.json --until 5 --burst 256
-Run { net: "n.json", until: 5, cancel: Aggressive, setting: RunOptions { workers: Count(2), burst: 256, window: 1099511627774, progress: false } }
+Simulate { net: "n.json", until: 5, task: Run { cancel: Aggressive, setting: RunOptions { workers: Count(2), burst: 256, window: 1099511627774, progress: false } } }
 twarp run n.json --until 5 --window 0
-Run { net: "n.json", until: 5, cancel: Aggressive, setting: RunOptions { workers: Count(2), burst: 64, window: 0, progress: false } }
+Simulate { net: "n.json", until: 5, task: Run { cancel: Aggressive, setting: RunOptions { workers: Count(2), burst: 64, window: 0, progress: false } } }
 twarp run n.json --until 1099511627774 --window 1099511627774 --cancel aggressive
-Run { net: "n.json", until: 1099511627774, cancel: Aggressive, setting: RunOptions { workers: Count(2), burst: 64, window: 1099511627774, progress: false } }
+Simulate { net: "n.json", until: 1099511627774, task: Run { cancel: Aggressive, setting: RunOptions { workers: Count(2), burst: 64, window: 1099511627774, progress: false } } }
 twarp run --window=+7 --burst=007 --workers=3 --cancel=lazy --until=5 n.json
-Run { net: "n.json", until: 5, cancel: Lazy, setting: RunOptions { workers: Count(3), burst: 7, window: 7, progress: false } }
+Simulate { net: "n.json", until: 5, task: Run { cancel: Lazy, setting: RunOptions { workers: Count(3), burst: 7, window: 7, progress: false } } }
 twarp run --workers 2 --until 5 --cancel lazy -- -n.json
-Run { net: "-n.json", until: 5, cancel: Lazy, setting: RunOptions { workers: Count(2), burst: 64, window: 1099511627774, progress: false } }
+Simulate { net: "-n.json", until: 5, task: Run { cancel: Lazy, setting: RunOptions { workers: Count(2), burst: 64, window: 1099511627774, progress: false } } }
 twarp run n.json --until 5 --progress
-Run { net: "n.json", until: 5, cancel: Aggressive, setting: RunOptions { workers: Count(2), burst: 64, window: 1099511627774, progress: true } }
+Simulate { net: "n.json", until: 5, task: Run { cancel: Aggressive, setting: RunOptions { workers: Count(2), burst: 64, window: 1099511627774, progress: true } } }
 twarp run --progress n.json --until 5 --workers 3 --cancel lazy
-Run { net: "n.json", until: 5, cancel: Lazy, setting: RunOptions { workers: Count(3), burst: 64, window: 1099511627774, progress: true } }
+Simulate { net: "n.json", until: 5, task: Run { cancel: Lazy, setting: RunOptions { workers: Count(3), burst: 64, window: 1099511627774, progress: true } } }
 twarp run --until 5 -- --progress
-Run { net: "--progress", until: 5, cancel: Aggressive, setting: RunOptions { workers: Count(2), burst: 64, window: 1099511627774, progress: false } }
+Simulate { net: "--progress", until: 5, task: Run { cancel: Aggressive, setting: RunOptions { workers: Count(2), burst: 64, window: 1099511627774, progress: false } } }
 twarp play n.json --until 5 --script s
-Play { net: "n.json", until: 5, cancel: Aggressive, driver: Script("s") }
+Simulate { net: "n.json", until: 5, task: Play { cancel: Aggressive, driver: Script("s") } }
 twarp play n.json --until 5 --seed 1 --steps 2
-Play { net: "n.json", until: 5, cancel: Aggressive, driver: Seed { seed: 1, steps: 2 } }
+Simulate { net: "n.json", until: 5, task: Play { cancel: Aggressive, driver: Seed { seed: 1, steps: 2 } } }
 twarp play n.json --until 0 --script=s --cancel aggressive
-Play { net: "n.json", until: 0, cancel: Aggressive, driver: Script("s") }
+Simulate { net: "n.json", until: 0, task: Play { cancel: Aggressive, driver: Script("s") } }
 twarp play --cancel lazy --script s --until 5 n.json
-Play { net: "n.json", until: 5, cancel: Lazy, driver: Script("s") }
+Simulate { net: "n.json", until: 5, task: Play { cancel: Lazy, driver: Script("s") } }
 twarp play n.json --until=5 --steps=007 --seed=+7 --cancel=lazy
-Play { net: "n.json", until: 5, cancel: Lazy, driver: Seed { seed: 7, steps: 7 } }
+Simulate { net: "n.json", until: 5, task: Play { cancel: Lazy, driver: Seed { seed: 7, steps: 7 } } }
 twarp play n.json --until 1099511627774 --seed 18446744073709551615 --steps 1000000
-Play { net: "n.json", until: 1099511627774, cancel: Aggressive, driver: Seed { seed: 18446744073709551615, steps: 1000000 } }
+Simulate { net: "n.json", until: 1099511627774, task: Play { cancel: Aggressive, driver: Seed { seed: 18446744073709551615, steps: 1000000 } } }
 twarp play n.json --until 5 --seed 0 --steps 0
-Play { net: "n.json", until: 5, cancel: Aggressive, driver: Seed { seed: 0, steps: 0 } }
+Simulate { net: "n.json", until: 5, task: Play { cancel: Aggressive, driver: Seed { seed: 0, steps: 0 } } }
 twarp seq n.json
 Some(BadLine)
 twarp --version

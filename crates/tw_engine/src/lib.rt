@@ -7,15 +7,15 @@
 //!
 //! | File | Does |
 //! |---|---|
-//! | `engine` | [`engine`]: a job, by its kind, with the table of all ends |
-//! | `demo` | the demonstration; [`demo_law`]: what it prints, in its bytes |
-//! | `check` | [`check`]: what a network has, or where its file is at fault |
-//! | `seq` | [`seq`]: the trace of the sequential run; `run` makes a run in order by it too |
-//! | `stats` | [`stats`]: counts and figures of that run |
-//! | `table` | [`table`]: its records as comma-separated values |
-//! | `draw` | [`draw`]: a [`Drawing`] of that run, or of a run of Time Warp |
-//! | `run` | the trace, made by workers; `choosing` says how many there are, where that is left to the program |
-//! | `play` | [`play`]: an executive that is driven by hand, from its [`Start`] on |
+//! | `dispatch` | [`engine`]: a job, by its kind, with the table of all ends |
+//! | `job_demo` | the demonstration; [`demo_law`]: what it prints, in its bytes |
+//! | `job_check` | [`check`]: what a network has, or where its file is at fault |
+//! | `job_seq` | [`seq`]: the trace of the sequential run; `job_run` makes a run in order by it too |
+//! | `job_stats` | [`stats`]: counts and figures of that run |
+//! | `job_table` | [`table`]: its records as comma-separated values |
+//! | `job_draw` | [`draw`]: a [`Drawing`] of that run, or of a run of Time Warp |
+//! | `job_run` | the trace, made by workers; `choosing` says how many there are, where that is left to the program |
+//! | `job_play` | [`play`]: an executive that is driven by hand, from its [`Start`] on |
 //! | `reading`, `faults`, `names` | what jobs share: what is read, the line of a run's fault, the names of components |
 //! | `telling` | who tells on standard error how far a run is |
 //! | `failed`, `exit` | [`Failed`]: why a job came to no end; [`Exit`]: how the program ends, with its status and the line for standard error |
@@ -24,33 +24,33 @@
 //! [`seq`], [`stats`], [`table`], [`draw`], [`check`] and [`play`] need no thread.
 #![tactic(auto)]
 
-mod check;
 mod choosing;
-mod demo;
-mod draw;
-mod engine;
+mod dispatch;
 mod exit;
 mod failed;
 mod faults;
+mod job_check;
+mod job_demo;
+mod job_draw;
+mod job_play;
+mod job_run;
+mod job_seq;
+mod job_stats;
+mod job_table;
 mod laws;
 mod names;
-mod play;
 mod reading;
-mod run;
-mod seq;
-mod stats;
-mod table;
 mod telling;
 
-pub use check::check;
-pub use demo::demo_law;
-pub use draw::{Drawing, draw};
-pub use engine::engine;
+pub use dispatch::engine;
 pub use exit::Exit;
 pub use failed::Failed;
+pub use job_check::check;
+pub use job_demo::demo_law;
+pub use job_draw::{Drawing, draw};
+pub use job_play::{Start, play};
+pub use job_seq::seq;
+pub use job_stats::stats;
+pub use job_table::table;
 pub use laws::text_law;
-pub use play::{Start, play};
-pub use seq::seq;
-pub use stats::stats;
-pub use table::table;
 pub use tw_actions::Fault;

@@ -1,0 +1,168 @@
+//! The job `run`: a run by workers, or in order where that is left to the program and workers would not pay.
+
+ghost use Rattle.std.specs.Prelude.{◌≡◌, IfErr, IfOk};
+ghost use Rattle.tw_engine.specs.Jobs.{OfFile};
+ghost use Rattle.tw_engine.specs.Runs.{HasNoRun, IsRunByWorkers, IsShown, IsWorked};
+ghost use Rattle.tw_workers_progress.specs.Settings.{IsSet};
+
+use crate::choosing::workers_of;
+use crate::failed::Failed;
+use crate::faults::last_line;
+use crate::job_seq::simulate;
+use crate::names::NetworkNames;
+use crate::reading::{Run, network_in, read_all};
+use crate::telling::Teller;
+use std::alloc::Global;
+use std::io::{Read, Write};
+use std::sync::{Arc, Wait};
+use std::thread::Threads;
+use std::time::Clock;
+use tw_actions::{Fault, MAX_BURST, MAX_WORKERS};
+use tw_any_model::AnyModel;
+use tw_cli::RunOptions;
+use tw_exec::Executive;
+use tw_msgs::Record;
+use tw_network::Network;
+use tw_process::Cancel;
+use tw_texts::write_trace;
+use tw_vtime::{MAX_TICK, Refusal};
+use tw_workers::Setting;
+use tw_workers_progress::run_by_workers;
+
+/// A run to be made: up to which end tick, how steps that are taken back are cancelled, and how its workers are set.
+#[derive(Clone, Copy)]
+pub(crate) struct Plan {
+    pub(crate) until: u64,
+    pub(crate) cancel: Cancel,
+    pub(crate) options: RunOptions,
+}
+
+/// Does the job `run` of [`engine`](crate::engine), and answers the fault that the trace ends in, if it ends in one.
+///
+/// It fails as the table of [`engine`](crate::engine) says.
+pub(crate) fn run<R: Threads + Wait + Clock + Eprint + Sync, N: Read, W: Write>(
+    rt: &R,
+    alloc: Global,
+    net: &mut N,
+    plan: Plan,
+    out: &mut W,
+) -> Result<Option<Fault>, Failed>
+    ensures { OfFile (N.remaining net.old) result (W.contents out.old) (W.contents out.new)
+        (λ bytes. IsRunByWorkers bytes plan.until result
+        (W.contents out.old) (W.contents out.new)) }
+{
+    let bytes = read_all(alloc, net)?;
+    run_file(rt, alloc, bytes.as_slice(), plan, out)
+}
+
+/// Runs the network that a file's bytes mean as it is planned, and writes its text.
+fn run_file<R: Threads + Wait + Clock + Eprint + Sync, W: Write>(
+    rt: &R,
+    alloc: Global,
+    bytes: &[u8],
+    plan: Plan,
+    out: &mut W,
+) -> Result<Option<Fault>, Failed>
+    ensures { IsRunByWorkers bytes.now plan.until result (W.contents out.old) (W.contents out.new) }
+{
+    let network = network_in(alloc, bytes)?;
+    run_network(rt, alloc, network, plan, out)
+}
+
+/// Runs a network as it is planned, and writes its text.
+pub(crate) fn run_network<R: Threads + Wait + Clock + Eprint + Sync, W: Write>(
+    rt: &R,
+    alloc: Global,
+    network: Network<AnyModel>,
+    plan: Plan,
+    out: &mut W,
+) -> Result<Option<Fault>, Failed>
+    ensures { IsWorked network plan.until result (W.contents out.old) (W.contents out.new) }
+{
+    let Plan {
+        until,
+        cancel,
+        options,
+    } = plan;
+    match workers_of(rt, alloc, &network, until, options) {
+        Some(workers) => {
+            let executive = start_executive(alloc, network, until, cancel)?;
+            let set = setting_of(options, workers);
+            run_executive(rt, alloc, executive, set, options.progress, out)
+        }
+        None => {
+            let run = Run {
+                network: &network,
+                until,
+            };
+            let mut teller = Teller::new(rt, until, options.progress);
+            simulate(alloc, &run, &mut teller, out)
+        }
+    }
+}
+
+/// Runs an executive by workers, and writes the text of its network's run.
+fn run_executive<R: Threads + Wait + Clock + Eprint + Sync, W: Write>(
+    rt: &R,
+    alloc: Global,
+    executive: Executive<AnyModel>,
+    setting: Setting,
+    progress: bool,
+    out: &mut W,
+) -> Result<Option<Fault>, Failed>
+    requires { IsSet setting }
+    ensures { IsWorked executive.network executive.until result
+        (W.contents out.old) (W.contents out.new) }
+{
+    let network = Arc::try_clone(executive.network())?;
+    let (records, fault) = run_by_workers(rt, alloc, executive, setting, progress)?;
+    write_made(alloc, &network, records.as_slice(), fault, out)
+}
+
+/// Writes the text of a run that is made: the lines of its records, and that of its fault.
+fn write_made<W: Write>(
+    alloc: Global,
+    network: &Network<AnyModel>,
+    records: &[Record],
+    fault: Option<Fault>,
+    out: &mut W,
+) -> Result<Option<Fault>, Failed>
+    ensures { IsShown network.now records.now fault result
+        (W.contents out.old) (W.contents out.new) }
+{
+    let names = NetworkNames { network };
+    let last = last_line(alloc, &names, &fault)?;
+    write_trace(alloc, &names, records, out)?;
+    match out.write_all(last.as_bytes()) {
+        Ok(()) => Ok(fault),
+        Err(_) => Err(Failed::NoWrite),
+    }
+}
+
+/// An executive at its start. Refused where the end tick is above the greatest one (10), or for want of memory (4).
+fn start_executive(
+    alloc: Global,
+    network: Network<AnyModel>,
+    until: u64,
+    cancel: Cancel,
+) -> Result<Executive<AnyModel>, Failed>
+    ensures network { IfOk result (λ e. e.network ≡ network) }
+    ensures until { IfOk result (λ e. e.until ≡ until) }
+    ensures err { IfErr result (HasNoRun until) }
+{
+    match Executive::with_cancel(alloc, network, until, cancel) {
+        Ok(executive) => Ok(executive),
+        Err(refused) => Err(Failed::from(Refusal::from(refused))),
+    }
+}
+
+/// The setting of a run by so many workers, each number brought within its range.
+fn setting_of(options: RunOptions, workers: u64) -> Setting
+    ensures { IsSet result }
+{
+    Setting {
+        workers: workers.clamp(1, MAX_WORKERS),
+        burst: options.burst.clamp(1, MAX_BURST) as usize,
+        window: options.window.min(MAX_TICK),
+    }
+}

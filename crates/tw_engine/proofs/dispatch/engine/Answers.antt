@@ -16,7 +16,7 @@ returns-in-Stats-clause-done g c =
     let old = g.W.Write.contents c.args.out.now in
     let new = g.W.Write.contents c.stats.new.out in
     subst (λ (job : Job). IsDone job c.of_view.result given script old new) (sym c.in-Simulate.is)
-    (subst (λ (task : Task). IsTaskDone task c.in-Simulate.until.now c.of_view.result given script old new) (sym c.in-Stats.is)
+    (subst (λ (task : Task). IsTaskDone task c.in-Simulate.until c.of_view.result given script old new) (sym c.in-Stats.is)
     (c.stats.result, c.of_view.ensures, c.stats.ensures))
 
 pub returns-in-Table-clause-done : goal.returns-in-Table-clause-done
@@ -26,5 +26,5 @@ returns-in-Table-clause-done g c =
     let old = g.W.Write.contents c.args.out.now in
     let new = g.W.Write.contents c.table.new.out in
     subst (λ (job : Job). IsDone job c.of_view-in-Table.result given script old new) (sym c.in-Simulate.is)
-    (subst (λ (task : Task). IsTaskDone task c.in-Simulate.until.now c.of_view-in-Table.result given script old new) (sym c.in-Table.is)
+    (subst (λ (task : Task). IsTaskDone task c.in-Simulate.until c.of_view-in-Table.result given script old new) (sym c.in-Table.is)
     (c.table.result, c.of_view-in-Table.ensures, c.table.ensures))

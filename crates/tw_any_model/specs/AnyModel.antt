@@ -2,6 +2,7 @@
 --     any_meaning m      the plain functions of a model
 --     IsAny m s      the numbers of a state of the model's own kind fit
 --     any_residue, any_undone      what a turn keeps, and the state before it
+--     any_longest m      the longest wait that a model tells
 use Rattle.std.specs.Prelude.{ℕ, Option, Some, None}
 use Rattle.tw_atomic.specs.Atomic.{Bag, Meaning}
 use Rattle.tw_atomic.specs.declared.Turn.{Turn}
@@ -11,9 +12,9 @@ use Rattle.tw_any_model.specs.declared.any_model.AnyResidue.{AnyResidue}
 use Rattle.tw_any_model.specs.declared.any_model.AnyResidue.TheVariants.{Nothing, BuiltInParts, MachineParts}
 use Rattle.tw_any_model.specs.declared.any_model.AnyState.{AnyState}
 use Rattle.tw_any_model.specs.declared.any_model.AnyState.TheVariants.{OfBuiltIn, OfMachine}
-use Rattle.tw_machine.specs.Machine.{IsMachine, kept_left, kept_log, machine_meaning, machine_undone}
+use Rattle.tw_machine.specs.Machine.{IsMachine, kept_left, kept_log, machine_longest, machine_meaning, machine_undone}
 use Rattle.tw_machine.specs.declared.memory.State as machine
-use Rattle.tw_models.specs.Model.{IfPart, IsModel, model_meaning, model_residue, model_undone, within}
+use Rattle.tw_models.specs.Model.{IfPart, IsModel, model_longest, model_meaning, model_residue, model_undone, within}
 use Rattle.tw_models.specs.declared.model.State as model
 
 abbrev pub built_in_part : AnyState → Option model.State
@@ -43,3 +44,7 @@ abbrev pub any_undone : AnyModel → Turn → AnyState → ℕ → Bag → AnyRe
 any_undone (BuiltIn m) turn (OfBuiltIn s) elapsed bag (BuiltInParts parts) = OfBuiltIn (model_undone m turn s elapsed bag parts)
 any_undone (Machine m) turn (OfMachine s) elapsed bag (MachineParts parts) = OfMachine (machine_undone m.program parts.left parts.log turn s elapsed bag)
 any_undone _ turn s elapsed bag residue = s
+
+abbrev pub any_longest : AnyModel → Option ℕ
+any_longest (BuiltIn m) = model_longest m
+any_longest (Machine m) = machine_longest m.program

@@ -35,7 +35,13 @@ pub enum AnyResidue {
 }
 
 impl Atomic for AnyModel {
-    ghost use Rattle.tw_any_model.specs.AnyModel.{any_meaning, IsAny, any_residue, any_undone};
+    ghost use Rattle.tw_any_model.specs.AnyModel.{
+      any_longest,
+      any_meaning,
+      IsAny,
+      any_residue,
+      any_undone,
+    };
     ghost use Rattle.tw_any_model.specs.AnyModelLaws.{any_stays_valid, any_output_fits, any_reverses};
 
     type State = AnyState;
@@ -49,6 +55,8 @@ impl Atomic for AnyModel {
     ghost residue_of = { any_residue };
 
     ghost undone = { any_undone };
+
+    ghost longest = { any_longest };
 
     fn start(&self, alloc: Global) -> Result<AnyState, AllocError> {
         Ok(match self {

@@ -11,7 +11,7 @@
 //! Times are in ticks. A bag is a slice of items of (port, value), sorted by port, then value.
 #![tactic(auto)]
 
-ghost use Rattle.std.specs.Prelude.{◌≡◌, ℕ, ◌≤◌, ◌↔◌, ◌++◌, [], List, IsTrue, IfOk, IfSome, OnOk, OnErr, length};
+ghost use Rattle.std.specs.Prelude.{◌≡◌, ℕ, ◌≤◌, ◌↔◌, ◌++◌, [], List, Option, IsTrue, IfOk, IfSome, OnOk, OnErr, length};
 ghost use Rattle.tw_atomic.specs.Atomic.{Bag, Meaning, FitsOutput, turned, CanTurn};
 ghost use Rattle.tw_atomic.specs.Waiting.{AlwaysWaits};
 
@@ -58,6 +58,9 @@ pub trait Atomic: Drop {
     /// its residue.
     ghost undone: { Self → Turn → Self.State → ℕ → Bag → Self.Residue → Self.State };
 
+    /// The longest time advance that the model tells of, in ticks, as [`Atomic::longest_wait`] answers it.
+    ghost longest: { Self → Option ℕ };
+
     /// The start state. Refused for want of memory alone (4).
     fn start(&self, alloc: Global) -> Result<Self::State, AllocError>
         ensures start { IfOk result (λ s. s ≡ (meaning self.now).start) }
@@ -68,15 +71,12 @@ pub trait Atomic: Drop {
         ensures { result ≡ (meaning self.now).ta state.now };
 
     /// The longest time advance of the model, in ticks, if it never has a time advance of 0: at its start and after
-    /// each transition it then waits 1 to so many ticks, or is passive. `None`: not known, as where a model does not
-    /// write this call. It takes no memory.
+    /// each transition it then waits 1 to so many ticks, or is passive. `None`: nothing is told. It takes no memory.
     ///
     /// A network of such models meets no limit in a run that ends so many ticks before the last tick.
     fn longest_wait(&self) -> Option<u64>
-        ensures { IfSome result (AlwaysWaits (meaning self.now)) }
-    {
-        None
-    }
+        ensures told { result ≡ longest self.now }
+        ensures waits { IfSome result (AlwaysWaits (meaning self.now)) };
 
     /// Fills the empty box with the output of this state, which is sent just before an internal or a confluent
     /// transition. It may be asked of every valid state, and takes no memory.

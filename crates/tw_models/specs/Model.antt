@@ -3,8 +3,10 @@
 --     IsModel m s      the numbers of a state of the model's own kind fit
 --     LiesInPlace s      a state that has no part on the heap
 --     model_residue, model_undone      what a turn keeps, and the state before it
+--     model_longest m      the longest wait that a model tells
 use Rattle.std.specs.Prelude.{ℕ, [], Option, Some, None, ⊤}
 use Rattle.tw_atomic.specs.Atomic.{Bag, Meaning}
+use Rattle.tw_atomic.specs.Waiting.{told_wait}
 use Rattle.tw_atomic.specs.declared.Turn.{Turn}
 use Rattle.tw_models.specs.declared.generator.GenState.{GenState}
 use Rattle.tw_models.specs.declared.tally.TallyState.{TallyState}
@@ -101,3 +103,11 @@ model_undone (Relay r) turn (OfRelay s) elapsed bag (RelayParts parts) = OfRelay
 model_undone (Queue q) turn (OfQueue s) elapsed bag (QueueParts parts) = OfQueue (queue_undone turn s elapsed bag parts)
 model_undone (Hop h) turn (OfHop s) elapsed bag residue = OfHop (hop_undone turn s elapsed bag)
 model_undone _ turn s elapsed bag residue = s
+
+-- a tally is always passive; relay and queue tell a wait of a tick or more alone
+abbrev pub model_longest : Model → Option ℕ
+model_longest (Gen g) = Some g.period
+model_longest Tally = Some 0
+model_longest (Relay r) = told_wait r.delay
+model_longest (Queue q) = told_wait q.service
+model_longest (Hop h) = Some h.spread

@@ -52,6 +52,7 @@ pub struct GenState {
 }
 
 impl Atomic for Gen {
+    ghost use Rattle.std.specs.Prelude.{Some};
     ghost use Rattle.tw_models.specs.Gen.{IsGen, gen_meaning, gen_undone};
     ghost use Rattle.tw_models.specs.GenLaws.{gen_stays_valid, gen_output_fits, gen_reverses};
 
@@ -66,6 +67,8 @@ impl Atomic for Gen {
     ghost residue_of = { λ m turn s elapsed bag. tt };
 
     ghost undone = { λ m turn s elapsed bag residue. gen_undone turn s elapsed };
+
+    ghost longest = { λ g. Some g.period };
 
     fn start(&self, alloc: Global) -> Result<GenState, AllocError>
         ensures start { result ≡ Ok (gen_meaning self.now).start }

@@ -150,6 +150,7 @@ fn unstirred_all(x: u64, bag: &[(u8, i64)]) -> u64
 }
 
 impl Atomic for Hop {
+    ghost use Rattle.std.specs.Prelude.{Some};
     ghost use Rattle.tw_models.specs.Hop.{IsHop, hop_meaning, hop_undone};
     ghost use Rattle.tw_models.specs.HopLaws.{hop_stays_valid, hop_output_fits, hop_reverses};
 
@@ -164,6 +165,8 @@ impl Atomic for Hop {
     ghost residue_of = { λ m turn s elapsed bag. tt };
 
     ghost undone = { λ m turn s elapsed bag residue. hop_undone turn s elapsed bag };
+
+    ghost longest = { λ h. Some h.spread };
 
     fn start(&self, alloc: Global) -> Result<HopState, AllocError>
         ensures start { result ≡ Ok (hop_meaning self.now).start }

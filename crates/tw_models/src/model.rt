@@ -109,7 +109,13 @@ pub enum Residue {
 }
 
 impl Atomic for Model {
-    ghost use Rattle.tw_models.specs.Model.{IsModel, model_meaning, model_residue, model_undone};
+    ghost use Rattle.tw_models.specs.Model.{
+      IsModel,
+      model_longest,
+      model_meaning,
+      model_residue,
+      model_undone,
+    };
     ghost use Rattle.tw_models.specs.ModelLaws.{model_stays_valid, model_output_fits, model_reverses};
 
     type State = State;
@@ -123,6 +129,8 @@ impl Atomic for Model {
     ghost residue_of = { λ m turn s elapsed bag. model_residue m turn s bag };
 
     ghost undone = { model_undone };
+
+    ghost longest = { model_longest };
 
     fn start(&self, alloc: Global) -> Result<State, AllocError>
         ensures start { IfOk result (λ s. s ≡ (model_meaning self.now).start) }

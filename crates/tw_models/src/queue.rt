@@ -170,6 +170,7 @@ fn cut_off(state: &mut QueueState, items: usize, accepted: usize)
 }
 
 impl Atomic for Queue {
+    ghost use Rattle.tw_atomic.specs.Waiting.{told_wait};
     ghost use Rattle.tw_models.specs.Queue.{IsQueue, queue_meaning, queue_residue, queue_undone};
     ghost use Rattle.tw_models.specs.QueueLaws.{queue_stays_valid, queue_output_fits, queue_reverses};
 
@@ -184,6 +185,8 @@ impl Atomic for Queue {
     ghost residue_of = { λ m turn s elapsed bag. queue_residue turn s bag };
 
     ghost undone = { λ m turn s elapsed bag residue. queue_undone turn s elapsed bag residue };
+
+    ghost longest = { λ q. told_wait q.service };
 
     fn start(&self, alloc: Global) -> Result<QueueState, AllocError>
         ensures start { result ≡ Ok (queue_meaning self.now).start }

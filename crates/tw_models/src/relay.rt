@@ -129,6 +129,7 @@ fn take_in(state: &mut RelayState, delay: u64, elapsed: u64, bag: &[(u8, i64)]) 
 }
 
 impl Atomic for Relay {
+    ghost use Rattle.tw_atomic.specs.Waiting.{told_wait};
     ghost use Rattle.tw_models.specs.Relay.{IsRelay, relay_meaning, relay_residue, relay_undone};
     ghost use Rattle.tw_models.specs.RelayLaws.{relay_stays_valid, relay_output_fits, relay_reverses};
 
@@ -143,6 +144,8 @@ impl Atomic for Relay {
     ghost residue_of = { λ m turn s elapsed bag. relay_residue turn s bag };
 
     ghost undone = { λ m turn s elapsed bag residue. relay_undone turn s elapsed bag residue };
+
+    ghost longest = { λ r. told_wait r.delay };
 
     fn start(&self, alloc: Global) -> Result<RelayState, AllocError>
         ensures start { result ≡ Ok (relay_meaning self.now).start }

@@ -56,6 +56,7 @@ fn discount_all(state: &mut TallyState, bag: &[(u8, i64)])
 }
 
 impl Atomic for Tally {
+    ghost use Rattle.std.specs.Prelude.{Some};
     ghost use Rattle.tw_models.specs.Tally.{IsTally, tally_meaning, tally_undone};
     ghost use Rattle.tw_models.specs.TallyLaws.{tally_stays_valid, tally_output_fits, tally_reverses};
 
@@ -70,6 +71,8 @@ impl Atomic for Tally {
     ghost residue_of = { λ m turn s elapsed bag. s.last };
 
     ghost undone = { λ m turn s elapsed bag last. tally_undone turn s bag last };
+
+    ghost longest = { λ t. Some 0 };
 
     fn start(&self, alloc: Global) -> Result<TallyState, AllocError>
         ensures start { result ≡ Ok tally_meaning.start }

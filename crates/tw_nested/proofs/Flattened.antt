@@ -15,6 +15,15 @@ use Rattle.std.proofs.Common.{slice_index}
 use Rattle.tw_nested.proofs.Numbers.{models_sound, atoms_below}
 use Rattle.tw_nested.proofs.Ranges.{top, atom_ranged, models_ranged, not_to_itself}
 
+-- no path leads from an atom to itself
+coupling_apart : {M : Type 0} (parts : Parts M) (links : List Link) → AreLinked parts links → (k : Coupling) → IsCoupling parts links k → k.0 ≢ k.2
+coupling_apart parts links linked k is =
+    let atom : ℕ → ℕ = slice_index (atoms_from 1 parts) in
+    λ same. not_to_itself (all_models parts links) 0 (0 + suc (size parts + 0)) (top 0 (coupled [] parts links no_parts)) (models_ranged parts links) linked (atom k.0) k.1 (atom k.2) k.3 (atom_ranged parts links k.0 is.source) is.path (ap atom same)
+
+pub are_apart : {M : Type 0} (parts : Parts M) (links : List Link) → AreLinked parts links → (flat : List Coupling) → AreCouplings parts links flat → All (λ (k : Coupling). k.0 ≢ k.2) flat
+are_apart parts links linked flat are = λ i d lt. coupling_apart parts links linked (slice_index_or flat i d) (are.sound i d lt)
+
 -- what is flat along the ports is flat by paths
 module _ {M : Type 0} (parts : Parts M) (links : List Link) (count : ℕ) (is : count ≡ 1 + size parts) (linked : AreLinked parts links) (edges : List Edge) (are : AreEdges count (all_models parts links) edges) where
   sound : All (IsModel count) (all_models parts links)
@@ -28,7 +37,6 @@ module _ {M : Type 0} (parts : Parts M) (links : List Link) (count : ℕ) (is : 
         source_port = f.source_port;
         destination = f.destination;
         destination_port = f.destination_port;
-        apart = λ same. not_to_itself (all_models parts links) 0 (0 + suc (size parts + 0)) (top 0 (coupled [] parts links no_parts)) (models_ranged parts links) linked (slice_index (atoms_from 1 parts) k.0) k.1 (slice_index (atoms_from 1 parts) k.2) k.3 (atom_ranged parts links k.0 f.source) way (ap (slice_index (atoms_from 1 parts)) same);
         path = way;
       }
 

@@ -22,7 +22,6 @@ pub record IsCoupling {M : Type 0} (parts : Parts M) (links : List Link) (k : Co
   pub source_port : k.1 < 16
   pub destination : k.2 < length (atoms_from 1 parts)
   pub destination_port : k.3 < 16
-  pub apart : k.0 ≢ k.2
   pub path : Path (all_models parts links) (slice_index (atoms_from 1 parts) k.0) k.1 (slice_index (atoms_from 1 parts) k.2) k.3
 
 -- exactly the couplings along which a path leads, none twice

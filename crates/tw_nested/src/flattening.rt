@@ -1,6 +1,8 @@
 //! The atoms of a tree and its flat couplings.
 
+ghost use Rattle.std.specs.List.{All};
 ghost use Rattle.std.specs.Prelude.{◌≡◌, ◌≢◌, ◌<◌, ◌≤◌, [], map, string_bytes, IfErr, IfOk, length};
+ghost use Rattle.tw_nested.specs.Flat.{Coupling};
 ghost use Rattle.tw_nested.specs.Tree.{atoms_from, flat_names, links_of, models_in, size, tree_of};
 ghost use Rattle.tw_nested.specs.Whole.{AreCouplings, AreLinked, AreTooMany};
 ghost use Rattle.tw_nested.specs.declared.collect.FlatRefused.TheVariants.{OutOfMemory};
@@ -35,6 +37,7 @@ pub fn flatten<M: Drop>(alloc: Global, nested: Nested<M>) -> Result<Flat<M>, Fla
     ensures models { IfOk result (λ f. f.models.items ≡ models_in (tree_of nested)) }
     ensures couplings { IfOk result
         (λ f. AreCouplings (tree_of nested) (links_of nested) f.couplings.items) }
+    ensures apart { IfOk result (λ f. All (λ (k : Coupling). k.0 ≢ k.2) f.couplings.items) }
     ensures too_many { IfErr result
         (λ e. e ≢ OutOfMemory → AreTooMany (tree_of nested) (links_of nested)) }
 {

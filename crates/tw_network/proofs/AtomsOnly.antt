@@ -121,7 +121,6 @@ module _ {M : Type 0} where
           source_port = omega (arith, p);
           destination = omega (arith, m, n, t);
           destination_port = omega (arith, q);
-          apart = is.apart;
           path = subst (λ ms. Path ms (slice_index (atoms_from 1 (all_atoms cs)) k.0) k.1 (slice_index (atoms_from 1 (all_atoms cs)) k.2) k.3) (sym models_root)
               (subst (λ (ns : List ℕ). Path (root ∷ []) (slice_index ns k.0) k.1 (slice_index ns k.2) k.3) (sym (same_numbers 1 cs)) here);
         }

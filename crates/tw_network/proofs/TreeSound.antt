@@ -133,21 +133,21 @@ module _ {M S : Type 0} (meaning : M → Meaning S) where
 
   -- ---- all together
 
-  pub couplings_sound : (parts : Parts M) (links : List Link) (flat : List Coupling) (count : ℕ) → count ≡ length (models_in parts) → AreCouplings parts links flat → All (IsCoupling count) flat
-  couplings_sound parts links flat count is all i d lt =
+  pub couplings_sound : (parts : Parts M) (links : List Link) (flat : List Coupling) (count : ℕ) → count ≡ length (models_in parts) → AreCouplings parts links flat → All (λ (k : Coupling). k.0 ≢ k.2) flat → All (IsCoupling count) flat
+  couplings_sound parts links flat count is all apart i d lt =
       let k = all.sound i d lt in
       let n = atoms-length 1 parts in
       let s = k.source in let t = k.destination in let p = k.source_port in let q = k.destination_port in
-      record { source = omega (arith, s, n, is); source_port = omega (arith, p); destination = omega (arith, t, n, is); destination_port = omega (arith, q); apart = k.apart }
+      record { source = omega (arith, s, n, is); source_port = omega (arith, p); destination = omega (arith, t, n, is); destination_port = omega (arith, q); apart = apart i d lt }
 
   pub tree_whole : (parts : Parts M) (links : List Link) (names : List (List ℕ)) (models : List M) (flat : List Coupling) (inputs : List Input) (limit : ℕ)
-      → names ≡ flat_names [] parts → models ≡ models_in parts → AreCouplings parts links flat → is_few parts links ≡ true → length inputs ≤ 65536 → limit_fault limit ≡ None → models_fault meaning parts links ≡ None → inputs_fault (length models) inputs ≡ None
+      → names ≡ flat_names [] parts → models ≡ models_in parts → AreCouplings parts links flat → All (λ (k : Coupling). k.0 ≢ k.2) flat → is_few parts links ≡ true → length inputs ≤ 65536 → limit_fault limit ≡ None → models_fault meaning parts links ≡ None → inputs_fault (length models) inputs ≡ None
       → IsWhole meaning (record { names = names; models = models; couplings = flat; inputs = inputs; micro_limit = limit })
-  tree_whole parts links names models flat inputs limit is_names is_models couplings few few_inputs limits sound each_input =
+  tree_whole parts links names models flat inputs limit is_names is_models couplings apart few few_inputs limits sound each_input =
       let p = neither _ _ sound in
       let own = (neither (parts_fault meaning [] parts) (links_fault true (part_count parts) links) p.0).0 in
       let count : length models ≡ length (models_in parts) = ap length is_models in
-      let each_coupling = couplings_sound parts links flat (length models) count couplings in
+      let each_coupling = couplings_sound parts links flat (length models) count couplings apart in
       let all_inputs = sound_input (length models) inputs each_input in
       let bounds = and_parts (nat_le 1 limit) (nat_le limit max_microstep) limits_hold in
       let atoms = (few_parts parts links few).1 in

@@ -11,7 +11,7 @@ use tw_atomic::{Atomic, Outbox, Turn};
 struct Counter;
 
 impl Atomic for Counter {
-    ghost use Rattle.std.specs.Prelude.{ℕ};
+    ghost use Rattle.std.specs.Prelude.{ℕ, None};
     ghost use Rattle.std.proofs.Common.{arith};
     ghost use Rattle.tw_atomic.specs.Counter.{IsCounter, counter_meaning, counter_undone, counter_stays_valid, counter_reverses};
 
@@ -27,6 +27,8 @@ impl Atomic for Counter {
 
     ghost undone = { λ m turn s elapsed bag sends. counter_undone turn s bag sends };
 
+    ghost longest = { λ m. None };
+
     fn start(&self, alloc: Global) -> Result<(u64, bool), AllocError> {
         let _ = alloc;
         Ok((0, false))
@@ -34,6 +36,10 @@ impl Atomic for Counter {
 
     fn ta(&self, state: &(u64, bool)) -> Option<u64> {
         if state.1 { Some(0) } else { None }
+    }
+
+    fn longest_wait(&self) -> Option<u64> {
+        None
     }
 
     fn output(&self, state: &(u64, bool), outbox: &mut Outbox) {

@@ -210,7 +210,7 @@ impl<'a> Watched<'a> {
 }
 
 impl Atomic for Watched<'_> {
-    ghost use Rattle.std.specs.Prelude.{refl};
+    ghost use Rattle.std.specs.Prelude.{refl, Some};
     ghost use Rattle.tw_models.specs.Gen.{IsGen, gen_meaning, gen_undone};
     ghost use Rattle.tw_models.specs.GenLaws.{gen_stays_valid, gen_output_fits, gen_reverses};
 
@@ -226,12 +226,18 @@ impl Atomic for Watched<'_> {
 
     ghost undone = { λ m turn s elapsed bag residue. gen_undone turn s elapsed };
 
+    ghost longest = { λ m. Some m.model.period };
+
     fn start(&self, alloc: Global) -> Result<GenState, AllocError> {
         self.model.start(alloc)
     }
 
     fn ta(&self, state: &GenState) -> Option<u64> {
         self.model.ta(state)
+    }
+
+    fn longest_wait(&self) -> Option<u64> {
+        self.model.longest_wait()
     }
 
     fn output(&self, state: &GenState, outbox: &mut Outbox) {

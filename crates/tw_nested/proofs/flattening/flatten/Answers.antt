@@ -5,7 +5,7 @@ use Rattle.tw_nested.specs.Taken.{model_of}
 use Rattle.tw_nested.specs.Whole.{AreTooMany}
 use Rattle.tw_nested.specs.Paths.{IsModel}
 use Rattle.tw_nested.proofs.Numbers.{models_sound, atoms_below}
-use Rattle.tw_nested.proofs.Flattened.{couplings_from, too_many_from, passed_on}
+use Rattle.tw_nested.proofs.Flattened.{are_apart, couplings_from, too_many_from, passed_on}
 use Rattle.tw_nested.proofs.flattening.flatten.Goals as goal
 
 pub edges-requires-clause-models : goal.edges-requires-clause-models
@@ -32,3 +32,11 @@ returns-clause-couplings g c =
     let a = c.as_slice-3.ensures.value ∙ (rw c.new-3.ensures.items at c.in_ok-take.ensures.taken.atoms) in
     couplings_from (parts_of c.args.nested.parts.items) c.args.nested.couplings.items c.take.new.tables.count c.in_ok-take.ensures.taken.count c.requires.linked
     (map model_of c.as_slice.result.now) c.in_ok-edges.edges.items c.as_slice-2.result.now c.as_slice-3.result.now e a c.as_slice-2.ensures.value c.in_ok-edges.ensures c.in_ok-couplings.couplings.items c.in_ok-couplings.ensures.ok
+
+pub returns-clause-apart : goal.returns-clause-apart
+returns-clause-apart g c =
+    let e = ap (map model_of) c.as_slice.ensures.value ∙ (rw c.new-4.ensures.items at c.in_ok-take.ensures.taken.coupled) in
+    let a = c.as_slice-3.ensures.value ∙ (rw c.new-3.ensures.items at c.in_ok-take.ensures.taken.atoms) in
+    are_apart (parts_of c.args.nested.parts.items) c.args.nested.couplings.items c.requires.linked c.in_ok-couplings.couplings.items
+    (couplings_from (parts_of c.args.nested.parts.items) c.args.nested.couplings.items c.take.new.tables.count c.in_ok-take.ensures.taken.count c.requires.linked
+    (map model_of c.as_slice.result.now) c.in_ok-edges.edges.items c.as_slice-2.result.now c.as_slice-3.result.now e a c.as_slice-2.ensures.value c.in_ok-edges.ensures c.in_ok-couplings.couplings.items c.in_ok-couplings.ensures.ok)

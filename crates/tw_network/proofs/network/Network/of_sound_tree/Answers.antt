@@ -44,7 +44,7 @@ returns-in_err-names-2-clause-first_fault g c = no_memory (IsTreeFault g.M.Atomi
 pub new-requires-clause-couplings : goal.new-requires-clause-couplings
 new-requires-clause-couplings g c =
     rw c.as_slice-2.ensures.value
-    (couplings_sound g.M.Atomic.meaning (parts_of c.args.root.parts.items) c.args.root.couplings.items c.in_ok-names.field-0.couplings.items c.len-count.result (c.len-count.ensures ∙ c.in_ok-names.field-0.models.ok.0 ∙ ap length c.in_ok-names.ensures.models) c.in_ok-names.ensures.couplings)
+    (couplings_sound g.M.Atomic.meaning (parts_of c.args.root.parts.items) c.args.root.couplings.items c.in_ok-names.field-0.couplings.items c.len-count.result (c.len-count.ensures ∙ c.in_ok-names.field-0.models.ok.0 ∙ ap length c.in_ok-names.ensures.models) c.in_ok-names.ensures.couplings c.in_ok-names.ensures.apart)
 
 pub returns-in_err-routes-clause-first_fault : goal.returns-in_err-routes-clause-first_fault
 returns-in_err-routes-clause-first_fault g c = no_memory (IsTreeFault g.M.Atomic.meaning (parts_of c.args.root.parts.items) c.args.root.couplings.items c.args.inputs.items c.args.micro_limit) c.from_residual-in_err-routes.result c.from_residual-in_err-routes.ensures.1
@@ -55,7 +55,7 @@ invariant_of-result g c =
     let few = counts_few (parts_of c.args.root.parts.items) c.args.root.couplings.items (length c.args.inputs.items) sound.0 in
     let count : c.len-count.result ≡ length c.in_ok-names.field-0.models.items = c.len-count.ensures ∙ c.in_ok-names.field-0.models.ok.0 in (
       tree_whole g.M.Atomic.meaning (parts_of c.args.root.parts.items) c.args.root.couplings.items (map string_bytes c.in_ok-names-2.names.keys) c.in_ok-names.field-0.models.items c.in_ok-names.field-0.couplings.items c.args.inputs.items c.args.micro_limit
-          (c.in_ok-names-2.ensures ∙ c.in_ok-names.ensures.names) c.in_ok-names.ensures.models c.in_ok-names.ensures.couplings few.0 few.1
+          (c.in_ok-names-2.ensures ∙ c.in_ok-names.ensures.names) c.in_ok-names.ensures.models c.in_ok-names.ensures.couplings c.in_ok-names.ensures.apart few.0 few.1
           (sym sound.1) sound.2
           (inputs_fault_of c.len-count.result c.as_slice.result.now None count c.as_slice.ensures.value c.in_ok-check_inputs.ensures),
       rw (← count) (rw c.as_slice-2.ensures.value at c.in_ok-routes.ensures),

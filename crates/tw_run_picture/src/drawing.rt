@@ -6,14 +6,16 @@ ghost use Rattle.tw_run_picture.specs.declared.refused.DrawRefused.TheVariants.{
 ghost use Rattle.tw_theory.specs.Simulator.{sequential};
 ghost use Rattle.tw_vtime.specs.Stamps.{max_tick};
 
+use crate::lanes::lanes_of;
 use crate::refused::DrawRefused;
+use crate::subject::Subject;
+use crate::whole::make_picture;
 use std::alloc::Global;
 use std::io::Write;
 use tw_atomic::Atomic;
 use tw_figures::Labels;
 use tw_network::Network;
 use tw_rounds::Fault;
-use tw_run_scene::{Subject, lanes_of, make_picture};
 use tw_texts::Names;
 use tw_vtime::MAX_TICK;
 

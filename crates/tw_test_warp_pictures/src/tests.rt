@@ -14,8 +14,7 @@ use tw_models::Model;
 use tw_play::Player;
 use tw_script::{Command, commands_of_script};
 use tw_texts::NotWritten;
-use tw_warp_picture::{draw_script, draw_seed};
-use tw_warp_watch::{MOST_ACTIONS, watch_script};
+use tw_warp_picture::{MOST_ACTIONS, draw_script, draw_seed, watch_script};
 
 /// A player of a network at its start.
 fn player(rt: &impl Abort, alloc: Global, net: Net, until: u64, cancel: Cancel) -> Player<Model> {

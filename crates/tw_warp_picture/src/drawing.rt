@@ -2,6 +2,8 @@
 
 ghost use Rattle.std.specs.Prelude.{◌≡◌, IfErr};
 
+use crate::watching::{watch_script, watch_seed};
+use crate::whole::picture;
 use std::alloc::Global;
 use std::io::Write;
 use tw_atomic::Atomic;
@@ -9,8 +11,6 @@ use tw_play::Player;
 use tw_script::Command;
 use tw_svg::Svg;
 use tw_texts::NotWritten;
-use tw_warp_scene::picture;
-use tw_warp_watch::{watch_script, watch_seed};
 
 /// Has a player obey commands, of at most 2,000 actions the first, and writes the picture of what they did, under a title. What
 /// is to be shown is left out, and a refused action is no failure.

@@ -3,7 +3,7 @@
 use std::alloc::{AllocError, Global};
 use tw_msgs::Sign;
 use tw_vtime::Stamp;
-use tw_warp_watch::{Carried, Cause, Fallen, Seen};
+use tw_warp_picture::{Carried, Cause, Fallen, Seen};
 
 /// All that is seen.
 pub(crate) fn summary(alloc: Global, seen: &Seen) -> Result<String, AllocError> {

@@ -23,8 +23,7 @@ loop-component-preserved g c =
     let i = c.loop-component.component in
     let n = c.len-component-end.ensures in
     let l = c.loop-component-test.true in
-    let in_time = c.if-not-ends_in_time.false in
-    (
+    let in_time = c.if-not-ends_in_time.false in (
       one_more (λ m. IsInTime c.args.until (g.M.Atomic.longest m)) models i c.model.result.now c.model.ensures (omega (arith, l, n)) c.loop-component.invariant.0 (c.ends_in_time.ensures.told.0 in_time),
       one_more (λ m. EndsInTime c.args.until (g.M.Atomic.meaning m)) models i c.model.result.now c.model.ensures (omega (arith, l, n)) c.loop-component.invariant.1 (c.ends_in_time.ensures.waits in_time),
     )
@@ -33,8 +32,7 @@ pub returns-clause-told : goal.returns-clause-told
 returns-clause-told g c =
     let models = c.args.network.now.models in
     let n = c.len-component-end.ensures in
-    let l = c.loop-component-test.false in
-    (
+    let l = c.loop-component-test.false in (
       λ told. subst (Each (λ m. IsInTime c.args.until (g.M.Atomic.longest m))) (take_all c.loop-component.component models (omega (arith, l, n))) c.loop-component.invariant.0,
       λ all. refl,
     )

@@ -6,13 +6,13 @@ use crate::keys::draw_keys;
 use crate::messages::draw_messages;
 use crate::plan::{Plan, right_edge};
 use crate::scene::Scene;
+use crate::seen::Seen;
 use crate::strip::{draw_names, draw_strip};
 use crate::style::SHEET;
 use std::alloc::{AllocError, Global};
 use tw_atomic::Atomic;
 use tw_exec::Executive;
 use tw_svg::{Points, Svg, push_sheet};
-use tw_warp_watch::Seen;
 
 /// The picture of what was seen of an executive.
 pub fn picture<M: Atomic>(

@@ -4,7 +4,7 @@ use Rattle.tw_msgs.specs.declared.record.Record.{Record}
 use Rattle.tw_rounds.specs.Parts.{IsSimulating}
 use Rattle.tw_theory.specs.Simulator.{round_time}
 use Rattle.tw_vtime.specs.Stamps.{stamp}
-use Rattle.tw_run_scene.proofs.following.make_rounds.Given as goal
+use Rattle.tw_run_picture.proofs.following.make_rounds.Given as goal
 
 abbrev pub invariant-loop-transitions : goal.invariant-loop-transitions
 invariant-loop-transitions g l = record {

@@ -1,5 +1,6 @@
 //! What is drawn, with the words that are told of it.
 
+use crate::seen::{Acted, Seen};
 use std::alloc::{AllocError, Global};
 use tw_actions::Cancel;
 use tw_atomic::Atomic;
@@ -8,7 +9,6 @@ use tw_inspect::push_reply;
 use tw_script::Command;
 use tw_svg::cut;
 use tw_vtime::Stamp;
-use tw_warp_watch::{Acted, Seen};
 
 /// How many letters a name has at most.
 const NAME: usize = 16;

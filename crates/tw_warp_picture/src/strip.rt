@@ -3,9 +3,9 @@
 use crate::looks::{Shade, add_figure, class_if, classes};
 use crate::plan::{Plan, counted};
 use crate::scene::{Scene, number_of};
+use crate::seen::Acted;
 use std::alloc::{AllocError, Global};
 use tw_svg::{Path, Points, Spot, Svg, tick_text};
-use tw_warp_watch::Acted;
 
 /// How far names at the right are apart at least.
 const LINE: i64 = 13;

@@ -3,9 +3,9 @@
 use crate::looks::{Fall, Shade, add_figure, class_if, classes};
 use crate::plan::Plan;
 use crate::scene::Scene;
+use crate::seen::{Acted, Cause, Fallen, Move, Stepped};
 use std::alloc::{AllocError, Global};
 use tw_svg::{Path, Points, Spot, Svg};
-use tw_warp_watch::{Acted, Cause, Fallen, Move, Stepped};
 
 /// The course of a component, while it is drawn.
 #[derive(Drop)]

@@ -3,7 +3,7 @@ use Rattle.std.proofs.Common.{◌∙◌, ◌++◌, [], inr, refl, ap, subst}
 use Rattle.tw_network.specs.Contents.{network_of}
 use Rattle.tw_rounds.specs.Stepping.{IsAdvanced}
 use Rattle.tw_theory.specs.Simulator.{sequential}
-use Rattle.tw_run_scene.proofs.following.make_rounds.Goals as goal
+use Rattle.tw_run_picture.proofs.following.make_rounds.Goals as goal
 
 pub loop-transitions-init : goal.loop-transitions-init
 loop-transitions-init g c = record {

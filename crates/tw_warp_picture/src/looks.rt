@@ -1,9 +1,9 @@
 //! Shapes and colours: of components, of deliveries, of falls.
 
+use crate::seen::Cause;
 use std::alloc::{AllocError, Global};
 use tw_msgs::Sign;
 use tw_svg::{Path, Points, Spot, Svg};
-use tw_warp_watch::Cause;
 
 /// Whose colour a shape has.
 #[derive(Clone, Copy, PartialEq, Eq)]

@@ -3,10 +3,10 @@
 use crate::looks::{Shade, class_if, classes, draw_coin};
 use crate::plan::{Plan, counted};
 use crate::scene::{Scene, number_of};
+use crate::seen::Carried;
 use std::alloc::{AllocError, Global};
 use tw_msgs::Sign;
 use tw_svg::{Path, Points, Spot, Svg};
-use tw_warp_watch::Carried;
 
 /// Draws all messages.
 pub(crate) fn draw_messages(

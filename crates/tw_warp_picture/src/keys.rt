@@ -4,10 +4,10 @@ use crate::looks::{Fall, Shade, add_figure, draw_coin};
 use crate::messages::add_head;
 use crate::plan::{PAGE, Plan};
 use crate::scene::Scene;
+use crate::seen::{Cause, MOST_ACTIONS};
 use std::alloc::{AllocError, Global};
 use tw_msgs::Sign;
 use tw_svg::{Axis, Front, Legend, Path, Points, Spot, Svg, many, tick_text};
-use tw_warp_watch::{Cause, MOST_ACTIONS};
 
 /// How to read the picture.
 const READING: [&str; 2] = [

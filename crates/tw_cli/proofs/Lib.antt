@@ -1,3 +1,5 @@
 pub mod Adding
 pub mod Missing
+pub mod MissingOptions
+pub mod Reading
 pub mod Refusing

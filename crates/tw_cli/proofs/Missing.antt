@@ -3,10 +3,10 @@ use Rattle.std.proofs.Common.{◌≡◌, ◌+◌, ◌*◌, ◌==◌, ℕ, List, 
 use Rattle.std.specs.Prelude.{◌≢◌, IfNone, None, Option, Some}
 use Rattle.clap.specs.Words.{Row, Text}
 use Rattle.tw_actions.specs.declared.cancel.Cancel.{Cancel}
-use Rattle.tw_cli_options.specs.Options.{IsCancelIn, IsDriverIn, IsPictureIn, IsRowsIn, IsSettingIn}
-use Rattle.tw_cli_options.specs.declared.driving.Driver.{Driver}
-use Rattle.tw_cli_options.specs.declared.seeing.Picture.{Picture}
-use Rattle.tw_cli_options.specs.declared.setting.RunOptions.{RunOptions}
+use Rattle.tw_cli.specs.Options.{IsCancelIn, IsDriverIn, IsPictureIn, IsRowsIn, IsSettingIn}
+use Rattle.tw_cli.specs.declared.driving.Driver.{Driver}
+use Rattle.tw_cli.specs.declared.seeing.Picture.{Picture}
+use Rattle.tw_cli.specs.declared.setting.RunOptions.{RunOptions}
 use Rattle.tw_figures.specs.declared.seeing.Rows.{Rows}
 use Rattle.tw_cli.specs.Lines.{IsJobOf, IsSimulationOf, IsTaskOf, task_name}
 use Rattle.tw_cli.specs.declared.jobs.Job.{Job}

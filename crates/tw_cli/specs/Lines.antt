@@ -15,7 +15,7 @@ use Rattle.clap.specs.declared.error.kind.ErrorKind.{ErrorKind}
 use Rattle.clap.specs.declared.error.kind.ErrorKind.TheVariants as kind
 use Rattle.tw_vtime.specs.declared.refusal.Refusal.{Refusal}
 use Rattle.tw_vtime.specs.declared.refusal.Refusal.TheVariants as refusal
-use Rattle.tw_cli_options.specs.Options.{HasFlag, HasNumber, IsCancelIn, IsDriverIn, IsPictureIn, IsRowsIn, IsSettingIn}
+use Rattle.tw_cli.specs.Options.{HasFlag, HasNumber, IsCancelIn, IsDriverIn, IsPictureIn, IsRowsIn, IsSettingIn}
 use Rattle.tw_cli.specs.declared.jobs.Job.{Job}
 use Rattle.tw_cli.specs.declared.jobs.Job.TheVariants.{Demo, Check, Simulate}
 use Rattle.tw_cli.specs.declared.jobs.Task.{Task}

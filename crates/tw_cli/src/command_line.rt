@@ -5,13 +5,14 @@ ghost use Rattle.clap.specs.Words.{first_of, rows_of, found_of, fault_of, kind_o
 ghost use Rattle.tw_cli.specs.Lines.{twarp_app, IsJob, IsJobOf, IsReason, IsMadeOf, IsSimulationOf, IsTaskOf};
 
 use crate::commands::command;
+use crate::driving::{cancel_in, driver_in};
 use crate::jobs::{Job, NoJob, Task};
+use crate::seeing::{picture_in, rows_in};
+use crate::setting::setting_in;
+use crate::values::{flag_in, number_in, text_in};
 use clap::error::ErrorKind;
 use clap::{ArgMatches, Error};
 use std::alloc::Global;
-use tw_cli_options::{
-    cancel_in, driver_in, flag_in, number_in, picture_in, rows_in, setting_in, text_in,
-};
 use tw_vtime::MAX_TICK;
 
 /// The job of `check` and its options; none where no path of a file stands there.

@@ -4,6 +4,7 @@ ghost use Rattle.std.specs.Prelude.{◌≡◌, IfOk, codes};
 ghost use Rattle.clap.specs.Words.{App, app_of};
 ghost use Rattle.tw_cli.specs.Lines.{flag_rule, net_rule, number_rule, text_rule, until_rule, alone_app, cancelled_app, check_app, demo_app, draw_app, driven_app, first_app, network_app, play_app, preset_rule, preset_text_rule, run_app, seen_app, seq_app, set_app, stats_app, table_app, told_app, twarp_app, IsArg, IsCommand, IsJoined};
 
+use crate::driving::MAX_STEPS;
 use crate::help::{
     CHECK_END, DEMO_END, DRAW_END, PLAY_END, RUN_END, SEQ_END, STATS_END, TABLE_END, TWARP_END,
     VERSION,
@@ -12,7 +13,6 @@ use clap::builder::ValueParser;
 use clap::{Arg, ArgAction, Command};
 use std::alloc::{AllocError, Global};
 use tw_actions::MAX_BURST;
-use tw_cli_options::MAX_STEPS;
 use tw_vtime::MAX_TICK;
 
 /// The path of the network file, which stands on the line with no name of its own.

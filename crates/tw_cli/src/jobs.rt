@@ -3,10 +3,12 @@
 ghost use Rattle.std.specs.Prelude.{◌≡◌};
 ghost use Rattle.tw_cli.specs.Lines.{refusal_of, refused_for_memory};
 
+use crate::driving::Driver;
+use crate::seeing::Picture;
+use crate::setting::RunOptions;
 use std::alloc::AllocError;
 use thiserror::Error;
 use tw_actions::Cancel;
-use tw_cli_options::{Driver, Picture, RunOptions};
 use tw_figures::Rows;
 use tw_vtime::Refusal;
 

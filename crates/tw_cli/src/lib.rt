@@ -3,8 +3,7 @@
 //! [`job`] reads the words with `clap`. Its contract is exact: the [`Job`] is the subcommand that the
 //! parse finds, with the text or the number of each argument, and each number in its range; a refused
 //! line (23) is one that the parse refuses, or one in which no job stands. Where help or the version is asked for it
-//! hands out clap's text. [`NoJob`] says which of these it is. What options are read into, as a [`Driver`], is tw_cli_options' and
-//! handed on.
+//! hands out clap's text. [`NoJob`] says which of these it is.
 //!
 //! | File | Says |
 //! |---|---|
@@ -12,13 +11,23 @@
 //! | `commands` | the command as `clap` takes it, a function for each subcommand and each option |
 //! | `help` | the texts behind each help |
 //! | `jobs` | what can be asked for ([`Job`], [`Task`]), and why nothing is ([`NoJob`]) |
+//! | `values` | the text, the number or the flag of one option; each number in its range, or none |
+//! | `driving` | what drives an executive ([`Driver`]), and how it cancels |
+//! | `setting` | what workers are set to ([`RunOptions`], [`Workers`]) |
+//! | `seeing` | what is seen of a run: the lines of a table, and a picture ([`Picture`]) |
 #![tactic(auto)]
 
 mod command_line;
 mod commands;
+mod driving;
 mod help;
 mod jobs;
+mod seeing;
+mod setting;
+mod values;
 
 pub use command_line::job;
+pub use driving::Driver;
 pub use jobs::{Job, NoJob, Task};
-pub use tw_cli_options::{Driver, Picture, RunOptions, Workers};
+pub use seeing::Picture;
+pub use setting::{RunOptions, Workers};

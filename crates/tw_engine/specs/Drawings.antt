@@ -8,8 +8,8 @@ use Rattle.tw_engine.specs.Ends.{Fails, ViewEnd}
 use Rattle.tw_engine.specs.Runs.{HasNoNetwork, IsCause, IsLate, IsUnread, Means, run_fault}
 use Rattle.tw_engine.specs.Views.{IsLineOf}
 use Rattle.tw_engine.specs.declared.failed.Failed.TheVariants.{Bad, Want, NoWrite}
-use Rattle.tw_cli_options.specs.declared.driving.Driver.{Driver}
-use Rattle.tw_cli_options.specs.declared.driving.Driver.TheVariants.{Script, Seed}
+use Rattle.tw_cli.specs.declared.driving.Driver.{Driver}
+use Rattle.tw_cli.specs.declared.driving.Driver.TheVariants.{Script, Seed}
 use Rattle.tw_network.specs.Contents.{Contents}
 use Rattle.tw_script.specs.Scripts.{IsRefusedFor, IsScript}
 use Rattle.tw_script.specs.declared.command.Command.{Command}

@@ -12,10 +12,10 @@ use Rattle.tw_engine.specs.Runs.{HasNoNetwork, IsDemo, IsRun, IsRunByWorkers, Is
 use Rattle.tw_engine.specs.Views.{IsSummed, IsTabulated}
 use Rattle.tw_engine.specs.declared.exit.Exit.{Exit}
 use Rattle.tw_engine.specs.declared.failed.Failed.{Failed}
-use Rattle.tw_cli_options.specs.declared.driving.Driver.{Driver}
-use Rattle.tw_cli_options.specs.declared.driving.Driver.TheVariants.{Script, Seed}
-use Rattle.tw_cli_options.specs.declared.seeing.Picture.{Picture}
-use Rattle.tw_cli_options.specs.declared.seeing.Picture.TheVariants as of
+use Rattle.tw_cli.specs.declared.driving.Driver.{Driver}
+use Rattle.tw_cli.specs.declared.driving.Driver.TheVariants.{Script, Seed}
+use Rattle.tw_cli.specs.declared.seeing.Picture.{Picture}
+use Rattle.tw_cli.specs.declared.seeing.Picture.TheVariants as of
 use Rattle.tw_cli.specs.declared.jobs.Job.{Job}
 use Rattle.tw_cli.specs.declared.jobs.Job.TheVariants.{Demo, Check, Simulate}
 use Rattle.tw_cli.specs.declared.jobs.Task.{Task}

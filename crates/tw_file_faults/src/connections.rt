@@ -1,11 +1,11 @@
 //! Names, couplings and inputs that are at fault.
 
 use crate::given::late_starts;
+use crate::outline::{Level, Outline, place_of};
 use crate::parameters::check_range;
 use serde_json::Value;
 use std::alloc::Global;
 use tw_file_members::items_in;
-use tw_file_outline::{Level, Outline, place_of};
 use tw_machine_faults::{Stop, machines_of, name_of};
 use tw_machine_text_faults::quoted;
 use tw_network::{MAX_NAME, MAX_PORT};

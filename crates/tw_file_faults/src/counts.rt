@@ -1,10 +1,10 @@
 //! Counts and the greatest microstep that are out of range.
 
+use crate::outline::Outline;
 use crate::parameters::check_range;
 use serde_json::Value;
 use std::alloc::Global;
 use tw_file_members::items_in;
-use tw_file_outline::Outline;
 use tw_machine_faults::Stop;
 use tw_network::{MAX_COMPONENTS, MAX_COUPLED, MAX_COUPLINGS, MAX_INPUTS, MAX_LEVELS};
 use tw_vtime::MAX_MICROSTEP;

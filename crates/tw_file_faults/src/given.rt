@@ -1,9 +1,9 @@
 //! Components of machines: their members, and the limits with their numbers.
 
+use crate::outline::Outline;
 use crate::shape::{check_members, check_value};
 use serde_json::Value;
 use std::alloc::Global;
-use tw_file_outline::Outline;
 use tw_machine::limits::{MAX_FILE_NUMBERS, MAX_NUMBERS};
 use tw_machine_declaration::constant;
 use tw_machine_faults::{Machine, Stop, WHOLE};

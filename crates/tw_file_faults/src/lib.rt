@@ -6,7 +6,7 @@
 //! search ends: they are shown by tests, one for each kind of fault.
 //!
 //! - `lines`: [`explain`].
-//! - `tw_file_outline` has the models and components of a file, each with its place and its name.
+//! - `outline`: the models and components of a file as it is written, well-formed or not, each with its place and its name.
 //! - `shape`, `parameters`, `connections`, `counts`: the first place of a fault of each kind.
 //! - `given`: components of machines. The machines themselves, the first fault of `models`, are left to
 //!   `tw_machine_faults`, the words that lines are made of to `tw_machine_text_faults`.
@@ -17,6 +17,7 @@ mod connections;
 mod counts;
 mod given;
 mod lines;
+mod outline;
 mod parameters;
 mod shape;
 mod syntax;

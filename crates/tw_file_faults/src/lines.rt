@@ -4,13 +4,13 @@ use crate::connections::{
     bad_names, bad_ports, bad_ticks, repeated_names, repeated_routes, self_couplings, unknown_names,
 };
 use crate::counts::{bad_limit, too_many};
+use crate::outline::Outline;
 use crate::parameters::bad_parameters;
 use crate::shape::bad_shape;
 use crate::syntax::not_json;
 use serde_json::Value;
 use std::alloc::{AllocError, Global};
 use tw_file_network::FileRefused;
-use tw_file_outline::Outline;
 use tw_machine_faults::Stop;
 use tw_network::NetworkRefused;
 

@@ -1,8 +1,8 @@
 //! Parameters of models that are out of range.
 
+use crate::outline::{Atom, Outline};
 use serde_json::Value;
 use std::alloc::Global;
-use tw_file_outline::{Atom, Outline};
 use tw_machine_faults::Stop;
 use tw_models::{KINDS, Kind, Numbers};
 

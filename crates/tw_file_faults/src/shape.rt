@@ -1,10 +1,10 @@
 //! Members that are missing, unknown or of another type.
 
 use crate::given::{check_given, check_tables, machine_named};
+use crate::outline::{Outline, place_of};
 use serde_json::Value;
 use std::alloc::Global;
 use tw_file_members::items_in;
-use tw_file_outline::{Outline, place_of};
 use tw_machine_faults::{Machine, Stop, machines_of};
 use tw_machine_text_faults::{Nearest, described, listed, quoted};
 use tw_models::{KINDS, Kind, Numbers};

@@ -1,5 +1,0 @@
-use Rattle.tw_file_outline.proofs.outline.+add_level.Given as goal
-
--- a coupled model has less room for levels than the one that it is in
-abbrev pub decreases-add_level : goal.decreases-add_level
-decreases-add_level l = l.room

@@ -1,5 +1,5 @@
 -- One component more; and all of them, so that no limit is met.
-use Rattle.std.proofs.Common.{◌≡◌, ◌+◌, ◌<◌, ℕ, List, length, sym, subst, arith, add-one, take, slice_get, Some, Bool, true, false}
+use Rattle.std.proofs.Common.{◌≡◌, ◌+◌, ◌<◌, ℕ, refl, List, length, sym, subst, arith, add-one, take, slice_get, Some, Bool, true, false}
 use Rattle.std.proofs.lemmas.List.{take_all}
 use Rattle.std.proofs.lemmas.Option.{get_or_from_slice_get}
 use Rattle.std.specs.List.{AllByRecursion as Each}
@@ -34,7 +34,7 @@ returns-clause-told g c =
     let n = c.len-component-end.ensures in
     let l = c.loop-component-test.false in (
       λ told. subst (Each (λ m. IsInTime c.args.until (g.M.Atomic.longest m))) (take_all c.loop-component.component models (omega (arith, l, n))) c.loop-component.invariant.0,
-      λ all. tt,
+      λ all. refl,
     )
 
 pub returns-clause-no_fault : goal.returns-clause-no_fault

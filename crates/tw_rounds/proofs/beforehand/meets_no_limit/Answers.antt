@@ -1,5 +1,5 @@
 -- One component more; and all of them, so that no limit is met.
-use Rattle.std.proofs.Common.{◌≡◌, ◌+◌, ◌<◌, ℕ, refl, List, length, sym, subst, arith, add-one, take, slice_get, Some, Bool, true, false}
+use Rattle.std.proofs.Common.{◌≡◌, ◌+◌, ◌<◌, ℕ, refl, List, length, sym, subst, arith, add-one, take, slice_get, Some}
 use Rattle.std.proofs.lemmas.List.{take_all}
 use Rattle.std.proofs.lemmas.Option.{get_or_from_slice_get}
 use Rattle.std.specs.List.{AllByRecursion as Each}

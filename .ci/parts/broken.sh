@@ -15,7 +15,7 @@ count_no_json() {
 
 # Counts how a script ends that is at fault in this line, or in none.
 count_script() {
-    "$program" play tests/program/straggler-of-three/network.json --until 10 --script "$script" >"$out" 2>"$err"
+    "$program" play examples/a-row.json --until 10 --script "$script" >"$out" 2>"$err"
     ended=$?
     if [ "$2" -eq 0 ]; then
         [ ! -s "$err" ]
@@ -32,7 +32,7 @@ with_byte() {
 }
 
 whole=$room/whole
-for net in tests/program/{gen-tally,straggler-of-three,coupled-to-itself,nested,machine-tally}/network.json; do
+for net in examples/a-row.json tests/program/{gen-tally,coupled-to-itself,nested,machine-tally}/network.json; do
     printf '%s' "$(<"$net")" >"$whole"
     length=$(wc -c <"$whole")
     for ((place = 0; place < length; place++)); do

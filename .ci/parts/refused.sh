@@ -71,15 +71,20 @@ refuse_each_byte() {
 }
 
 if cc -shared -fPIC -O1 -o "$room/refuse.so" tests/refuse.c 2>"$err"; then
+    # Cases of our own stand in a room of the same layout, where the networks that cases share are found.
+    ours=$room/tests/program
+    mkdir -p "$ours"
+    ln -s "$PWD/examples" "$room/examples"
+    ln -s "$PWD"/tests/program/* "$ours"
     # A picture of a run and one of Time Warp: what is wanted of them is what they are with nothing refused.
     for case in gen-tally straggler-of-three; do
-        cp -r "tests/program/$case" "$room/$case-drawn"
-        sed -i '1s/.*/draw/' "$room/$case-drawn/args"
-        mapfile -t words <"$room/$case-drawn/args"
-        (cd "$room/$case-drawn" && exec "$program" "${words[@]}" >"$room/$case-drawn/stdout")
+        cp -r "tests/program/$case" "$ours/$case-drawn"
+        sed -i '1s/.*/draw/' "$ours/$case-drawn/args"
+        mapfile -t words <"$ours/$case-drawn/args"
+        (cd "$ours/$case-drawn" && exec "$program" "${words[@]}" >stdout)
     done
     for case in $PWD/tests/program/{gen-tally,microstep-fault,mutual-confluent,straggler-of-three,nested,check-whole,demonstration} \
-        $PWD/tests/program/{figures-of-gen-tally,items-of-a-microstep-fault,a-seed,machine-tally} "$room"/{gen-tally,straggler-of-three}-drawn; do
+        $PWD/tests/program/{figures-of-gen-tally,items-of-a-microstep-fault,a-seed,machine-tally} "$ours"/{gen-tally,straggler-of-three}-drawn; do
         mapfile -t words <"$case/args"
         status=$(cat "$case/status" 2>/dev/null || echo 0)
         lines=("${words[*]}")
@@ -98,11 +103,11 @@ if cc -shared -fPIC -O1 -o "$room/refuse.so" tests/refuse.c 2>"$err"; then
         done
     done
     # A job of each kind: what it reads is nothing, a network, or a network and a script.
-    cp -r tests/program/figures-of-gen-tally "$room/figures-as-json"
-    cp tests/program/gen-tally/stats.json "$room/figures-as-json/stdout"
-    echo --json >>"$room/figures-as-json/args"
+    cp -r tests/program/figures-of-gen-tally "$ours/figures-as-json"
+    cp tests/program/gen-tally/stats.json "$ours/figures-as-json/stdout"
+    echo --json >>"$ours/figures-as-json/args"
     for case in $PWD/tests/program/{demonstration,check-whole,check-comma-forgotten,gen-tally,items-of-a-microstep-fault} \
-        "$room"/{figures-as-json,gen-tally-drawn} $PWD/tests/program/{all-of-tick-2-committed,a-seed}; do
+        "$ours"/{figures-as-json,gen-tally-drawn} $PWD/tests/program/{all-of-tick-2-committed,a-seed}; do
         mapfile -t words <"$case/args"
         refuse_each_byte "${words[@]}"
         [ "${words[0]}" != seq ] || refuse_each_byte run "${words[@]:1}" --workers 2

@@ -31,7 +31,7 @@ done <<NETWORKS
 tests/program/two-gens/network.json 4 300
 tests/program/microstep-fault/network.json 5 300
 tests/program/mutual-confluent/network.json 3 300
-tests/program/straggler-of-three/network.json 10 300
+examples/a-row.json 10 300
 tests/program/full-queue/network.json 500 300
 tests/eight-hops.json 60 500
 examples/pool.json 40 200

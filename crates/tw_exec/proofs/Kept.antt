@@ -1,7 +1,7 @@
 -- Every action makes another executive of an executive: what it makes of the world is `act`, so it is sound by the laws; and each process knows its network and component still.
 use Rattle.std.proofs.Common.{◌≡◌, inl, inr, ℕ, ◌<◌, ◌≤◌, ◌-◌, List, [], ◌∷◌, length, Option, None, Some, Ok, refl, sym, ap, ◌∙◌, subst, subst₂, arith}
 use Rattle.std.specs.List.{AllByRecursion as Each}
-use Rattle.std.specs.Prelude.{IfSome, nat_lt, slice_get, slice_set, Ok, Err}
+use Rattle.std.specs.Prelude.{IfSome, IsSomeAnd, nat_lt, slice_get, slice_set, Ok, Err}
 use Rattle.std.proofs.lemmas.Bool.{cond_both}
 use Rattle.std.proofs.lemmas.List.{length-map}
 use Rattle.tw_atomic.specs.Atomic.{Meaning}
@@ -19,7 +19,7 @@ use Rattle.tw_network.specs.Contents.{Contents, network_of}
 use Rattle.tw_process.specs.Process.{Held, IsStepped, IsStop, with_cut, with_spare, with_settled, with_posted}
 use Rattle.tw_process.specs.declared.refused.StepRefused.{StepRefused}
 use Rattle.tw_process.specs.declared.refused.StepRefused.TheVariants.{OutOfMemory, Full, NothingDue, OverLimit}
-use Rattle.tw_theory.proofs.Elements.{each-append, each-antis, each_weaker, get_of_set}
+use Rattle.tw_theory.proofs.Elements.{each-append, each-antis, each_weaker, get_of_set, present}
 use Rattle.tw_theory.specs.Bundles.{antis, overdue}
 use Rattle.tw_theory.specs.Contents.{Aggressive, Cancel, Lazy, Process, back_to_first, next, settle, settled_as, steps_from}
 use Rattle.tw_theory.specs.Executive.{Action, Answer, Back, Post, Posted, Raise, Raised, Step, Stepped, Undone, act, column_of, least_of, posted}
@@ -84,12 +84,12 @@ module _ {M S : Type 0} {meaning : M → Meaning S} {n : Contents M} {until end 
   columns_of_models = h.sound.columns ∙ length-map n.models meaning
 
   -- a column is what the sequential simulator records before the line
-  pub sequential : (c : ℕ) (column : List Record) → column ≡ column_of columns c → IfSome (slice_get (shown ps mail columns gvt).processes c) (λ p. column ≡ records_before (network_of meaning n) until c p.line)
-  sequential c column is = go (slice_get (shown ps mail columns gvt).processes c) refl
-    where
-      go : (p : Option (Process S)) → slice_get (shown ps mail columns gvt).processes c ≡ p → IfSome p (λ p. column ≡ records_before (network_of meaning n) until c p.line)
-      go None at = tt
-      go (Some p) at = is ∙ (h.sound.each c p at).column_is
+  pub sequential : (c : ℕ) (column : List Record) → c < length ps → column ≡ column_of columns c
+      → IsSomeAnd (slice_get (shown ps mail columns gvt).processes c) (λ p. column ≡ records_before (network_of meaning n) until c p.line)
+  sequential c column near is =
+      let there = present ps c near in
+      let at = process_at ps mail columns gvt c there.0 there.1 in
+      subst (λ o. IsSomeAnd o (λ p. column ≡ records_before (network_of meaning n) until c p.line)) (sym at) (is ∙ (h.sound.each c there.0.process at).column_is)
 
   -- ---- Step
 

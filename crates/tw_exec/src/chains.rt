@@ -1,6 +1,6 @@
 //! Chains: worked out apart from the executive, and installed.
 
-ghost use Rattle.std.specs.Prelude.{◌≡◌, ◌↔◌, ◌≤◌, ◌⊎◌, Err, Some, IfErr, IfOk, IfSome, OnErr, length, slice_get};
+ghost use Rattle.std.specs.Prelude.{◌≡◌, ◌↔◌, ◌≤◌, ◌⊎◌, Err, Some, IfErr, IfOk, IsSomeAnd, OnErr, length, slice_get};
 ghost use Rattle.tw_atomic.specs.Atomic.{AreAlike};
 ghost use Rattle.tw_exec.specs.Chains.{start_at, IsInstalledOn};
 ghost use Rattle.tw_exec.specs.declared.refused.Refused.TheVariants.{NoSuch, OutOfMemory};
@@ -26,7 +26,7 @@ impl<M: Atomic> Executive<M> {
         burst: usize,
     ) -> Result<Start<M::State>, Refused>
         ensures start { let network = self.now.network in
-            IfOk result (λ start. IfSome (slice_get self.now.world.processes component)
+            IfOk result (λ start. IsSomeAnd (slice_get self.now.world.processes component)
             (λ p. start ≡ start_at before burst component network p)) }
         ensures limit { IfOk result (λ start. start.micro_limit ≤ max_microstep) }
         ensures ready { IfOk result (λ start. (m : M)

@@ -1,6 +1,6 @@
 //! An executive, how it begins, and what is read of it.
 
-ghost use Rattle.std.specs.Prelude.{◌≡◌, ◌≢◌, ◌<◌, ◌↔◌, IfOk, IfErr, IfSome, IsErrOf, Some, [], length, replicate, slice_get};
+ghost use Rattle.std.specs.Prelude.{◌≡◌, ◌≢◌, ◌<◌, ◌↔◌, IfOk, IfErr, IsErrOf, IsSomeAnd, Some, [], length, replicate, slice_get};
 ghost use Rattle.std.specs.Arc.{arc_value};
 ghost use Rattle.tw_exec.specs.Running.{start, AreNew, IsSoundly, committed_records};
 ghost use Rattle.tw_exec.specs.declared.refused.StartRefused.TheVariants as refused;
@@ -166,7 +166,8 @@ impl<M: Atomic> Executive<M> {
     /// A component's commit line: its records before it are committed.
     pub fn line(&self, component: usize) -> Stamp
         requires { component < length self.now.network.models }
-        ensures { IfSome (slice_get self.now.world.processes component) (λ p. result ≡ p.line) }
+        ensures { IsSomeAnd (slice_get self.now.world.processes component)
+            (λ p. result ≡ p.line) }
     {
         self.contents(component).line()
     }
@@ -176,7 +177,7 @@ impl<M: Atomic> Executive<M> {
         requires { component < length self.now.network.models }
         ensures column { result.now ≡ column_of self.now.world.columns component }
         ensures sequential { let net = network_of M.meaning self.now.network in
-            IfSome (slice_get self.now.world.processes component)
+            IsSomeAnd (slice_get self.now.world.processes component)
             (λ p. result.now ≡ records_before net self.now.until component p.line) }
     {
         self.columns[component].records()

@@ -1,6 +1,6 @@
 use Rattle.std.proofs.Common.{◌≡◌, ap, sym, subst, ◌∙◌, arith}
 use Rattle.std.specs.Arc.{arc_value}
-use Rattle.std.specs.Prelude.{IfSome, slice_get}
+use Rattle.std.specs.Prelude.{IsSomeAnd, slice_get}
 use Rattle.std.proofs.lemmas.Option.{slice_get_read}
 use Rattle.tw_exec.specs.Chains.{start_at}
 use Rattle.tw_exec.proofs.Worlds.{process_at}
@@ -22,5 +22,5 @@ returns-clause-start g c =
     let at = slice_get_read ps.items _ c.args.component p ps.ok.0 (omega (arith, c.if-component-len.false, c.len.ensures, ps.ok.0)) c.index.ensures in
     let o = c.self.invariant.0.own c.args.component p at in
     let made : c.in_ok-start.field-0 ≡ start_at c.args.before c.args.burst c.args.component (arc_value c.self.inside.network) p.process = c.in_ok-start.ensures.start ∙ (λ i. start_at c.args.before c.args.burst (o.component_is i) (o.network_is i) p.process) in
-    subst (λ e. IfSome (slice_get e.world.processes c.args.component) (λ q. c.in_ok-start.field-0 ≡ start_at c.args.before c.args.burst c.args.component e.network q)) c.self.view_is
-    (subst (λ o. IfSome o (λ q. c.in_ok-start.field-0 ≡ start_at c.args.before c.args.burst c.args.component (arc_value c.self.inside.network) q)) (sym (process_at ps.items c.self.inside.mail.boxes c.self.inside.columns.items c.self.inside.gvt c.args.component p at)) made)
+    subst (λ e. IsSomeAnd (slice_get e.world.processes c.args.component) (λ q. c.in_ok-start.field-0 ≡ start_at c.args.before c.args.burst c.args.component e.network q)) c.self.view_is
+    (subst (λ o. IsSomeAnd o (λ q. c.in_ok-start.field-0 ≡ start_at c.args.before c.args.burst c.args.component (arc_value c.self.inside.network) q)) (sym (process_at ps.items c.self.inside.mail.boxes c.self.inside.columns.items c.self.inside.gvt c.args.component p at)) made)

@@ -1,6 +1,9 @@
 # Files that are cut at every byte, or have one byte set to 0 or to 255: of a network none is JSON then (no beginning of an object is,
 # the byte 0 stands in no JSON text, and 255 in no UTF-8), and of a script the line is named where it is cut or changed, unless nothing
 # of that line is left, or a whole command (`show` is one, without a component too).
+# Files with machines also with an @ at bytes of their machines: outside a text the file is no JSON then (20), and in a text it is at fault
+# (21), since no name, no member and no word of the language has it, but in a comment; and with a byte taken out: such a file is good, or
+# is refused by a number, by `check` and by `seq` alike.
 
 file=$room/net.json
 script=$room/script.txt
@@ -42,6 +45,43 @@ for net in examples/a-row.json tests/program/{gen-tally,coupled-to-itself,nested
             with_byte "$whole" "$place" "$byte" >"$file"
             count_no_json "$net with the byte $byte at $place"
         done
+    done
+done
+
+# Counts how `check` and `seq` end on a file: alike, good (0) or refused, with the number that is wanted if one is said.
+count_fault() {
+    "$program" check "$file" >"$out" 2>"$err"
+    ended=$?
+    said=$(<"$err")
+    lines=$(wc -l <"$out")
+    "$program" seq "$file" --until 1 >"$out" 2>"$err"
+    simulated=$?
+    case $ended in
+        0) [[ ${2:-0} -eq 0 && -z $said && $lines -eq 1 && ($simulated -eq 0 || $simulated -eq 3) && ! -s $err ]] ;;
+        2) [[ $said =~ ^"twarp: ${2:-}"[0-9]*\ [A-Za-z]+$ && $lines -eq 1 && $simulated -eq 2 && $(<"$err") == "$said" && ! -s $out ]] ;;
+        *) false ;;
+    esac
+    count "$1" 0 0 $?
+}
+
+for net in examples/{inventory,lathe,polling,pool,router,token-ring}.json; do
+    text=$(<"$net")
+    machines=${text%%\"components\"*}
+    number=20
+    for ((place = 0; place < ${#machines}; place++)); do
+        if [ $((place % 5)) -eq 1 ]; then
+            printf '%s' "${text:0:place}@${text:place}" >"$file"
+            count_fault "$net with an @ at $place" "$number"
+        fi
+        case $number${text:place:1} in
+            20\") number=21 ;;
+            21\" | 0\") number=20 ;;
+            21\#) number=0 ;;
+        esac
+    done
+    for ((place = 3; place < ${#text}; place += 7)); do
+        printf '%s' "${text:0:place}${text:place+1}" >"$file"
+        count_fault "$net without the byte at $place" ""
     done
 done
 

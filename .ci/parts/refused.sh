@@ -27,11 +27,8 @@ refuse_each() {
     local kind=$1 many=$2 refusal=$3 line=$4 bad=0
     for ((number = 1; number <= many; number++)); do
         with_refused "$kind" "$number" "${@:5}"
-        if [ "$ended" -eq "$status" ]; then
-            cmp --silent "$out" "$case/stdout" && continue
-        elif [ "$ended" -eq "$refusal" ] && [ "$(cat "$err")" = "$line" ]; then
-            is_beginning "$case/stdout" && continue
-        fi
+        [ "$ended" -eq "$status" ] && cmp --silent "$out" "$case/stdout" && continue
+        [ "$ended" -eq "$refusal" ] && [ "$(cat "$err")" = "$line" ] && is_beginning "$case/stdout" && continue
         bad=$((bad + 1))
         echo "${*:5}, $kind=$number: status $ended, $(tail -n 1 "$err")"
     done
@@ -76,15 +73,25 @@ if cc -shared -fPIC -O1 -o "$room/refuse.so" tests/refuse.c 2>"$err"; then
     mkdir -p "$ours"
     ln -s "$PWD/examples" "$room/examples"
     ln -s "$PWD"/tests/program/* "$ours"
-    # A picture of a run and one of Time Warp: what is wanted of them is what they are with nothing refused.
-    for case in gen-tally straggler-of-three; do
-        cp -r "tests/program/$case" "$ours/$case-drawn"
-        sed -i '1s/.*/draw/' "$ours/$case-drawn/args"
-        mapfile -t words <"$ours/$case-drawn/args"
-        (cd "$ours/$case-drawn" && exec "$program" "${words[@]}" >stdout)
-    done
+    # Figures of machines, which are known.
+    cp -r tests/program/machine-tally "$ours/machine-tally-told"
+    sed -i '1s/.*/stats/' "$ours/machine-tally-told/args"
+    cp tests/program/machine-tally/stats "$ours/machine-tally-told/stdout"
+    # Pictures of runs and one of Time Warp, and machines played: what is wanted of them is what they are with nothing refused.
+    while read -r case name job more; do
+        cp -r "tests/program/$case" "$ours/$name"
+        sed -i "1s/.*/$job/" "$ours/$name/args"
+        # shellcheck disable=SC2086 # the rest of a line is words
+        [ -z "$more" ] || printf '%s\n' $more >>"$ours/$name/args"
+        mapfile -t words <"$ours/$name/args"
+        (cd "$ours/$name" && exec "$program" "${words[@]}" >stdout)
+    done <<<"gen-tally gen-tally-drawn draw
+machine-tally machine-tally-drawn draw
+straggler-of-three straggler-of-three-drawn draw
+machine-tally machine-tally-played play --seed 1 --steps 40"
     for case in $PWD/tests/program/{gen-tally,microstep-fault,mutual-confluent,straggler-of-three,nested,check-whole,demonstration} \
-        $PWD/tests/program/{figures-of-gen-tally,items-of-a-microstep-fault,a-seed,machine-tally} "$ours"/{gen-tally,straggler-of-three}-drawn; do
+        $PWD/tests/program/{figures-of-gen-tally,items-of-a-microstep-fault,a-seed,machine-tally,check-machine-misspelt} \
+        "$ours"/machine-tally-{told,played} "$ours"/{gen-tally,machine-tally,straggler-of-three}-drawn; do
         mapfile -t words <"$case/args"
         status=$(cat "$case/status" 2>/dev/null || echo 0)
         lines=("${words[*]}")

@@ -20,7 +20,7 @@ fn net<'a>(alloc: Global) -> Arg<'a>
     ensures { IsArg net_rule result }
 {
     Arg::new(alloc, "net").required(true).value_name("NET").help(
-        "The network: the path of a JSON file of the format tw-1, tw-2 or tw-3",
+        "Path of the network file: JSON of the format tw-1, tw-2 or tw-3",
     )
 }
 
@@ -73,7 +73,7 @@ fn until<'a>(alloc: Global) -> Arg<'a>
     ensures { IsArg until_rule result }
 {
     number(alloc, "until", "T", 0, MAX_TICK).required(true).help(
-        "The end of the run in ticks, 0 to 1099511627774: only steps before tick T are made",
+        "End of the run in ticks, 0 to 1099511627774. Only steps before tick T are made",
     )
 }
 
@@ -81,7 +81,9 @@ fn demo_command<'a>(alloc: Global) -> Command<'a>
     ensures { IsCommand demo_app result }
 {
     Command::new(alloc, "demo")
-        .about("Run a built-in network, a generator of period 2 ticks and a tally, until tick 5")
+        .about(
+            "Run a built-in network until tick 5: a generator with a period of 2 ticks, and a tally",
+        )
         .after_help(DEMO_END)
 }
 
@@ -90,7 +92,7 @@ fn check_command<'a>(alloc: Global) -> Result<Command<'a>, AllocError>
 {
     Command::new(alloc, "check")
         .about(
-            "Read a network file and say what it has, or where its first fault is and why; simulate nothing",
+            "Check a network file. Print what it contains, or the place and the reason of its first fault",
         )
         .after_help(CHECK_END)
         .arg(net(alloc))
@@ -116,7 +118,7 @@ fn far<'a>(alloc: Global) -> Arg<'a>
     ensures { IsArg (flag_rule (codes "progress")) result }
 {
     flag(alloc, "progress").help(
-        "Tell on standard error, once a second, the tick simulated, of the end tick, and how many records there are",
+        "Print progress on standard error once a second: simulated tick, end tick, number of records",
     )
 }
 
@@ -138,7 +140,7 @@ fn seq_command<'a>(alloc: Global) -> Result<Command<'a>, AllocError>
     told_command(
         alloc,
         "seq",
-        "Simulate a network one step after another and write its trace",
+        "Simulate a network sequentially and print its trace",
         SEQ_END,
     )
 }
@@ -146,7 +148,7 @@ fn seq_command<'a>(alloc: Global) -> Result<Command<'a>, AllocError>
 fn json<'a>(alloc: Global) -> Arg<'a>
     ensures { IsArg (flag_rule (codes "json")) result }
 {
-    flag(alloc, "json").help("Write them as one line of JSON")
+    flag(alloc, "json").help("Print one line of JSON")
 }
 
 fn stats_command<'a>(alloc: Global) -> Result<Command<'a>, AllocError>
@@ -155,7 +157,7 @@ fn stats_command<'a>(alloc: Global) -> Result<Command<'a>, AllocError>
     told_command(
         alloc,
         "stats",
-        "Simulate a network and write counts of its components, and the least, greatest, last and mean value of each figure",
+        "Simulate a network. Print the counts of each component, and the least, greatest, last and mean value of each figure",
         STATS_END,
     )?
     .arg(json(alloc))
@@ -164,13 +166,15 @@ fn stats_command<'a>(alloc: Global) -> Result<Command<'a>, AllocError>
 fn items<'a>(alloc: Global) -> Arg<'a>
     ensures { IsArg (flag_rule (codes "items")) result }
 {
-    flag(alloc, "items").help("A line for each item of a record; without --words")
+    flag(alloc, "items").help("Print one line for each item of a record. Not with --words")
 }
 
 fn words<'a>(alloc: Global) -> Arg<'a>
     ensures { IsArg (flag_rule (codes "words")) result }
 {
-    flag(alloc, "words").help("A line for each word of a state after a transition; without --items")
+    flag(alloc, "words").help(
+        "Print one line for each word of the state after a transition. Not with --items",
+    )
 }
 
 fn table_command<'a>(alloc: Global) -> Result<Command<'a>, AllocError>
@@ -179,7 +183,7 @@ fn table_command<'a>(alloc: Global) -> Result<Command<'a>, AllocError>
     told_command(
         alloc,
         "table",
-        "Simulate a network and write its records as comma-separated values, one line each",
+        "Simulate a network and print its records as comma-separated values, one record per line",
         TABLE_END,
     )?
     .arg(items(alloc))?
@@ -190,7 +194,7 @@ fn workers<'a>(alloc: Global) -> Arg<'a>
     ensures { IsArg (preset_text_rule (codes "workers") (codes "2")) result }
 {
     preset_text(alloc, "workers", "N", "2").help(
-        "How many threads work, 1 to 64; or auto: one for each processor where that pays, and else the run is made in order; the trace is the same",
+        "Number of threads, 1 to 64, or auto: one per processor if that pays, else a sequential run. The trace is the same",
     )
 }
 
@@ -198,7 +202,7 @@ fn burst<'a>(alloc: Global) -> Arg<'a>
     ensures { IsArg (preset_rule (codes "burst") 1 256 (codes "64")) result }
 {
     preset(alloc, "burst", "K", 1, MAX_BURST, "64").help(
-        "The most steps of one component that a worker computes at a time, 1 to 256",
+        "Maximum number of steps of one component that a worker computes at a time, 1 to 256",
     )
 }
 
@@ -207,7 +211,7 @@ fn window<'a>(alloc: Global) -> Arg<'a>
         IsArg (preset_rule (codes "window") 0 1099511627774 most) result }
 {
     preset(alloc, "window", "W", 0, MAX_TICK, "1099511627774").help(
-        "How many ticks after gvt a component may still make a step, 0 to 1099511627774",
+        "Maximum number of ticks that a component may be ahead of GVT, 0 to 1099511627774",
     )
 }
 
@@ -215,7 +219,7 @@ fn progress<'a>(alloc: Global) -> Arg<'a>
     ensures { IsArg (flag_rule (codes "progress")) result }
 {
     flag(alloc, "progress").help(
-        "Tell on standard error, once a second, the tick committed, of the end tick, and how many records are committed",
+        "Print progress on standard error once a second: committed tick, end tick, number of committed records",
     )
 }
 
@@ -226,7 +230,7 @@ fn set_command<'a>(alloc: Global) -> Result<Command<'a>, AllocError>
     network_command(
         alloc,
         "run",
-        "Simulate a network by Time Warp, with workers in threads, and write its trace",
+        "Simulate a network by Time Warp in parallel threads and print its trace",
         RUN_END,
     )?
     .arg(workers(alloc))?
@@ -245,7 +249,7 @@ fn script<'a>(alloc: Global) -> Arg<'a>
     ensures { IsArg (text_rule (codes "script")) result }
 {
     text(alloc, "script", "FILE").help(
-        "The actions: the path of a script, one action on each line; without --seed and --steps",
+        "Path of a script, one action per line. Not with --seed and --steps",
     )
 }
 
@@ -253,7 +257,7 @@ fn seed<'a>(alloc: Global) -> Arg<'a>
     ensures { IsArg (number_rule (codes "seed") 0 18446744073709551615) result }
 {
     number(alloc, "seed", "S", 0, u64::MAX).help(
-        "The seed of random actions, 0 to 18446744073709551615; together with --steps",
+        "Seed of random actions, 0 to 18446744073709551615. Requires --steps",
     )
 }
 
@@ -261,7 +265,7 @@ fn steps<'a>(alloc: Global) -> Arg<'a>
     ensures { IsArg (number_rule (codes "steps") 0 1000000) result }
 {
     number(alloc, "steps", "N", 0, MAX_STEPS).help(
-        "How many random actions, 0 to 1000000; together with --seed",
+        "Number of random actions, 0 to 1000000. Requires --seed",
     )
 }
 
@@ -269,7 +273,7 @@ fn cancel<'a>(alloc: Global) -> Arg<'a>
     ensures { IsArg (text_rule (codes "cancel")) result }
 {
     text(alloc, "cancel", "WAY").help(
-        "How the messages of steps taken back are cancelled: aggressive (at once, where the option is left out) or lazy (only those not sent again)",
+        "How to cancel the messages of undone steps: aggressive (at once; the default) or lazy (only messages that are not sent again)",
     )
 }
 
@@ -298,7 +302,7 @@ fn play_command<'a>(alloc: Global) -> Result<Command<'a>, AllocError>
     let bare = network_command(
         alloc,
         "play",
-        "Drive a network by hand: make, take back and commit steps in any order, write a reply to each action, then the trace of what is committed",
+        "Drive a Time Warp executive: make, undo and commit steps in any order. Print a reply to each action, then the committed trace",
         PLAY_END,
     )?;
     cancelled_command(bare, alloc)
@@ -308,7 +312,7 @@ fn from<'a>(alloc: Global) -> Arg<'a>
     ensures { IsArg (number_rule (codes "from") 0 1099511627774) result }
 {
     number(alloc, "from", "T0", 0, MAX_TICK).help(
-        "The tick from which on the run is seen, 0 to 1099511627774; 0 where it is left out",
+        "First tick of the picture, 0 to 1099511627774. Default: 0",
     )
 }
 
@@ -316,7 +320,7 @@ fn only<'a>(alloc: Global) -> Arg<'a>
     ensures { IsArg (text_rule (codes "only")) result }
 {
     text(alloc, "only", "NAMES").help(
-        "The components that are seen: their names, parted by commas; all where it is left out",
+        "Names of the components to draw, separated by commas. Default: all",
     )
 }
 
@@ -324,7 +328,7 @@ fn figure<'a>(alloc: Global) -> Arg<'a>
     ensures { IsArg (text_rule (codes "figure")) result }
 {
     text(alloc, "figure", "NAME").help(
-        "The figure whose course is seen, as stats names it; the last of each model, of a tally its sum, where it is left out",
+        "Name of the figure to draw, as stats prints it. Default: the last figure of each model; of a tally, its sum",
     )
 }
 
@@ -335,7 +339,7 @@ fn seen_command<'a>(alloc: Global) -> Result<Command<'a>, AllocError>
     network_command(
         alloc,
         "draw",
-        "Draw a picture: of a network's run, a lane for each component; or, with --script or --seed, of a run of Time Warp, with its rollbacks",
+        "Draw a run as an SVG picture, one lane per component. With --script or --seed, draw a Time Warp run with its rollbacks",
         DRAW_END,
     )?
     .arg(from(alloc))?

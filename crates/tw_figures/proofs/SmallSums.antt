@@ -1,10 +1,10 @@
 -- A sum over ticks is no greater than so many times the greatest of its numbers.
-use Rattle.std.proofs.Common.{ℕ, zero, suc, ◌*◌, ◌<◌, ℤ, pos, ◌-ℤ◌, ◌≤ℤ◌, arith}
+use Rattle.std.proofs.Common.{ℕ, zero, suc, ◌+◌, ◌*◌, ◌<◌, ℤ, pos, ◌+ℤ◌, ◌-ℤ◌, ◌*ℤ◌, ◌≤ℤ◌, arith}
 use Rattle.std.specs.Int.{w128}
 use Rattle.std.specs.Prelude.{FitsSigned, negsuc}
 use Rattle.std.proofs.lemmas.Int.{ints}
 use Rattle.tw_figures.specs.Figures.{sum_over}
-use Rattle.tw_figures.specs.Fitting.{IsSmall, SumsFit}
+use Rattle.tw_figures.specs.Fitting.{IsSmall, MeansFit, SumsFit}
 
 sum_within : (n : ℕ) (of : ℕ → ℤ) → ((t : ℕ) → t < n → IsSmall (of t))
     → ((pos 0 -ℤ pos (n * 18446744073709551616)) ≤ℤ sum_over n of) × (sum_over n of ≤ℤ pos (n * 18446744073709551616))
@@ -24,3 +24,16 @@ pub sums_fit : SumsFit
 sums_fit ticks of short small =
     let within = sum_within ticks of small in
     fits_within (sum_over ticks of) (ticks * 18446744073709551616) within.0 within.1 (omega (arith, short))
+
+pub means_fit : MeansFit
+means_fit zero of last short small is_small =
+    let low = is_small.0 in let high = is_small.1 in
+    fits_within (pos 1000 *ℤ last) (1000 * 18446744073709551616) (omega (arith, ints, low)) (omega (arith, ints, high)) (omega arith)
+means_fit (suc n) of last short small is_small =
+    let within = sum_within (suc n) of small in
+    let low = within.0 in let high = within.1 in
+    let sum = sum_over (suc n) of in
+    let most = 2000 * (suc n * 18446744073709551616) + suc n in (
+      fits_within (pos 2000 *ℤ sum) most (omega (arith, ints, low)) (omega (arith, ints, high)) (omega (arith, short)),
+      fits_within (pos 2000 *ℤ sum +ℤ pos (suc n)) most (omega (arith, ints, low)) (omega (arith, ints, high)) (omega (arith, short)),
+    )

@@ -6,7 +6,7 @@
 //! - [`Course`], [`Sums`] (`course`): how a figure went: its least and greatest value, its last, the sum over the ticks, and the ticks in
 //!   which it was not 0.
 //! - [`Told`] (`told`): what is told of it over a time: its sums exactly; [`mean`] and [`share`] (`shares`) round them to three decimals.
-//! - [`sums_fit_law`] (`fitting`): sums of numbers of 64 bits over the ticks of a run fit.
+//! - [`sums_fit_law`], [`means_fit_law`] (`fitting`): sums of numbers of 64 bits over the ticks of a run fit, and their means.
 //! - [`Member`] (`member`), [`Gatherer`] (`gatherer`): all of these, of the records of a component and of a run, that were given one after
 //!   another. They keep no record.
 //! - [`Rows`], [`View`] (`seeing`): what a table and a picture show of a run, as it is asked for.
@@ -28,7 +28,7 @@ mod told;
 pub use counts::Counts;
 pub use course::{Course, Sums};
 pub use figure::{Figure, Measure};
-pub use fitting::sums_fit_law;
+pub use fitting::{means_fit_law, sums_fit_law};
 pub use gatherer::Gatherer;
 pub use labels::Labels;
 pub use member::Member;

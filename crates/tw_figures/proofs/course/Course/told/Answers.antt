@@ -16,8 +16,8 @@ returns c start moves h =
     let fits_sum : FitsSigned w128 sums.sum = search rules in
     let fits_mean : FitsSigned w128 c.in_ok-mean.field-0 = search rules in
     let fits_busy : FitsSigned w128 c.in_ok-share.field-0 = search rules in
-    let mean : IsMean sums.sum course.last c.args.ticks c.in_ok-mean.field-0 = simp to_z-of_z at c.in_ok-mean.ensures in
-    let busy : IsShare sums.busy course.last c.args.ticks c.in_ok-share.field-0 = simp to_z-of_z at c.in_ok-share.ensures in
+    let mean : IsMean sums.sum course.last c.args.ticks c.in_ok-mean.field-0 = simp to_z-of_z at c.in_ok-mean.ensures.is in
+    let busy : IsShare sums.busy course.last c.args.ticks c.in_ok-share.field-0 = simp to_z-of_z at c.in_ok-share.ensures.is in
     rw (to_z-of_z w128 course.least fits_least, to_z-of_z w128 course.greatest fits_greatest, to_z-of_z w128 course.last fits_last, to_z-of_z w128 c.in_ok-mean.field-0 fits_mean, to_z-of_z w128 c.in_ok-share.field-0 fits_busy)
     (told_of start moves course h c.args.ticks sums c.in_ok-mean.field-0 c.in_ok-share.field-0
     (c.in_ok-sums.ensures.sum start moves h) (c.in_ok-sums.ensures.busy start moves h) mean busy)

@@ -1,5 +1,5 @@
--- Machines by hand: the adder of `machine-tally`, the line of `machine-ring`, and parts of the pool of `machine-pool`.
-use Rattle.std.specs.Prelude.{◌≡◌, pos, List, [], ◌∷◌, ◌++◌, true, false, filter_map, replicate}
+-- Machines by hand: the adder of `machine-tally`, the line of `machine-ring`, parts of the pool of `machine-pool`, and lists.
+use Rattle.std.specs.Prelude.{◌≡◌, pos, List, [], ◌∷◌, ◌++◌, true, false, filter_map, flat_map, replicate}
 use Rattle.tw_machine.specs.declared.language.Measure.TheVariants.{Length, Room, Front}
 use Rattle.tw_machine.specs.declared.language.Leaf.TheVariants as leaf
 use Rattle.tw_machine.specs.declared.language.Unary.TheVariants as unary
@@ -16,10 +16,10 @@ use Rattle.tw_machine_text.specs.declared.words.Operator.TheVariants.{Comma, Equ
 use Rattle.tw_machine_text.specs.declared.words.Verb.TheVariants.{Push, Put}
 use Rattle.tw_machine_text.specs.Tree.{Tree, Number, Name, Known, Indexed, Call, RandomBelow, Binary, SourceStatement, Assign, Act, Pop, Draw, Wait, If, Repeat, Block, Empty, Then, One}
 use Rattle.tw_machine_declaration.specs.declared.declaration.Constant.TheVariants as c
-use Rattle.tw_machine_declaration.specs.Seen.{Given, register}
+use Rattle.tw_machine_declaration.specs.Seen.{Declares, Given, register, list_parameter, table, list_table}
 use Rattle.tw_machine_declaration.specs.declared.names.Standing.{Standing}
 use Rattle.tw_machine_declaration.specs.declared.names.Standing.TheVariants as s
-use Rattle.tw_machine_declaration.specs.Names.{none_taken, own_standings}
+use Rattle.tw_machine_declaration.specs.Names.{given_numbers, lists_taken, numbers, own_standings}
 use Rattle.tw_machine.specs.Seen.{one, two, both, branch, repeated}
 use Rattle.tw_machine_compiler.specs.Statements.{statement, block}
 use Rattle.tw_machine_compiler.specs.Rows.{row_of, twice}
@@ -38,7 +38,7 @@ adder = s.Cell 0 ∷ s.Cell 1 ∷ s.Cell 2 ∷ []
 
 abbrev pub adder_names : Type 0
 adder_names =
-    (given : Given) → own_standings given none_taken (register (c.Number (pos 0)) ∷ register (c.Number (pos 0)) ∷ register (c.Number (pos 0)) ∷ []) ≡ adder
+    (given : Given) → own_standings given (lists_taken given) (register (c.Number (pos 0)) ∷ register (c.Number (pos 0)) ∷ register (c.Number (pos 0)) ∷ []) ≡ adder
 
 -- count += 1, sum += value, last = value
 abbrev pub adder_external : Block
@@ -124,3 +124,23 @@ last_twice = twice (filter_map (row_of shows) (Indexed 13 (Number 1) ∷ Name 12
 abbrev pub none_twice : Type 0
 none_twice =
     twice (filter_map (row_of shows) (Name 10 ∷ Name 10 ∷ Name 11 ∷ Name 12 ∷ Indexed 13 (Number 0) ∷ Indexed 13 (Number 1) ∷ Indexed 11 (Number 0) ∷ Indexed 11 (Number 0) ∷ Indexed 14 (Number 0) ∷ Indexed 14 (Number 1) ∷ [])) ≡ false
+
+-- ---- lists
+
+-- a component's two lists
+abbrev pub two_lists : Given
+two_lists = record { numbers = []; lists = (pos 7 ∷ pos 8 ∷ pos 9 ∷ []) ∷ (pos 4 ∷ []) ∷ [] }
+
+-- three tables that are named after them, two of them after the second, and one that has its own numbers
+abbrev pub reader : List Declares
+reader = list_parameter 0 ∷ list_parameter 1 ∷ list_table 1 ∷ table (pos 1 ∷ pos 2 ∷ []) ∷ list_table 0 ∷ list_table 1 ∷ []
+
+-- tables of one list are one and the same
+abbrev pub lists_once : Type 0
+lists_once =
+    own_standings two_lists (lists_taken two_lists) reader
+    ≡ s.Nothing ∷ s.Nothing ∷ s.Table (record { first = 3; count = 1 }) ∷ s.Table (record { first = 4; count = 2 }) ∷ s.Table (record { first = 0; count = 3 }) ∷ s.Table (record { first = 3; count = 1 }) ∷ []
+
+-- and its numbers count once
+abbrev pub numbers_once : Type 0
+numbers_once = given_numbers two_lists ++ flat_map numbers reader ≡ pos 7 ∷ pos 8 ∷ pos 9 ∷ pos 4 ∷ pos 1 ∷ pos 2 ∷ []

@@ -1,5 +1,5 @@
 -- The program of a machine, once the numbers of a component are put in.
-use Rattle.std.specs.Prelude.{ℕ, ℤ, pos, negsuc, ◌-◌, min, List, map, Option, Some, None, option_map, option_and_then, flat_map}
+use Rattle.std.specs.Prelude.{ℕ, ℤ, pos, negsuc, ◌-◌, ◌++◌, min, List, map, Option, Some, None, option_map, option_and_then, flat_map}
 use Rattle.tw_machine.specs.declared.language.Leaf.TheVariants as leaf
 use Rattle.tw_machine.specs.declared.language.Expr.{Expr}
 use Rattle.tw_machine.specs.declared.language.Expr.TheVariants.{Plain}
@@ -14,7 +14,7 @@ use Rattle.tw_machine_declaration.specs.Seen.{Declaration, Given, Value, whole, 
 use Rattle.tw_machine_declaration.specs.Seen as plain
 use Rattle.tw_machine_declaration.specs.declared.names.Standing.{Standing}
 use Rattle.tw_machine_declaration.specs.declared.names.Standing.TheVariants as s
-use Rattle.tw_machine_declaration.specs.Names.{constant, start_of, cells, rooms, numbers, things, standing_at, standings_of}
+use Rattle.tw_machine_declaration.specs.Names.{constant, start_of, cells, rooms, given_numbers, numbers, things, standing_at, standings_of}
 use Rattle.tw_machine_compiler.specs.Expressions.{number, expression, queue}
 use Rattle.tw_machine_compiler.specs.Statements.{block}
 
@@ -75,7 +75,7 @@ program_of given d =
       seed = seed (start_of given d.random);
       first = ticks given d.first;
       longest = ticks given d.longest;
-      numbers = flat_map (numbers given) (things d.names);
+      numbers = given_numbers given ++ flat_map numbers (things d.names);
       internal = block ss d.internal;
       external = block ss d.external;
       outputs = map (output ss) d.outputs;

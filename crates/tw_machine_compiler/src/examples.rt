@@ -14,6 +14,8 @@ ghost use Rattle.tw_machine_compiler.specs.Examples.{
   array_twice,
   last_twice,
   none_twice,
+  lists_once,
+  numbers_once,
 };
 
 /// Each of these statements is that one, and makes so many computations; a row stands twice among these words or not.
@@ -32,4 +34,10 @@ pub fn machines()
     ensures array_twice { array_twice }
     ensures last_twice { last_twice }
     ensures none_twice { none_twice }
+{}
+
+/// A list after which two tables are named stands once among the numbers, before those of all tables.
+pub fn lists()
+    ensures standings { lists_once }
+    ensures numbers { numbers_once }
 {}

@@ -1,9 +1,16 @@
 //! The program of a machine with the numbers of a component put in.
-ghost use Rattle.std.specs.Prelude.{◌≡◌, ◌≢◌, IfOk, IfErr, Some, None, flat_map, map};
+ghost use Rattle.std.specs.Prelude.{◌≡◌, ◌≢◌, ◌++◌, IfOk, IfErr, Some, None, flat_map, map};
 ghost use Rattle.tw_machine.specs.Limits.{fault_of as limits_of};
 ghost use Rattle.tw_machine.specs.Program.{text_of};
 ghost use Rattle.tw_machine_declaration.specs.Seen as plain;
-ghost use Rattle.tw_machine_declaration.specs.Names.{cells, numbers, rooms, standings_of, things};
+ghost use Rattle.tw_machine_declaration.specs.Names.{
+  cells,
+  given_numbers,
+  numbers,
+  rooms,
+  standings_of,
+  things,
+};
 ghost use Rattle.tw_machine.specs.Seen.{seen_output, seen_statement, seen_program, seen_word};
 ghost use Rattle.tw_machine_compiler.specs.Statements.{block};
 ghost use Rattle.tw_machine_compiler.specs.Program.{output, program_of, shown_word};
@@ -31,7 +38,8 @@ fn starts_of(
     ensures rooms { IfOk result (λ s. s.1.items
         ≡ flat_map (rooms (plain.given given.now)) (things (map plain.name names.now))) }
     ensures numbers { IfOk result (λ s. s.2.items
-        ≡ flat_map (numbers (plain.given given.now)) (things (map plain.name names.now))) }
+        ≡ given_numbers (plain.given given.now) ++ flat_map numbers
+        (things (map plain.name names.now))) }
 {
     let cells = all_cells(alloc, given, names)?;
     let rooms = all_rooms(alloc, given, names)?;

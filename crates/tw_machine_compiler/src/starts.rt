@@ -1,12 +1,17 @@
 //! What a machine has at the start: the cells of its registers, the rooms of its queues, the numbers of its tables.
 ghost use Rattle.std.specs.Prelude.{◌≡◌, ◌++◌, ◌≤◌, IfOk, OnOk, flat_map, map, replicate};
 ghost use Rattle.tw_machine_declaration.specs.Seen as plain;
-ghost use Rattle.tw_machine_declaration.specs.Names.{start_of, cells, rooms, numbers, things};
+ghost use Rattle.tw_machine_declaration.specs.Names.{
+  start_of,
+  cells,
+  rooms,
+  given_numbers,
+  numbers,
+  things,
+};
 
 use std::alloc::{AllocError, Global};
-use tw_machine_declaration::{
-    Constant, Given, Named, Thing, count_of, list_given, room_of, start_of,
-};
+use tw_machine_declaration::{Constant, Given, Named, Thing, count_of, room_of, start_of};
 
 /// Appends what the cells of an array register have at the start.
 fn push_starts(given: &Given, starts: &[Constant], cells: &mut Vec<i64>) -> Result<(), AllocError>
@@ -58,17 +63,26 @@ fn push_queues(given: &Given, thing: &Thing, out: &mut Vec<u16>) -> Result<(), A
     Ok(())
 }
 
-/// Appends the numbers of a table.
-fn push_numbers(given: &Given, thing: &Thing, out: &mut Vec<i64>) -> Result<(), AllocError>
-    ensures { OnOk result (out.new.items
-        ≡ out.old.items ++ numbers (plain.given given.now) (plain.thing thing.now)) }
+/// Appends the numbers that stand in a table.
+fn push_numbers(thing: &Thing, out: &mut Vec<i64>) -> Result<(), AllocError>
+    ensures { OnOk result (out.new.items ≡ out.old.items ++ numbers (plain.thing thing.now)) }
 {
-    match thing {
-        Thing::Table(numbers) => out.extend_from_slice(numbers)?,
-        Thing::ListTable(place) => out.extend_from_slice(list_given(given, *place))?,
-        _ => {}
+    if let Thing::Table(numbers) = thing {
+        out.extend_from_slice(numbers)?;
     }
     Ok(())
+}
+
+/// The numbers of the lists that are given, each once. The only error is want of memory.
+fn list_numbers(alloc: Global, lists: &[Vec<i64>]) -> Result<Vec<i64>, AllocError>
+    ensures { IfOk result
+        (λ out. out.items ≡ flat_map (λ list. list) (map (λ list. list.items) lists.now)) }
+{
+    let mut out = Vec::new(alloc);
+    for list in lists {
+        out.extend_from_slice(list)?;
+    }
+    Ok(out)
 }
 
 /// The cells of all registers at the start. The only error is want of memory.
@@ -103,18 +117,19 @@ pub(crate) fn all_rooms(
     Ok(out)
 }
 
-/// The numbers of all tables. The only error is want of memory.
+/// The numbers of all tables: first those of the lists that are given. The only error is want of memory.
 pub(crate) fn all_numbers(
     alloc: Global,
     given: &Given,
     names: &[Named],
 ) -> Result<Vec<i64>, AllocError>
     ensures { IfOk result (λ out. out.items
-        ≡ flat_map (numbers (plain.given given.now)) (things (map plain.name names.now))) }
+        ≡ given_numbers (plain.given given.now) ++ flat_map numbers
+        (things (map plain.name names.now))) }
 {
-    let mut out = Vec::new(alloc);
+    let mut out = list_numbers(alloc, given.lists.as_slice())?;
     for named in names {
-        push_numbers(given, &named.thing, &mut out)?;
+        push_numbers(&named.thing, &mut out)?;
     }
     Ok(out)
 }

@@ -1,5 +1,5 @@
 -- What each name of a machine stands for, once the numbers of a component are put in.
-use Rattle.std.specs.Prelude.{ℕ, ◌+◌, ℤ, pos, min, List, [], ◌∷◌, ◌++◌, map, length, Option, Some, None, slice_get, slice_index_or, unwrap_or, replicate, if◌then◌else◌}
+use Rattle.std.specs.Prelude.{ℕ, ◌+◌, ℤ, pos, min, List, [], ◌∷◌, ◌++◌, map, length, take, sum_by, flat_map, Option, Some, None, slice_get, slice_index_or, unwrap_or, replicate, if◌then◌else◌}
 use Rattle.tw_machine.specs.Limits.{cells_end, max_queues, max_room, numbers_end, queues_end}
 use Rattle.tw_machine.specs.Values.{natural}
 use Rattle.tw_machine_text.specs.Letters.{functions, same_text}
@@ -43,15 +43,26 @@ rooms given (queue c) = room_of given c ∷ []
 rooms given (queues n c) = replicate (count_of given n) (room_of given c)
 rooms given _ = []
 
--- the numbers of a table
-abbrev pub numbers : Given → Declares → List ℤ
-numbers given (table ns) = ns
-numbers given (list_table k) = list_given given k
-numbers given _ = []
+-- the numbers that stand in a table; those of a list are the component's, however many tables are named after it
+abbrev pub numbers : Declares → List ℤ
+numbers (table ns) = ns
+numbers _ = []
 
--- before the first name nothing is taken
-abbrev pub none_taken : Places
-none_taken = record { cells = 0; queues = 0; numbers = 0 }
+-- the numbers that stand first among those of tables: of each list that is given, once
+abbrev pub given_numbers : Given → List ℤ
+given_numbers given = flat_map (λ list. list) given.lists
+
+-- how many numbers lists have together, counted to one past what a machine may have
+abbrev pub together : List (List ℤ) → ℕ
+together lists = min (sum_by length lists) numbers_end
+
+-- where the list of a parameter begins among them
+abbrev pub list_place : Given → ℕ → ℕ
+list_place given k = together (take k given.lists)
+
+-- before the first name nothing is taken but what the lists take
+abbrev pub lists_taken : Given → Places
+lists_taken given = record { cells = 0; queues = 0; numbers = together given.lists }
 
 -- what a parameter that is a number stands for
 abbrev pub given_number : Option ℤ → Standing
@@ -64,7 +75,7 @@ taken given at thing =
     record {
       cells = min (at.cells + length (cells given thing)) cells_end;
       queues = min (at.queues + length (rooms given thing)) queues_end;
-      numbers = min (at.numbers + length (numbers given thing)) numbers_end;
+      numbers = min (at.numbers + length (numbers thing)) numbers_end;
     }
 
 -- what a name stands for, where so much is taken before it
@@ -76,7 +87,7 @@ standing_of given at (registers cs) = s.Cells (record { first = at.cells; count 
 standing_of given at (queue c) = s.Queue at.queues (room_of given c)
 standing_of given at (queues n c) = s.Queues (record { first = at.queues; count = count_of given n }) (room_of given c)
 standing_of given at (table ns) = s.Table (record { first = at.numbers; count = min (length ns) numbers_end })
-standing_of given at (list_table k) = s.Table (record { first = at.numbers; count = min (length (list_given given k)) numbers_end })
+standing_of given at (list_table k) = s.Table (record { first = list_place given k; count = min (length (list_given given k)) numbers_end })
 
 -- what the names that are declared stand for
 abbrev pub own_standings : Given → Places → List Declares → List Standing
@@ -101,5 +112,5 @@ standing_at ss n = slice_index_or ss n s.Nothing
 -- what each name stands for, by its number: first the functions' names, then those that are declared
 abbrev pub standings_of : Given → List Name → List Standing
 standings_of given names =
-    let own = own_standings given none_taken (things names) in
+    let own = own_standings given (lists_taken given) (things names) in
     map (λ function. standing_at own (place_named 0 (texts names) function)) functions ++ own

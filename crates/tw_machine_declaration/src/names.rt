@@ -12,8 +12,10 @@ ghost use Rattle.tw_machine_declaration.specs.Names.{
   cells,
   rooms,
   numbers,
+  together,
+  list_place,
+  lists_taken,
   given_number,
-  none_taken,
   taken,
   things,
   place_named,
@@ -136,16 +138,56 @@ fn queue_count(given: &Given, thing: &Thing) -> u32
     }
 }
 
-/// How many numbers of tables a name takes, at most 65,537.
-fn number_count(given: &Given, thing: &Thing) -> u32
-    ensures value { result
-        ≡ min (length (numbers (plain.given given.now) (plain.thing thing.now))) numbers_end }
+/// How many numbers of tables a name takes, at most 65,537; a table of a list takes none, for the list stands once
+/// before all of them.
+fn number_count(thing: &Thing) -> u32
+    ensures value { result ≡ min (length (numbers (plain.thing thing.now))) numbers_end }
     ensures small { result ≤ numbers_end }
 {
     match thing {
         Thing::Table(numbers) => numbers.len().min(NUMBERS_END) as u32,
-        Thing::ListTable(place) => list_given(given, *place).len().min(NUMBERS_END) as u32,
         _ => 0,
+    }
+}
+
+/// How many numbers the list of a parameter has, at most 65,537.
+fn list_count(given: &Given, place: usize) -> u32
+    ensures { result ≡ min (length (list_given (plain.given given.now) place)) numbers_end }
+{
+    list_given(given, place).len().min(NUMBERS_END) as u32
+}
+
+/// How many numbers these lists have together, at most 65,537.
+fn together(lists: &[Vec<i64>]) -> u32
+    ensures { result ≡ together (map (λ list. list.items) lists.now) }
+{
+    let mut total = 0;
+    for list in lists {
+        total = added(
+            total,
+            list.len().min(NUMBERS_END) as u32,
+            NUMBERS_END as u32,
+        );
+    }
+    total
+}
+
+/// Where the list of a parameter begins among the numbers of tables.
+fn list_place(given: &Given, place: usize) -> u32
+    ensures { result ≡ list_place (plain.given given.now) place }
+{
+    let lists = given.lists.as_slice();
+    together(&lists[..place.min(lists.len())])
+}
+
+/// What is taken before the first name: the lists, each once.
+fn lists_taken(given: &Given) -> Places
+    ensures { result ≡ lists_taken (plain.given given.now) }
+{
+    Places {
+        cells: 0,
+        queues: 0,
+        numbers: together(given.lists.as_slice()),
     }
 }
 
@@ -164,7 +206,7 @@ fn taken(given: &Given, at: Places, thing: &Thing) -> Places
     Places {
         cells: added(at.cells, cell_count(given, thing), CELLS_END as u32),
         queues: added(at.queues, queue_count(given, thing), QUEUES_END as u32),
-        numbers: added(at.numbers, number_count(given, thing), NUMBERS_END as u32),
+        numbers: added(at.numbers, number_count(thing), NUMBERS_END as u32),
     }
 }
 
@@ -198,9 +240,13 @@ fn standing_of(given: &Given, at: Places, thing: &Thing) -> Standing
             },
             room_of(given, *room),
         ),
-        Thing::Table(_) | Thing::ListTable(_) => Standing::Table(Span {
+        Thing::Table(_) => Standing::Table(Span {
             first: at.numbers,
-            count: number_count(given, thing),
+            count: number_count(thing),
+        }),
+        Thing::ListTable(place) => Standing::Table(Span {
+            first: list_place(given, *place),
+            count: list_count(given, *place),
         }),
     }
 }
@@ -208,14 +254,11 @@ fn standing_of(given: &Given, at: Places, thing: &Thing) -> Standing
 /// What the names that are declared stand for.
 fn own_standings(alloc: Global, given: &Given, names: &[Named]) -> Result<Vec<Standing>, AllocError>
     ensures { IfOk result (λ standings. standings.items
-        ≡ own_standings (plain.given given.now) none_taken (things (map plain.name names.now))) }
+        ≡ own_standings (plain.given given.now)
+        (lists_taken (plain.given given.now)) (things (map plain.name names.now))) }
 {
     let mut standings = Vec::with_capacity(alloc, names.len())?;
-    let mut at = Places {
-        cells: 0,
-        queues: 0,
-        numbers: 0,
-    };
+    let mut at = lists_taken(given);
     for named in names {
         standings.push(standing_of(given, at, &named.thing))?;
         at = taken(given, at, &named.thing);

@@ -1,5 +1,6 @@
 //! One of the five models, or a machine.
-ghost use Rattle.std.specs.Prelude.{◌≡◌, ◌↔◌, IfOk, IsTrue};
+ghost use Rattle.std.specs.Prelude.{◌≡◌, ◌↔◌, Ok, IfOk, IsTrue};
+ghost use Rattle.tw_atomic.specs.Atomic.{CanTurn, turned};
 
 use std::alloc::{AllocError, Global};
 use tw_atomic::{Atomic, Outbox, Turn};
@@ -121,7 +122,11 @@ impl Atomic for AnyModel {
         turn: Turn,
         elapsed: u64,
         bag: &[(u8, i64)],
-    ) -> Result<(), AllocError> {
+    ) -> Result<(), AllocError>
+        requires { CanTurn (IsAny self.now) (any_meaning self.now) turn state.old elapsed bag.now }
+        ensures state { state.new ≡ turned (any_meaning self.now) turn state.old elapsed bag.now }
+        ensures succeeds { result ≡ Ok tt }
+    {
         match (self, state) {
             (AnyModel::BuiltIn(model), AnyState::OfBuiltIn(state)) => {
                 model.transition(alloc, state, turn, elapsed, bag)

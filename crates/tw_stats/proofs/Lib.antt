@@ -1,4 +1,8 @@
+pub mod Joining
+pub mod Objects
+pub mod Paired
 pub mod Reaching
 pub mod Starting
 pub mod Steady
 pub mod Telling
+pub mod Widths

@@ -1,8 +1,8 @@
 -- What is told of lists, one after another.
-use Rattle.std.proofs.Common.{◌≡◌, ◌∙◌, ℕ, zero, suc, ◌<◌, ◌+◌, ◌++◌, ◌∷◌, [], ℤ, List, take, length, map, get_or, ap, refl, sym, subst, arith}
+use Rattle.std.proofs.Common.{◌≡◌, ◌∙◌, ℕ, zero, suc, ◌<◌, ◌∷◌, [], ℤ, List, length, map, get_or, ap, refl, sym, subst, arith}
 use Rattle.std.specs.Prelude.{Some, slice_get}
 use Rattle.std.specs.List.{All, AllZip}
-use Rattle.std.proofs.lemmas.List.{get_or_default, get_or-map, take_more}
+use Rattle.std.proofs.lemmas.List.{get_or-map, length-map}
 use Rattle.std.proofs.lemmas.Option.{get_or_from_slice_get, slice_get_within}
 use Rattle.std.proofs.lemmas.Slice.Zip.{AllZip-long}
 use Rattle.tw_figures.proofs.Zipping.{zip_at}
@@ -18,7 +18,8 @@ use Rattle.tw_figures.specs.declared.told.Told.{Told}
 use Rattle.tw_msgs.specs.declared.record.Record.{Record}
 use Rattle.tw_theory.specs.Traces.{of_component}
 use Rattle.tw_stats.specs.Gathering.{measures_in}
-use Rattle.tw_stats.specs.Reports.{AreTold, TellsFigure, TellsPart}
+use Rattle.tw_stats.specs.Reports.{AreTold, IsToldOf, TellsFigure, TellsPart}
+use Rattle.tw_figures.specs.Labelled.{Label, figure, label}
 use Rattle.tw_figures.specs.declared.labels.Labels.{Labels}
 use Rattle.tw_stats.specs.declared.report.Part.{Part}
 
@@ -60,21 +61,37 @@ member_at [] c l = absurd (omega (arith, l))
 member_at (m ∷ ms) zero l = (m, refl)
 member_at (m ∷ ms) (suc c) l = member_at ms c (omega (arith, l))
 
+-- what is told of figures is told of them without where they lie in memory
+seen_told : (ticks : ℕ) (start : List ℤ) (moves : List Record) (figures : List Figure) (tolds : List Told)
+    → AllZip (λ f told. IsTold f.measure start moves ticks told) figures tolds → AllZip (λ f told. IsTold f.1 start moves ticks told) (map figure figures) tolds
+seen_told ticks start moves [] [] h = tt
+seen_told ticks start moves [] (t ∷ ts) h = absurd h
+seen_told ticks start moves (f ∷ fs) [] h = absurd h
+seen_told ticks start moves (f ∷ fs) (t ∷ ts) h = (h.0, seen_told ticks start moves fs ts h.1)
+
+-- the element that is seen at a place
+at_map : {X Y : Type 0} (f : X → Y) (xs : List X) (c : ℕ) (y : Y) → slice_get (map f xs) c ≡ Some y → (x : X) × (slice_get xs c ≡ Some x) × (f x ≡ y)
+at_map f [] c y h = absurd (let l = slice_get_within [] c y h in omega (arith, l))
+at_map f (x ∷ xs) zero y h = (x, refl, cc)
+at_map f (x ∷ xs) (suc c) y h = at_map f xs c y h
+
 pub all_told : (labels : List Labels) (starts : List (List ℤ)) (rs : List Record) (ticks : ℕ) (gathered : Gatherer) (parts : List Part) → length labels ≡ length starts
     → IsGathered starts rs gathered → measures_of gathered.members.items ≡ measures_in labels → AllZip (TellsPart ticks) gathered.members.items parts
-    → AreTold labels starts rs ticks parts
+    → AreTold (map label labels) starts rs ticks parts
 all_told labels starts rs ticks gathered parts many h same tells = record {
-  size = (let long = AllZip-long (TellsPart ticks) gathered.members.items parts tells in let size = h.size in omega (arith, long, size, many));
-  each = λ c label start part p q r.
+  size = (let long = AllZip-long (TellsPart ticks) gathered.members.items parts tells in let size = h.size in let seen = length-map labels label in omega (arith, long, size, many, seen));
+  each = λ c said start part at q r.
+      let (l, p, same_label) = at_map label labels c said at in
       let within = slice_get_within starts c start q in
       let size = h.size in
       let some = member_at gathered.members.items c (omega (arith, within, size)) in
       let is = h.members c start some.0 q some.1 in
       let one = zip_at (TellsPart ticks) gathered.members.items parts c some.0 part tells some.1 r in
-      record {
+      subst (λ (m : Label). IsToldOf m start (of_component c rs) ticks part) same_label (record {
         counts = one.counts ∙ is.counts;
-        figures = told_by ticks start (transitions (of_component c rs)) some.0.courses.items label.figures.items part.figures.items
-            (same_measures gathered.members.items labels c some.0 label same some.1 p)
-            (told_courses ticks start (transitions (of_component c rs)) some.0.courses.items part.figures.items is.courses one.figures);
-      };
+        figures = seen_told ticks start (transitions (of_component c rs)) l.figures.items part.figures.items
+            (told_by ticks start (transitions (of_component c rs)) some.0.courses.items l.figures.items part.figures.items
+            (same_measures gathered.members.items labels c some.0 l same some.1 p)
+            (told_courses ticks start (transitions (of_component c rs)) some.0.courses.items part.figures.items is.courses one.figures));
+      });
 }

@@ -1,3 +1,10 @@
 pub mod Decimals
+pub mod Examples
 pub mod Gathering
+pub mod Grids
+pub mod Json
 pub mod Reports
+pub mod Rows
+pub mod Strings
+pub mod Texts
+pub mod Written

@@ -3,15 +3,20 @@
 //! - [`report_of`] (`report`): simulates a network and tells them, as a [`Report`]: its contract says of which records each number is.
 //!   They are gathered round by round (`gathering`); no record is kept longer than its round, so that a longer run takes no more
 //!   memory.
-//! - [`write_report`] (`written`): writes a report: as text (`text`), in aligned columns (`grid`), or as JSON (`json`). Means and shares
-//!   stand with three decimals (`decimals`).
+//! - [`write_report`] (`written`): writes a report, whose components stand beside their names (`rows`): as text (`text`), in aligned
+//!   columns (`grid`), or as JSON (`json`), with its strings (`strings`). Means and shares stand with three decimals (`decimals`).
+//!
+//! The contracts give the exact bytes; [`examples`] has pieces of reports by hand.
 #![tactic(auto)]
 
 mod decimals;
+pub mod examples;
 mod gathering;
 mod grid;
 mod json;
 mod report;
+mod rows;
+mod strings;
 mod text;
 mod written;
 

@@ -1,13 +1,12 @@
 //! What is told of a run.
 
-ghost use Rattle.std.specs.Prelude.{◌≡◌, ◌≤◌, ◌<◌, ◌↔◌, IfOk, IsErrOf, length};
+ghost use Rattle.std.specs.Prelude.{◌≡◌, ◌≤◌, ◌<◌, ◌↔◌, IfOk, IsErrOf, length, map};
 ghost use Rattle.std.specs.List.{All, AllZip};
-ghost use Rattle.tw_figures.specs.Gathered.{IsAboveMicrosteps};
+ghost use Rattle.tw_figures.specs.Labelled.{label};
 ghost use Rattle.tw_network.specs.Contents.{network_of};
 ghost use Rattle.tw_rounds.specs.declared.refused.SeqRefused.TheVariants.{BadTick};
-ghost use Rattle.tw_theory.specs.Simulator.{sequential};
-ghost use Rattle.tw_stats.specs.Gathering.{BeforeEnd, run_ticks, start_words};
-ghost use Rattle.tw_stats.specs.Reports.{AreTold, TellsFigure, TellsPart};
+ghost use Rattle.tw_stats.specs.Gathering.{BeforeEnd};
+ghost use Rattle.tw_stats.specs.Reports.{IsReport, TellsFigure, TellsPart};
 ghost use Rattle.tw_vtime.specs.Stamps.{max_tick};
 
 use crate::gathering::{Gathering, gather};
@@ -59,18 +58,8 @@ pub fn report_of<M: Atomic, L: Listener>(
     listener: &mut L,
 ) -> Result<Report, SeqRefused>
     requires { length labels.now ≡ length network.now.models }
-    ensures parts { let net = network_of M.meaning network.now in let run = sequential net until in
-        let ticks = run_ticks until run.fault in
-        IfOk result (λ r. AreTold labels.now (start_words net) run.records ticks r.parts.items) }
-    ensures until { IfOk result (λ r. r.until ≡ until) }
-    ensures ticks { let run = sequential (network_of M.meaning network.now) until in
-        IfOk result (λ r. r.ticks ≡ run_ticks until run.fault) }
-    ensures records { let run = sequential (network_of M.meaning network.now) until in
-        IfOk result (λ r. r.records ≡ length run.records) }
-    ensures microsteps { let run = sequential (network_of M.meaning network.now) until in
-        IfOk result (λ r. IsAboveMicrosteps r.microsteps run.records) }
-    ensures fault { let run = sequential (network_of M.meaning network.now) until in
-        IfOk result (λ r. r.fault ≡ run.fault) }
+    ensures report { let net = network_of M.meaning network.now in
+        IfOk result (IsReport net until (map label labels.now)) }
     ensures in_time { IfOk result (λ r. BeforeEnd r.fault) }
     ensures bad_tick { IsErrOf result BadTick ↔ (max_tick < until) }
 {

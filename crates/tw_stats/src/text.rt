@@ -1,42 +1,58 @@
 //! A report as text: what it is of, the counts of the components, and their figures.
 
-use crate::decimals::add_thousandths;
-use crate::grid::Grid;
-use crate::report::Report;
-use std::alloc::{AllocError, Global};
-use tw_figures::{Counts, Labels, Told};
-use tw_texts::Names;
+ghost use Rattle.std.specs.Prelude.{◌≡◌, ◌++◌, ◌∷◌, [], IfOk, OnOk, codes, decimal, flat_map, map, string_bytes};
+ghost use Rattle.std.specs.Fmt.{signed_decimal};
+ghost use Rattle.tw_stats.specs.Decimals.{thousandths_text};
+ghost use Rattle.tw_stats.specs.Grids.{grid_text, lines_of};
+ghost use Rattle.tw_stats.specs.Rows as plain;
+ghost use Rattle.tw_stats.specs.Texts.{counts_head, counts_line, figure_line, figure_lines, figures_head, first_line, report_text};
 
-/// Adds a report to a text.
-pub(crate) fn add_text<N: Names>(
+use crate::decimals::add_thousandths;
+use crate::grid::add_grid;
+use crate::report::Report;
+use crate::rows::Row;
+use std::alloc::{AllocError, Global};
+use tw_figures::{Counts, Told};
+
+/// Adds a report to a text. Where memory is wanting (refusal 4) a part of it may stand at the end.
+pub(crate) fn add_text(
     alloc: Global,
     text: &mut String,
     report: &Report,
-    names: &N,
-    labels: &[Labels],
-) -> Result<(), AllocError> {
+    rows: &[Row<'_>],
+) -> Result<(), AllocError>
+    ensures { let said = map plain.row rows.now in
+        OnOk result (string_bytes text.new ≡ string_bytes text.old ++ report_text said report.now) }
+{
+    add_first_line(text, report)?;
+    text.push_str("\n")?;
+    let counts = counts_lines(alloc, rows)?;
+    add_grid(alloc, text, 2, counts.as_slice())?;
+    text.push_str("\n")?;
+    let figures = figures_lines(alloc, rows)?;
+    add_grid(alloc, text, 2, figures.as_slice())?;
+    Ok(())
+}
+
+/// What a report is of.
+fn add_first_line(text: &mut String, report: &Report) -> Result<(), AllocError>
+    ensures { OnOk result (string_bytes text.new ≡ string_bytes text.old ++ first_line report.now) }
+{
     let until = report.until;
     let components = report.parts.len();
     let records = report.records;
     let microsteps = report.microsteps;
-    write!(
-        text,
-        "until {until}  components {components}  records {records}  microsteps {microsteps}\n\n"
-    )?;
-    counts_grid(alloc, report, names, labels)?.write(text)?;
-    text.push_str("\n")?;
-    figures_grid(alloc, report, names, labels)?.write(text)
+    write!(text, "until {until}  components {components}")?;
+    write!(text, "  records {records}  microsteps {microsteps}\n")
 }
 
-/// The counts of the components.
-fn counts_grid<N: Names>(
-    alloc: Global,
-    report: &Report,
-    names: &N,
-    labels: &[Labels],
-) -> Result<Grid, AllocError> {
-    let mut grid = Grid::new(alloc, 2);
-    grid.add(head(
+/// The lines of the counts.
+fn counts_lines(alloc: Global, rows: &[Row<'_>]) -> Result<Vec<Vec<String>>, AllocError>
+    ensures { IfOk result (λ lines. lines_of lines.items
+        ≡ counts_head ∷ map counts_line (map plain.row rows.now)) }
+{
+    let mut lines = Vec::new(alloc);
+    lines.push(head(
         alloc,
         &[
             "component",
@@ -49,22 +65,19 @@ fn counts_grid<N: Names>(
             "con",
         ],
     )?)?;
-    for (component, (label, part)) in labels.iter().zip(report.parts.iter()).enumerate() {
-        let name = names.name(component);
-        grid.add(counts_line(alloc, name, label.model.as_str(), part.counts)?)?;
+    for row in rows {
+        lines.push(counts_line(alloc, row)?)?;
     }
-    Ok(grid)
+    Ok(lines)
 }
 
-/// The figures of the components.
-fn figures_grid<N: Names>(
-    alloc: Global,
-    report: &Report,
-    names: &N,
-    labels: &[Labels],
-) -> Result<Grid, AllocError> {
-    let mut grid = Grid::new(alloc, 2);
-    grid.add(head(
+/// The lines of the figures.
+fn figures_lines(alloc: Global, rows: &[Row<'_>]) -> Result<Vec<Vec<String>>, AllocError>
+    ensures { IfOk result (λ lines. lines_of lines.items
+        ≡ figures_head ∷ flat_map figure_lines (map plain.row rows.now)) }
+{
+    let mut lines = Vec::new(alloc);
+    lines.push(head(
         alloc,
         &[
             "component",
@@ -76,17 +89,32 @@ fn figures_grid<N: Names>(
             "busy",
         ],
     )?)?;
-    for (component, (label, part)) in labels.iter().zip(report.parts.iter()).enumerate() {
-        let name = names.name(component);
-        for (figure, told) in label.figures.iter().zip(part.figures.iter()) {
-            grid.add(figure_line(alloc, name, figure.name.as_str(), *told)?)?;
-        }
+    for row in rows {
+        add_figure_lines(alloc, &mut lines, row.name, row.figures.as_slice())?;
     }
-    Ok(grid)
+    Ok(lines)
+}
+
+/// The lines of a component's figures.
+fn add_figure_lines(
+    alloc: Global,
+    lines: &mut Vec<Vec<String>>,
+    name: &str,
+    figures: &[(&str, Told)],
+) -> Result<(), AllocError>
+    ensures { OnOk result (lines_of lines.new.items
+        ≡ lines_of lines.old.items ++ map (figure_line name.now) (map plain.told_figure figures.now)) }
+{
+    for (figure, told) in figures {
+        lines.push(figure_line(alloc, name, figure, *told)?)?;
+    }
+    Ok(())
 }
 
 /// A line of these cells.
-fn head(alloc: Global, cells: &[&str]) -> Result<Vec<String>, AllocError> {
+fn head(alloc: Global, cells: &[&str]) -> Result<Vec<String>, AllocError>
+    ensures { IfOk result (λ line. map string_bytes line.items ≡ map (λ cell. cell.now) cells.now) }
+{
     let mut line = Vec::new(alloc);
     for cell in cells {
         line.push(String::from_str(alloc, cell)?)?;
@@ -95,13 +123,12 @@ fn head(alloc: Global, cells: &[&str]) -> Result<Vec<String>, AllocError> {
 }
 
 /// The line of a component's counts.
-fn counts_line(
-    alloc: Global,
-    name: &str,
-    model: &str,
-    counts: Counts,
-) -> Result<Vec<String>, AllocError> {
-    let mut line = head(alloc, &[name, model])?;
+fn counts_line(alloc: Global, row: &Row<'_>) -> Result<Vec<String>, AllocError>
+    ensures { IfOk result (λ line. map string_bytes line.items ≡ counts_line (plain.row row.now)) }
+{
+    let mut line = Vec::new(alloc);
+    add_cell(alloc, &mut line, row.name)?;
+    add_cell(alloc, &mut line, row.model)?;
     let Counts {
         outputs,
         sent,
@@ -109,28 +136,71 @@ fn counts_line(
         int,
         ext,
         con,
-    } = counts;
-    for count in [outputs, sent, received, int, ext, con].iter() {
-        line.push(format!(in alloc; "{count}")?)?;
-    }
+    } = row.counts;
+    add_count(alloc, &mut line, outputs)?;
+    add_count(alloc, &mut line, sent)?;
+    add_count(alloc, &mut line, received)?;
+    add_count(alloc, &mut line, int)?;
+    add_count(alloc, &mut line, ext)?;
+    add_count(alloc, &mut line, con)?;
     Ok(line)
 }
 
-/// The line of a figure.
+/// The line of a figure of the component of this name.
 fn figure_line(
     alloc: Global,
     name: &str,
     figure: &str,
     told: Told,
-) -> Result<Vec<String>, AllocError> {
-    let mut line = head(alloc, &[name, figure])?;
-    for value in [told.least, told.greatest, told.last].iter() {
-        line.push(format!(in alloc; "{value}")?)?;
-    }
-    for thousandths in [told.mean, told.busy].iter() {
-        let mut cell = String::new(alloc);
-        add_thousandths(&mut cell, *thousandths)?;
-        line.push(cell)?;
-    }
+) -> Result<Vec<String>, AllocError>
+    ensures { IfOk result (λ line. map string_bytes line.items
+        ≡ figure_line name.now (figure.now, told)) }
+{
+    let mut line = Vec::new(alloc);
+    add_cell(alloc, &mut line, name)?;
+    add_cell(alloc, &mut line, figure)?;
+    add_value(alloc, &mut line, told.least)?;
+    add_value(alloc, &mut line, told.greatest)?;
+    add_value(alloc, &mut line, told.last)?;
+    add_decimals(alloc, &mut line, told.mean)?;
+    add_decimals(alloc, &mut line, told.busy)?;
     Ok(line)
+}
+
+/// A cell more.
+fn add_cell(alloc: Global, line: &mut Vec<String>, text: &str) -> Result<(), AllocError>
+    ensures { OnOk result
+        (map string_bytes line.new.items ≡ map string_bytes line.old.items ++ text.now ∷ []) }
+{
+    line.push(String::from_str(alloc, text)?)?;
+    Ok(())
+}
+
+/// A cell more, with a count.
+fn add_count(alloc: Global, line: &mut Vec<String>, count: u64) -> Result<(), AllocError>
+    ensures { OnOk result
+        (map string_bytes line.new.items ≡ map string_bytes line.old.items ++ decimal count ∷ []) }
+{
+    line.push(format!(in alloc; "{count}")?)?;
+    Ok(())
+}
+
+/// A cell more, with a value.
+fn add_value(alloc: Global, line: &mut Vec<String>, value: i128) -> Result<(), AllocError>
+    ensures { OnOk result (map string_bytes line.new.items
+        ≡ map string_bytes line.old.items ++ signed_decimal value ∷ []) }
+{
+    line.push(format!(in alloc; "{value}")?)?;
+    Ok(())
+}
+
+/// A cell more, with three decimals.
+fn add_decimals(alloc: Global, line: &mut Vec<String>, number: i128) -> Result<(), AllocError>
+    ensures { OnOk result (map string_bytes line.new.items
+        ≡ map string_bytes line.old.items ++ thousandths_text number ∷ []) }
+{
+    let mut cell = String::new(alloc);
+    add_thousandths(&mut cell, number)?;
+    line.push(cell)?;
+    Ok(())
 }

@@ -1,11 +1,16 @@
 //! Counts and figures of a run, written.
 
-ghost use Rattle.std.specs.Prelude.{◌≡◌, ◌≢◌, IfErr};
+ghost use Rattle.std.specs.Prelude.{◌≡◌, ◌≢◌, ◌++◌, IfErr, IfOk, OnOk, map, string_bytes};
+ghost use Rattle.std.specs.Io.KnownBytes.{Appends};
+ghost use Rattle.tw_figures.specs.Labelled as plain;
 ghost use Rattle.tw_stats.specs.Gathering.{BeforeEnd};
+ghost use Rattle.tw_stats.specs.Rows.{row};
+ghost use Rattle.tw_stats.specs.Written.{report_bytes, rows_bytes};
 ghost use Rattle.tw_texts.specs.declared.traces.NotWritten.TheVariants.{WriteFailed};
 
 use crate::json::add_json;
 use crate::report::Report;
+use crate::rows::{Row, rows_of};
 use crate::text::add_text;
 use std::alloc::{AllocError, Global};
 use std::io::Write;
@@ -25,7 +30,10 @@ pub fn write_report<N: Names, W: Write>(
     out: &mut W,
 ) -> Result<(), NotWritten>
     requires { BeforeEnd report.now.fault }
-    ensures { IfErr result (λ e. e ≢ WriteFailed → out.new ≡ out.old) }
+    ensures written { let said = map plain.label labels.now in
+        OnOk result (Appends (W.contents out.old) (W.contents out.new)
+        (report_bytes json (N.name_of names.now) said report.now)) }
+    ensures kept { IfErr result (λ e. e ≢ WriteFailed → out.new ≡ out.old) }
 {
     let Ok(mut text) = text_of(alloc, report, names, labels, json) else {
         return Err(NotWritten::OutOfMemory);
@@ -42,12 +50,33 @@ fn text_of<N: Names>(
     json: bool,
 ) -> Result<String, AllocError>
     requires { BeforeEnd report.now.fault }
+    ensures { let said = map plain.label labels.now in
+        IfOk result (λ text. string_bytes text
+        ≡ report_bytes json (N.name_of names.now) said report.now) }
 {
+    let rows = rows_of(alloc, report, names, labels)?;
     let mut text = String::new(alloc);
-    if json {
-        add_json(&mut text, report, names, labels)?;
-    } else {
-        add_text(alloc, &mut text, report, names, labels)?;
-    }
+    add_report(alloc, &mut text, report, names, rows.as_slice(), json)?;
     Ok(text)
+}
+
+/// Adds a report to a text. Where memory is wanting (refusal 4) a part of it may stand at the end.
+fn add_report<N: Names>(
+    alloc: Global,
+    text: &mut String,
+    report: &Report,
+    names: &N,
+    rows: &[Row<'_>],
+    json: bool,
+) -> Result<(), AllocError>
+    requires { BeforeEnd report.now.fault }
+    ensures { let said = map row rows.now in
+        OnOk result (string_bytes text.new ≡ string_bytes text.old
+        ++ rows_bytes json (N.name_of names.now) said report.now) }
+{
+    if json {
+        add_json(text, report, names, rows)
+    } else {
+        add_text(alloc, text, report, rows)
+    }
 }

@@ -1,0 +1,11 @@
+use Rattle.std.proofs.Common.{◌≡◌, ◌++◌, ◌∙◌, ap, map}
+use Rattle.tw_figures.specs.Labelled.{label}
+use Rattle.tw_stats.specs.Rows.{row, rows_of}
+use Rattle.tw_stats.specs.Written.{rows_bytes}
+use Rattle.tw_stats.proofs.written.text_of.Goals as goal
+
+pub returns : goal.returns
+returns g c =
+    let name_of = g.N.Names.name_of c.args.names.now in
+    let rows : map row c.as_slice.result.now ≡ rows_of name_of (map label c.args.labels.now) c.args.report.now.parts.items = ap (map row) c.as_slice.ensures.value ∙ c.in_ok-rows.ensures in
+    c.in_ok-add_report.ensures ∙ (λ i. c.new-text.ensures.bytes i ++ rows_bytes c.args.json name_of (rows i) c.args.report.now)

@@ -1,7 +1,7 @@
 -- Which component is given out.
 use Rattle.std.proofs.Common.{◌≡◌, ℕ, ◌<◌, ◌≤◌, List, Option, None, Some, true, false, refl, sym, ap, subst, ◌∙◌, inl, inr, arith}
 use Rattle.std.specs.Option.{option_map}
-use Rattle.std.specs.Prelude.{IfSome, slice_get}
+use Rattle.std.specs.Prelude.{IfSome, IsSomeAnd, slice_get}
 use Rattle.std.proofs.lemmas.Bool.{true≢false}
 use Rattle.std.proofs.lemmas.Option.{none-some, same_Some, slice_get-map, slice_get_within, slice_get_cases}
 use Rattle.tw_laws.proofs.Drawn.{draw_law}
@@ -69,6 +69,11 @@ module _ {S : Type 0} (until gvt window : ℕ) (within : until ≤ max_tick) (st
 pub if_there : {X : Type 0} (P : X → Type 0) (o : Option X) (x : X) → o ≡ Some x → IfSome o P → P x
 if_there P None x at holds = absurd (none-some x at)
 if_there P (Some y) x at holds = subst P (same_Some y x at) holds
+
+-- and of one that is there
+pub is_there : {X : Type 0} (P : X → Type 0) (o : Option X) (x : X) → o ≡ Some x → IsSomeAnd o P → P x
+is_there P None x at holds = absurd (none-some x at)
+is_there P (Some y) x at holds = subst P (same_Some y x at) holds
 
 pub for_there : {X : Type 0} (P : X → Type 0) (o : Option X) (x : X) → o ≡ Some x → P x → IfSome o P
 for_there P None x at holds = tt

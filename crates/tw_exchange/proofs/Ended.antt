@@ -13,10 +13,11 @@ use Rattle.tw_msgs.specs.declared.record.Record.{Record}
 use Rattle.tw_network.specs.Contents.{network_of}
 use Rattle.tw_theory.specs.Contents.{Process}
 use Rattle.tw_theory.specs.Network.{Network}
-use Rattle.tw_theory.specs.Outcomes.{Complete, Fault as InFault, IsOutcome, all_past}
+use Rattle.tw_theory.specs.Outcomes.{Complete, Fault as InFault, Going, IsOutcome, RunState, all_past}
 use Rattle.tw_theory.specs.Simulator.{Fault, sequential}
 use Rattle.tw_theory.specs.Traces.{IsMerged, before, least_line}
 use Rattle.tw_vtime.specs.Stamps.{never, stamp}
+use Rattle.tw_exchange.specs.Ends.{IsNotOver, IsOver}
 use Rattle.tw_exchange.specs.States.{state_of}
 
 -- what stands before s stands before any later stamp
@@ -100,3 +101,15 @@ module _ {M S : Type 0} (meaning : M → Meaning S) (e : Running M S) (sound : I
       let stamped : met.stamp ≤ never = omega (arith, bound, gvt, early) in
       let least : met.stamp ≤ least_line e.world.processes = past_least met.stamp e.world.processes stamped past in
       merged_all trace (omega (arith, gvt, least)) merged
+
+-- ## Whether it is over
+
+-- a run that is over stands as its end says
+over_state : {M S : Type 0} (meaning : M → Meaning S) (e : Running M S) (end : RunState) → IsOver meaning e end → state_of meaning e ≡ end
+over_state meaning e Complete over = over
+over_state meaning e (InFault met) over = over.0
+over_state meaning e Going over = absurd over
+
+-- so where it does not end as it stands, it is not over
+pub not_over : {M S : Type 0} (meaning : M → Meaning S) (e : Running M S) (state : RunState) → state ≡ state_of meaning e → (IsOver meaning e state → ⊥) → IsNotOver meaning e
+not_over meaning e state is not = λ end over. not (subst (IsOver meaning e) (sym (is ∙ over_state meaning e end over)) over)

@@ -5,6 +5,8 @@ pub mod SameBut
 -- what is marked follows the executive
 pub mod Looking
 pub mod Marking
+-- the least next step of all
+pub mod LeastNext
 -- posts that do nothing, and deliveries of nothing
 pub mod Skipping
 -- the agenda follows the executive

@@ -9,7 +9,7 @@ use Rattle.tw_theory.specs.Executive.{World, Raise, Harvest, act, act_harvest}
 use Rattle.tw_theory.specs.Network.{Network}
 use Rattle.tw_exchange.specs.Agenda.{mark}
 use Rattle.tw_exchange.specs.Exchanged.{IsExact}
-use Rattle.tw_exchange.specs.Queues.{IsKept, LooksSame, box_mark, post_mark}
+use Rattle.tw_exchange.specs.Queues.{IsKept, LooksSame, box_mark, next_mark, post_mark}
 use Rattle.tw_exchange.specs.Sweeping.{is_idle}
 use Rattle.tw_exchange.specs.declared.queues.Queues.{Queues}
 use Rattle.tw_theory.proofs.Elements.{set_same}
@@ -42,6 +42,10 @@ harvest_looks net until w c = go (slice_get w.processes c) refl
 
 -- ---- what is kept of the one is kept of the other
 
+next_marks : {S : Type 0} (ps : List (Process S)) → map next_mark ps ≡ map (λ s. Some s) (map next ps)
+next_marks [] = refl
+next_marks (p ∷ ps) = ap (λ l. next_mark p ∷ l) (next_marks ps)
+
 post_marks : {S : Type 0} (ps : List (Process S)) → map post_mark ps ≡ map (λ b. mark (not b)) (map is_idle ps)
 post_marks [] = refl
 post_marks (p ∷ ps) = ap (λ l. post_mark p ∷ l) (post_marks ps)
@@ -63,5 +67,6 @@ module _ {S : Type 0} (queues : Queues) (w w' : World S) where
     marks = record {
       posting = h.marks.posting ∙ post_marks w.processes ∙ sym (ap (map (λ b. mark (not b))) looks.idle) ∙ sym (post_marks w'.processes);
       delivering = h.marks.delivering ∙ sym (ap (map box_mark) looks.mail);
+      standing = h.marks.standing ∙ next_marks w.processes ∙ sym (ap (map (λ s. Some s)) looks.nexts) ∙ sym (next_marks w'.processes);
     };
   }

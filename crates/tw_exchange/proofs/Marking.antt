@@ -12,7 +12,7 @@ use Rattle.tw_theory.specs.Exchange.{all_empty, all_idle, is_empty, is_swept}
 use Rattle.tw_theory.specs.Executive.{World, mail_of, posted}
 use Rattle.tw_vtime.specs.Stamps.{never}
 use Rattle.tw_exchange.specs.Agenda.{AllLate, IsLeast, mark}
-use Rattle.tw_exchange.specs.Queues.{AreMarked, AreMarkedBut, AreMarkedUpTo, IsKept, IsKeptBut, IsSameBut, box_mark, marked, post_mark}
+use Rattle.tw_exchange.specs.Queues.{AreMarked, AreMarkedBut, AreMarkedUpTo, IsKept, IsKeptBut, IsSameBut, box_mark, marked, next_mark, post_mark}
 use Rattle.tw_exchange.specs.Sweeping.{is_idle}
 use Rattle.tw_exchange.specs.declared.queues.Queues.{Queues}
 use Rattle.tw_exchange.proofs.Following.{exact_but}
@@ -26,6 +26,7 @@ module _ {S : Type 0} (queues : Queues) (w w' : World S) (b : ℕ) where
   marks_but h processes mail = record {
     posting = subst (IsSameBut b (map post_mark w'.processes)) (sym h.posting) (map_same_but post_mark b w.processes w'.processes processes);
     delivering = subst (IsSameBut b (map box_mark w'.mail)) (sym h.delivering) (map_same_but box_mark b w.mail w'.mail mail);
+    standing = subst (IsSameBut b (map next_mark w'.processes)) (sym h.standing) (map_same_but next_mark b w.processes w'.processes processes);
   }
 
   pub kept_but : IsKept queues w → IsSameBut b w.processes w'.processes → IsSameBut b w.mail w'.mail → IsKeptBut b queues w'
@@ -52,15 +53,18 @@ module _ {S : Type 0} (w : World S) (n : ℕ) where
       here (m ∷ ms) (suc n) near = here ms n (omega (arith, near))
 
   pub marked_next : (queues new : Queues) (p : Process S) → AreMarkedUpTo n queues w → slice_get w.processes n ≡ Some p → n < length w.mail
-      → new.posting ≡ slice_set queues.posting n (post_mark p) → new.delivering ≡ slice_set queues.delivering n (box_mark (mail_of w.mail n))
+      → new.posting ≡ slice_set queues.posting n (post_mark p) → new.delivering ≡ slice_set queues.delivering n (box_mark (mail_of w.mail n)) → new.standing ≡ slice_set queues.standing n (next_mark p)
       → AreMarkedUpTo (n + 1) new w
-  marked_next queues new p h at near posting delivering = record {
+  marked_next queues new p h at near posting delivering standing = record {
     posting_count = ap length posting ∙ length-set queues.posting n _ ∙ h.posting_count;
     delivering_count = ap length delivering ∙ length-set queues.delivering n _ ∙ h.delivering_count;
+    standing_count = ap length standing ∙ length-set queues.standing n _ ∙ h.standing_count;
     posting = λ d less. ap (λ l. slice_get l d) posting
         ∙ up_to_set queues.posting (map post_mark w.processes) (post_mark p) (h.posting_count ∙ sym (length-map w.processes post_mark)) (slice_get-map post_mark w.processes n ∙ ap (option_map post_mark) at) h.posting d less;
     delivering = λ d less. ap (λ l. slice_get l d) delivering
         ∙ up_to_set queues.delivering (map box_mark w.mail) (box_mark (mail_of w.mail n)) (h.delivering_count ∙ sym (length-map w.mail box_mark)) (slice_get-map box_mark w.mail n ∙ ap (option_map box_mark) (slice_get-get_or w.mail n [] near)) h.delivering d less;
+    standing = λ d less. ap (λ l. slice_get l d) standing
+        ∙ up_to_set queues.standing (map next_mark w.processes) (next_mark p) (h.standing_count ∙ sym (length-map w.processes next_mark)) (slice_get-map next_mark w.processes n ∙ ap (option_map next_mark) at) h.standing d less;
   }
 
 all_alike : {X : Type 0} (n : ℕ) (ms xs : List X) → length ms ≡ length xs → length xs ≤ n → ((d : ℕ) → d < n → slice_get ms d ≡ slice_get xs d) → ms ≡ xs
@@ -75,18 +79,25 @@ pub marked_all : {S : Type 0} (n : ℕ) (queues : Queues) (w : World S) → AreM
 marked_all n queues w h processes mail = record {
   posting = all_alike n queues.posting (map post_mark w.processes) (h.posting_count ∙ sym (length-map w.processes post_mark)) (omega (arith, processes, length-map w.processes post_mark)) h.posting;
   delivering = all_alike n queues.delivering (map box_mark w.mail) (h.delivering_count ∙ sym (length-map w.mail box_mark)) (omega (arith, mail, length-map w.mail box_mark)) h.delivering;
+  standing = all_alike n queues.standing (map next_mark w.processes) (h.standing_count ∙ sym (length-map w.processes next_mark)) (omega (arith, processes, length-map w.processes next_mark)) h.standing;
 }
 
-pub none_marked : {S : Type 0} (queues : Queues) (w : World S) → length queues.posting ≡ length w.processes → length queues.delivering ≡ length w.mail → AreMarkedUpTo 0 queues w
-none_marked queues w posting delivering = record {
+pub none_marked : {S : Type 0} (queues : Queues) (w : World S) → length queues.posting ≡ length w.processes → length queues.delivering ≡ length w.mail → length queues.standing ≡ length w.processes
+    → AreMarkedUpTo 0 queues w
+none_marked queues w posting delivering standing = record {
   posting_count = posting;
   delivering_count = delivering;
+  standing_count = standing;
   posting = λ d near. absurd (omega (arith, near));
   delivering = λ d near. absurd (omega (arith, near));
+  standing = λ d near. absurd (omega (arith, near));
 }
 
 pub marks_count : {S : Type 0} (queues : Queues) (w : World S) → AreMarked queues w → (length queues.posting ≡ length w.processes) × (length queues.delivering ≡ length w.mail)
 marks_count queues w h = (ap length h.posting ∙ length-map w.processes post_mark, ap length h.delivering ∙ length-map w.mail box_mark)
+
+pub standing_count : {S : Type 0} (queues : Queues) (w : World S) → AreMarked queues w → length queues.standing ≡ length w.processes
+standing_count queues w h = ap length h.standing ∙ length-map w.processes next_mark
 
 -- ## What was posted
 
@@ -102,10 +113,11 @@ posted_marked (i ∷ items) mail =
 
 -- a post, but for the sender
 pub posted_but : {S : Type 0} (queues new : Queues) (w w' : World S) (b : ℕ) (items : List Item) → AreMarked queues w → IsSameBut b w.processes w'.processes → w'.mail ≡ posted w.mail items
-    → new.posting ≡ queues.posting → new.delivering ≡ marked queues.delivering items → AreMarkedBut b new w'
-posted_but queues new w w' b items h processes mail posting delivering = record {
+    → new.posting ≡ queues.posting → new.delivering ≡ marked queues.delivering items → new.standing ≡ queues.standing → AreMarkedBut b new w'
+posted_but queues new w w' b items h processes mail posting delivering standing = record {
   posting = subst (IsSameBut b (map post_mark w'.processes)) (sym (posting ∙ h.posting)) (map_same_but post_mark b w.processes w'.processes processes);
   delivering = subst (IsSameBut b (map box_mark w'.mail)) (ap (map box_mark) mail ∙ posted_marked items w.mail ∙ ap (λ ms. marked ms items) (sym h.delivering) ∙ sym delivering) (nothing_else b (map box_mark w'.mail));
+  standing = subst (IsSameBut b (map next_mark w'.processes)) (sym (standing ∙ h.standing)) (map_same_but next_mark b w.processes w'.processes processes);
 }
 
 -- ## Who is marked

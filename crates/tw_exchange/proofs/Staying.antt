@@ -1,10 +1,11 @@
 -- Steps post nothing: so a chain that is handed in leaves the mailboxes as they are. And what a run that goes on keeps, whatever is done.
-use Rattle.std.proofs.Common.{◌≡◌, ℕ, zero, suc, false, List, None, Some, Ok, Err, refl, sym, subst, ◌∙◌}
-use Rattle.std.specs.Prelude.{IfErr, IfOk, IfSome, OnOk, Option, Result, is_some, nat_lt, slice_get, Ok, Err}
-use Rattle.std.proofs.lemmas.Bool.{cond_both, true≢false}
+use Rattle.std.proofs.Common.{◌≡◌, ℕ, zero, suc, List, None, Some, Ok, Err, refl, sym, subst, ◌∙◌}
+use Rattle.std.specs.Prelude.{IfErr, OnErr, OnOk, Option, Result, nat_lt, slice_get, Ok, Err}
+use Rattle.std.proofs.lemmas.Bool.{cond_both}
 use Rattle.atomic_table.specs.Seated.{TableId}
 use Rattle.tw_atomic.specs.Atomic.{Meaning}
 use Rattle.tw_exec.specs.Chains.{IsInstalledOn}
+use Rattle.tw_exec.specs.Running.{after}
 use Rattle.tw_laws.specs.Chains.{steps_of_one}
 use Rattle.tw_network.specs.Contents.{Contents}
 use Rattle.tw_actions.specs.declared.chain.Finished.{Finished}
@@ -13,10 +14,8 @@ use Rattle.tw_theory.specs.Contents.{Process, next}
 use Rattle.tw_theory.specs.Executive.{Action, World, Step, Answer, NothingDue, act, act_step, if_made, replay}
 use Rattle.tw_theory.specs.LocalRun.{Made, NoStep, local_step}
 use Rattle.tw_theory.specs.Network.{Network}
-use Rattle.tw_theory.specs.Outcomes.{RunState}
 use Rattle.tw_vtime.specs.Stamps.{stamp}
-use Rattle.tw_exchange.specs.Ends.{IsOver}
-use Rattle.tw_exchange.specs.Exchanged.{Exchanged}
+use Rattle.tw_exchange.specs.Exchanged.{Exchanged, with_executive}
 use Rattle.tw_exchange.specs.Further.{IsFurther, IsSince, Reached, reached}
 use Rattle.tw_exchange.specs.Sweeping.{IsCutShort, replayed}
 use Rattle.tw_exchange.proofs.Coming.{since_further}
@@ -43,11 +42,6 @@ module _ {S : Type 0} (net : Network S) (until : ℕ) where
   steps_mail w c zero = refl
   steps_mail w c (suc n) = steps_mail (act net until w (Step c)).1 c n ∙ acted_mail w c
 
--- while the run goes on
-pub none_ended : {M S E : Type 0} (meaning : M → Meaning S) (end : Option (Result RunState E)) (x : Exchanged M S) → is_some end ≡ false → IfSome end (λ r. IfOk r (IsOver meaning x.executive))
-none_ended meaning None x none = tt
-none_ended meaning (Some r) x none = absurd (true≢false none)
-
 module _ {M S : Type 0} (meaning : M → Meaning S) (given : Contents M → ℕ → TableId → Type 0) (begun : Reached → Type 0) where
   abbrev pub IsGoing : Exchanged M S → Type 0
   IsGoing x = given x.executive.network x.executive.until x.publisher.board × IsSince begun x.executive.world
@@ -62,7 +56,15 @@ module _ {M S : Type 0} (meaning : M → Meaning S) (given : Contents M → ℕ 
         since_further begun old.executive.world new.executive.world h.1 further,
       )
 
-  -- and so does a chain that is handed in
+  -- and so do an action, and a chain that is handed in
+  pub acted_going : {X E : Type 0} (action : Action) (old new : Exchanged M S) (result : Result X E) → OnOk result (new ≡ with_executive (after meaning action old.executive) old) → OnErr result (new ≡ old)
+      → IsFurther (reached old.executive.world) (reached new.executive.world) → IsGoing old → IsGoing new
+  acted_going action old new (Ok done) is stays further h = (
+    subst (λ x. given x.executive.network x.executive.until x.publisher.board) (sym is) h.0,
+    since_further begun old.executive.world new.executive.world h.1 further,
+  )
+  acted_going action old new (Err why) is stays further h = subst IsGoing (sym stays) h
+
   pub installed_going : (chain : Chain M S) (old new : Exchanged M S) (finished : Finished) → IsInstalledOn meaning chain old.executive new.executive finished → new.publisher ≡ old.publisher
       → IsFurther (reached old.executive.world) (reached new.executive.world) → IsGoing old → IsGoing new
   installed_going chain old new finished is same further h = (

@@ -3,6 +3,7 @@
 --     trace_of outcome      its records
 --     IsEndOf meaning e outcome      so ends the run of an executive that has committed just these
 --     IsOver meaning e end      the run of an executive stands so, and all before its end is committed
+--     IsNotOver meaning e      it stands as no end does, or something before its end is not committed
 --     IsOnly given n until      what is given is of this network and this end tick
 --     IsDue valid meaning n until order      an order of a component of this network, of steps before this end tick
 --     AreAlikeIn meaning undone n prepareds      its model takes back as the component's own does
@@ -42,6 +43,9 @@ abbrev pub IsOver : {M S : Type 0} → (M → Meaning S) → Running M S → the
 IsOver meaning e theory.Complete = state_of meaning e ≡ theory.Complete
 IsOver meaning e (theory.Fault met) = (state_of meaning e ≡ theory.Fault met) × (all_past met.stamp e.world.processes ≡ true)
 IsOver meaning e theory.Going = ⊥
+
+abbrev pub IsNotOver : {M S : Type 0} → (M → Meaning S) → Running M S → Type 0
+IsNotOver meaning e = (end : theory.RunState) → IsOver meaning e end → ⊥
 
 -- ---- what workers know of each other's work
 

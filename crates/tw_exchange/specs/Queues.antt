@@ -1,6 +1,6 @@
 -- What is kept up beside an executive, so that no component has to be looked for.
---     IsKept queues w      who is free, by next steps; who has something to post; which mailboxes hold something
---     AreMarked queues w      the last two
+--     IsKept queues w      who is free, by next steps; who has something to post; which mailboxes hold something; the next steps of all
+--     AreMarked queues w      the last three
 --     LooksSame w w'      the queues of the one are those of the other
 --     IsSameBut b xs ys      ys has as many elements as xs, and each but number b is the same
 --     IsElsewhereSame b w w'      so are the processes and the mailboxes of w'
@@ -23,9 +23,14 @@ post_mark p = mark (not (is_idle p))
 abbrev pub box_mark : List Item → Option ℕ
 box_mark box = mark (not (is_empty box))
 
+-- the next step of a process
+abbrev pub next_mark : {S : Type 0} → Process S → Option ℕ
+next_mark p = Some (next p)
+
 pub record AreMarked {S : Type 0} (queues : Queues) (w : World S) : Type 0 where
   pub posting : queues.posting ≡ map post_mark w.processes
   pub delivering : queues.delivering ≡ map box_mark w.mail
+  pub standing : queues.standing ≡ map next_mark w.processes
 
 pub record IsKept {S : Type 0} (queues : Queues) (w : World S) : Type 0 where
   pub free : IsExact queues.free w.processes
@@ -55,6 +60,7 @@ pub record IsElsewhereSame {S : Type 0} (b : ℕ) (w w' : World S) : Type 0 wher
 pub record AreMarkedBut {S : Type 0} (b : ℕ) (queues : Queues) (w : World S) : Type 0 where
   pub posting : IsSameBut b (map post_mark w.processes) queues.posting
   pub delivering : IsSameBut b (map box_mark w.mail) queues.delivering
+  pub standing : IsSameBut b (map next_mark w.processes) queues.standing
 
 pub record IsKeptBut {S : Type 0} (b : ℕ) (queues : Queues) (w : World S) : Type 0 where
   pub free : IsExactBut b queues.free w.processes
@@ -63,5 +69,7 @@ pub record IsKeptBut {S : Type 0} (b : ℕ) (queues : Queues) (w : World S) : Ty
 pub record AreMarkedUpTo {S : Type 0} (n : ℕ) (queues : Queues) (w : World S) : Type 0 where
   pub posting_count : length queues.posting ≡ length w.processes
   pub delivering_count : length queues.delivering ≡ length w.mail
+  pub standing_count : length queues.standing ≡ length w.processes
   pub posting : (d : ℕ) → d < n → slice_get queues.posting d ≡ slice_get (map post_mark w.processes) d
   pub delivering : (d : ℕ) → d < n → slice_get queues.delivering d ≡ slice_get (map box_mark w.mail) d
+  pub standing : (d : ℕ) → d < n → slice_get queues.standing d ≡ slice_get (map next_mark w.processes) d

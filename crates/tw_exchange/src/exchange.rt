@@ -2,9 +2,11 @@
 
 ghost use Rattle.std.specs.Prelude.{◌≡◌, ◌↔◌, None, IfOk, IfErr, IsErrOf, OnOk, OnErr, false, length, replicate};
 ghost use Rattle.tw_exchange.specs.Exchanged.{IsNotAhead, with_executive};
+ghost use Rattle.tw_exchange.specs.Further.{ComesFurther};
 ghost use Rattle.tw_exec.specs.Actions.{reason};
 ghost use Rattle.tw_exec.specs.Running.{answer, after, AreExact, IsDelivery, IsReason, IsSoundly, IsWanting, WantsRoom};
 ghost use Rattle.tw_exec.specs.declared.refused.Refused.TheVariants as refusals;
+ghost use Rattle.tw_laws.specs.Cancelling.{least_own};
 ghost use Rattle.tw_theory.specs.Memory.{TakesMemory};
 
 use crate::keeping::{free_all, refresh_all};
@@ -114,8 +116,11 @@ impl<M: Atomic> Exchange<M> {
         &self.executive
     }
 
-    /// The least of the next steps of all components, as far as it is known; the end where there is none.
-    pub fn least_next(&self) -> Stamp {
+    /// The least of the next steps of all components, those that are given out among them; the end where there is none. It costs one
+    /// look.
+    pub fn least_next(&self) -> Stamp
+        ensures { result ≡ least_own self.now.executive.world.processes }
+    {
         match self.queues.standing.first() {
             Some((next, _)) => next,
             None => Stamp::END,
@@ -146,6 +151,7 @@ impl<M: Atomic> Exchange<M> {
         ensures limit { IsDelivery action
             → (WantsRoom M.meaning action self.old.executive ↔ IsErrOf result refusals.Full) }
         ensures memory { IfErr result (λ why. reason why ≡ None → TakesMemory action) }
+        ensures further { ComesFurther self.old.executive self.new.executive }
         ensures stays { OnErr result (self.new ≡ self.old) }
     {
         self.executive.facts();

@@ -1,7 +1,7 @@
 //! How a run ends.
 
-ghost use Rattle.std.specs.Prelude.{◌≡◌, IfErr, IfOk, IfSome, IsTrue};
-ghost use Rattle.tw_exchange.specs.Ends.{IsEndOf, IsOver};
+ghost use Rattle.std.specs.Prelude.{◌≡◌, ◌↔◌, IfErr, IfOk, IfSome, IsTrue, None};
+ghost use Rattle.tw_exchange.specs.Ends.{IsEndOf, IsNotOver, IsOver};
 ghost use Rattle.tw_exchange.specs.States.{state_of};
 
 use crate::exchange::Exchange;
@@ -21,9 +21,11 @@ pub enum Outcome {
     Fault(Vec<Record>, Fault),
 }
 
-/// How a run has ended, where it has and all before its end is committed.
+/// How a run has ended, where it has and all before its end is committed; `None` exactly where it has not. It changes nothing, and is
+/// refused for want of memory alone (4).
 pub fn find_end<M: Atomic>(exchange: &mut Exchange<M>) -> Result<Option<RunState>, AllocError>
     ensures end { IfOk result (λ end. IfSome end (IsOver M.meaning exchange.old.executive)) }
+    ensures none { IfOk result (λ end. end ≡ None → IsNotOver M.meaning exchange.old.executive) }
     ensures stays { exchange.new ≡ exchange.old }
 {
     let state = exchange.state()?;
@@ -37,7 +39,7 @@ pub fn find_end<M: Atomic>(exchange: &mut Exchange<M>) -> Result<Option<RunState
 /// Whether the run of an executive that stands so is over, and all before its end is committed.
 fn is_over<M: Atomic>(executive: &Executive<M>, state: &RunState) -> bool
     requires { state.now ≡ state_of M.meaning executive.now }
-    ensures { IsTrue result → IsOver M.meaning executive.now state.now }
+    ensures { IsTrue result ↔ IsOver M.meaning executive.now state.now }
 {
     match state {
         RunState::Complete => true,

@@ -4,7 +4,7 @@ ghost use Rattle.std.specs.List.{AllByRecursion as Each};
 ghost use Rattle.std.specs.Prelude.{◌≡◌, ◌<◌, ◌≤◌, IfOk, IfSome, IsTrue, None, length, replicate, slice_get, slice_set};
 ghost use Rattle.tw_exchange.specs.Agenda.{AllLate};
 ghost use Rattle.tw_exchange.specs.Exchanged.{busy_in};
-ghost use Rattle.tw_exchange.specs.Queues.{box_mark, marked, post_mark, AreMarked, AreMarkedBut, IsKept, IsKeptBut};
+ghost use Rattle.tw_exchange.specs.Queues.{box_mark, marked, next_mark, post_mark, AreMarked, AreMarkedBut, IsKept, IsKeptBut};
 ghost use Rattle.tw_theory.specs.Executive.{mail_of};
 
 use crate::agenda::Agenda;
@@ -26,7 +26,7 @@ pub(crate) struct Queues {
     pub(crate) posting: Agenda,
     /// The components whose mailboxes hold something, each at the start.
     pub(crate) delivering: Agenda,
-    /// The components by their next steps, also those that are given out: for those who steer by it, and nothing stands on it.
+    /// The components by their next steps, also those that are given out.
     pub(crate) standing: Agenda,
     /// What deliveries have taken back, for those who steer by it.
     pub(crate) undone: Undone,
@@ -39,6 +39,7 @@ impl Queues {
         ensures free { IfOk result (λ queues. queues.free ≡ replicate count None) }
         ensures posting { IfOk result (λ queues. queues.posting ≡ replicate count None) }
         ensures delivering { IfOk result (λ queues. queues.delivering ≡ replicate count None) }
+        ensures standing { IfOk result (λ queues. queues.standing ≡ replicate count None) }
     {
         Ok(Queues {
             free: Agenda::new(alloc, count)?,
@@ -68,7 +69,7 @@ impl Queues {
         self.note_marks(executive, component);
     }
 
-    /// Whether a component has something to post, and its mailbox holds something, is looked at again.
+    /// Whether a component has something to post, and its mailbox holds something, is looked at again, and its next step.
     pub(crate) fn note_marks<M: Atomic>(&mut self, executive: &Executive<M>, component: usize)
         requires near { component < length executive.now.network.models }
         requires but { AreMarkedBut component self.old executive.now.world }
@@ -85,6 +86,7 @@ impl Queues {
     pub(crate) fn note_all<M: Atomic>(&mut self, executive: &Executive<M>)
         requires posting { length self.old.posting ≡ length executive.now.network.models }
         requires delivering { length self.old.delivering ≡ length executive.now.network.models }
+        requires standing { length self.old.standing ≡ length executive.now.network.models }
         ensures marked { AreMarked self.new executive.now.world }
         ensures free { self.new.free ≡ self.old.free }
     {
@@ -104,6 +106,7 @@ impl Queues {
             (λ p. self.new.posting ≡ slice_set self.old.posting component (post_mark p)) }
         ensures free { self.new.free ≡ self.old.free }
         ensures delivering { self.new.delivering ≡ self.old.delivering }
+        ensures standing { self.new.standing ≡ self.old.standing }
     {
         executive.facts();
         let idle = is_idle(executive.contents(component));
@@ -118,6 +121,7 @@ impl Queues {
             self.new.delivering ≡ slice_set self.old.delivering component mark }
         ensures free { self.new.free ≡ self.old.free }
         ensures posting { self.new.posting ≡ self.old.posting }
+        ensures standing { self.new.standing ≡ self.old.standing }
     {
         let empty = executive.mail(component).is_empty();
         self.delivering.mark(component, !empty);
@@ -125,15 +129,16 @@ impl Queues {
 
     /// The next step of a component.
     fn note_standing<M: Atomic>(&mut self, executive: &Executive<M>, component: usize)
-        requires { component < length executive.now.network.models }
+        requires near { component < length executive.now.network.models }
+        requires within { component < length self.old.standing }
+        ensures standing { IfSome (slice_get executive.now.world.processes component)
+            (λ p. self.new.standing ≡ slice_set self.old.standing component (next_mark p)) }
         ensures free { self.new.free ≡ self.old.free }
         ensures posting { self.new.posting ≡ self.old.posting }
         ensures delivering { self.new.delivering ≡ self.old.delivering }
     {
-        if component < self.standing.len() {
-            self.standing
-                .put(component, executive.contents(component).next());
-        }
+        self.standing
+            .put(component, executive.contents(component).next());
     }
 
     /// These items were posted: the mailboxes of their receivers hold something.
@@ -142,6 +147,7 @@ impl Queues {
         ensures delivering { self.new.delivering ≡ marked self.old.delivering items.now }
         ensures free { self.new.free ≡ self.old.free }
         ensures posting { self.new.posting ≡ self.old.posting }
+        ensures standing { self.new.standing ≡ self.old.standing }
     {
         for item in items {
             self.delivering.put(item.message.to, Stamp::START);

@@ -2,9 +2,10 @@
 
 ghost use Rattle.std.specs.Prelude.{◌≡◌, ℕ, IfErr, IfOk, IfSome};
 ghost use Rattle.atomic_table.specs.Seated.{TableId};
-ghost use Rattle.tw_exchange.specs.Ends.{IsDue, IsOver, IsMadeFor};
+ghost use Rattle.tw_exchange.specs.Ends.{IsDue, IsMadeFor};
 ghost use Rattle.tw_exchange.specs.Further.{reached, IsSince};
 ghost use Rattle.tw_network.specs.Contents.{Contents};
+ghost use Rattle.tw_workers.specs.Runs.{HasEnded};
 
 use crate::crew::{Crew, Seen};
 use crate::effort::Effort;
@@ -12,19 +13,23 @@ use crate::setting::Setting;
 use crate::steering::{Ending, Pace, Window, tick_of};
 use std::alloc::Global;
 use std::marker::{Brand, Model, PhantomData};
-use tw_actions::RunState;
+use std::sync::{OnceLock, OnceToken};
+use tw_actions::{Action, RunState};
 use tw_atomic::Atomic;
 use tw_chain::Cause;
 use tw_exchange::{Exchange, Order, Prepareds, SweepRefused, find_end};
-use tw_exec::Executive;
+use tw_exec::{Executive, Refused};
 use tw_process::{Finished, Stop};
 
 // How many chains are handed in between two sweeps, at least; and as many as there are components, at each of which a sweep looks.
 const CHAINS_BETWEEN_SWEEPS: u64 = 64;
 
-/// What was handed in: a network, an end tick and a board, and how far the executive had come. Each run picks it, so that its workers
-/// know that what lies under their lock is of that network and until that tick, and the run knows its board again, and that what was
-/// committed before is committed still.
+/// How a run ended: over, or given up, and for which want.
+pub(crate) type End = Result<RunState, SweepRefused>;
+
+/// What was handed in: a network, an end tick and a board, and how far the executive had come; and the cell into which is written how
+/// the run ended. Each run picks it, so that its workers know that what lies under their lock is of that network and until that tick,
+/// and the run knows its board and its cell again, and that what was committed before is committed still.
 pub(crate) trait Given<M> {
     ghost use Rattle.std.specs.Prelude.{ℕ};
     ghost use Rattle.atomic_table.specs.Seated.{TableId};
@@ -34,19 +39,23 @@ pub(crate) trait Given<M> {
     ghost is_given: { Contents M → ℕ → TableId → Type 0 };
 
     ghost is_begun: { Reached → Type 0 };
+
+    ghost cell: { ℕ };
 }
 
 impl<M> Given<M> for Brand {
     ghost is_given = { λ n until board. Unit {0} };
 
     ghost is_begun = { λ from. Unit {0} };
+
+    ghost cell = { 0 };
 }
 
-/// An exchange of what was handed in, and whether the run has ended, and how.
+/// An exchange of what was handed in, and what shows how the run has ended, once it has.
 ///
 /// Contracts see the exchange.
 #[derive(Drop)]
-pub(crate) struct Desk<M: Atomic, H: Given<M>> {
+pub(crate) struct Desk<'a, M: Atomic, H: Given<M>> {
     alloc: Global,
     exchange: Exchange<M>,
     setting: Setting,
@@ -62,15 +71,17 @@ pub(crate) struct Desk<M: Atomic, H: Given<M>> {
     handed_in: u64,
     // After how many chains it is swept.
     sweep_after: u64,
-    end: Option<Result<RunState, SweepRefused>>,
+    // How the run ended is written there once, for all workers; and what shows that it was.
+    cell: &'a OnceLock<End>,
+    end: Option<OnceToken<'a, End>>,
     of: PhantomData<H>,
 }
 
-impl<M: Atomic, H: Given<M>> Model for Desk<M, H> {
-    ghost use Rattle.std.specs.Prelude.{IfOk, IfSome};
-    ghost use Rattle.tw_exchange.specs.Ends.{IsOver};
+impl<'a, M: Atomic, H: Given<M>> Model for Desk<'a, M, H> {
+    ghost use Rattle.std.specs.Prelude.{◌≡◌, IfSome};
     ghost use Rattle.tw_exchange.specs.Exchanged.{Exchanged};
     ghost use Rattle.tw_exchange.specs.Further.{IsSince};
+    ghost use Rattle.tw_workers.specs.Runs.{HasEnded};
 
     ghost Value = { Exchanged M M.State };
 
@@ -78,20 +89,23 @@ impl<M: Atomic, H: Given<M>> Model for Desk<M, H> {
 
     ghost invariant = { λ desk. H.is_given desk.exchange.executive.network
         desk.exchange.executive.until desk.exchange.publisher.board
-        × IfSome desk.end (λ end. IfOk end (IsOver M.meaning desk.exchange.executive))
-        × IsSince H.is_begun desk.exchange.executive.world };
+        × IfSome desk.end (λ token. (token.of ≡ H.cell)
+        × HasEnded M.meaning desk.exchange.executive token.value)
+        × IsSince H.is_begun desk.exchange.executive.world × (desk.cell.now.id ≡ H.cell) };
 }
 
-impl<M: Atomic, H: Given<M>> Desk<M, H> {
-    /// The exchange of what was handed in, before a run. Where memory is refused it comes back.
+impl<'a, M: Atomic, H: Given<M>> Desk<'a, M, H> {
+    /// The exchange of what was handed in, before a run, and the cell for its end. Where memory is refused the exchange comes back.
     pub(crate) fn new(
         alloc: Global,
         exchange: Exchange<M>,
         setting: Setting,
-    ) -> Result<Desk<M, H>, Exchange<M>>
+        cell: &'a OnceLock<End>,
+    ) -> Result<Desk<'a, M, H>, Exchange<M>>
         requires given { let e = exchange.executive in
             H.is_given e.network e.until exchange.publisher.board }
         requires begun { H.is_begun (reached exchange.executive.world) }
+        requires cell { cell.now.id ≡ H.cell }
         ensures made { IfOk result (λ desk. desk ≡ exchange) }
         ensures handed_back { IfErr result (λ back. back ≡ exchange) }
     {
@@ -112,16 +126,19 @@ impl<M: Atomic, H: Given<M>> Desk<M, H> {
             out: 0,
             handed_in: 0,
             sweep_after: CHAINS_BETWEEN_SWEEPS.max(components as u64),
+            cell,
             end: None,
             of: PhantomData,
         })
     }
 
-    /// The exchange after a run, how the run ended, and what it spent.
-    pub(crate) fn into_parts(self) -> (Exchange<M>, Option<Result<RunState, SweepRefused>>, Effort)
+    /// The exchange after a run, what shows how the run ended, and what it spent.
+    pub(crate) fn into_parts(self) -> (Exchange<M>, Option<OnceToken<'a, End>>, Effort)
         ensures given { let e = result.0.executive in
             H.is_given e.network e.until result.0.publisher.board }
-        ensures end { IfSome result.1 (λ end. IfOk end (IsOver M.meaning result.0.executive)) }
+        ensures cell { IfSome result.1 (λ token. token.of ≡ H.cell) }
+        ensures end { IfSome result.1
+            (λ token. HasEnded M.meaning result.0.executive token.value) }
         ensures since { IsSince H.is_begun result.0.executive.world }
     {
         let Desk {
@@ -135,6 +152,7 @@ impl<M: Atomic, H: Given<M>> Desk<M, H> {
             out: _,
             handed_in: _,
             sweep_after: _,
+            cell: _,
             end,
             of: _,
         } = self;
@@ -250,7 +268,7 @@ impl<M: Atomic, H: Given<M>> Desk<M, H> {
             }
             Ok(None) => None,
             Err(_) => {
-                self.make_room(SweepRefused::OutOfMemory);
+                self.make_room();
                 None
             }
         }
@@ -299,10 +317,8 @@ impl<M: Atomic, H: Given<M>> Desk<M, H> {
                 self.go_on();
                 self.look_at(component);
             }
-            Stop::Ended(Cause::OutOfMemory) | Stop::OutOfMemory => {
-                self.make_room(SweepRefused::OutOfMemory);
-            }
-            Stop::Full => self.make_room(SweepRefused::Full),
+            Stop::Ended(Cause::OutOfMemory) | Stop::OutOfMemory => self.make_room(),
+            Stop::Full => self.free_nodes(component),
         }
     }
 
@@ -379,23 +395,63 @@ impl<M: Atomic, H: Given<M>> Desk<M, H> {
             .count(ending.installed, lost, process.lists().pending_len());
     }
 
-    /// Posts and delivers what is in transit. Where that is refused it sweeps, as for any other want of memory or of nodes.
+    /// Posts and delivers what is in transit. Where that is refused it sweeps: for want of memory as for any other; for want of nodes
+    /// the sweep delivers the rest, or is refused as well.
     fn pass_on(&mut self) {
         if self.end.is_some() {
             return;
         }
-        if let Err(refused) = self.exchange.settle() {
-            self.make_room(refused);
+        match self.exchange.settle() {
+            Ok(()) => {}
+            Err(SweepRefused::OutOfMemory) => self.make_room(),
+            Err(SweepRefused::Full) => self.sweep_and_look(),
         }
     }
 
-    /// Sweeps because a component found no memory, or has used up its nodes: what is committed frees some. Where that brings global
-    /// virtual time no further, the run has ended.
-    fn make_room(&mut self, why: SweepRefused) {
+    /// Sweeps because memory was refused: what is committed frees some. Where that brings global virtual time no further, the run has
+    /// ended.
+    fn make_room(&mut self) {
+        if self.sweep_in_vain() {
+            self.end_as(Err(SweepRefused::OutOfMemory));
+        }
+    }
+
+    /// Sweeps because a component has used up its nodes: what is committed frees some. Where that brings global virtual time no
+    /// further, its step is tried once more.
+    fn free_nodes(&mut self, component: usize) {
+        if self.sweep_in_vain() {
+            self.try_step(component);
+        }
+    }
+
+    /// Sweeps, and looks whether the run has ended. Answers whether it has not, and global virtual time came no further.
+    fn sweep_in_vain(&mut self) -> bool {
         let before = self.exchange.executive().gvt();
         self.sweep_and_look();
-        if self.end.is_none() && self.exchange.executive().gvt() == before {
-            self.end = Some(Err(why));
+        self.end.is_none() && self.exchange.executive().gvt() == before
+    }
+
+    /// The executive makes the next step of a component itself. Where that is refused for want of nodes, or of memory, the run has
+    /// ended.
+    fn try_step(&mut self, component: usize) {
+        if self.end.is_some() {
+            return;
+        }
+        match self.exchange.act(Action::Step(component)) {
+            Err(Refused::Full) => self.end_as(Err(SweepRefused::Full)),
+            Err(Refused::OutOfMemory) => self.end_as(Err(SweepRefused::OutOfMemory)),
+            _ => {}
+        }
+    }
+
+    /// Writes down how the run has ended. Nobody else writes there; an end that were refused would be found again.
+    fn end_as(&mut self, end: End)
+        requires { HasEnded M.meaning self.old.executive end }
+        ensures { self.new ≡ self.old }
+    {
+        let cell = self.cell;
+        if let Ok(token) = cell.try_set(end) {
+            self.end = Some(token);
         }
     }
 
@@ -422,18 +478,22 @@ impl<M: Atomic, H: Given<M>> Desk<M, H> {
         }
     }
 
-    /// Commits all that can be. Where that is refused, the run has ended.
+    /// Commits all that can be. Where that is refused, and global virtual time came no further, the run has ended.
     fn commit(&mut self) {
         if self.end.is_some() {
             return;
         }
+        let before = self.exchange.executive().gvt();
         self.handed_in = 0;
         let undone = self.exchange.take_undone();
         self.effort.count_undone(undone);
         self.window.count(0, undone.steps, 0);
         self.window.steer();
-        if let Err(refused) = self.exchange.sweep() {
-            self.end = Some(Err(refused));
+        let Err(refused) = self.exchange.sweep() else {
+            return;
+        };
+        if self.exchange.executive().gvt() == before {
+            self.end_as(Err(refused));
         }
     }
 
@@ -444,9 +504,9 @@ impl<M: Atomic, H: Given<M>> Desk<M, H> {
             return;
         }
         match find_end(&mut self.exchange) {
-            Ok(Some(end)) => self.end = Some(Ok(end)),
+            Ok(Some(end)) => self.end_as(Ok(end)),
             Ok(None) => {}
-            Err(_) => self.end = Some(Err(SweepRefused::OutOfMemory)),
+            Err(_) => self.end_as(Err(SweepRefused::OutOfMemory)),
         }
     }
 }

@@ -5,18 +5,19 @@ ghost use Rattle.std.specs.Prelude.{◌≡◌, ◌≤◌, IfErr, IfOk, IfSome, I
 ghost use Rattle.tw_exchange.specs.Ends.{IsDue, IsEndOf, IsMadeFor, IsOnly, IsOver};
 ghost use Rattle.tw_exchange.specs.Exchanged.{IsNotAhead};
 ghost use Rattle.tw_exchange.specs.Further.{reached, IsSince};
+ghost use Rattle.tw_exchange.specs.declared.refused.SweepRefused.TheVariants as refusal;
 ghost use Rattle.tw_theory.specs.Board.{numbers_of};
 ghost use Rattle.tw_vtime.specs.Stamps.{max_tick};
-ghost use Rattle.tw_workers.specs.Runs.{IsRunBy};
+ghost use Rattle.tw_workers.specs.Runs.{HasEnded, IsRunBy};
 
 use crate::crew::Looks;
-use crate::desk::{Desk, Given};
+use crate::desk::{Desk, End, Given};
 use crate::effort::Effort;
 use crate::setting::{RunFault, Setting};
 use std::alloc::Global;
 use std::hint::spin_loop;
 use std::marker::Brand;
-use std::sync::{Arc, Condvar, Mutex, MutexGuard, Wait};
+use std::sync::{Arc, Condvar, Mutex, MutexGuard, OnceLock, Wait};
 use std::thread;
 use std::thread::Threads;
 use tw_actions::RunState;
@@ -40,15 +41,38 @@ const IDLE_LOOKS: u64 = 64;
 const IDLE_PAUSE: u64 = 64;
 
 // What the workers of a run share.
-struct Shared<M: Atomic, H: Given<M>> {
-    desk: Mutex<Desk<M, H>>,
+struct Shared<'c, M: Atomic, H: Given<M>> {
+    desk: Mutex<Desk<'c, M, H>>,
     // Something was handed in, or swept, or the run has ended.
     changed: Condvar,
     // One that stepped back is called, or the run has ended.
     called: Condvar,
     network: Arc<Network<M>>,
     until: u64,
-    workers: u64,
+}
+
+// What each member of the crew has: what all of them share, where it is written how the run has ended, and whom to tell of each order.
+struct Member<'b, 'c, M: Atomic, H: Given<M>, G: Gate> {
+    shared: &'b Shared<'c, M, H>,
+    end: &'c OnceLock<End>,
+    gate: &'b G,
+}
+
+// A worker. What starts the workers is generic in it, so that no lifetime of theirs stands in its closures.
+trait Worker {
+    ghost is_ready: { Self → Type 0 };
+
+    fn work<R: Wait>(&self, rt: &R)
+        requires { is_ready self.now };
+}
+
+impl<'b, 'c, M: Atomic, H: Given<M>, G: Gate> Worker for Member<'b, 'c, M, H, G> {
+    ghost is_ready = { λ member. IsOnly H.is_given
+        (arc_value member.shared.now.network) member.shared.now.until };
+
+    fn work<R: Wait>(&self, rt: &R) {
+        work(rt, self.shared, self.end, self.gate)
+    }
 }
 
 /// Runs an executive to the end by so many workers, each in a thread of its own; the calling thread is one of them. A thread that
@@ -60,10 +84,11 @@ struct Shared<M: Atomic, H: Given<M>> {
 /// Global virtual time and how many records are committed are posted after each sweep, and once more at the end: the publisher that
 /// comes back has then posted as many records as the trace has.
 ///
-/// Given up for want of memory (4), or of nodes (12), where a process would hold more than 1,048,576 of them and a sweep brings
-/// global virtual time no further. Then the executive comes back, sound, of the same network and until the same tick: it cancels as it
-/// did, what was committed stays, and global virtual time has not fallen. The publisher has posted just its numbers; so it can be run
-/// again with it. Workers that left without an end, as none does, would be taken for want of memory too.
+/// Given up where a sweep brings global virtual time no further: for want of memory (4), or of nodes (12) where an action of the executive
+/// that comes back would have its process hold more than 1,048,576 of them. The executive comes back sound, of the same network and
+/// until the same tick: it cancels as it did, what was committed stays, and global virtual time has not fallen. The publisher has
+/// posted just its numbers; so it can be run again with it. Workers that left without an end, as none does, would be taken for want of
+/// memory too.
 pub fn run<M: Atomic + Send + Sync, G: Gate + Sync, R: Threads + Wait + Sync>(
     rt: &R,
     alloc: Global,
@@ -113,8 +138,9 @@ where
             return given_up(SweepRefused::OutOfMemory, executive, publisher, nothing);
         }
     };
+    let cell = OnceLock::new();
     let (exchange, end, effort) = run_given::<M, Brand, G, R>(
-        rt, alloc, network, exchange, setting, gate,
+        rt, alloc, network, exchange, setting, gate, &cell,
     );
     let (executive, publisher) = exchange.into_parts();
     match end {
@@ -137,6 +163,7 @@ fn ended<M: Atomic>(
     requires over { IsOver M.meaning executive end }
     ensures end { IfOk result.0 (IsEndOf M.meaning executive) }
     ensures err { IfErr result.0 (λ fault. fault.executive ≡ executive) }
+    ensures why { IfErr result.0 (λ fault. fault.why ≡ refusal.OutOfMemory) }
     ensures board { result.1.board ≡ publisher.board }
     ensures numbers { result.1.numbers ≡ numbers_of executive.world }
 {
@@ -159,6 +186,7 @@ fn given_up<M: Atomic>(
 ) -> (Result<Outcome, RunFault<M>>, Publisher, Effort)
     requires { IsNotAhead publisher executive }
     ensures err { IsErrAnd result.0 (λ fault. fault.executive ≡ executive) }
+    ensures why { IfErr result.0 (λ fault. fault.why ≡ why) }
     ensures board { result.1.board ≡ publisher.board }
     ensures numbers { result.1.numbers ≡ numbers_of executive.world }
 {
@@ -166,8 +194,9 @@ fn given_up<M: Atomic>(
     (Err(RunFault { why, executive }), publisher, effort)
 }
 
-/// Runs what was handed in.
+/// Runs what was handed in, and reads in the cell how the run has ended.
 fn run_given<
+    'c,
     M: Atomic + Send + Sync,
     H: Given<M> + Send + Sync,
     G: Gate + Sync,
@@ -179,7 +208,8 @@ fn run_given<
     exchange: Exchange<M>,
     setting: Setting,
     gate: &G,
-) -> (Exchange<M>, Option<Result<RunState, SweepRefused>>, Effort)
+    cell: &'c OnceLock<End>,
+) -> (Exchange<M>, Option<End>, Effort)
 where
     M::State: Send,
     M::Residue: Send,
@@ -187,82 +217,91 @@ where
         H.is_given e.network e.until exchange.publisher.board }
     requires begun { H.is_begun (reached exchange.executive.world) }
     requires only { IsOnly H.is_given (arc_value network) exchange.executive.until }
+    requires cell { cell.now.id ≡ H.cell }
     ensures given { let e = result.0.executive in
         H.is_given e.network e.until result.0.publisher.board }
-    ensures end { IfSome result.1 (λ end. IfOk end (IsOver M.meaning result.0.executive)) }
+    ensures end { IfSome result.1 (HasEnded M.meaning result.0.executive) }
     ensures since { IsSince H.is_begun result.0.executive.world }
 {
     let until = exchange.executive().until();
-    let desk = match Desk::new(alloc, exchange, setting) {
+    let desk = match Desk::new(alloc, exchange, setting, cell) {
         Ok(desk) => desk,
         Err(exchange) => return (exchange, None, Effort::nothing()),
     };
-    let shared: Shared<M, H> = Shared {
+    let shared: Shared<'c, M, H> = Shared {
         desk: Mutex::new(desk),
         changed: Condvar::new(),
         called: Condvar::new(),
         network,
         until,
-        workers: setting.workers,
     };
-    work_all(rt, &shared, gate);
+    let member = Member {
+        shared: &shared,
+        end: cell,
+        gate: &*gate,
+    };
+    work_all(rt, &member, setting.workers);
+    let Member {
+        shared: _,
+        end: _,
+        gate: _,
+    } = member;
     let Shared {
         desk,
         changed: _,
         called: _,
         network: _,
         until: _,
-        workers: _,
     } = shared;
-    desk.into_inner().into_parts()
+    let (exchange, token, effort) = desk.into_inner().into_parts();
+    let Some(token) = token else {
+        return (exchange, None, effort);
+    };
+    let end = *cell.value(&token);
+    (exchange, Some(end), effort)
 }
 
 /// Starts the workers, of which the calling thread is one, and waits for them.
-fn work_all<
-    'a,
-    M: Atomic + Send + Sync,
-    H: Given<M> + Send + Sync,
-    G: Gate + Sync,
-    R: Threads + Wait + Sync,
->(rt: &'a R, shared: &'a Shared<M, H>, gate: &'a G)
-where
-    M::State: Send,
-    M::Residue: Send,
-    requires { IsOnly H.is_given (arc_value shared.now.network) shared.now.until }
+fn work_all<'b, W: Worker + Sync, R: Threads + Wait + Sync>(rt: &'b R, worker: &'b W, workers: u64)
+    requires { W.is_ready worker.now }
 {
     thread::scope(
         thread::scope_env(),
         rt,
         move |scope|
-            requires { IsOnly H.is_given (arc_value shared.now.network) shared.now.until }
+            requires { W.is_ready worker.now }
         {
-            for _ in 1..shared.workers {
+            for _ in 1..workers {
                 // Who cannot be started is left out.
                 let _ = scope.spawn(
                     move ||
-                        requires { IsOnly H.is_given
-                            (arc_value shared.now.network) shared.now.until }
-                    { work(rt, shared, gate) },
+                        requires { W.is_ready worker.now }
+                    { worker.work(rt) },
                 );
             }
-            work(rt, shared, gate)
+            worker.work(rt)
         },
     );
 }
 
 /// One worker: takes an order under the lock, works it out apart from it, and hands it in under the lock, until the run has ended.
-fn work<M: Atomic, H: Given<M>, G: Gate, R: Wait>(rt: &R, shared: &Shared<M, H>, gate: &G)
+fn work<'c, M: Atomic, H: Given<M>, G: Gate, R: Wait>(
+    rt: &R,
+    shared: &Shared<'c, M, H>,
+    end: &OnceLock<End>,
+    gate: &G,
+)
     requires { IsOnly H.is_given (arc_value shared.now.network) shared.now.until }
 {
     let mut looks = Looks::new();
     shared.desk.lock(rt).join();
-    let Some(mut order) = next_order(rt, shared, &mut looks, None) else {
+    let Some(mut order) = next_order(rt, shared, end, &mut looks, None) else {
         return;
     };
     for _ in rt.forever() {
         let model = shared.network.model(order.component());
         let prepareds = compute(order, model, gate);
-        let Some(next) = next_order(rt, shared, &mut looks, Some(prepareds)) else {
+        let Some(next) = next_order(rt, shared, end, &mut looks, Some(prepareds)) else {
             return;
         };
         order = next;
@@ -270,10 +309,13 @@ fn work<M: Atomic, H: Given<M>, G: Gate, R: Wait>(rt: &R, shared: &Shared<M, H>,
     unreachable!()
 }
 
-/// Hands in what was worked out, if anything was, and waits for an order. None where the run has ended.
-fn next_order<M: Atomic, H: Given<M>, R: Wait>(
+/// Hands in what was worked out, if anything was, and waits for an order. None where the run has ended: then what was worked out is let
+/// go, and the lock is not asked for where the end is written already. Who ends the run wakes all the others before it lets go of the
+/// lock, since those who leave without the lock wake nobody.
+fn next_order<'c, M: Atomic, H: Given<M>, R: Wait>(
     rt: &R,
-    shared: &Shared<M, H>,
+    shared: &Shared<'c, M, H>,
+    end: &OnceLock<End>,
     looks: &mut Looks,
     done: Option<Prepareds<M>>,
 ) -> Option<Order<M>>
@@ -283,6 +325,12 @@ fn next_order<M: Atomic, H: Given<M>, R: Wait>(
     ensures { let n = arc_value shared.now.network in
         IfSome result (IsDue M.valid M.meaning n shared.now.until) }
 {
+    if end.get().is_some() {
+        if let Some(prepareds) = done {
+            prepareds.give_up();
+        }
+        return None;
+    }
     let mut desk = lock_soon(rt, &shared.desk, looks);
     if let Some(prepareds) = done {
         desk.hand_in(prepareds);
@@ -301,6 +349,9 @@ fn next_order<M: Atomic, H: Given<M>, R: Wait>(
             }
             return Some(order);
         }
+        if desk.is_over() {
+            continue;
+        }
         if desk.has_order_once_raised() {
             desk.raise();
         } else if desk.is_idle() {
@@ -314,12 +365,12 @@ fn next_order<M: Atomic, H: Given<M>, R: Wait>(
 }
 
 /// Waits until something may have changed: looks again at first, and then sleeps.
-fn wait_for_change<'a, M: Atomic, H: Given<M>, R: Wait>(
+fn wait_for_change<'a, 'c, M: Atomic, H: Given<M>, R: Wait>(
     rt: &R,
-    shared: &'a Shared<M, H>,
-    mut desk: MutexGuard<'a, Desk<M, H>>,
+    shared: &'a Shared<'c, M, H>,
+    mut desk: MutexGuard<'a, Desk<'c, M, H>>,
     idled: u64,
-) -> MutexGuard<'a, Desk<M, H>> {
+) -> MutexGuard<'a, Desk<'c, M, H>> {
     if idled < IDLE_LOOKS {
         drop(desk);
         pause(IDLE_PAUSE);
@@ -333,12 +384,12 @@ fn wait_for_change<'a, M: Atomic, H: Given<M>, R: Wait>(
 
 /// From time to time a worker looks at how often another one had the lock: it steps back where that was nearly always so, until it is
 /// called, and calls one that stepped back where that was seldom so.
-fn take_turns<'a, M: Atomic, H: Given<M>, R: Wait>(
+fn take_turns<'a, 'c, M: Atomic, H: Given<M>, R: Wait>(
     rt: &R,
-    shared: &'a Shared<M, H>,
+    shared: &'a Shared<'c, M, H>,
     looks: &mut Looks,
-    mut desk: MutexGuard<'a, Desk<M, H>>,
-) -> MutexGuard<'a, Desk<M, H>> {
+    mut desk: MutexGuard<'a, Desk<'c, M, H>>,
+) -> MutexGuard<'a, Desk<'c, M, H>> {
     let Some(seen) = looks.look_back() else {
         return desk;
     };

@@ -37,5 +37,5 @@ note-requires-clause-but g c =
     let mail : new.mail ≡ posted e.world.mail c.as_slice.result.now = ap (λ x. x.world.mail) c.in_ok-take.ensures.done ∙ ap (λ w. w.mail) (post_makes net e.until e.world b p c.contents.ensures.process) ∙ ap (posted e.world.mail) out in
     record {
       free = subst (λ l. IsExactBut b l new.processes) (sym c.note_posted.ensures.free) (exact_but c.args.queues.now.free e.world.processes new.processes b c.requires.kept.free same);
-      marks = posted_but c.args.queues.now c.note_posted.new.self e.world new b c.as_slice.result.now c.requires.kept.marks same mail c.note_posted.ensures.posting c.note_posted.ensures.delivering;
+      marks = posted_but c.args.queues.now c.note_posted.new.self e.world new b c.as_slice.result.now c.requires.kept.marks same mail c.note_posted.ensures.posting c.note_posted.ensures.delivering c.note_posted.ensures.standing;
     }

@@ -6,7 +6,7 @@ use Rattle.tw_theory.specs.Contents as Contents
 use Rattle.tw_theory.specs.Contents.{Process}
 use Rattle.tw_theory.specs.Exchange.{MayDraw, bound_of}
 use Rattle.tw_exchange.specs.Exchanged.{IsExact, bound_at, busy_in}
-use Rattle.tw_exchange.proofs.Drawing.{if_there}
+use Rattle.tw_exchange.proofs.Drawing.{is_there}
 use Rattle.tw_exchange.proofs.Following.{busy_out, exact_out}
 use Rattle.tw_exchange.proofs.exchange.Exchange.draw.Given.{Over}
 use Rattle.tw_exchange.proofs.exchange.Exchange.draw.Goals.{After-take_out}
@@ -20,7 +20,7 @@ bound_is g c = c.bound_of-bound.ensures ∙ (λ i. bound_of (c.until.ensures i) 
 started : (g : Over) (c : After-take_out g) → c.in-Ok.start ≡ start_at c.bound_of-bound.result c.args.burst c.in-Some.component c.self.inside.executive.network c.in-Some.ensures.next.process
 started g c =
     let e = c.self.inside.executive in
-    if_there (λ p. c.in-Ok.start ≡ start_at c.bound_of-bound.result c.args.burst c.in-Some.component e.network p) (slice_get e.world.processes c.in-Some.component) c.in-Some.ensures.next.process
+    is_there (λ p. c.in-Ok.start ≡ start_at c.bound_of-bound.result c.args.burst c.in-Some.component e.network p) (slice_get e.world.processes c.in-Some.component) c.in-Some.ensures.next.process
     (ap (λ x. slice_get x.executive.world.processes c.in-Some.component) c.self.view_is ∙ c.in-Some.ensures.next.at) c.in-Ok.ensures.start
 
 same : (g : Over) (c : After-take_out g) → c.in-Ok.start.component ≡ c.in-Some.component
@@ -50,7 +50,7 @@ invariant_of-self g c =
     let ps = c.self.inside.executive.world.processes in (
       record {
         free = subst (λ a. IsExact a ps) (sym c.take_out.ensures) (exact_out c.self.inside.queues.free ps c.in-Some.component kept.free);
-        marks = record { posting = kept.marks.posting; delivering = kept.marks.delivering };
+        marks = record { posting = kept.marks.posting; delivering = kept.marks.delivering; standing = kept.marks.standing };
       },
       c.self.invariant.1,
     )

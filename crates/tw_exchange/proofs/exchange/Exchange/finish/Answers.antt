@@ -42,7 +42,7 @@ note_marks-requires-clause-but g c =
     let same = subst (IsSameBut b w.processes) (sym (ap (λ x. x.world.processes) c.in-Ok.ensures.installed.steps)) (steps_on_one net e.until w b n) in
     let mail = subst (IsSameBut b w.mail) (sym (ap (λ x. x.world.mail) c.in-Ok.ensures.installed.steps ∙ steps_mail net e.until w b n)) (nothing_else b w.mail) in
     let marks = marks_but c.self.inside.queues w new b c.self.invariant.0.marks same mail in
-    subst (λ k. AreMarkedBut k (record c.self.inside.queues { free = c.free.new.agenda }) new) (sym c.component-component.ensures) (record { posting = marks.posting; delivering = marks.delivering })
+    subst (λ k. AreMarkedBut k (record c.self.inside.queues { free = c.free.new.agenda }) new) (sym c.component-component.ensures) (record { posting = marks.posting; delivering = marks.delivering; standing = marks.standing })
 
 pub invariant_of-self-2 : goal.invariant_of-self-2
 invariant_of-self-2 g c =

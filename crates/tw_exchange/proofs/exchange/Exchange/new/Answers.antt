@@ -16,6 +16,9 @@ note_all-requires-clause-posting g c = all_out c.in-Ok.queues.posting c.len.resu
 pub note_all-requires-clause-delivering : goal.note_all-requires-clause-delivering
 note_all-requires-clause-delivering g c = all_out c.in-Ok.queues.delivering c.len.result _ c.in-Ok.ensures.delivering (c.len.ensures ∙ ap (λ x. length x.models) (c.deref-2.ensures ∙ c.network-2.ensures))
 
+pub note_all-requires-clause-standing : goal.note_all-requires-clause-standing
+note_all-requires-clause-standing g c = all_out c.in-Ok.queues.standing c.len.result _ c.in-Ok.ensures.standing (c.len.ensures ∙ ap (λ x. length x.models) (c.deref-2.ensures ∙ c.network-2.ensures))
+
 pub returns-clause-made : goal.returns-clause-made
 returns-clause-made g c =
     let count : length c.in-Ok.queues.free ≡ length c.args.executive.network.models = all_out c.in-Ok.queues.free c.len.result _ c.in-Ok.ensures.free (c.len.ensures ∙ ap (λ x. length x.models) (c.deref-2.ensures ∙ c.network-2.ensures)) in

@@ -5,7 +5,7 @@ use Rattle.tw_theory.specs.Executive.{mail_of}
 use Rattle.tw_exchange.proofs.Drawing.{if_there}
 use Rattle.tw_exchange.proofs.Marking.{marked_all, marked_next, none_marked}
 use Rattle.tw_exchange.proofs.PassByPass.{mail_count, process_count}
-use Rattle.tw_exchange.specs.Queues.{box_mark, post_mark}
+use Rattle.tw_exchange.specs.Queues.{box_mark, next_mark, post_mark}
 use Rattle.tw_exchange.proofs.queues.Queues.note_all.Goals as goal
 
 pub loop-component-init : goal.loop-component-init
@@ -13,7 +13,7 @@ loop-component-init g c =
     let e = c.args.executive.now in
     let m = g.M.Atomic.meaning in
     record {
-      marks = none_marked c.args.self.now e.world (c.requires.posting ∙ sym (process_count m e c.facts.ensures)) (c.requires.delivering ∙ sym (mail_count m e c.facts.ensures));
+      marks = none_marked c.args.self.now e.world (c.requires.posting ∙ sym (process_count m e c.facts.ensures)) (c.requires.delivering ∙ sym (mail_count m e c.facts.ensures)) (c.requires.standing ∙ sym (process_count m e c.facts.ensures));
       free = refl;
     }
 
@@ -37,9 +37,16 @@ note_box-requires-clause-within g c =
     let count = ap length c.note_post.ensures.delivering ∙ c.loop-component.invariant.marks.delivering_count ∙ mail_count g.M.Atomic.meaning c.args.executive.now c.facts.ensures in
     subst (λ n. c.loop-component.component < n) (c.len-component-end.ensures ∙ end ∙ sym count) c.loop-component-test.true
 
-pub note_standing-requires : goal.note_standing-requires
-note_standing-requires g c =
+pub note_standing-requires-clause-near : goal.note_standing-requires-clause-near
+note_standing-requires-clause-near g c =
     subst (λ n. c.loop-component.component < n) (c.len-component-end.ensures ∙ ap (λ x. length x.models) (c.deref.ensures ∙ c.network.ensures)) c.loop-component-test.true
+
+pub note_standing-requires-clause-within : goal.note_standing-requires-clause-within
+note_standing-requires-clause-within g c =
+    let end = ap (λ x. length x.models) (c.deref.ensures ∙ c.network.ensures) in
+    let kept = ap length c.note_box.ensures.standing ∙ ap length c.note_post.ensures.standing in
+    let count = kept ∙ c.loop-component.invariant.marks.standing_count ∙ process_count g.M.Atomic.meaning c.args.executive.now c.facts.ensures in
+    subst (λ n. c.loop-component.component < n) (c.len-component-end.ensures ∙ end ∙ sym count) c.loop-component-test.true
 
 pub loop-component-preserved : goal.loop-component-preserved
 loop-component-preserved g c =
@@ -51,9 +58,11 @@ loop-component-preserved g c =
     let near : k < length w.mail = omega (arith, c.loop-component-test.true, c.len-component-end.ensures, end, mail_count g.M.Atomic.meaning e c.facts.ensures) in
     let p = present w.processes k few in
     let posting = if_there (λ q. c.note_post.new.self.posting ≡ slice_set c.loop-component.self.posting k (post_mark q)) (slice_get w.processes k) p.0 p.1 c.note_post.ensures.posting in
+    let standing = if_there (λ q. c.note_standing.new.self.standing ≡ slice_set c.note_box.new.self.standing k (next_mark q)) (slice_get w.processes k) p.0 p.1 c.note_standing.ensures.standing in
     record {
       marks = marked_next w k c.loop-component.self c.note_standing.new.self p.0 c.loop-component.invariant.marks p.1 near (c.note_standing.ensures.posting ∙ c.note_box.ensures.posting ∙ posting)
-          (c.note_standing.ensures.delivering ∙ c.note_box.ensures.delivering ∙ ap (λ l. slice_set l k (box_mark (mail_of w.mail k))) c.note_post.ensures.delivering);
+          (c.note_standing.ensures.delivering ∙ c.note_box.ensures.delivering ∙ ap (λ l. slice_set l k (box_mark (mail_of w.mail k))) c.note_post.ensures.delivering)
+          (standing ∙ ap (λ l. slice_set l k (next_mark p.0)) (c.note_box.ensures.standing ∙ c.note_post.ensures.standing));
       free = c.note_standing.ensures.free ∙ c.note_box.ensures.free ∙ c.note_post.ensures.free ∙ c.loop-component.invariant.free;
     }
 

@@ -9,4 +9,5 @@ invariant-loop-item l = record {
   rest : marked l.self.delivering (drop l.item-index l.items) ≡ marked l.fn.self.delivering l.items;
   free : l.self.free ≡ l.fn.self.free;
   posting : l.self.posting ≡ l.fn.self.posting;
+  standing : l.self.standing ≡ l.fn.self.standing;
 }

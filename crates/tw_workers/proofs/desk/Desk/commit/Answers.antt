@@ -1,7 +1,9 @@
 use Rattle.std.proofs.Common.{◌≡◌, ◌∙◌, ap, refl, subst, sym}
 use Rattle.std.specs.Prelude.{Err, Ok, OnErr, OnOk, Result}
 use Rattle.tw_board.specs.Known.{Known}
-use Rattle.tw_exchange.proofs.Staying.{IsGoing, none_ended, stays_going}
+use Rattle.tw_exchange.proofs.Staying.{IsGoing, stays_going}
+use Rattle.tw_workers.proofs.GivenUp.{none_yet}
+use Rattle.tw_workers.specs.Runs.{HasEnded}
 use Rattle.tw_exchange.specs.Sweeping.{sweep_of}
 use Rattle.tw_workers.proofs.desk.Desk.commit.Given.{Over}
 use Rattle.tw_workers.proofs.desk.Desk.commit.Goals.{After-sweep}
@@ -24,9 +26,16 @@ going g c =
     c.sweep.ensures.further (subst (λ y. IsGoing m given begun y) (sym c.take_undone-undone.ensures) (c.self.invariant.0, c.self.invariant.2))
 
 pub invariant_of-self : goal.invariant_of-self
-invariant_of-self g c = let s = going g (goal.at.invariant_of-self g c).After-sweep in (s.0, tt, s.1)
+invariant_of-self g c =
+    let s = going g (goal.at.invariant_of-self g c).After-sweep in
+    (s.0, none_yet c.self.inside.end (λ token. (token.of ≡ g.H.Given.cell) × HasEnded g.M.Atomic.meaning c.sweep.new.self.executive token.value) (sym c.is_some.ensures ∙ c.if-is_some.false), s.1, c.self.invariant.3)
 
-pub invariant_of-self-in_default : goal.invariant_of-self-in_default
-invariant_of-self-in_default g c =
-    let s = going g (goal.at.invariant_of-self-in_default g c).After-sweep in
-    (s.0, none_ended g.M.Atomic.meaning c.self.inside.end c.sweep.new.self (sym c.is_some.ensures ∙ c.if-is_some.false), s.1)
+pub invariant_of-self-then-eq : goal.invariant_of-self-then-eq
+invariant_of-self-then-eq g c =
+    let s = going g (goal.at.invariant_of-self-then-eq g c).After-sweep in
+    (s.0, none_yet c.self.inside.end (λ token. (token.of ≡ g.H.Given.cell) × HasEnded g.M.Atomic.meaning c.sweep.new.self.executive token.value) (sym c.is_some.ensures ∙ c.if-is_some.false), s.1, c.self.invariant.3)
+
+pub invariant_of-self-else-eq : goal.invariant_of-self-else-eq
+invariant_of-self-else-eq g c =
+    let s = going g (goal.at.invariant_of-self-else-eq g c).After-sweep in
+    (s.0, none_yet c.self.inside.end (λ token. (token.of ≡ g.H.Given.cell) × HasEnded g.M.Atomic.meaning c.sweep.new.self.executive token.value) (sym c.is_some.ensures ∙ c.if-is_some.false), s.1, c.self.invariant.3)

@@ -1,5 +1,7 @@
-use Rattle.std.proofs.Common.{◌∙◌, ap, sym}
-use Rattle.tw_exchange.proofs.Staying.{IsGoing, none_ended, stays_going}
+use Rattle.std.proofs.Common.{◌≡◌, ◌∙◌, ap, sym}
+use Rattle.tw_exchange.proofs.Staying.{IsGoing, stays_going}
+use Rattle.tw_workers.proofs.GivenUp.{none_yet}
+use Rattle.tw_workers.specs.Runs.{HasEnded}
 use Rattle.tw_exchange.specs.Sweeping.{passes_of}
 use Rattle.tw_workers.proofs.desk.Desk.pass_on.Given.{Over}
 use Rattle.tw_workers.proofs.desk.Desk.pass_on.Goals.{After-settle}
@@ -15,9 +17,14 @@ going g c =
 pub invariant_of-self : goal.invariant_of-self
 invariant_of-self g c =
     let s = going g (goal.at.invariant_of-self g c).After-settle in
-    (s.0, none_ended g.M.Atomic.meaning c.self.inside.end c.settle.new.self (sym c.is_some.ensures ∙ c.if-is_some.false), s.1)
+    (s.0, none_yet c.self.inside.end (λ token. (token.of ≡ g.H.Given.cell) × HasEnded g.M.Atomic.meaning c.settle.new.self.executive token.value) (sym c.is_some.ensures ∙ c.if-is_some.false), s.1, c.self.invariant.3)
 
-pub invariant_of-self-in_default : goal.invariant_of-self-in_default
-invariant_of-self-in_default g c =
-    let s = going g (goal.at.invariant_of-self-in_default g c).After-settle in
-    (s.0, none_ended g.M.Atomic.meaning c.self.inside.end c.settle.new.self (sym c.is_some.ensures ∙ c.if-is_some.false), s.1)
+pub invariant_of-self-in-Err-OutOfMemory : goal.invariant_of-self-in-Err-OutOfMemory
+invariant_of-self-in-Err-OutOfMemory g c =
+    let s = going g (goal.at.invariant_of-self-in-Err-OutOfMemory g c).After-settle in
+    (s.0, none_yet c.self.inside.end (λ token. (token.of ≡ g.H.Given.cell) × HasEnded g.M.Atomic.meaning c.settle.new.self.executive token.value) (sym c.is_some.ensures ∙ c.if-is_some.false), s.1, c.self.invariant.3)
+
+pub invariant_of-self-in-Err-Full : goal.invariant_of-self-in-Err-Full
+invariant_of-self-in-Err-Full g c =
+    let s = going g (goal.at.invariant_of-self-in-Err-Full g c).After-settle in
+    (s.0, none_yet c.self.inside.end (λ token. (token.of ≡ g.H.Given.cell) × HasEnded g.M.Atomic.meaning c.settle.new.self.executive token.value) (sym c.is_some.ensures ∙ c.if-is_some.false), s.1, c.self.invariant.3)

@@ -5,6 +5,7 @@ ghost use Rattle.tw_any_model.specs.AnyModel.{any_meaning};
 ghost use Rattle.tw_exchange.specs.Ends.{IsEnd};
 ghost use Rattle.tw_exchange.specs.Exchanged.{IsNotAhead};
 ghost use Rattle.tw_network.specs.Contents.{network_of};
+ghost use Rattle.tw_workers.specs.Runs.{CanBeFull};
 ghost use Rattle.tw_workers_progress.specs.Settings.{IsSet};
 ghost use Rattle.tw_theory.specs.Simulator.{sequential};
 ghost use Rattle.tw_vtime.specs.declared.refusal.Refusal.TheVariants as refusal;
@@ -26,7 +27,8 @@ use tw_workers::{Effort, Open, Outcome, Setting, run_counted};
 /// Runs an executive by workers, and answers the records and the fault of its network's sequential run. With `progress` it tells on
 /// standard error how far it is, and at the end what it spent.
 ///
-/// Refused where a process would hold too many nodes (12), and for want of memory (4).
+/// Refused for want of memory (4), or of nodes (12), only where the executive can come so far that a process would hold more than
+/// 1,048,576 of them.
 pub fn run_by_workers<R: Threads + Wait + Clock + Eprint + Sync>(
     rt: &R,
     alloc: Global,
@@ -42,6 +44,7 @@ pub fn run_by_workers<R: Threads + Wait + Clock + Eprint + Sync>(
         (network_of any_meaning executive.network) executive.until in
         IfOk result (λ made. made.1 ≡ run.fault) }
     ensures err { IfErr result (λ why. (why ≡ refusal.OutOfMemory) ⊎ (why ≡ refusal.Full)) }
+    ensures full { IfErr result (λ why. why ≡ refusal.Full → CanBeFull any_meaning executive) }
 {
     executive.facts();
     outcome_law::<AnyState>();
@@ -67,6 +70,7 @@ fn run_told<R: Threads + Wait + Clock + Eprint + Sync>(
     requires { IsSet setting }
     ensures outcome { IfOk result.0 (IsEnd any_meaning executive.network executive.until) }
     ensures err { IfErr result.0 (λ why. (why ≡ refusal.OutOfMemory) ⊎ (why ≡ refusal.Full)) }
+    ensures full { IfErr result.0 (λ why. why ≡ refusal.Full → CanBeFull any_meaning executive) }
 {
     let Ok((mut board, publisher)) = Board::new(alloc) else {
         return (Err(Refusal::OutOfMemory), Effort::nothing());
@@ -88,6 +92,8 @@ fn run_told<R: Threads + Wait + Clock + Eprint + Sync>(
             ensures outcome { IfOk result.0 (IsEnd any_meaning executive.network executive.until) }
             ensures err { IfErr result.0
                 (λ why. (why ≡ refusal.OutOfMemory) ⊎ (why ≡ refusal.Full)) }
+            ensures full { IfErr result.0
+                (λ why. why ≡ refusal.Full → CanBeFull any_meaning executive) }
         { run_posting(rt, alloc, executive, setting, publisher) },
     )
 }
@@ -104,11 +110,15 @@ fn run_posting<R: Threads + Wait + Sync>(
     requires set { IsSet setting }
     ensures outcome { IfOk result.0 (IsEnd any_meaning executive.network executive.until) }
     ensures err { IfErr result.0 (λ why. (why ≡ refusal.OutOfMemory) ⊎ (why ≡ refusal.Full)) }
+    ensures full { IfErr result.0 (λ why. why ≡ refusal.Full → CanBeFull any_meaning executive) }
 {
     let (ended, _, effort) = run_counted(rt, alloc, executive, setting, &Open, publisher);
     match ended {
         Ok(outcome) => (Ok(outcome), effort),
-        Err(fault) => (Err(Refusal::from(fault.why)), effort),
+        Err(fault) => {
+            fault.executive.facts();
+            (Err(Refusal::from(fault.why)), effort)
+        }
     }
 }
 

@@ -1,4 +1,6 @@
-//! The board by worked examples, and four readers that look while another thread posts.
+//! The board by worked examples, and readers that look while another thread posts.
+
+ghost use Rattle.std.specs.Prelude.{◌≡◌};
 
 use super::helpers::stamp;
 use std::process::Abort;
@@ -34,7 +36,9 @@ fn board_parts(rt: HostRuntime) {
 }
 
 /// Looks many times, and answers whether it never saw less than before.
-fn watch(reader: &mut Reader) -> bool {
+fn watch(reader: &mut Reader) -> bool
+    ensures { reader.new.board ≡ reader.old.board }
+{
     let mut last = (Stamp::START, 0);
     let mut rose = true;
     for _ in 0..LOOKS {
@@ -46,7 +50,9 @@ fn watch(reader: &mut Reader) -> bool {
 }
 
 /// Posts many rising pairs: at the tick n, that half of n records are committed.
-fn climb(rt: &impl Abort, publisher: &mut Publisher) {
+fn climb(rt: &impl Abort, publisher: &mut Publisher)
+    ensures { publisher.new.board ≡ publisher.old.board }
+{
     for tick in 0..LOOKS {
         publisher.post(stamp(rt, tick, 0, 0), tick / 2);
     }
@@ -75,4 +81,38 @@ fn four_readers_never_see_less(rt: HostRuntime) {
     for (reader, rose) in watched.iter_mut() {
         assert!(rt; *rose && reader.see() == last);
     }
+}
+
+/// A reader that has watched, and whether it never saw less than before.
+fn watched(mut reader: Reader) -> (Reader, bool)
+    ensures { result.0.board ≡ reader.board }
+{
+    let rose = watch(&mut reader);
+    (reader, rose)
+}
+
+/// A publisher that has climbed.
+fn climbed(rt: &impl Abort, mut publisher: Publisher) -> Publisher
+    ensures { result.board ≡ publisher.board }
+{
+    climb(rt, &mut publisher);
+    publisher
+}
+
+/// Whoever comes back from a thread is of the board that it went with.
+#[test]
+fn a_reader_back_from_a_thread_meets_the_publisher(rt: HostRuntime) {
+    let (mut board, publisher) = Board::new(rt.alloc()).expect(&rt, "memory");
+    let reader = board.reader().expect(&rt, "memory");
+    let ((mut reader, rose), mut publisher) = thread::join(
+        &rt,
+        move || -> (Reader, bool)
+            ensures { result.0.board ≡ reader.board }
+        { watched(reader) },
+        move || -> Publisher
+            ensures { result.board ≡ publisher.board }
+        { climbed(&rt, publisher) },
+    );
+    let last = (stamp(&rt, LOOKS - 1, 0, 0), (LOOKS - 1) / 2);
+    assert!(rt; rose && reader.meet(&mut publisher) == last && reader.see() == last);
 }

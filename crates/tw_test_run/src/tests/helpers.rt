@@ -47,17 +47,18 @@ fn network_of<M: Atomic + Copy>(
     Ok(Network::new(alloc, components, couplings, inputs, 100)?)
 }
 
-/// The executive of components that are not coupled, until tick 5.
+/// The executive of components that are not coupled, until tick 5, which cancels in this way.
 pub(crate) fn apart<M: Atomic + Copy>(
     rt: &impl Abort,
     alloc: Global,
     named: &[(&str, M)],
+    cancel: Cancel,
 ) -> Executive<M>
     ensures limit { result.network.micro_limit ≡ 100 }
     ensures until { result.until ≡ 5 }
 {
     let network = network_of(alloc, named, &[], &[]).expect(rt, "a network");
-    Executive::new(alloc, network, 5).expect(rt, "an executive")
+    Executive::with_cancel(alloc, network, 5, cancel).expect(rt, "an executive")
 }
 
 /// A generator of period 2 and value 5, a relay of delay 1 and a tally in a row, of which the relay has 0=8 at tick 3.

@@ -9,6 +9,7 @@ use std::process::Abort;
 use tw_chain::Prepared;
 use tw_exec::{Executive, Refused};
 use tw_models::Model;
+use tw_process::Cancel;
 use tw_vtime::Stamp;
 use tw_workers::{Exchange, NoSuch, Prepareds};
 
@@ -27,7 +28,7 @@ fn generators(rt: &impl Abort, alloc: Global, count: usize) -> Executive<Model>
         ("y", generator(rt)),
         ("z", generator(rt)),
     ];
-    apart(rt, alloc, &named[..count.min(3)])
+    apart(rt, alloc, &named[..count.min(3)], Cancel::Aggressive)
 }
 
 /// Whether an executive has no such component.

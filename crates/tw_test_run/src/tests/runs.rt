@@ -16,6 +16,7 @@ use tw_atomic::{Atomic, Outbox, Turn};
 use tw_board::{Board, Publisher, Reader};
 use tw_exec::Executive;
 use tw_models::{Gen, GenState};
+use tw_process::Cancel;
 use tw_workers::{Gate, Open, Outcome, Setting, SweepRefused, run};
 
 /// How many turns one waits for the other at most.
@@ -151,7 +152,7 @@ where
 {
     let (mut board, publisher) = Board::new(alloc).expect(rt, "memory");
     let mut reader = board.reader().expect(rt, "memory");
-    let executive = apart(rt, alloc, named);
+    let executive = apart(rt, alloc, named, Cancel::Aggressive);
     assert_whole(rt, alloc, executive, TWO, gate, publisher, &mut reader);
 }
 
@@ -295,13 +296,15 @@ fn forwards_meet(rt: HostRuntime) {
     assert!(rt; meeting.calls() == (2, 2, 0));
 }
 
-/// Asserts that a run finds no memory, and that a reader of its board is told how far it came. What comes back can be run again.
+/// Asserts that a run of two components finds no memory, that a reader of its board is told how far it came, and that it cancels as it
+/// did. What comes back can be run again.
 fn give_up<M: Atomic + Send + Sync, R: Abort + Threads + Wait + Sync>(
     rt: &R,
     alloc: Global,
     executive: Executive<M>,
     publisher: Publisher,
     reader: &mut Reader,
+    cancel: Cancel,
 ) -> (Executive<M>, Publisher)
 where
     M::State: Send,
@@ -316,15 +319,19 @@ where
         panic!(rt; "the run found memory");
     };
     assert!(rt; fault.why == SweepRefused::OutOfMemory);
-    assert!(rt; reader.see() == (fault.executive.gvt(), fault.executive.committed_len()));
-    (fault.executive, publisher)
+    let executive = fault.executive;
+    assert!(rt; reader.see() == (executive.gvt(), executive.committed_len()));
+    assert!(rt; executive.network().len() == 2);
+    assert!(rt; executive.contents(1).cancel() == cancel);
+    (executive, publisher)
 }
 
-/// Asserts that a run of two generators that twice finds no memory has the sequential trace in the end.
+/// Asserts that a run of two generators that twice finds no memory has the sequential trace in the end, cancelling in this way.
 fn assert_resumed<M: Atomic + Copy + Send + Sync, R: Abort + Threads + Wait + Sync>(
     rt: &R,
     alloc: Global,
     named: &[(&str, M)],
+    cancel: Cancel,
 )
 where
     M::State: Send,
@@ -332,20 +339,25 @@ where
 {
     let (mut board, publisher) = Board::new(alloc).expect(rt, "memory");
     let mut reader = board.reader().expect(rt, "memory");
-    let executive = apart(rt, alloc, named);
-    let (executive, publisher) = give_up(rt, alloc, executive, publisher, &mut reader);
-    let (executive, publisher) = give_up(rt, alloc, executive, publisher, &mut reader);
+    let executive = apart(rt, alloc, named, cancel);
+    let (executive, publisher) = give_up(rt, alloc, executive, publisher, &mut reader, cancel);
+    let (executive, publisher) = give_up(rt, alloc, executive, publisher, &mut reader, cancel);
     assert_whole(rt, alloc, executive, ONE, &Open, publisher, &mut reader);
 }
 
 /// At the first refusal a sweep brings global virtual time further, and the run goes on; at the second it does not.
-#[test]
-fn a_run_that_was_given_up_goes_on(rt: HostRuntime) {
+fn give_up_and_go_on<R: Abort + Threads + Wait + Sync>(rt: &R, alloc: Global, cancel: Cancel) {
     let calls = [AtomicU64::new(0), AtomicU64::new(0)];
     let calls = &calls;
     let named = [
-        ("x", Watched::new(&rt, Before::Refuse(1, &calls[0]))),
-        ("y", Watched::new(&rt, Before::Refuse(0, &calls[1]))),
+        ("x", Watched::new(rt, Before::Refuse(1, &calls[0]))),
+        ("y", Watched::new(rt, Before::Refuse(0, &calls[1]))),
     ];
-    assert_resumed(&rt, rt.alloc(), &named);
+    assert_resumed(rt, alloc, &named, cancel);
+}
+
+#[test]
+fn a_run_that_was_given_up_goes_on(rt: HostRuntime) {
+    give_up_and_go_on(&rt, rt.alloc(), Cancel::Aggressive);
+    give_up_and_go_on(&rt, rt.alloc(), Cancel::Lazy);
 }

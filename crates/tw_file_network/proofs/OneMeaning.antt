@@ -6,12 +6,13 @@ use Rattle.std.proofs.lemmas.List.Sorted.{IsPermutation-refl}
 use Rattle.serde_json.specs.Data.{Data}
 use Rattle.tw_any_model.specs.AnyModel.{any_meaning}
 use Rattle.tw_any_model.specs.declared.any_model.AnyModel.{AnyModel}
+use Rattle.tw_nested.proofs.Flattened.{are_apart}
 use Rattle.tw_nested.specs.Tree.{Parts, Link, models_in}
 use Rattle.tw_nested.specs.Whole.{AreCouplings, AreTooMany, IsCoupling}
 use Rattle.tw_network.proofs.AtomsOnly.{all_of, no_more}
 use Rattle.tw_network.proofs.FirstTreeFault.{counts_few}
 use Rattle.tw_network.proofs.NoFaults.{is_whole, neither}
-use Rattle.tw_network.proofs.TreeSound.{tree_whole}
+use Rattle.tw_network.proofs.TreeSound.{tree_linked, tree_whole}
 use Rattle.tw_network.specs.Contents.{Contents, Input, IsWhole, handed_in}
 use Rattle.tw_network.specs.Faults.{first_fault, inputs_fault, limit_fault}
 use Rattle.tw_network.specs.FlatTrees.{IsSameNetwork}
@@ -91,7 +92,7 @@ module _ (parts : Parts AnyModel) (links : List Link) (inputs : List Input) (lim
       let p = neither (tree_count_fault parts links (length inputs)) _ is.tree_sound in
       let q = neither (limit_fault limit) _ p.1 in
       let few = counts_few parts links (length inputs) (sym p.0) in
-      tree_whole any_meaning parts links n.names n.models n.couplings n.inputs n.micro_limit is.names is.models is.couplings few.0
+      tree_whole any_meaning parts links n.names n.models n.couplings n.inputs n.micro_limit is.names is.models is.couplings (are_apart parts links (tree_linked any_meaning parts links q.1) n.couplings is.couplings) few.0
       (subst (λ (ins : List Input). length ins ≤ 65536) (sym is.inputs_as_handed_in) few.1)
       (ap limit_fault is.limit ∙ q.0) q.1
       ((λ i. inputs_fault (length (is.models i)) (is.inputs_as_handed_in i)) ∙ is.inputs_sound)

@@ -133,7 +133,8 @@ check_machine "65,535 numbers of a table and 2 of a list" 21 '"tables":{"t":['"$
 check_machine "65,534 numbers of a table and 2 of a list of three tables" 0 \
     '"tables":{"t":['"$(numbers 65533)"'],"u":"list","v":"list","w":"list"},'"$shown"
 check_machine "65,535 numbers of a table and 2 of a list of two tables" 21 \
-    '"tables":{"t":['"$(numbers 65534)"'],"u":"list","v":"list"},'"$shown"
+    '"tables":{"t":['"$(numbers 65534)"'],"u":"list","v":"list"},'"$shown" \
+    'components[0] "x": tables have 65537 numbers together, at most 65536'
 check_machine "65,536 numbers of a table" 21 '"tables":{"t":['"$(numbers 65535)"'],"u":"list"},'"$shown"
 check_machine "65,537 numbers of a table" 21 '"tables":{"t":['"$(numbers 65536)"'],"u":"list"},'"$shown"
 tables='"tables":{"t":[1],"u":"list"}'

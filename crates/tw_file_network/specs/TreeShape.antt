@@ -106,7 +106,7 @@ machines_file_with d machines =
 
 -- the machines that it declares
 abbrev pub machines_at : Data → Option (List Machine)
-machines_at d = option_and_then (λ models. result_ok (machines_in models)) (get (codes "models") d)
+machines_at d = option_and_then (λ models. result_ok (machines_in d models)) (get (codes "models") d)
 
 -- those of a file of this format
 abbrev pub machines_declared : Data → Option (List Machine)

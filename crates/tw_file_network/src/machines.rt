@@ -63,7 +63,7 @@ pub(crate) fn machines_at(alloc: Global, value: &Value) -> Result<Vec<FileMachin
     let Some(models) = value.get("models") else {
         return Err(FileRefused::BadShape);
     };
-    match machines_in(alloc, models) {
+    match machines_in(alloc, value, models) {
         Ok(machines) => Ok(machines),
         Err(MachineFault::OutOfMemory) => Err(FileRefused::OutOfMemory),
         Err(_) => Err(FileRefused::BadShape),

@@ -8,7 +8,7 @@ use tw_machine::limits::{
 };
 use tw_machine_compiler::{BadMachine, Constant, Given, Thing};
 use tw_machine_declaration::{
-    block_work, constant, count_of, list_given, outputs_work, room_of, standings_of, words_work,
+    block_work, constant, count_of, outputs_work, room_of, standings_of, words_work,
 };
 use tw_machine_file::{FileMachine, Part};
 use tw_machine_text::{MAX_NODES, MAX_TURNS};
@@ -49,7 +49,7 @@ pub(crate) fn limit_fault(
             format!(in alloc; "queues have room for {room} values together, at most {MAX_ROOMS}")
         }
         BadMachine::TooManyNumbers => {
-            let numbers = total(given, read, Counted::Numbers);
+            let numbers = lists_together(given).saturating_add(total(given, read, Counted::Numbers));
             format!(in alloc; "tables have {numbers} numbers together, at most {MAX_NUMBERS}")
         }
         BadMachine::TooManyNodes => {
@@ -81,9 +81,17 @@ fn count(given: &Given, thing: &Thing, counted: Counted) -> usize {
             count.saturating_mul(room_of(given, *room) as usize)
         }
         (Counted::Numbers, Thing::Table(numbers)) => numbers.len(),
-        (Counted::Numbers, Thing::ListTable(place)) => list_given(given, *place).len(),
         _ => 0,
     }
+}
+
+/// How many numbers the lists that are given have together, each once, however many tables are named after it.
+fn lists_together(given: &Given) -> usize {
+    let mut total = 0usize;
+    for list in &given.lists {
+        total = total.saturating_add(list.len());
+    }
+    total
 }
 
 /// How many numbers the tables of a machine have that stand in it.

@@ -11,7 +11,7 @@ use std::alloc::{AllocError, Global};
 use tw_file_members::items_in;
 use tw_machine::limits::{MAX_MACHINES, MAX_WORDS};
 use tw_machine_compiler::{BadMachine, Given, compile};
-use tw_machine_file::{FileMachine, MachineFault, Part, Why, machine_of};
+use tw_machine_file::{FileMachine, MachineFault, Part, Why, is_used, machine_of};
 use tw_machine_text::Place;
 use tw_machine_text_faults::{Nearest, described, listed, quoted, reason};
 use tw_models::is_kind_name;
@@ -86,13 +86,26 @@ pub fn machines_of<'a>(alloc: Global, value: &'a Value) -> Result<Vec<Machine<'a
     let mut names = Vec::new(alloc);
     for (i, model) in models.iter().enumerate() {
         let machine = read_machine(alloc, names.as_slice(), models, i, model)?;
+        if !is_used(value, machine.read.name.as_str()) {
+            check_alone(alloc, i, &machine)?;
+        }
         names.push(machine.read.name.clone()?)?;
         machines.push(machine)?;
     }
     Ok(machines)
 }
 
-/// The machine at a place of `models`, with its limits looked at.
+/// Looks at the limits of the machine at a place of `models`, which no component uses.
+fn check_alone(alloc: Global, i: usize, machine: &Machine<'_>) -> Result<(), Stop> {
+    let nothing = Given {
+        numbers: Vec::new(alloc),
+        lists: Vec::new(alloc),
+    };
+    let place = machine_place(alloc, i, machine.value)?;
+    machine.check_limits(alloc, place.as_str(), &nothing)
+}
+
+/// The machine at a place of `models`.
 fn read_machine<'a>(
     alloc: Global,
     before: &[String],
@@ -116,13 +129,7 @@ fn read_machine<'a>(
             return Err(Stop::Fault(format!(in alloc; "{place}: {bad}")?));
         }
     };
-    let given = Given {
-        numbers: Vec::new(alloc),
-        lists: Vec::new(alloc),
-    };
-    let machine = Machine { value: model, read };
-    machine.check_limits(alloc, place.as_str(), &given)?;
-    Ok(machine)
+    Ok(Machine { value: model, read })
 }
 
 /// The place of a machine, with its name where it has one.

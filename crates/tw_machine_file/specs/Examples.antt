@@ -1,14 +1,17 @@
--- A machine by hand: the arrivals of `machine-pool`, the value of the file and what it declares; and eight values with one fault each.
-use Rattle.std.specs.Prelude.{◌≡◌, ◌∷◌, [], ℕ, List, pos, true, false, Some, None, Result, Ok, Err, codes}
+-- Machines by hand: the arrivals of `machine-pool`, the value of the file and what it declares; eight values with one fault each; and one that is large where it makes a turn.
+use Rattle.std.specs.Prelude.{◌≡◌, ◌∷◌, [], ℕ, List, pos, true, false, Option, Some, None, Result, Ok, Err, codes}
+use Rattle.std.specs.Result.{result_err}
 use Rattle.serde_json.specs.Data.{Data, unsigned, Items, number, string, array, object, no_items, item, Members, no_members, member}
 use Rattle.tw_machine_text.specs.Tree.{Number, Name, Indexed, RandomBelow, Binary, Empty, Then, Assign, Wait, Draw}
 use Rattle.tw_machine_text.specs.declared.words.SourceChange.TheVariants.{Add}
 use Rattle.tw_machine_text.specs.declared.words.Operator.TheVariants.{Plus}
 use Rattle.tw_machine_declaration.specs.Seen.{Given, parameter, list_parameter, register, list_table, whole, tree}
 use Rattle.tw_machine_declaration.specs.declared.declaration.Constant.TheVariants as c
-use Rattle.tw_machine_file.specs.Fault.{Fault, wrong, text}
+use Rattle.tw_machine_compiler.specs.declared.limits.BadMachine.TheVariants as bad
+use Rattle.tw_machine_file.specs.Fault.{Fault, wrong, text, limit, once}
 use Rattle.tw_machine_file.specs.Given.{given_of}
 use Rattle.tw_machine_file.specs.Machine.{machine_of}
+use Rattle.tw_machine_file.specs.Machines.{machines_in, program_in}
 use Rattle.tw_machine_file.specs.Seen.{Machine}
 use Rattle.tw_machine_file.specs.declared.fault.Part.TheVariants as part
 use Rattle.tw_machine_file.specs.declared.fault.Why.TheVariants as why
@@ -146,3 +149,36 @@ MissingParameter =
 
 abbrev pub MoreThanParameters : Type 0
 MoreThanParameters = given_by (component_with (array (only (count 1))) (count 7) (member (codes "value") (count 1) no_members)) ≡ Err (wrong part.Component why.Unknown)
+
+-- ---- limits, with nothing given and with what components give
+
+-- {"internal": "repeat p { repeat 64 { repeat 64 { repeat 64 { draw } } } }", "name": "dice", "parameters": ["p"], "words": [0]}
+abbrev pub dice : Data
+dice = object
+    (member (codes "internal") (string (codes "repeat p { repeat 64 { repeat 64 { repeat 64 { draw } } } }"))
+    (member (codes "name") (string (codes "dice")) (member (codes "parameters") (array (only (string (codes "p")))) (member (codes "words") (array (only (count 0))) no_members))))
+
+-- {"model": "dice", "name": "d", "p": 0}, and the same with 1
+abbrev pub thrown : ℕ → Data
+thrown p = object (member (codes "model") (string (codes "dice")) (member (codes "name") (string (codes "d")) (member (codes "p") (count p) no_members)))
+
+abbrev pub file_of : Data → Data
+file_of component = object (member (codes "components") (array (only component)) no_members)
+
+-- the faults of the list of `dice` alone, in a file of this component
+abbrev pub fault_in : Data → Option Fault
+fault_in component = result_err (machines_in (file_of component) (array (only dice)))
+
+-- what a component of it gives
+abbrev pub fault_with : ℕ → Option Fault
+fault_with p = result_err (once (machine_of [] dice) (λ m. program_in m (thrown p)))
+
+pub record Limited : Type 0 where
+  -- where no component uses it, 270,468 computations of one turn are too many
+  pub unused : fault_in (object (member (codes "model") (string (codes "tally")) no_members)) ≡ Some (limit bad.TooManyComputations)
+  -- a component that uses it, or one in a model
+  pub used : fault_in (thrown 0) ≡ None
+  pub used_within : fault_in (file_of (thrown 0)) ≡ None
+  -- no turn is within the limit, one is not
+  pub no_turn : fault_with 0 ≡ None
+  pub one_turn : fault_with 1 ≡ Some (limit bad.TooManyComputations)

@@ -12,5 +12,6 @@ pub mod Outputs
 pub mod Said
 pub mod Seen
 pub mod Texts
+pub mod Used
 pub mod Values
 pub mod Words

@@ -2,6 +2,7 @@
 ghost use Rattle.tw_machine_file.specs.Examples.{
   EmptyList,
   Gives,
+  Limited,
   ListAsConstant,
   ListForNumber,
   MachineTwice,
@@ -38,4 +39,10 @@ pub fn components()
     ensures empty_list { EmptyList }
     ensures missing_parameter { MissingParameter }
     ensures more_than_parameters { MoreThanParameters }
+{}
+
+/// Whether a machine that is too large where it makes a turn is taken: not by itself, and of a component by what this
+/// gives.
+pub fn limits()
+    ensures { Limited }
 {}

@@ -1,7 +1,7 @@
 //! A machine of a network file of format `tw-3`: from the JSON value of one object of `models` to what it declares.
 //!
-//! - `machines`: [`machines_in`], all machines of a file, each within its limits; [`program_in`], the program that a
-//!   component makes of one.
+//! - `machines`: [`machines_in`], all machines of a file; [`program_in`], the program that a component makes of one.
+//! - `used`: [`is_used`], whether a component of a file uses a machine.
 //! - `machine`: [`machine_of`], the machine that a value declares ([`FileMachine`]), or the first thing that is wrong with it.
 //! - `declarations`: its parameters, registers, queues and tables.
 //! - `constants`: whole numbers, and names of parameters that are numbers.
@@ -14,7 +14,8 @@
 //! - `fault`: [`MachineFault`], [`Part`] and [`Why`], what is wrong, in which part, and how.
 //! - [`examples`]: machines by hand.
 //!
-//! The limits of a machine that no component uses are looked at with nothing given for its parameters.
+//! A machine that a component uses is held to its limits with what each of its components gives; one that none uses, with
+//! nothing given for its parameters.
 #![tactic(auto)]
 
 mod constants;
@@ -27,6 +28,7 @@ mod machines;
 mod names;
 mod outputs;
 mod texts;
+mod used;
 mod values;
 mod words;
 
@@ -35,3 +37,4 @@ pub use given::given_of;
 pub use machine::{FileMachine, machine_of};
 pub use machines::{machines_in, program_in};
 pub use texts::said_law;
+pub use used::is_used;

@@ -6,6 +6,7 @@ ghost use Rattle.tw_machine.specs.Seen.{seen_program};
 ghost use Rattle.tw_machine_file.specs.Answers.{Gives, FailsBy};
 ghost use Rattle.tw_machine_file.specs.Machines.{
   few,
+  held,
   machine_behind,
   machines_behind,
   machines_in,
@@ -13,12 +14,13 @@ ghost use Rattle.tw_machine_file.specs.Machines.{
   program_in,
   within_limits,
 };
-ghost use Rattle.tw_machine_file.specs.Seen as file;
+ghost use Rattle.tw_machine_file.specs.Seen as seen;
 ghost use Rattle.tw_machine_file.specs.Seen.{machine};
 
 use crate::fault::{MachineFault, Part, Why};
 use crate::given::given_of;
 use crate::machine::{FileMachine, machine_of};
+use crate::used::is_used;
 use crate::values::{are_few, items_of};
 use serde_json::Value;
 use std::alloc::Global;
@@ -54,8 +56,8 @@ pub fn program_in(
     component: &Value,
 ) -> Result<Program, MachineFault>
     ensures ok { Gives result seen_program
-        (program_in (file.machine machine.now) (view component.now)) }
-    ensures err { FailsBy result (program_in (file.machine machine.now) (view component.now)) }
+        (program_in (seen.machine machine.now) (view component.now)) }
+    ensures err { FailsBy result (program_in (seen.machine machine.now) (view component.now)) }
 {
     let given = given_of(alloc, machine, component)?;
     program_given(alloc, &machine.declaration, &given)
@@ -79,31 +81,49 @@ fn within_limits(alloc: Global, declaration: &Declaration) -> Result<(), Machine
     }
 }
 
-/// The machine that a value declares behind machines of these names, where it is within its limits with nothing given.
+/// Looks at the limits of a machine that no component of the file uses.
+fn held(alloc: Global, file: &Value, machine: &FileMachine) -> Result<(), MachineFault>
+    ensures ok { OnOk result (held (view file.now) (seen.machine machine.now) ≡ Ok tt) }
+    ensures err { FailsBy result (held (view file.now) (seen.machine machine.now)) }
+{
+    if is_used(file, machine.name.as_str()) {
+        return Ok(());
+    }
+    within_limits(alloc, &machine.declaration)
+}
+
+/// The machine of a file that a value declares behind machines of these names.
 fn machine_behind(
     alloc: Global,
+    file: &Value,
     before: &[String],
     value: &Value,
 ) -> Result<FileMachine, MachineFault>
-    ensures ok { Gives result machine (machine_behind (map string_bytes before.now) (view value.now)) }
-    ensures err { FailsBy result (machine_behind (map string_bytes before.now) (view value.now)) }
+    ensures ok { Gives result machine
+        (machine_behind (view file.now) (map string_bytes before.now) (view value.now)) }
+    ensures err { FailsBy result
+        (machine_behind (view file.now) (map string_bytes before.now) (view value.now)) }
 {
     let machine = machine_of(alloc, before, value)?;
-    within_limits(alloc, &machine.declaration)?;
+    held(alloc, file, &machine)?;
     Ok(machine)
 }
 
 /// The machines that these values declare, each behind those before it.
 #[tactic(auto, using(crate::proofs::Loops::behind_none, crate::proofs::Loops::behind_more))]
-fn machines_behind(alloc: Global, values: &[Value]) -> Result<Vec<FileMachine>, MachineFault>
-    ensures ok { Gives result
-        (λ ms. map machine ms.items) (machines_behind [] (items_view values.now)) }
-    ensures err { FailsBy result (machines_behind [] (items_view values.now)) }
+fn machines_behind(
+    alloc: Global,
+    file: &Value,
+    values: &[Value],
+) -> Result<Vec<FileMachine>, MachineFault>
+    ensures ok { Gives result (λ ms. map machine ms.items)
+        (machines_behind (view file.now) [] (items_view values.now)) }
+    ensures err { FailsBy result (machines_behind (view file.now) [] (items_view values.now)) }
 {
     let mut names = Vec::new(alloc);
     let mut machines = Vec::new(alloc);
     for value in values {
-        let machine = machine_behind(alloc, names.as_slice(), value)?;
+        let machine = machine_behind(alloc, file, names.as_slice(), value)?;
         names.push(String::from_str(alloc, machine.name.as_str())?)?;
         machines.push(machine)?;
     }
@@ -127,12 +147,19 @@ fn few(models: &Value) -> Result<&[Value], MachineFault>
 /// The machines that the member `models` of a file declares: an array of at most 256 of them, in order.
 ///
 /// The first fault is answered ([`MachineFault`], refusal 21): it is no such array; then machines in order, of each
-/// what [`machine_of`] refuses behind those before it, and then the first limit that it passes with nothing given for
-/// its parameters. Want of memory (4) may come at any point instead. After any of them nothing is left.
-pub fn machines_in(alloc: Global, models: &Value) -> Result<Vec<FileMachine>, MachineFault>
-    ensures ok { Gives result (λ ms. map machine ms.items) (machines_in (view models.now)) }
-    ensures err { FailsBy result (machines_in (view models.now)) }
+/// what [`machine_of`] refuses behind those before it, and then, where no component of the file uses it
+/// ([`is_used`]), the first limit that it passes with nothing given for its parameters. A machine that a component
+/// uses is held to its limits by [`program_in`] alone. Want of memory (4) may come at any point instead. After any of
+/// them nothing is left.
+pub fn machines_in(
+    alloc: Global,
+    file: &Value,
+    models: &Value,
+) -> Result<Vec<FileMachine>, MachineFault>
+    ensures ok { Gives result (λ ms. map machine ms.items)
+        (machines_in (view file.now) (view models.now)) }
+    ensures err { FailsBy result (machines_in (view file.now) (view models.now)) }
 {
     let values = few(models)?;
-    machines_behind(alloc, values)
+    machines_behind(alloc, file, values)
 }

@@ -1,5 +1,5 @@
 -- One answer more, of commands and of the actions that a generator gives; and what went out where memory was wanting.
-use Rattle.std.proofs.Common.{◌≡◌, ◌≢◌, ◌<◌, ◌≤◌, ◌+◌, ◌-◌, ◌⊎◌, ◌++◌, ◌∷◌, [], ◌∙◌, ℕ, suc, List, length, take, drop, sym, ap, append_assoc, append-nil, subst, inl, inr, arith, take-append-drop, take_all}
+use Rattle.std.proofs.Common.{◌≡◌, ◌≢◌, ◌<◌, ◌≤◌, ◌+◌, ◌-◌, ◌++◌, ◌∷◌, [], ◌∙◌, ℕ, suc, List, length, take, drop, sym, ap, append_assoc, append-nil, subst, inl, inr, arith, take-append-drop, take_all}
 use Rattle.std.specs.Prelude.{Option, Some, None, Result, Ok, Err, IfErr, OnOk, slice_index_or}
 use Rattle.std.specs.Result.{IsErrAnd}
 use Rattle.std.specs.Io.KnownBytes.{Appends}
@@ -7,8 +7,9 @@ use Rattle.std.proofs.lemmas.List.{take_more}
 use Rattle.rand_pcg.specs.Lcg.{Lcg}
 use Rattle.tw_atomic.specs.Atomic.{Meaning}
 use Rattle.tw_actions.specs.declared.action.Action.{Action}
+use Rattle.tw_play.proofs.Wanting.{stopped_at}
 use Rattle.tw_play.specs.Playing.{Played, IsObeyed, ArePlayed, AreDrawn, response_text, wants_memory, nothing, obeyed, ended, idle, taken}
-use Rattle.tw_play.specs.Telling.{HasTold, refused_text, IsCutShort, IsDrawnShort, IsPlayed, IsWhollyDrawn}
+use Rattle.tw_play.specs.Telling.{HasTold, IsCutShort, IsDrawnShort, IsPlayed, IsWhollyDrawn, generator_after, refused_text}
 use Rattle.tw_play.specs.declared.response.Response.{Response}
 use Rattle.tw_seeded.specs.Schedules.{action_drawn, after as next_of, drawn}
 use Rattle.tw_script.specs.declared.command.Command.{Command}
@@ -28,6 +29,7 @@ pub record IsUnderWay {M S : Type 0} (meaning : M → Meaning S) (commands : Lis
 pub record IsDrawing {M S : Type 0} (meaning : M → Meaning S) (g : Lcg) (done : ℕ) (p p' : Played M S) (h : Lcg) (old now : Option (List ℕ)) (gathered : List ℕ) : Type 0 where
   pub text : List ℕ
   pub played : (n : ℕ) (more : List ℕ) (p'' : Played M S) → AreDrawn meaning h n p' more p'' → AreDrawn meaning g (done + n) p (text ++ more) p''
+  pub later : h ≡ generator_after done g
   pub moved : MovesBytes old now text gathered
 
 module _ {M S : Type 0} {meaning : M → Meaning S} where
@@ -48,9 +50,15 @@ told_more a b c text more kept left p q = (
 )
 
 -- where memory is wanting all that is gathered has gone out, and at most the line after it
-pub told_short : (a b c : Option (List ℕ)) (text kept : List ℕ) → MovesBytes a b text kept → Appends b c kept ⊎ Appends b c (kept ++ refused_text) → HasTold a c text
-told_short a b c text kept p (inl out) = inl (subst (Appends a c) p.2 (appends_both a b c p.0 kept p.1 out))
-told_short a b c text kept p (inr out) = inr (subst (Appends a c) (sym (append_assoc p.0 kept refused_text) ∙ ap (λ l. l ++ refused_text) p.2) (appends_both a b c p.0 (kept ++ refused_text) p.1 out))
+pub told_short : (answer : Response) (a b c : Option (List ℕ)) (text kept : List ℕ) → MovesBytes a b text kept → HasTold answer b c kept → HasTold answer a c text
+told_short answer a b c text kept p (inl (is, out)) = inl (is, subst (Appends a c) (sym (append_assoc p.0 kept refused_text) ∙ ap (λ l. l ++ refused_text) p.2) (appends_both a b c p.0 (kept ++ refused_text) p.1 out))
+told_short answer a b c text kept p (inr out) = inr (subst (Appends a c) p.2 (appends_both a b c p.0 kept p.1 out))
+
+-- a list at an item: those before it, the item, and those after it
+at_item : {X : Type 0} (xs : List X) (i : ℕ) (x : X) → i < length xs → x ≡ slice_index_or xs i x → take i xs ++ x ∷ drop (i + 1) xs ≡ xs
+at_item xs i x near is =
+    sym (append_assoc (take i xs) (x ∷ []) (drop (i + 1) xs)) ∙ ap (λ l. l ++ drop (i + 1) xs) (sym (take_more xs i x near ∙ ap (λ y. take i xs ++ y ∷ []) (sym is)))
+    ∙ take-append-drop (i + 1) xs
 
 module _ {M S : Type 0} {meaning : M → Meaning S} {p : Played M S} {old : Option (List ℕ)} where
   pub way_more : (commands : List Command) (i : ℕ) (command : Command) (p' p'' : Played M S) (answer : Response) (now after : Option (List ℕ)) (kept left : List ℕ)
@@ -63,16 +71,18 @@ module _ {M S : Type 0} {meaning : M → Meaning S} {p : Played M S} {old : Opti
     moved = told_more old now after w.text (response_text answer) kept left w.moved q;
   }
 
-  pub way_short : (commands : List Command) (i : ℕ) (p' : Played M S) (now after : Option (List ℕ)) (kept : List ℕ) → IsUnderWay meaning (take i commands) p p' old now kept
-      → Appends now after kept ⊎ Appends now after (kept ++ refused_text) → IsCutShort meaning commands p old after
-  way_short commands i p' now after kept w out = record {
+  pub way_short : (commands : List Command) (i : ℕ) (command : Command) (p' p'' : Played M S) (answer : Response) (now after : Option (List ℕ)) (kept : List ℕ)
+      → i < length commands → command ≡ slice_index_or commands i command → IsUnderWay meaning (take i commands) p p' old now kept → IsObeyed meaning command p' answer p''
+      → HasTold answer now after kept → IsCutShort meaning commands p old after
+  way_short commands i command p' p'' answer now after kept near at w is out = record {
     done = take i commands;
-    rest = drop i commands;
-    all = take-append-drop i commands;
+    next = command;
+    rest = drop (i + 1) commands;
+    all = at_item commands i command near at;
     text = w.text;
     reached = p';
     played = w.played;
-    written = told_short old now after w.text kept w.moved out;
+    stopped = stopped_at command p' p'' answer is (told_short answer old now after w.text kept w.moved out);
   }
 
 pub nothing_moved : (o : Option (List ℕ)) (gathered : List ℕ) → gathered ≡ [] → MovesBytes o o [] gathered
@@ -96,6 +106,9 @@ on_ok (Err e) P Q f h = h
 one_later : (done n : ℕ) → done + suc n ≡ done + 1 + n
 one_later done n = omega arith
 
+one_after : (done : ℕ) → suc done ≡ done + 1
+one_after done = omega arith
+
 module _ {M S : Type 0} {meaning : M → Meaning S} {g : Lcg} {p : Played M S} {old : Option (List ℕ)} where
   pub drawing_more : (done : ℕ) (p' p'' : Played M S) (h : Lcg) (action : Action) (answer : Response) (now after : Option (List ℕ)) (kept left : List ℕ) → IsDrawing meaning g done p p' h old now kept
       → action_drawn p'.executive (drawn h) ≡ Some action → IsObeyed meaning (Act action) p' answer p'' → answer ≢ wants_memory → MovesBytes now after (kept ++ response_text answer) left
@@ -106,18 +119,22 @@ module _ {M S : Type 0} {meaning : M → Meaning S} {g : Lcg} {p : Played M S} {
         subst (λ t. AreDrawn meaning g (done + 1 + n) p t last) (sym (append_assoc w.text (response_text answer) more))
         (subst (λ k. AreDrawn meaning g k p (w.text ++ (response_text answer ++ more)) last) (one_later done n)
         (w.played (suc n) (response_text answer ++ more) last (taken h n p' p'' last action answer more draws is enough rest)));
+    later = subst (λ k. next_of h ≡ generator_after k g) (one_after done) (ap next_of w.later);
     moved = told_more old now after w.text (response_text answer) kept left w.moved q;
   }
 
-  pub drawing_short : (done steps : ℕ) (p' : Played M S) (h : Lcg) (now after : Option (List ℕ)) (kept : List ℕ) → done ≤ steps → IsDrawing meaning g done p p' h old now kept
-      → Appends now after kept ⊎ Appends now after (kept ++ refused_text) → IsDrawnShort meaning g steps p old after
-  drawing_short done steps p' h now after kept few w out = record {
-    done = done + 0;
-    few = omega (arith, few);
+  pub drawing_short : (done steps : ℕ) (p' p'' : Played M S) (h : Lcg) (action : Action) (answer : Response) (now after : Option (List ℕ)) (kept : List ℕ) → done < steps
+      → IsDrawing meaning g done p p' h old now kept → action_drawn p'.executive (drawn h) ≡ Some action → IsObeyed meaning (Act action) p' answer p''
+      → HasTold answer now after kept → IsDrawnShort meaning g steps p old after
+  drawing_short done steps p' p'' h action answer now after kept fewer w draws is out = record {
+    done = done;
+    fewer = fewer;
     text = w.text ++ [];
     reached = p';
-    played = w.played 0 [] p' (ended h p');
-    written = subst (HasTold old after) (sym (append-nil w.text)) (told_short old now after w.text kept w.moved out);
+    played = subst (λ k. AreDrawn meaning g k p (w.text ++ []) p') (omega arith) (w.played 0 [] p' (ended h p'));
+    next = action;
+    given = subst (λ later. action_drawn p'.executive (drawn later) ≡ Some action) w.later draws;
+    stopped = stopped_at (Act action) p' p'' answer is (subst (HasTold answer old after) (sym (append-nil w.text)) (told_short answer old now after w.text kept w.moved out));
   }
 
   -- as many as there were to be

@@ -2,9 +2,10 @@
 --     Played M S      an executive, and the mark that is kept
 --     IsObeyed meaning command p answer p'      what a command makes of it, and is answered
 --     response_text answer      what is written for it
+--     MayWant command      a command that takes memory
 --     ArePlayed meaning commands p text p'      the same of commands one after another, with all that is written
 --     AreDrawn meaning g n p text p'      the same of the actions that a generator gives
-use Rattle.std.specs.Prelude.{ℕ, suc, ◌≡◌, ◌≢◌, ◌<◌, ◌≤◌, ◌⊎◌, ◌++◌, List, [], ◌∷◌, length, min, Option, Some, None, IfSome, Result, Ok, Err, string_bytes}
+use Rattle.std.specs.Prelude.{ℕ, suc, ◌≡◌, ◌≢◌, ◌<◌, ◌≤◌, ◌⊎◌, ◌++◌, List, [], ◌∷◌, length, min, Option, Some, None, IfSome, Result, Ok, Err, string_bytes, ⊤}
 use Rattle.rand_pcg.specs.Lcg.{Lcg}
 use Rattle.tw_atomic.specs.Atomic.{Meaning}
 use Rattle.tw_exec.specs.Actions.{reason}
@@ -25,6 +26,7 @@ use Rattle.tw_seeded.specs.Schedules.{action_drawn, after as next_of, drawn}
 use Rattle.tw_script.specs.declared.command.Command.{Command}
 use Rattle.tw_script.specs.declared.command.Command.TheVariants.{Act, Mark, Rewind, Show, Describe}
 use Rattle.tw_theory.specs.Marks.{marks, rewind, rewound_steps}
+use Rattle.tw_theory.specs.Memory.{TakesMemory}
 
 pub record Played (M S : Type 0) : Type 0 where
   pub executive : Running M S
@@ -83,6 +85,14 @@ IsObeyed meaning Mark p answer p' = (reply : Replied) × (answer ≡ Reply reply
 IsObeyed meaning Rewind p answer p' = (result : Result done.Done refused.Refused) × (answer ≡ Reply (replied result)) × IsRewoundTo p.mark p.executive result p'.executive × (p'.mark ≡ p.mark)
 IsObeyed meaning Show p answer p' = IsShown (report_text meaning p.executive) answer × (p' ≡ p)
 IsObeyed meaning (Describe c) p answer p' = IsDescribed meaning p.executive c answer × (p' ≡ p)
+
+-- it takes memory, so that it may be refused for want of it; a cut, a raise and a rewind take none
+abbrev pub MayWant : Command → Type 0
+MayWant (Act action) = TakesMemory action
+MayWant Mark = ⊤
+MayWant Rewind = ⊥
+MayWant Show = ⊤
+MayWant (Describe c) = ⊤
 
 -- ---- what is written
 

@@ -1,9 +1,8 @@
 //! Commands one after another, with what is written for them.
 
-ghost use Rattle.std.specs.Prelude.{◌≡◌, ◌≢◌, ◌⊎◌, ◌++◌, IfErr, OnOk, string_bytes};
-ghost use Rattle.std.specs.Io.KnownBytes.{Appends};
+ghost use Rattle.std.specs.Prelude.{◌≡◌, ◌≢◌, ◌++◌, IfErr, OnOk, string_bytes};
 ghost use Rattle.tw_play.specs.Playing.{response_text, wants_memory};
-ghost use Rattle.tw_play.specs.Telling.{refused_text, IsCutShort, IsDrawnShort, IsPlayed, IsWhollyDrawn};
+ghost use Rattle.tw_play.specs.Telling.{HasTold, IsCutShort, IsDrawnShort, IsPlayed, IsWhollyDrawn};
 ghost use Rattle.tw_seeded.specs.Schedules.{seeded};
 ghost use Rattle.tw_texts.specs.Traces.{MovesBytes};
 
@@ -22,8 +21,9 @@ use tw_texts::{NotWritten, write_out, write_portion};
 ///
 /// The text goes to the writer in portions, so that memory does not grow with the number of commands. Refused by
 /// [`NotWritten::OutOfMemory`] (4) where a command, or what is written for it, wants memory: then no more commands are obeyed,
-/// and the writer has the answers before it, with a last line `refused 4 OutOfMemory` where there was room for it; by
-/// [`NotWritten::WriteFailed`] (24) where the writer failed, and then only the writer knows what it took.
+/// and the writer has the answers before it, with a last line `refused 4 OutOfMemory` where the command wanted it and there was room
+/// for the line. A cut, a raise and a rewind want none. Refused by [`NotWritten::WriteFailed`] (24) where the writer failed, and then
+/// only the writer knows what it took.
 pub fn play_script<M: Atomic, W: Write>(
     alloc: Global,
     player: &mut Player<M>,
@@ -81,8 +81,9 @@ fn tell<W: Write>(answer: &Response, replies: &mut String, out: &mut W) -> Resul
         (MovesBytes (W.contents out.old) (W.contents out.new)
         (string_bytes replies.old ++ response_text answer.now) (string_bytes replies.new)) }
     ensures enough { OnOk result (answer.now ≢ wants_memory) }
-    ensures wanting { IfErr result (λ why. why ≡ NotWritten.OutOfMemory
-        → Appends (W.contents out.old) (W.contents out.new) (string_bytes replies.old) ⊎ Appends (W.contents out.old) (W.contents out.new) (string_bytes replies.old ++ refused_text)) }
+    ensures wanting { IfErr result
+        (λ why. why ≡ NotWritten.OutOfMemory
+        → HasTold answer.now (W.contents out.old) (W.contents out.new) (string_bytes replies.old)) }
 {
     let Ok(()) = push_response(replies, answer) else {
         write_out(replies, out)?;

@@ -17,7 +17,9 @@ loop-command-preserved g c =
 
 pub returns-in_err-tell-clause-wanting : goal.returns-in_err-tell-clause-wanting
 returns-in_err-tell-clause-wanting g c =
-    passed_on c.from_residual.result c.in_err-tell.field-0.0 _ c.from_residual.ensures.1 (λ e. way_short c.args.commands.now c.loop-command.command-index c.loop-command.player _ _ _ c.loop-command.invariant (c.in_err-tell.ensures.wanting e))
+    passed_on c.from_residual.result c.in_err-tell.field-0.0 _ c.from_residual.ensures.1
+    (λ e. way_short c.args.commands.now c.loop-command.command-index c.command-item.result c.loop-command.player c.obey-answer.new.self c.obey-answer.result _ _ _
+    c.loop-command-test.true c.command-item.is c.loop-command.invariant c.obey-answer.ensures (c.in_err-tell.ensures.wanting e))
 
 pub returns-clause-played : goal.returns-clause-played
 returns-clause-played g c =

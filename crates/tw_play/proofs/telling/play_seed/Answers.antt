@@ -23,7 +23,10 @@ returns-in_default-clause-wanting g c = failed_only c.write_out.result _ c.write
 
 pub returns-in_err-tell-clause-wanting : goal.returns-in_err-tell-clause-wanting
 returns-in_err-tell-clause-wanting g c =
-    passed_on c.from_residual.result c.in_err-tell.field-0.0 _ c.from_residual.ensures.1 (λ e. drawing_short c.loop.counter c.args.steps c.loop.player c.loop.schedule _ _ _ (omega (arith, c.loop-test.true)) c.loop.invariant (c.in_err-tell.ensures.wanting e))
+    let draws : action_drawn c.loop.player.executive (drawn c.loop.schedule) ≡ Some c.in-Some.action = ap (λ e. action_drawn e (drawn c.loop.schedule)) (sym c.executive.ensures) ∙ sym c.in-Some.ensures.action in
+    passed_on c.from_residual.result c.in_err-tell.field-0.0 _ c.from_residual.ensures.1
+    (λ e. drawing_short c.loop.counter c.args.steps c.loop.player c.obey-answer.new.self c.loop.schedule c.in-Some.action c.obey-answer.result _ _ _
+    (omega (arith, c.loop-test.true)) c.loop.invariant draws c.obey-answer.ensures (c.in_err-tell.ensures.wanting e))
 
 pub returns-clause-played : goal.returns-clause-played
 returns-clause-played g c =

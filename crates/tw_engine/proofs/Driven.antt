@@ -2,7 +2,7 @@
 use Rattle.std.proofs.Common.{◌≡◌, ℕ, List, inl, inr, refl, sym, subst}
 use Rattle.std.specs.Prelude.{Option, Some, None, Ok, Err}
 use Rattle.std.specs.Io.KnownBytes.{Keeps}
-use Rattle.tw_engine.specs.Plays.{first, IsScripted, IsSeeded, IsTraced, committed_text}
+use Rattle.tw_engine.specs.Plays.{first, IsScripted, IsSeeded, IsTraced}
 use Rattle.tw_engine.specs.Ends.{PlainEnd, failed_of}
 use Rattle.tw_engine.specs.Runs.{HasNoRun}
 use Rattle.tw_engine.specs.Scripting.{HasNoCommands}
@@ -20,7 +20,6 @@ use Rattle.tw_seeded.specs.Schedules.{seeded}
 use Rattle.tw_script.specs.Scripts.{IsScript}
 use Rattle.tw_script.specs.declared.command.Command.{Command}
 use Rattle.tw_texts.specs.Refusals.{not_written_refusal}
-use Rattle.tw_texts.specs.Traces.{AppendsBeginning}
 use Rattle.tw_texts.specs.declared.traces.NotWritten.{NotWritten}
 use Rattle.tw_texts.specs.declared.traces.NotWritten.TheVariants.{OutOfMemory, WriteFailed}
 use Rattle.tw_theory.specs.Contents.{Cancel}
@@ -57,12 +56,6 @@ module _ (bytes : List ℕ) (n : Contents AnyModel) (means : IsMeaning bytes n) 
       → IsSeeded bytes seed steps until way (Err (failed_of (not_written_refusal why))) old new
   seed_short seed steps OutOfMemory h = inr (n, means, inl (refl, subst (λ b. IsDrawnShort any_meaning (seeded seed) steps b old new) is (h refl)))
   seed_short seed steps WriteFailed h = tt
-
--- a trace that is not written to its end
-pub trace_short : (e : Running AnyModel AnyState) (why : NotWritten) (old new : Option (List ℕ)) → (why ≡ OutOfMemory → AppendsBeginning old new (committed_text e))
-    → IsTraced e (Err (failed_of (not_written_refusal why))) old new
-trace_short e OutOfMemory old new begun = (refl, begun refl)
-trace_short e WriteFailed old new begun = tt
 
 -- ---- what is refused before anything is written
 

@@ -3,5 +3,4 @@ pub mod Driven
 pub mod Checked
 pub mod Viewed
 pub mod Drawn
-pub mod OneText
 pub mod Passing

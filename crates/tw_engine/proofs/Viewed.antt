@@ -1,17 +1,24 @@
 -- From what is told of a network's run to what is said of its view, and how that ends.
-use Rattle.std.proofs.Common.{◌≡◌, ◌<◌, ℕ, List, [], ◌∷◌, ap, inl, inr, length, refl, subst, suc, sym}
+use Rattle.std.proofs.Common.{◌≡◌, ◌<◌, ℕ, List, [], ◌∷◌, ap, inl, inr, length, map, refl, subst, suc, sym}
 use Rattle.std.specs.List.{AllZip}
 use Rattle.std.specs.Global.{Global}
-use Rattle.std.specs.Prelude.{◌≢◌, ◌⊎◌, Option, Ok, Err, String}
+use Rattle.std.specs.Prelude.{◌≢◌, ◌⊎◌, Bool, Option, Ok, Err, String}
 use Rattle.std.specs.Io.KnownBytes.{Appends, Keeps}
+use Rattle.tw_any_model.specs.AnyModel.{any_meaning}
 use Rattle.tw_any_model.specs.declared.any_model.AnyModel.{AnyModel}
 use Rattle.tw_engine.proofs.Driven.{keeps_all}
 use Rattle.tw_engine.specs.Ends.{Fault, failed_of}
-use Rattle.tw_engine.specs.Runs.{HasNoRun, run_fault}
+use Rattle.tw_engine.specs.Runs.{HasNoRun, name_in, run_fault}
 use Rattle.tw_engine.specs.Views.{IsLineOf, IsSummedOf, IsTabulatedOf, run_table}
 use Rattle.tw_engine.specs.declared.failed.Failed.{Failed}
 use Rattle.tw_figures.specs.declared.seeing.Rows.{Rows}
-use Rattle.tw_network.specs.Contents.{Contents}
+use Rattle.tw_figure_names.specs.Labels.{AreLabels}
+use Rattle.tw_figures.specs.Labelled.{label}
+use Rattle.tw_figures.specs.declared.labels.Labels.{Labels}
+use Rattle.tw_network.specs.Contents.{Contents, network_of}
+use Rattle.tw_stats.specs.Reports.{IsReport}
+use Rattle.tw_stats.specs.Written.{report_bytes}
+use Rattle.tw_stats.specs.declared.report.Report.{Report}
 use Rattle.tw_rounds.specs.Refusals.{seq_refusal}
 use Rattle.tw_rounds.specs.declared.refused.SeqRefused.{SeqRefused}
 use Rattle.tw_rounds.specs.declared.refused.SeqRefused.TheVariants as run
@@ -30,22 +37,27 @@ as_many R (x ∷ xs) (y ∷ ys) h = ap suc (as_many R xs ys h.1)
 
 -- ---- counts and figures
 
--- they end as their run
-pub summed_up : (n : Contents AnyModel) (until : ℕ) (fault : Option Fault) (line : Option (String Global)) (old new : Option (List ℕ))
-    → fault ≡ run_fault n until → IsLineOf n fault line → IsSummedOf n until (Ok line) old new
-summed_up n until fault line old new is of = subst (λ (f : Option Fault). IsLineOf n f line) is of
+module _ (n : Contents AnyModel) (until : ℕ) (json : Bool) where
+  -- they are of the run
+  pub summed_up : (labels : List Labels) (report : Report) (line : Option (String Global)) (old new : Option (List ℕ))
+      → AllZip AreLabels n.models labels → IsReport (network_of any_meaning n) until (map label labels) report → IsLineOf n report.fault line
+      → Appends old new (report_bytes json (name_in n.names) (map label labels) report) → IsSummedOf n until json (Ok line) old new
+  summed_up labels report line old new named is of written = (
+    subst (λ (f : Option Fault). IsLineOf n f line) is.fault of,
+    record { labels = labels; named = named; report = report; is = is; written = written },
+  )
 
--- a run that is refused
-pub not_reported : (n : Contents AnyModel) (until : ℕ) (why : SeqRefused) (old : Option (List ℕ))
-    → (why ≡ run.BadTick → max_tick < until) → IsSummedOf n until (Err (failed_of (seq_refusal why))) old old
-not_reported n until run.OutOfMemory old late = (refl, keeps_all old)
-not_reported n until run.BadTick old late = ((refl, late refl), keeps_all old)
+  -- a run that is refused
+  pub not_reported : (why : SeqRefused) (old : Option (List ℕ))
+      → (why ≡ run.BadTick → max_tick < until) → IsSummedOf n until json (Err (failed_of (seq_refusal why))) old old
+  not_reported run.OutOfMemory old late = (refl, keeps_all old)
+  not_reported run.BadTick old late = ((refl, late refl), keeps_all old)
 
--- writing that is refused
-pub not_summed : (n : Contents AnyModel) (until : ℕ) (why : NotWritten) (old new : Option (List ℕ))
-    → (why ≢ writing.WriteFailed → Keeps old new) → IsSummedOf n until (Err (failed_of (not_written_refusal why))) old new
-not_summed n until writing.OutOfMemory old new keeps = (refl, keeps (λ e. cc))
-not_summed n until writing.WriteFailed old new keeps = tt
+  -- writing that is refused
+  pub not_summed : (why : NotWritten) (old new : Option (List ℕ))
+      → (why ≢ writing.WriteFailed → Keeps old new) → IsSummedOf n until json (Err (failed_of (not_written_refusal why))) old new
+  not_summed writing.OutOfMemory old new keeps = (refl, keeps (λ e. cc))
+  not_summed writing.WriteFailed old new keeps = tt
 
 -- ---- the table
 

@@ -7,6 +7,7 @@ use Rattle.std.specs.Io.KnownBytes.{Appends, Keeps}
 use Rattle.tw_any_model.specs.declared.any_model.AnyModel.{AnyModel}
 use Rattle.tw_network.specs.Contents.{Contents}
 use Rattle.tw_vtime.specs.declared.refusal.Refusal.TheVariants as refusal
+use Rattle.tw_file_faults.specs.Lines.{HasNoLineEnd}
 use Rattle.tw_file_network.specs.Refused.{file_refusal}
 use Rattle.tw_file_network.specs.TreeMeaning.{IsFault}
 use Rattle.tw_file_network.specs.declared.refused.FileRefused.{FileRefused}
@@ -23,9 +24,9 @@ check_text n =
     ++ (decimal (length n.couplings) ++ (codes " couplings, "
     ++ (decimal (length n.inputs) ++ codes " inputs\n")))))
 
--- a line of some words is written
+-- one line of some words is written
 abbrev pub AppendsLine : Option (List ℕ) → Option (List ℕ) → Type 0
-AppendsLine old new = (words : List ℕ) × Appends old new (words ++ codes "\n")
+AppendsLine old new = (words : List ℕ) × HasNoLineEnd words × Appends old new (words ++ codes "\n")
 
 -- the number is the first fault of the file
 abbrev pub IsCheck : List ℕ → PlainEnd → Option (List ℕ) → Option (List ℕ) → Type 0

@@ -1,6 +1,7 @@
 -- How a job ends, and what is then written.
---     IsDone job exit given script old new      with the bytes of its network file and of its script
---     ReadsScript job given      its script is read
+--     IsDone job exit bytes script old new      with the bytes of its network file, and those of its script where they are known
+--     ReadsScript job bytes      its script is read
+--     TakesThreads job      workers in threads do it
 use Rattle.std.specs.Prelude.{◌≡◌, ◌⊎◌, ℕ, List, Option, IfSome, Result, ⊤}
 use Rattle.std.specs.Io.KnownBytes.{Keeps}
 use Rattle.tw_engine.specs.Checks.{IsCheck}
@@ -29,35 +30,31 @@ IsScriptedBy bytes until way end script old new =
     (Fails end (HasNoNetwork bytes) × Keeps old new)
     ⊎ Means bytes (λ n. IsUnread end old new ⊎ IfSome script (λ lines. IsScripted bytes lines until way end old new))
 
-abbrev pub IsPlay : Driver → ℕ → Cancel → PlainEnd → Option (List ℕ) → Option (List ℕ) → Option (List ℕ) → Option (List ℕ) → Type 0
-IsPlay (Script path) until way end given script old new = IfSome given (λ bytes. IsScriptedBy bytes until way end script old new)
-IsPlay (Seed seed steps) until way end given script old new = IfSome given (λ bytes. IsSeeded bytes seed steps until way end old new)
+abbrev pub IsPlay : Driver → ℕ → Cancel → PlainEnd → List ℕ → Option (List ℕ) → Option (List ℕ) → Option (List ℕ) → Type 0
+IsPlay (Script path) until way end bytes script old new = IsScriptedBy bytes until way end script old new
+IsPlay (Seed seed steps) until way end bytes script old new = IsSeeded bytes seed steps until way end old new
 
-abbrev pub IsDrawn : Picture → ℕ → ViewEnd → Option (List ℕ) → Option (List ℕ) → Option (List ℕ) → Option (List ℕ) → Type 0
-IsDrawn (of.Run view) until end given script old new = IfSome given (λ bytes. IsViewDrawn bytes until end old new)
-IsDrawn (of.Warp way driver) until end given script old new = IfSome given (λ bytes. IsWarpDrawn driver bytes until end script old new)
-
--- no byte of its file is known to be read (19), or its bytes have this end
-abbrev pub OfFile : {A : Type 0} → Option (List ℕ) → Result A Failed → Option (List ℕ) → Option (List ℕ) → (List ℕ → Type 0) → Type 0
-OfFile given end old new Is = IsUnread end old new ⊎ IfSome given Is
+abbrev pub IsDrawn : Picture → ℕ → ViewEnd → List ℕ → Option (List ℕ) → Option (List ℕ) → Option (List ℕ) → Type 0
+IsDrawn (of.Run view) until end bytes script old new = IsViewDrawn bytes until end old new
+IsDrawn (of.Warp way driver) until end bytes script old new = IsWarpDrawn driver bytes until end script old new
 
 -- the exit of an end of which this is true
 abbrev pub Ends : {A : Type 0} → (Result A Failed → Exit) → Exit → (Result A Failed → Type 0) → Type 0
 Ends {A} exit_for exit Is = (end : Result A Failed) × (exit ≡ exit_for end) × Is end
 
 -- a network is simulated up to an end tick
-abbrev pub IsTaskDone : Task → ℕ → Exit → Option (List ℕ) → Option (List ℕ) → Option (List ℕ) → Option (List ℕ) → Type 0
-IsTaskDone (Seq progress) until exit given script old new = Ends exit_of_run exit (λ end. OfFile given end old new (λ bytes. IsRun bytes until end old new))
-IsTaskDone (Stats json progress) until exit given script old new = Ends exit_of_view exit (λ end. OfFile given end old new (λ bytes. IsSummed bytes until end old new))
-IsTaskDone (Table rows progress) until exit given script old new = Ends exit_of_view exit (λ end. OfFile given end old new (λ bytes. IsTabulated bytes until rows end old new))
-IsTaskDone (Draw picture) until exit given script old new = Ends exit_of_view exit (λ end. IsUnread end old new ⊎ IsDrawn picture until end given script old new)
-IsTaskDone (Run cancel setting) until exit given script old new = Ends exit_of_run exit (λ end. OfFile given end old new (λ bytes. IsRunByWorkers bytes until end old new))
-IsTaskDone (Play cancel driver) until exit given script old new = Ends exit_of_rest exit (λ end. IsUnread end old new ⊎ IsPlay driver until cancel end given script old new)
+abbrev pub IsTaskDone : Task → ℕ → Exit → List ℕ → Option (List ℕ) → Option (List ℕ) → Option (List ℕ) → Type 0
+IsTaskDone (Seq progress) until exit bytes script old new = Ends exit_of_run exit (λ end. IsRun bytes until end old new)
+IsTaskDone (Stats json progress) until exit bytes script old new = Ends exit_of_view exit (λ end. IsSummed bytes until json end old new)
+IsTaskDone (Table rows progress) until exit bytes script old new = Ends exit_of_view exit (λ end. IsTabulated bytes until rows end old new)
+IsTaskDone (Draw picture) until exit bytes script old new = Ends exit_of_view exit (λ end. IsDrawn picture until end bytes script old new)
+IsTaskDone (Run cancel setting) until exit bytes script old new = Ends exit_of_run exit (λ end. IsRunByWorkers bytes until end old new)
+IsTaskDone (Play cancel driver) until exit bytes script old new = Ends exit_of_rest exit (λ end. IsPlay driver until cancel end bytes script old new)
 
-abbrev pub IsDone : Job → Exit → Option (List ℕ) → Option (List ℕ) → Option (List ℕ) → Option (List ℕ) → Type 0
-IsDone Demo exit given script old new = Ends exit_of_run exit (λ end. IsDemo end old new)
-IsDone (Check net) exit given script old new = Ends exit_of_rest exit (λ end. OfFile given end old new (λ bytes. IsCheck bytes end old new))
-IsDone (Simulate net until task) exit given script old new = IsTaskDone task until exit given script old new
+abbrev pub IsDone : Job → Exit → List ℕ → Option (List ℕ) → Option (List ℕ) → Option (List ℕ) → Type 0
+IsDone Demo exit bytes script old new = Ends exit_of_run exit (λ end. IsDemo end old new)
+IsDone (Check net) exit bytes script old new = Ends exit_of_rest exit (λ end. IsCheck bytes end old new)
+IsDone (Simulate net until task) exit bytes script old new = IsTaskDone task until exit bytes script old new
 
 -- ---- whether the script is read
 
@@ -65,23 +62,38 @@ abbrev pub MeansSome : List ℕ → Type 0
 MeansSome bytes = Means bytes (λ n. ⊤)
 
 -- a script is read only where it drives, and the network's bytes mean a network
-abbrev pub DriverReads : Driver → Option (List ℕ) → Type 0
-DriverReads (Script path) given = IfSome given MeansSome
-DriverReads (Seed seed steps) given = ⊥
+abbrev pub DriverReads : Driver → List ℕ → Type 0
+DriverReads (Script path) bytes = MeansSome bytes
+DriverReads (Seed seed steps) bytes = ⊥
 
-abbrev pub PictureReads : Picture → Option (List ℕ) → Type 0
-PictureReads (of.Run view) given = ⊥
-PictureReads (of.Warp way driver) given = DriverReads driver given
+abbrev pub PictureReads : Picture → List ℕ → Type 0
+PictureReads (of.Run view) bytes = ⊥
+PictureReads (of.Warp way driver) bytes = DriverReads driver bytes
 
-abbrev pub TaskReads : Task → Option (List ℕ) → Type 0
-TaskReads (Seq progress) given = ⊥
-TaskReads (Stats json progress) given = ⊥
-TaskReads (Table rows progress) given = ⊥
-TaskReads (Draw picture) given = PictureReads picture given
-TaskReads (Run cancel setting) given = ⊥
-TaskReads (Play cancel driver) given = DriverReads driver given
+abbrev pub TaskReads : Task → List ℕ → Type 0
+TaskReads (Seq progress) bytes = ⊥
+TaskReads (Stats json progress) bytes = ⊥
+TaskReads (Table rows progress) bytes = ⊥
+TaskReads (Draw picture) bytes = PictureReads picture bytes
+TaskReads (Run cancel setting) bytes = ⊥
+TaskReads (Play cancel driver) bytes = DriverReads driver bytes
 
-abbrev pub ReadsScript : Job → Option (List ℕ) → Type 0
-ReadsScript Demo given = ⊥
-ReadsScript (Check net) given = ⊥
-ReadsScript (Simulate net until task) given = TaskReads task given
+abbrev pub ReadsScript : Job → List ℕ → Type 0
+ReadsScript Demo bytes = ⊥
+ReadsScript (Check net) bytes = ⊥
+ReadsScript (Simulate net until task) bytes = TaskReads task bytes
+
+-- ---- whether threads do it
+
+abbrev pub IsByWorkers : Task → Type 0
+IsByWorkers (Seq progress) = ⊥
+IsByWorkers (Stats json progress) = ⊥
+IsByWorkers (Table rows progress) = ⊥
+IsByWorkers (Draw picture) = ⊥
+IsByWorkers (Run cancel setting) = ⊤
+IsByWorkers (Play cancel driver) = ⊥
+
+abbrev pub TakesThreads : Job → Type 0
+TakesThreads Demo = ⊤
+TakesThreads (Check net) = ⊥
+TakesThreads (Simulate net until task) = IsByWorkers task

@@ -19,7 +19,6 @@ use Rattle.tw_script.specs.Scripts.{IsRefusedFor, IsScript}
 use Rattle.tw_script.specs.declared.command.Command.{Command}
 use Rattle.tw_script.specs.declared.refused.ScriptRefused.TheVariants.{TooMany, BadLine}
 use Rattle.tw_texts.specs.Texts.{trace_text}
-use Rattle.tw_texts.specs.Traces.{AppendsBeginning}
 use Rattle.tw_theory.specs.Contents.{Cancel}
 use Rattle.tw_theory.specs.Simulator.{sequential}
 use Rattle.tw_theory.specs.Traces.{before, least_line}
@@ -31,16 +30,17 @@ use Rattle.tw_vtime.specs.declared.refusal.Refusal.TheVariants as refusal
 abbrev pub committed_text : Running AnyModel AnyState → List ℕ
 committed_text e = trace_text (name_in e.network.names) (before (least_line e.world.processes) (sequential (network_of any_meaning e.network) e.until).records)
 
--- it is written, or memory was wanting, or the writer failed
+-- it is written whole; or memory was wanting, and nothing of it is; or the writer failed
 abbrev pub IsTraced : Running AnyModel AnyState → PlainEnd → Option (List ℕ) → Option (List ℕ) → Type 0
 IsTraced e (Ok done) old new = Appends old new (committed_text e)
 IsTraced e (Err (Bad why line)) old new = ⊥
-IsTraced e (Err (Want why)) old new = (why ≡ refusal.OutOfMemory) × AppendsBeginning old new (committed_text e)
+IsTraced e (Err (Want why)) old new = (why ≡ refusal.OutOfMemory) × Keeps old new
 IsTraced e (Err NoWrite) old new = Unit {0}
 
 -- ---- answers, and then the trace
 
--- all is played (Whole says what went out, and where it ended), and then the trace is written; or memory was wanting before (Short)
+-- all is played (Whole says what went out, and where it ended), and then the trace is written. Where memory was wanting a beginning was
+-- played (Short), or all, and there is no trace
 abbrev pub IsDriven : (Played AnyModel AnyState → Option (List ℕ) → Option (List ℕ) → Type 0) → (Option (List ℕ) → Option (List ℕ) → Type 0) → PlainEnd → Option (List ℕ) → Option (List ℕ) → Type 0
 IsDriven Whole Short (Ok done) old new = (p : Played AnyModel AnyState) × (mid : Option (List ℕ)) × Whole p old mid × IsTraced p.executive (Ok done) mid new
 IsDriven Whole Short (Err (Bad why line)) old new = ⊥

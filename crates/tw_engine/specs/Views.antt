@@ -1,18 +1,25 @@
 -- What the engine writes where figures or a table of a run are asked for, and how that ends.
 --     IsLineOf n fault line      a line says the fault that a run ends in, and there is none where there is no fault
---     IsSummed bytes until end old new      counts and figures of the run of the network that a file's bytes mean
+--     IsSummed bytes until json end old new      counts and figures of the run of the network that a file's bytes mean
 --     IsTabulated bytes until rows end old new      its table
 use Rattle.std.specs.Global.{Global}
-use Rattle.std.specs.Prelude.{◌≡◌, ◌⊎◌, ℕ, List, Option, None, Some, Ok, Err, String, string_bytes}
+use Rattle.std.specs.List.{AllZip}
+use Rattle.std.specs.Prelude.{◌≡◌, ◌⊎◌, ℕ, Bool, List, Option, None, Some, Ok, Err, String, map, string_bytes}
 use Rattle.std.specs.Io.KnownBytes.{Appends, Keeps}
 use Rattle.tw_any_model.specs.AnyModel.{any_meaning}
 use Rattle.tw_any_model.specs.declared.any_model.AnyModel.{AnyModel}
 use Rattle.tw_engine.specs.Ends.{Fails, Fault, ViewEnd}
 use Rattle.tw_engine.specs.Runs.{HasNoNetwork, IsLate, Means, fault_text, name_in, run_fault}
 use Rattle.tw_engine.specs.declared.failed.Failed.TheVariants.{Bad, Want, NoWrite}
+use Rattle.tw_figure_names.specs.Labels.{AreLabels}
+use Rattle.tw_figures.specs.Labelled.{label}
+use Rattle.tw_figures.specs.declared.labels.Labels.{Labels}
 use Rattle.tw_figures.specs.declared.seeing.Rows.{Rows}
 use Rattle.tw_network.specs.Contents.{Contents, network_of}
 use Rattle.tw_record_lines.specs.Tables.{table_text}
+use Rattle.tw_stats.specs.Reports.{IsReport}
+use Rattle.tw_stats.specs.Written.{report_bytes}
+use Rattle.tw_stats.specs.declared.report.Report.{Report}
 use Rattle.tw_texts.specs.Traces.{AppendsBeginning}
 use Rattle.tw_theory.specs.Simulator.{sequential}
 use Rattle.tw_vtime.specs.declared.refusal.Refusal.TheVariants as refusal
@@ -26,15 +33,23 @@ IsLineOf n fault (Some line) = ((met : Fault) × (fault ≡ Some met)) × (strin
 
 -- ---- counts and figures
 
--- where memory is wanting nothing is written
-abbrev pub IsSummedOf : Contents AnyModel → ℕ → ViewEnd → Option (List ℕ) → Option (List ℕ) → Type 0
-IsSummedOf n until (Ok line) old new = IsLineOf n (run_fault n until) line
-IsSummedOf n until (Err (Bad why line)) old new = IsLate until (Bad why line) × Keeps old new
-IsSummedOf n until (Err (Want why)) old new = (why ≡ refusal.OutOfMemory) × Keeps old new
-IsSummedOf n until (Err NoWrite) old new = Unit {0}
+-- a report of a network's sequential run is written, with names and figures of its components' models
+pub record IsReported (n : Contents AnyModel) (until : ℕ) (json : Bool) (old new : Option (List ℕ)) : Type 0 where
+  pub labels : List Labels
+  pub named : AllZip AreLabels n.models labels
+  pub report : Report
+  pub is : IsReport (network_of any_meaning n) until (map label labels) report
+  pub written : Appends old new (report_bytes json (name_in n.names) (map label labels) report)
 
-abbrev pub IsSummed : List ℕ → ℕ → ViewEnd → Option (List ℕ) → Option (List ℕ) → Type 0
-IsSummed bytes until end old new = (Fails end (HasNoNetwork bytes) × Keeps old new) ⊎ Means bytes (λ n. IsSummedOf n until end old new)
+-- where memory is wanting nothing is written
+abbrev pub IsSummedOf : Contents AnyModel → ℕ → Bool → ViewEnd → Option (List ℕ) → Option (List ℕ) → Type 0
+IsSummedOf n until json (Ok line) old new = IsLineOf n (run_fault n until) line × IsReported n until json old new
+IsSummedOf n until json (Err (Bad why line)) old new = IsLate until (Bad why line) × Keeps old new
+IsSummedOf n until json (Err (Want why)) old new = (why ≡ refusal.OutOfMemory) × Keeps old new
+IsSummedOf n until json (Err NoWrite) old new = Unit {0}
+
+abbrev pub IsSummed : List ℕ → ℕ → Bool → ViewEnd → Option (List ℕ) → Option (List ℕ) → Type 0
+IsSummed bytes until json end old new = (Fails end (HasNoNetwork bytes) × Keeps old new) ⊎ Means bytes (λ n. IsSummedOf n until json end old new)
 
 -- ---- the table
 

@@ -1,7 +1,7 @@
 //! From a job and the bytes of its file to the bytes written.
 
-ghost use Rattle.std.specs.Prelude.{◌≡◌, ◌⊎◌};
-ghost use Rattle.tw_engine.specs.Jobs.{IsDone, ReadsScript};
+ghost use Rattle.std.specs.Prelude.{◌≡◌, ◌↔◌, ◌⊎◌, IfSome, List, None, Option, ℕ};
+ghost use Rattle.tw_engine.specs.Jobs.{IsDone, ReadsScript, TakesThreads};
 
 use crate::exit::Exit;
 use crate::job_check::check;
@@ -20,86 +20,137 @@ use std::thread::Threads;
 use std::time::Clock;
 use tw_cli::{Job, Task};
 
-/// Does a job.
+/// Does a job that takes no threads, and so returns; `demo` and `run` it leaves to [`engine`], and answers none.
+///
+/// The bytes are those of the network's file, from its beginning to its end: [`read_all`](crate::read_all) has them of a reader, or
+/// says why it has not.
 ///
 /// | Job | Reads | Writes |
 /// |---|---|---|
-/// | `demo` | nothing | the text of a network of its own, run by two workers |
 /// | `check` | the network | what the network has, or the place and the reason of the file's first fault; it simulates nothing |
 /// | `seq` | the network | the trace of its sequential run, and the line of its fault if there is one |
 /// | `stats` | the network | counts and figures of that run |
 /// | `table` | the network | its records as comma-separated values |
 /// | `draw` | the network, and then the script, if one drives an executive | a picture of that run, or of a run of Time Warp |
-/// | `run` | the network | the same text, by workers in threads of their own, whatever the setting; where that says so, a thread tells on standard error how far it is |
 /// | `play` | the network, and then the script, if one drives it | the answer to each command as it comes, and then the trace up to the least commit line |
 ///
-/// A file is read to its end; a script only where the bytes of the network's file mean a network. Of `demo`, `seq`, `table` and
-/// `run` nothing is written before the outcome of the simulation is known, of `stats` and `draw` nothing before all is known. Where
-/// they say so, `seq`, `stats` and `table` tell on standard error how far they are.
+/// A script is read to its end, and only where the bytes of the network's file mean a network. Of `seq` and `table` nothing is written
+/// before the outcome of the simulation is known, of `stats` and `draw` nothing before all is known. Where they say so, `seq`, `stats`
+/// and `table` tell on standard error how far they are.
 ///
 /// | Exit | Status | Number | Written |
 /// |---|---|---|---|
 /// | [`Exit::Done`], [`Exit::Fault`] | 0, 3 | | the whole text; of `check` its line |
 /// | [`Exit::Limited`] | 3 | of `stats`, `table` and `draw`: a component met a limit | what is told of the run before it |
-/// | [`Exit::Bad`] | 2 | 19: a file cannot be read; 5 to 11, 17, 18, 20, 21: the network's is refused; 10: the end tick is above the greatest one; 15: of `draw`, no component or no figure has the name; 9, 22: the script has too many lines, or one that says nothing | nothing; of `check` a line of words |
-/// | [`Exit::Want`] | 4 | 12, of `demo` and `run`: a process would hold too many nodes | nothing |
-/// | [`Exit::Want`] | 4 | 4: a growth of memory was refused | a beginning of the text; of `play`'s answers also the line `refused 4 OutOfMemory` after them; of `stats` nothing |
+/// | [`Exit::Bad`] | 2 | 19: the script cannot be read; 5 to 11, 17, 18, 20, 21: the network's file is refused; 10: the end tick is above the greatest one; 15: of `draw`, no component or no figure has the name; 9, 22: the script has too many lines, or one that says nothing | nothing; of `check` a line of words |
+/// | [`Exit::Want`] | 4 | 4: a growth of memory was refused | a beginning of the text; of `play` only answers, and the line `refused 4 OutOfMemory` after them where a command was refused; of `stats` nothing |
 /// | [`Exit::NoWrite`] | 5 | 24: the writer failed | only the writer knows |
-pub fn engine<R: Threads + Wait + Clock + Eprint + Sync, N: Read, S: Read, W: Write>(
+pub fn alone<R: Clock + Eprint, S: Read, W: Write>(
     rt: &R,
     alloc: Global,
     job: &Job<'_>,
-    net: &mut N,
+    bytes: &[u8],
     script: &mut S,
     out: &mut W,
-) -> Exit
-    ensures done { IsDone job.now result (N.remaining net.old) (S.remaining script.old)
-        (W.contents out.old) (W.contents out.new) }
-    ensures reads { (script.new ≡ script.old) ⊎ ReadsScript job.now (N.remaining net.old) }
+) -> Option<Exit>
+    ensures done { IfSome result
+        (λ exit. IsDone job.now exit bytes.now (S.remaining script.old)
+        (W.contents out.old) (W.contents out.new)) }
+    ensures left { (result ≡ None) ↔ TakesThreads job.now }
+    ensures idle { result ≡ None → out.new ≡ out.old }
+    ensures reads { (script.new ≡ script.old) ⊎ ReadsScript job.now bytes.now }
 {
     match job {
-        Job::Demo => Exit::of_run(demo(rt, alloc, out)),
-        Job::Check { .. } => Exit::of_rest(check(alloc, net, out)),
-        Job::Simulate {
-            net: path,
-            until,
-            task,
-        } => match task {
+        Job::Demo => None,
+        Job::Check { .. } => Some(Exit::of_rest(check(alloc, bytes, out))),
+        Job::Simulate { net, until, task } => match task {
             Task::Seq { progress } => {
                 let mut teller = Teller::new(rt, *until, *progress);
-                Exit::of_run(seq(alloc, net, *until, &mut teller, out))
+                Some(Exit::of_run(seq(alloc, bytes, *until, &mut teller, out)))
             }
             Task::Stats { json, progress } => {
                 let mut teller = Teller::new(rt, *until, *progress);
-                Exit::of_view(stats(alloc, net, *until, *json, &mut teller, out))
+                let ended = stats(alloc, bytes, *until, *json, &mut teller, out);
+                Some(Exit::of_view(ended))
             }
             Task::Table { rows, progress } => {
                 let mut teller = Teller::new(rt, *until, *progress);
-                Exit::of_view(table(alloc, net, *until, *rows, &mut teller, out))
+                let ended = table(alloc, bytes, *until, *rows, &mut teller, out);
+                Some(Exit::of_view(ended))
             }
             Task::Draw { picture } => {
                 let drawing = Drawing {
-                    title: title_of(path),
+                    title: title_of(net),
                     until: *until,
                     picture,
                 };
-                Exit::of_view(draw(alloc, net, script, &drawing, out))
+                Some(Exit::of_view(draw(alloc, bytes, script, &drawing, out)))
             }
-            Task::Run { cancel, setting } => {
-                let plan = Plan {
-                    until: *until,
-                    cancel: *cancel,
-                    options: *setting,
-                };
-                Exit::of_run(run(rt, alloc, net, plan, out))
-            }
+            Task::Run { .. } => None,
             Task::Play { cancel, driver } => {
                 let start = Start {
                     until: *until,
                     cancel: *cancel,
                 };
-                Exit::of_rest(play(alloc, net, script, start, driver, out))
+                let ended = play(alloc, bytes, script, start, driver, out);
+                Some(Exit::of_rest(ended))
             }
         },
+    }
+}
+
+/// Does any job: those that take no threads as [`alone`] does, and
+///
+/// | Job | Reads | Writes |
+/// |---|---|---|
+/// | `demo` | nothing | the text of a network of its own, run by two workers |
+/// | `run` | the network | the text that `seq` writes, by workers in threads of their own, whatever the setting; where that says so, a thread tells on standard error how far it is |
+///
+/// Of these nothing is written before the outcome is known. They exit as `seq` does, and by [`Exit::Want`] (status 4) also with 12 where a
+/// process would hold too many nodes: then nothing is written.
+pub fn engine<R: Threads + Wait + Clock + Eprint + Sync, S: Read, W: Write>(
+    rt: &R,
+    alloc: Global,
+    job: &Job<'_>,
+    bytes: &[u8],
+    script: &mut S,
+    out: &mut W,
+) -> Exit
+    ensures done { IsDone job.now result bytes.now (S.remaining script.old)
+        (W.contents out.old) (W.contents out.new) }
+    ensures reads { (script.new ≡ script.old) ⊎ ReadsScript job.now bytes.now }
+{
+    match alone(rt, alloc, job, bytes, script, out) {
+        Some(exit) => exit,
+        None => by_threads(rt, alloc, job, bytes, out),
+    }
+}
+
+/// Does a job that takes threads.
+fn by_threads<R: Threads + Wait + Clock + Eprint + Sync, W: Write>(
+    rt: &R,
+    alloc: Global,
+    job: &Job<'_>,
+    bytes: &[u8],
+    out: &mut W,
+) -> Exit
+    requires { TakesThreads job.now }
+    ensures { (script : Option (List ℕ))
+        → IsDone job.now result bytes.now script (W.contents out.old) (W.contents out.new) }
+{
+    match job {
+        Job::Demo => Exit::of_run(demo(rt, alloc, out)),
+        Job::Check { .. } => unreachable!(),
+        Job::Simulate { until, task, .. } => {
+            let Task::Run { cancel, setting } = task else {
+                unreachable!()
+            };
+            let plan = Plan {
+                until: *until,
+                cancel: *cancel,
+                options: *setting,
+            };
+            Exit::of_run(run(rt, alloc, bytes, plan, out))
+        }
     }
 }

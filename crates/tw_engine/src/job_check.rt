@@ -1,31 +1,21 @@
 //! The job `check`: a look at a network file that simulates nothing.
 
 ghost use Rattle.tw_engine.specs.Checks.{IsCheck, IsCounted, IsTold};
-ghost use Rattle.tw_engine.specs.Jobs.{OfFile};
 
 use crate::failed::Failed;
-use crate::reading::read_all;
 use std::alloc::Global;
-use std::io::{Read, Write};
+use std::io::Write;
 use tw_any_model::AnyModel;
 use tw_file_faults::explain;
 use tw_file_network::{FileRefused, network_of_any_file};
 use tw_network::Network;
 use tw_vtime::Refusal;
 
-/// Does the job `check` of [`engine`](crate::engine); [`Failed`] where the file is at fault too. It takes no handle, and so it returns.
+/// Does the job `check` of [`alone`](crate::alone) on a file's bytes; [`Failed`] where the file is at fault too. It takes no handle, and
+/// so it returns.
 ///
-/// It fails as the table of [`engine`](crate::engine) says.
-pub fn check<N: Read, W: Write>(alloc: Global, net: &mut N, out: &mut W) -> Result<(), Failed>
-    ensures { OfFile (N.remaining net.old) result (W.contents out.old) (W.contents out.new)
-        (λ bytes. IsCheck bytes result (W.contents out.old) (W.contents out.new)) }
-{
-    let bytes = read_all(alloc, net)?;
-    check_bytes(alloc, bytes.as_slice(), out)
-}
-
-/// Writes what the network has that a file's bytes mean, or where the file is at fault and why.
-fn check_bytes<W: Write>(alloc: Global, bytes: &[u8], out: &mut W) -> Result<(), Failed>
+/// It fails as the table of [`alone`](crate::alone) says.
+pub fn check<W: Write>(alloc: Global, bytes: &[u8], out: &mut W) -> Result<(), Failed>
     ensures { IsCheck bytes.now result (W.contents out.old) (W.contents out.new) }
 {
     match network_of_any_file(alloc, bytes) {

@@ -1,9 +1,8 @@
 //! The job `draw`: a picture of a sequential run, or of a run of Time Warp.
 
-ghost use Rattle.std.specs.Prelude.{◌≡◌, ◌⊎◌, ℕ, List, Some};
+ghost use Rattle.std.specs.Prelude.{◌≡◌, ◌⊎◌, ℕ, List};
 ghost use Rattle.tw_engine.specs.Drawings.{IsSeedDrawn, IsScriptDrawn, IsScriptDrawnBy, IsViewDrawn, IsViewDrawnOf, IsWarpDrawn};
 ghost use Rattle.tw_engine.specs.Jobs.{DriverReads, IsDrawn, MeansSome, PictureReads};
-ghost use Rattle.tw_engine.specs.Runs.{IsUnread};
 ghost use Rattle.tw_file_network.specs.TreeMeaning.{IsMeaning};
 
 use crate::failed::Failed;
@@ -45,25 +44,22 @@ pub struct Drawing<'a> {
     pub picture: &'a Picture<'a>,
 }
 
-/// Does the job `draw` of [`engine`](crate::engine), and answers the line of the run's fault, if the picture is of a run that ends in
-/// one. It takes no handle, and so it returns.
+/// Does the job `draw` of [`alone`](crate::alone) on a file's bytes, and answers the line of the run's fault, if the picture is of a run
+/// that ends in one. It takes no handle, and so it returns.
 ///
-/// It fails as the table of [`engine`](crate::engine) says.
-pub fn draw<N: Read, S: Read, W: Write>(
+/// It fails as the table of [`alone`](crate::alone) says.
+pub fn draw<S: Read, W: Write>(
     alloc: Global,
-    net: &mut N,
+    bytes: &[u8],
     script: &mut S,
     drawing: &Drawing<'_>,
     out: &mut W,
 ) -> Result<Option<String>, Failed>
-    ensures done { IsUnread result (W.contents out.old) (W.contents out.new)
-        ⊎ IsDrawn drawing.now.picture.now drawing.now.until result (N.remaining net.old)
+    ensures done { IsDrawn drawing.now.picture.now drawing.now.until result bytes.now
         (S.remaining script.old) (W.contents out.old) (W.contents out.new) }
     ensures reads { (script.new ≡ script.old)
-        ⊎ PictureReads drawing.now.picture.now (N.remaining net.old) }
+        ⊎ PictureReads drawing.now.picture.now bytes.now }
 {
-    let bytes = read_all(alloc, net)?;
-    let bytes = bytes.as_slice();
     let title = drawing.title;
     let until = drawing.until;
     match drawing.picture {
@@ -145,7 +141,7 @@ fn draw_warp<S: Read, W: Write>(
 ) -> Result<Option<String>, Failed>
     ensures done { IsWarpDrawn driver.now bytes.now warp.entry.start.until result
         (S.remaining script.old) (W.contents out.old) (W.contents out.new) }
-    ensures reads { (script.new ≡ script.old) ⊎ DriverReads driver.now (Some bytes.now) }
+    ensures reads { (script.new ≡ script.old) ⊎ DriverReads driver.now bytes.now }
 {
     match driver {
         Driver::Script(_) => draw_by_script(alloc, bytes, script, warp, out),

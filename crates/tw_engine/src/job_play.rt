@@ -3,7 +3,7 @@
 ghost use Rattle.std.specs.Prelude.{◌≡◌, ◌⊎◌, ℕ, List, IfErr, IfOk};
 ghost use Rattle.tw_engine.specs.Jobs.{DriverReads, IsPlay, IsScriptedBy, MeansSome};
 ghost use Rattle.tw_engine.specs.Plays.{first, IsScripted, IsSeeded, IsTraced};
-ghost use Rattle.tw_engine.specs.Runs.{HasNoRun, IsUnread};
+ghost use Rattle.tw_engine.specs.Runs.{HasNoRun};
 ghost use Rattle.tw_engine.specs.Scripting.{HasNoCommands};
 ghost use Rattle.tw_file_network.specs.TreeMeaning.{IsMeaning};
 ghost use Rattle.tw_script.specs.Scripts.{IsScript};
@@ -33,28 +33,24 @@ pub struct Start {
     pub cancel: Cancel,
 }
 
-/// Does the job `play` of [`engine`](crate::engine). It takes no handle, and so it returns.
+/// Does the job `play` of [`alone`](crate::alone) on a file's bytes. It takes no handle, and so it returns.
 ///
-/// It fails as the table of [`engine`](crate::engine) says.
-pub fn play<N: Read, S: Read, W: Write>(
+/// It fails as the table of [`alone`](crate::alone) says.
+pub fn play<S: Read, W: Write>(
     alloc: Global,
-    net: &mut N,
+    bytes: &[u8],
     script: &mut S,
     start: Start,
     driver: &Driver<'_>,
     out: &mut W,
 ) -> Result<(), Failed>
-    ensures done { IsUnread result (W.contents out.old) (W.contents out.new)
-        ⊎ IsPlay driver.now start.until start.cancel result (N.remaining net.old)
+    ensures done { IsPlay driver.now start.until start.cancel result bytes.now
         (S.remaining script.old) (W.contents out.old) (W.contents out.new) }
-    ensures reads { (script.new ≡ script.old) ⊎ DriverReads driver.now (N.remaining net.old) }
+    ensures reads { (script.new ≡ script.old) ⊎ DriverReads driver.now bytes.now }
 {
-    let bytes = read_all(alloc, net)?;
     match driver {
-        Driver::Script(_) => play_by_script(alloc, bytes.as_slice(), script, start, out),
-        Driver::Seed { seed, steps } => {
-            play_by_seed(alloc, bytes.as_slice(), start, *seed, *steps, out)
-        }
+        Driver::Script(_) => play_by_script(alloc, bytes, script, start, out),
+        Driver::Seed { seed, steps } => play_by_seed(alloc, bytes, start, *seed, *steps, out),
     }
 }
 
@@ -148,7 +144,8 @@ pub(crate) fn player_of(
     }
 }
 
-/// Writes the trace of what is committed up to the least commit line. The executive is given up.
+/// Writes the trace of what is committed up to the least commit line, whole: where memory is wanting (4) nothing is written. The executive
+/// is given up.
 fn write_committed<W: Write>(
     alloc: Global,
     executive: Executive<AnyModel>,
@@ -161,6 +158,12 @@ fn write_committed<W: Write>(
         return Err(Failed::Want(Refusal::OutOfMemory));
     };
     let names = NetworkNames { network: &network };
-    write_trace(alloc, &names, records.as_slice(), out)?;
-    Ok(())
+    let mut text = Vec::new(alloc);
+    let Ok(()) = write_trace(alloc, &names, records.as_slice(), &mut text) else {
+        return Err(Failed::Want(Refusal::OutOfMemory));
+    };
+    match out.write_all(text.as_slice()) {
+        Ok(()) => Ok(()),
+        Err(_) => Err(Failed::NoWrite),
+    }
 }

@@ -1,7 +1,6 @@
 //! The job `run`: a run by workers, or in order where that is left to the program and workers would not pay.
 
 ghost use Rattle.std.specs.Prelude.{◌≡◌, IfErr, IfOk};
-ghost use Rattle.tw_engine.specs.Jobs.{OfFile};
 ghost use Rattle.tw_engine.specs.Runs.{HasNoRun, IsRunByWorkers, IsShown, IsWorked};
 ghost use Rattle.tw_workers_progress.specs.Settings.{IsSet};
 
@@ -10,10 +9,10 @@ use crate::failed::Failed;
 use crate::faults::last_line;
 use crate::job_seq::simulate;
 use crate::names::NetworkNames;
-use crate::reading::{Run, network_in, read_all};
+use crate::reading::{Run, network_in};
 use crate::telling::Teller;
 use std::alloc::Global;
-use std::io::{Read, Write};
+use std::io::Write;
 use std::sync::{Arc, Wait};
 use std::thread::Threads;
 use std::time::Clock;
@@ -37,26 +36,10 @@ pub(crate) struct Plan {
     pub(crate) options: RunOptions,
 }
 
-/// Does the job `run` of [`engine`](crate::engine), and answers the fault that the trace ends in, if it ends in one.
+/// Does the job `run` of [`engine`](crate::engine) on a file's bytes, and answers the fault that the trace ends in, if it ends in one.
 ///
 /// It fails as the table of [`engine`](crate::engine) says.
-pub(crate) fn run<R: Threads + Wait + Clock + Eprint + Sync, N: Read, W: Write>(
-    rt: &R,
-    alloc: Global,
-    net: &mut N,
-    plan: Plan,
-    out: &mut W,
-) -> Result<Option<Fault>, Failed>
-    ensures { OfFile (N.remaining net.old) result (W.contents out.old) (W.contents out.new)
-        (λ bytes. IsRunByWorkers bytes plan.until result
-        (W.contents out.old) (W.contents out.new)) }
-{
-    let bytes = read_all(alloc, net)?;
-    run_file(rt, alloc, bytes.as_slice(), plan, out)
-}
-
-/// Runs the network that a file's bytes mean as it is planned, and writes its text.
-fn run_file<R: Threads + Wait + Clock + Eprint + Sync, W: Write>(
+pub(crate) fn run<R: Threads + Wait + Clock + Eprint + Sync, W: Write>(
     rt: &R,
     alloc: Global,
     bytes: &[u8],

@@ -5,39 +5,23 @@ ghost use Rattle.tw_any_model.specs.AnyModel.{any_meaning};
 ghost use Rattle.tw_network.specs.Contents.{network_of};
 ghost use Rattle.tw_theory.specs.Simulator.{sequential};
 ghost use Rattle.tw_vtime.specs.Stamps.{max_tick};
-ghost use Rattle.tw_engine.specs.Jobs.{OfFile};
 ghost use Rattle.tw_engine.specs.Runs.{IsMadeInOrder, IsRun, IsShown};
 
 use crate::failed::Failed;
 use crate::faults::{fault_of, last_line};
 use crate::names::NetworkNames;
-use crate::reading::{Run, network_in, read_all};
+use crate::reading::{Run, network_in};
 use std::alloc::Global;
-use std::io::{Read, Write};
+use std::io::Write;
 use tw_actions::Fault;
 use tw_listen::Listener;
 use tw_record_lines::write_lines;
 
-/// Does the job `seq` of [`engine`](crate::engine), and answers the fault that the trace ends in, if it ends in one. After each round
-/// the listener hears how far the run is. It takes no handle, and so it returns.
+/// Does the job `seq` of [`alone`](crate::alone) on a file's bytes, and answers the fault that the trace ends in, if it ends in one.
+/// After each round the listener hears how far the run is. It takes no handle, and so it returns.
 ///
-/// It fails as the table of [`engine`](crate::engine) says.
-pub fn seq<N: Read, L: Listener, W: Write>(
-    alloc: Global,
-    net: &mut N,
-    until: u64,
-    listener: &mut L,
-    out: &mut W,
-) -> Result<Option<Fault>, Failed>
-    ensures { OfFile (N.remaining net.old) result (W.contents out.old) (W.contents out.new)
-        (λ bytes. IsRun bytes until result (W.contents out.old) (W.contents out.new)) }
-{
-    let bytes = read_all(alloc, net)?;
-    simulate_file(alloc, bytes.as_slice(), until, listener, out)
-}
-
-/// Simulates the network that a file's bytes mean in order, and writes its text.
-fn simulate_file<L: Listener, W: Write>(
+/// It fails as the table of [`alone`](crate::alone) says.
+pub fn seq<L: Listener, W: Write>(
     alloc: Global,
     bytes: &[u8],
     until: u64,

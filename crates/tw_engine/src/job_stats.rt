@@ -1,40 +1,23 @@
 //! The job `stats`: counts and figures of a sequential run.
 
-ghost use Rattle.tw_engine.specs.Jobs.{OfFile};
 ghost use Rattle.tw_engine.specs.Views.{IsSummed, IsSummedOf};
 
 use crate::failed::Failed;
 use crate::faults::fault_line;
 use crate::names::NetworkNames;
-use crate::reading::{Run, network_in, read_all};
+use crate::reading::{Run, network_in};
 use std::alloc::Global;
-use std::io::{Read, Write};
+use std::io::Write;
 use tw_figure_names::labels_in;
 use tw_listen::Listener;
 use tw_stats::{report_of, write_report};
 use tw_vtime::Refusal;
 
-/// Does the job `stats` of [`engine`](crate::engine), and answers the line of the run's fault, if it ends in one. After each round the
-/// listener hears how far the run is. It takes no handle, and so it returns.
+/// Does the job `stats` of [`alone`](crate::alone) on a file's bytes, and answers the line of the run's fault, if it ends in one. After
+/// each round the listener hears how far the run is. It takes no handle, and so it returns.
 ///
-/// It fails as the table of [`engine`](crate::engine) says.
-pub fn stats<N: Read, L: Listener, W: Write>(
-    alloc: Global,
-    net: &mut N,
-    until: u64,
-    json: bool,
-    listener: &mut L,
-    out: &mut W,
-) -> Result<Option<String>, Failed>
-    ensures { OfFile (N.remaining net.old) result (W.contents out.old) (W.contents out.new)
-        (λ bytes. IsSummed bytes until result (W.contents out.old) (W.contents out.new)) }
-{
-    let bytes = read_all(alloc, net)?;
-    sum_up_file(alloc, bytes.as_slice(), until, json, listener, out)
-}
-
-/// Writes the counts and the figures of the run of the network that a file's bytes mean.
-fn sum_up_file<L: Listener, W: Write>(
+/// It fails as the table of [`alone`](crate::alone) says.
+pub fn stats<L: Listener, W: Write>(
     alloc: Global,
     bytes: &[u8],
     until: u64,
@@ -42,7 +25,7 @@ fn sum_up_file<L: Listener, W: Write>(
     listener: &mut L,
     out: &mut W,
 ) -> Result<Option<String>, Failed>
-    ensures { IsSummed bytes.now until result (W.contents out.old) (W.contents out.new) }
+    ensures { IsSummed bytes.now until json result (W.contents out.old) (W.contents out.new) }
 {
     let network = network_in(alloc, bytes)?;
     let run = Run {
@@ -61,7 +44,7 @@ fn sum_up<L: Listener, W: Write>(
     listener: &mut L,
     out: &mut W,
 ) -> Result<Option<String>, Failed>
-    ensures { IsSummedOf run.now.network.now run.now.until result
+    ensures { IsSummedOf run.now.network.now run.now.until json result
         (W.contents out.old) (W.contents out.new) }
 {
     let labels = labels_in(alloc, bytes, run.network)?;

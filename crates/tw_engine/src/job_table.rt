@@ -1,39 +1,22 @@
 //! The job `table`: the records of a sequential run as comma-separated values.
 
-ghost use Rattle.tw_engine.specs.Jobs.{OfFile};
 ghost use Rattle.tw_engine.specs.Views.{IsTabulated, IsTabulatedOf};
 
 use crate::failed::Failed;
 use crate::faults::{fault_line, fault_of};
 use crate::names::NetworkNames;
-use crate::reading::{Run, network_in, read_all};
+use crate::reading::{Run, network_in};
 use std::alloc::Global;
-use std::io::{Read, Write};
+use std::io::Write;
 use tw_figures::Rows;
 use tw_listen::Listener;
 use tw_record_lines::{Table, write_table};
 
-/// Does the job `table` of [`engine`](crate::engine), and answers the line of the run's fault, if it ends in one. After each round the
-/// listener hears how far the run is. It takes no handle, and so it returns.
+/// Does the job `table` of [`alone`](crate::alone) on a file's bytes, and answers the line of the run's fault, if it ends in one. After
+/// each round the listener hears how far the run is. It takes no handle, and so it returns.
 ///
-/// It fails as the table of [`engine`](crate::engine) says.
-pub fn table<N: Read, L: Listener, W: Write>(
-    alloc: Global,
-    net: &mut N,
-    until: u64,
-    rows: Rows,
-    listener: &mut L,
-    out: &mut W,
-) -> Result<Option<String>, Failed>
-    ensures { OfFile (N.remaining net.old) result (W.contents out.old) (W.contents out.new)
-        (λ bytes. IsTabulated bytes until rows result (W.contents out.old) (W.contents out.new)) }
-{
-    let bytes = read_all(alloc, net)?;
-    tabulate_file(alloc, bytes.as_slice(), until, rows, listener, out)
-}
-
-/// Writes the table of the run of the network that a file's bytes mean.
-fn tabulate_file<L: Listener, W: Write>(
+/// It fails as the table of [`alone`](crate::alone) says.
+pub fn table<L: Listener, W: Write>(
     alloc: Global,
     bytes: &[u8],
     until: u64,

@@ -1,13 +1,14 @@
 //! The engine that the program runs, over any reader and writer.
 //!
-//! [`engine`] does a job: it reads a network file and says what it has or where it is at fault, simulates its network, alone
-//! or by workers, and writes the trace, figures, a table or a picture of the run, drives an executive of it by hand, or runs the
-//! demonstration by the executive. Its contract gives the exact bytes written (of figures and pictures when there are any), and what
-//! each way to end means. Each job is a file, which reads, simulates and writes by the crates below:
+//! [`engine`] does a job on the bytes of a network's file: it says what the network has or where the file is at fault, simulates the
+//! network, alone or by workers, and writes the trace, figures, a table or a picture of the run, drives an executive of it by hand, or
+//! runs the demonstration by the executive. [`alone`] does all jobs but the two that take threads. Their contracts give the exact bytes
+//! written (of pictures when there are any), and what each way to end means. Each job is a file, which reads, simulates and writes by the
+//! crates below:
 //!
 //! | File | Does |
 //! |---|---|
-//! | `dispatch` | [`engine`]: a job, by its kind, with the table of all ends |
+//! | `dispatch` | [`alone`] and [`engine`]: a job, by its kind, with the table of all ends |
 //! | `job_demo` | the demonstration; [`demo_law`]: what it prints, in its bytes |
 //! | `job_check` | [`check`]: what a network has, or where its file is at fault |
 //! | `job_seq` | [`seq`]: the trace of the sequential run; `job_run` makes a run in order by it too |
@@ -16,12 +17,11 @@
 //! | `job_draw` | [`draw`]: a [`Drawing`] of that run, or of a run of Time Warp |
 //! | `job_run` | the trace, made by workers; `choosing` says how many there are, where that is left to the program |
 //! | `job_play` | [`play`]: an executive that is driven by hand, from its [`Start`] on |
-//! | `reading`, `faults`, `names` | what jobs share: what is read, the line of a run's fault, the names of components |
+//! | `reading`, `faults`, `names` | what jobs share: [`read_all`] and the network of a file, the line of a run's fault, the names of components |
 //! | `telling` | who tells on standard error how far a run is |
 //! | `failed`, `exit` | [`Failed`]: why a job came to no end; [`Exit`]: how the program ends, with its status and the line for standard error |
-//! | `laws` | [`text_law`]: the text of a run is a function of its file's bytes |
 //!
-//! [`seq`], [`stats`], [`table`], [`draw`], [`check`] and [`play`] need no thread.
+//! [`alone`], [`seq`], [`stats`], [`table`], [`draw`], [`check`] and [`play`] need no thread.
 #![tactic(auto)]
 
 mod choosing;
@@ -37,12 +37,11 @@ mod job_run;
 mod job_seq;
 mod job_stats;
 mod job_table;
-mod laws;
 mod names;
 mod reading;
 mod telling;
 
-pub use dispatch::engine;
+pub use dispatch::{alone, engine};
 pub use exit::Exit;
 pub use failed::Failed;
 pub use job_check::check;
@@ -52,5 +51,5 @@ pub use job_play::{Start, play};
 pub use job_seq::seq;
 pub use job_stats::stats;
 pub use job_table::table;
-pub use laws::text_law;
+pub use reading::read_all;
 pub use tw_actions::Fault;

@@ -21,16 +21,16 @@ pub(crate) struct Run<'a> {
     pub(crate) until: u64,
 }
 
-/// All that a reader has left.
+/// All that a reader has left: the bytes of a network's file for a job, or those of a script.
 ///
 /// Refused where it fails (19), or for want of memory (4).
-pub(crate) fn read_all<N: Read>(alloc: Global, net: &mut N) -> Result<Vec<u8>, Failed>
-    ensures ok { IfOk result (λ bytes. IfSome (N.remaining net.old) (λ all. bytes.items ≡ all)) }
+pub fn read_all<N: Read>(alloc: Global, file: &mut N) -> Result<Vec<u8>, Failed>
+    ensures ok { IfOk result (λ bytes. IfSome (N.remaining file.old) (λ all. bytes.items ≡ all)) }
     ensures err { IfErr result
         (λ e. (e ≡ failed.Bad refusal.Unreadable None) ⊎ (e ≡ failed.Want refusal.OutOfMemory)) }
 {
     let mut bytes = Vec::new(alloc);
-    match net.read_to_end(&mut bytes) {
+    match file.read_to_end(&mut bytes) {
         Ok(_) => Ok(bytes),
         Err(error) => Err(if error.kind() == ErrorKind::OutOfMemory {
             Failed::Want(Refusal::OutOfMemory)

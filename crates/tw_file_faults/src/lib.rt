@@ -2,8 +2,8 @@
 //!
 //! [`explain`] takes a second look at a file that `tw_file_network` has refused, apart from the reader there, and answers
 //! one line for its user. Which fault it is, its number, is what the reader answers, and is proved there; here that
-//! fault's first place is looked for. Of the words nothing is proved but that they are made safely and that the
-//! search ends: they are shown by tests, one for each kind of fault.
+//! fault's first place is looked for. Of the words nothing is proved but that they are made safely, that they are one line
+//! and that the search ends: they are shown by tests, one for each kind of fault.
 //!
 //! - `lines`: [`explain`].
 //! - `outline`: the models and components of a file as it is written, well-formed or not, each with its place and its name.

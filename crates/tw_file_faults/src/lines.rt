@@ -1,5 +1,8 @@
 //! From a refused file to a line of words.
 
+ghost use Rattle.std.specs.Prelude.{IfOk, string_bytes};
+ghost use Rattle.tw_file_faults.specs.Lines.{HasNoLineEnd};
+
 use crate::connections::{
     bad_names, bad_ports, bad_ticks, repeated_names, repeated_routes, self_couplings, unknown_names,
 };
@@ -14,7 +17,7 @@ use tw_file_network::FileRefused;
 use tw_machine_faults::Stop;
 use tw_network::NetworkRefused;
 
-/// The place and the reason of a fault that the reader has found in a file's bytes, in words, with no line's end:
+/// The place and the reason of a fault that the reader has found in a file's bytes, in words, in which no byte ends a line:
 ///
 /// - `components[3] "q": service is 1099511627775, at most 1099511627774`: a component, by its place from 0 in the
 ///   file's list, and its name. One of a coupled model has the places on its way, and its flat name:
@@ -25,11 +28,29 @@ use tw_network::NetworkRefused;
 /// - `line 12, column 8: not JSON: expected a comma`: lines and columns count from 1, columns in bytes. Where the text
 ///   ends too early it is the last byte's place.
 ///
-/// The words are those of the first place of this fault; nothing is proved of them. For a fault that the file does
+/// The words are those of the first place of this fault; which they are is shown by tests. For a fault that the file does
 /// not have, the words are the fault's own.
 ///
 /// Refused where a growth of memory is.
-pub fn explain(alloc: Global, bytes: &[u8], fault: FileRefused) -> Result<String, AllocError> {
+pub fn explain(alloc: Global, bytes: &[u8], fault: FileRefused) -> Result<String, AllocError>
+    ensures { IfOk result (λ words. HasNoLineEnd (string_bytes words)) }
+{
+    let words = words_for(alloc, bytes, fault)?;
+    String::from_str(alloc, first_line(words.as_str()))
+}
+
+/// A text up to its first line's end.
+fn first_line(text: &str) -> &str
+    ensures { HasNoLineEnd result.now }
+{
+    match text.split_once('\n') {
+        Some((line, _)) => line,
+        None => text,
+    }
+}
+
+/// The words for a fault: those of its first place, or the fault's own.
+fn words_for(alloc: Global, bytes: &[u8], fault: FileRefused) -> Result<String, AllocError> {
     match found(alloc, bytes, fault) {
         Err(Stop::Fault(line)) => Ok(line),
         Err(Stop::OutOfMemory) => Err(AllocError),

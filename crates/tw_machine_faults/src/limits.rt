@@ -49,7 +49,11 @@ pub(crate) fn limit_fault(
             format!(in alloc; "queues have room for {room} values together, at most {MAX_ROOMS}")
         }
         BadMachine::TooManyNumbers => {
-            let numbers = lists_together(given).saturating_add(total(given, read, Counted::Numbers));
+            let numbers = lists_together(given).saturating_add(total(
+                given,
+                read,
+                Counted::Numbers,
+            ));
             format!(in alloc; "tables have {numbers} numbers together, at most {MAX_NUMBERS}")
         }
         BadMachine::TooManyNodes => {

@@ -1,7 +1,7 @@
 //! The program: its words, its file and its standard streams.
 //!
-//! What it does is [`tw_cli::job`] and [`tw_engine::engine`]; here they only get the process's arguments,
-//! the files and the streams.
+//! What it does is [`tw_cli::job`], [`tw_engine::alone`] and [`tw_engine::engine`]; here they only get the process's arguments, the
+//! bytes of the network's file, the script and the streams.
 #![tactic(auto)]
 
 mod source;
@@ -15,7 +15,7 @@ use std::thread::Threads;
 use std::time::Clock;
 use std::{env, io};
 use tw_cli::{Driver, Job, NoJob, Picture, Task, job};
-use tw_engine::{Exit, engine};
+use tw_engine::{Exit, Failed, alone, engine, read_all};
 use tw_vtime::Refusal;
 
 /// How the run of the program ends.
@@ -47,22 +47,39 @@ fn exit_of(error: &io::Error) -> Exit {
     }
 }
 
-/// Does a job on its files and standard output, by these threads where it takes any.
+/// Does a job on its files and standard output: alone, or by these threads where it takes any.
 fn do_job<T: Threads + Wait + Clock + Eprint + Sync>(
     rt: &HostRuntime,
     threads: &T,
     job: &Job<'_>,
 ) -> Exit {
-    let mut net = match job {
-        Job::Demo => Source::Missing(ErrorKind::NotFound),
-        Job::Check { net } | Job::Simulate { net, .. } => Source::from(File::open(rt, *net)),
+    let bytes = match network_bytes(rt, job) {
+        Ok(bytes) => bytes,
+        Err(failed) => return Exit::from(failed),
     };
+    let bytes = bytes.as_slice();
     let mut script = match script_of(job) {
         Some(path) => Source::from(File::open(rt, path)),
         None => Source::Missing(ErrorKind::NotFound),
     };
     let mut out = io::writer(rt);
-    engine(threads, rt.alloc(), job, &mut net, &mut script, &mut out)
+    match alone(threads, rt.alloc(), job, bytes, &mut script, &mut out) {
+        Some(exit) => exit,
+        None => engine(threads, rt.alloc(), job, bytes, &mut script, &mut out),
+    }
+}
+
+/// All bytes of a job's network file; none where the job has no file.
+///
+/// Refused where the file cannot be read (19), or for want of memory (4).
+fn network_bytes(rt: &HostRuntime, job: &Job<'_>) -> Result<Vec<u8>, Failed> {
+    match job {
+        Job::Demo => Ok(Vec::new(rt.alloc())),
+        Job::Check { net } | Job::Simulate { net, .. } => {
+            let mut file = Source::from(File::open(rt, *net));
+            read_all(rt.alloc(), &mut file)
+        }
+    }
 }
 
 /// The path of the script that a job is driven by, if it is.

@@ -1,5 +1,5 @@
 use Rattle.tw_engine.proofs.Checked.{checked_fault, checked_network}
-use Rattle.tw_engine.proofs.job_check.check_bytes.Goals as goal
+use Rattle.tw_engine.proofs.job_check.check.Goals as goal
 
 pub returns-in-Ok : goal.returns-in-Ok
 returns-in-Ok g c =

@@ -1,5 +1,0 @@
-use Rattle.tw_engine.proofs.OneText.{one_text}
-use Rattle.tw_engine.proofs.laws.text_law.Goals as goal
-
-pub returns : goal.returns
-returns c = one_text c.meaning_law.ensures c.couplings_law.ensures

@@ -1,0 +1,4 @@
+pub mod One
+pub mod OneAction
+pub mod OnePlay
+pub mod OneText

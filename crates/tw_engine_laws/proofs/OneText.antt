@@ -6,8 +6,8 @@ use Rattle.std.specs.Io.KnownBytes.{Appends}
 use Rattle.tw_any_model.specs.AnyModel.{any_meaning}
 use Rattle.tw_any_model.specs.declared.any_model.AnyModel.{AnyModel}
 use Rattle.tw_any_model.specs.declared.any_model.AnyState.{AnyState}
-use Rattle.tw_cli_options.specs.declared.driving.Driver.{Driver}
-use Rattle.tw_cli_options.specs.declared.driving.Driver.TheVariants.{Script, Seed}
+use Rattle.tw_cli.specs.declared.driving.Driver.{Driver}
+use Rattle.tw_cli.specs.declared.driving.Driver.TheVariants.{Script, Seed}
 use Rattle.tw_cli.specs.declared.jobs.Job.{Job}
 use Rattle.tw_cli.specs.declared.jobs.Job.TheVariants.{Demo, Check, Simulate}
 use Rattle.tw_cli.specs.declared.jobs.Task.{Task}

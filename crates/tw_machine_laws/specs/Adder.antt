@@ -1,8 +1,9 @@
--- The tally as a machine: what it means, and which states stand for which.
---     adder      the program
+-- The tally as a machine: what it means, its text, and which states stand for which.
+--     adder, adder_text      the program, and what is written
 --     TallyStands s t      the machine stands in t where the tally stands in s
-use Rattle.std.specs.Prelude.{◌≡◌, ◌<◌, pos, [], ◌∷◌, None}
+use Rattle.std.specs.Prelude.{◌≡◌, ◌<◌, pos, [], ◌∷◌, None, codes}
 use Rattle.std.specs.Int.{w64, cast_signed}
+use Rattle.serde_json.specs.Data.{Data, string, object, no_members, member}
 use Rattle.tw_machine.specs.declared.language.Leaf.TheVariants as leaf
 use Rattle.tw_machine.specs.declared.language.Expr.TheVariants.{Plain}
 use Rattle.tw_machine.specs.declared.language.Target.TheVariants.{Single}
@@ -14,6 +15,7 @@ use Rattle.tw_machine.specs.declared.memory.State.{State}
 use Rattle.tw_machine.specs.Program.{ProgramText}
 use Rattle.tw_machine.specs.Seen.{both}
 use Rattle.tw_models.specs.declared.tally.TallyState.{TallyState}
+use Rattle.tw_machine_laws.specs.Texts.{count, lines}
 
 -- count += 1, sum += value, last = value
 abbrev pub adds : Statement
@@ -38,3 +40,11 @@ pub record TallyStands (s : TallyState) (t : State) : Type 0 where
   pub cells : t.memory.cells ≡ cast_signed w64 s.count ∷ s.sum ∷ s.last ∷ []
   pub left : t.left ≡ None
   pub count : s.count < 18446744073709551616
+
+-- {"external": ["count += 1", "sum += value", "last = value"], "name": "adder", "registers": {"count": 0, "last": 0, "sum": 0}, "words": ["count", "sum", "last"]}
+abbrev pub adder_text : Data
+adder_text = object
+    (member (codes "external") (lines (codes "count += 1" ∷ codes "sum += value" ∷ codes "last = value" ∷ []))
+    (member (codes "name") (string (codes "adder"))
+    (member (codes "registers") (object (member (codes "count") (count 0) (member (codes "sum") (count 0) (member (codes "last") (count 0) no_members))))
+    (member (codes "words") (lines (codes "count" ∷ codes "sum" ∷ codes "last" ∷ [])) no_members))))

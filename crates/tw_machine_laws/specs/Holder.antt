@@ -1,8 +1,9 @@
--- The relay as a machine: what it means, and which states stand for which.
---     holder r      the program with a relay's parameter
+-- The relay as a machine: what it means, its text, and which states stand for which.
+--     holder r, holder_text      the program with a relay's parameter, and what is written
 --     RelayStands s t      the machine stands in t where the relay stands in s
-use Rattle.std.specs.Prelude.{◌≡◌, ◌<◌, ◌≤◌, pos, [], ◌∷◌, Some, None, length}
+use Rattle.std.specs.Prelude.{◌≡◌, ◌<◌, ◌≤◌, pos, [], ◌∷◌, Some, None, length, codes}
 use Rattle.std.specs.Int.{w64, cast_signed}
+use Rattle.serde_json.specs.Data.{Data, string, array, object, no_items, item, no_members, member}
 use Rattle.tw_machine.specs.declared.language.Leaf.TheVariants as leaf
 use Rattle.tw_machine.specs.declared.language.Expr.TheVariants.{Plain}
 use Rattle.tw_machine.specs.declared.language.Target.TheVariants.{Single}
@@ -18,6 +19,7 @@ use Rattle.tw_models.specs.Intake.{WaitsWith}
 use Rattle.tw_models.specs.Parameters.{RelayParameters}
 use Rattle.tw_models.specs.declared.relay.RelayState.{RelayState}
 use Rattle.tw_machine_laws.specs.Intake.{takes_in}
+use Rattle.tw_machine_laws.specs.Texts.{count, lines}
 
 -- repeat 32 { pop held }
 abbrev pub lets_go : Statement
@@ -49,3 +51,16 @@ pub record RelayStands (s : RelayState) (t : State) : Type 0 where
   pub dropped : s.dropped < 18446744073709551616
   pub room : length s.held.items ≤ 32
   pub waits : WaitsWith s.held.items s.left
+
+-- {"external": ["if length(held) == 0 { wait delay }", "dropped += length(held) == room(held)", "push held value"], "internal": ["repeat 32 { pop held }"], "name": "holder",
+-- "output": [{"each": "held", "port": 0, "value": "value"}], "parameters": ["delay"], "queues": {"held": 32}, "registers": {"dropped": 0}, "words": ["dropped", "held"]}
+abbrev pub holder_text : Data
+holder_text = object
+    (member (codes "external") (lines (codes "if length(held) == 0 { wait delay }" ∷ codes "dropped += length(held) == room(held)" ∷ codes "push held value" ∷ []))
+    (member (codes "internal") (lines (codes "repeat 32 { pop held }" ∷ []))
+    (member (codes "name") (string (codes "holder"))
+    (member (codes "output") (array (item (object (member (codes "each") (string (codes "held")) (member (codes "port") (count 0) (member (codes "value") (string (codes "value")) no_members)))) no_items))
+    (member (codes "parameters") (lines (codes "delay" ∷ []))
+    (member (codes "queues") (object (member (codes "held") (count 32) no_members))
+    (member (codes "registers") (object (member (codes "dropped") (count 0) no_members))
+    (member (codes "words") (lines (codes "dropped" ∷ codes "held" ∷ [])) no_members))))))))

@@ -5,3 +5,4 @@ pub mod Intake
 pub mod Line
 pub mod Maker
 pub mod Networks
+pub mod Texts

@@ -1,8 +1,9 @@
--- The queue as a machine: what it means, and which states stand for which.
---     line q      the program with a queue's parameter
+-- The queue as a machine: what it means, its text, and which states stand for which.
+--     line q, line_text      the program with a queue's parameter, and what is written
 --     QueueStands s t      the machine stands in t where the queue stands in s
-use Rattle.std.specs.Prelude.{◌≡◌, ℕ, ◌<◌, ◌≤◌, pos, [], ◌∷◌, None, length}
+use Rattle.std.specs.Prelude.{◌≡◌, ℕ, ◌<◌, ◌≤◌, pos, [], ◌∷◌, None, length, codes}
 use Rattle.std.specs.Int.{w64, cast_signed}
+use Rattle.serde_json.specs.Data.{Data, string, array, object, no_items, item, no_members, member}
 use Rattle.tw_machine.specs.declared.language.Measure.TheVariants.{Length, Front}
 use Rattle.tw_machine.specs.declared.language.Leaf.TheVariants as leaf
 use Rattle.tw_machine.specs.declared.language.Binary.TheVariants.{Greater}
@@ -19,6 +20,7 @@ use Rattle.tw_models.specs.Intake.{WaitsWith}
 use Rattle.tw_models.specs.Parameters.{QueueParameters}
 use Rattle.tw_models.specs.declared.queue.QueueState.{QueueState}
 use Rattle.tw_machine_laws.specs.Intake.{takes_in}
+use Rattle.tw_machine_laws.specs.Texts.{count, lines}
 
 -- if length(jobs) > 0 { wait service }
 abbrev pub goes_on : ℕ → Statement
@@ -50,3 +52,16 @@ pub record QueueStands (s : QueueState) (t : State) : Type 0 where
   pub dropped : s.dropped < 18446744073709551616
   pub room : length s.jobs.items ≤ 64
   pub waits : WaitsWith s.jobs.items s.left
+
+-- {"external": ["if length(jobs) == 0 { wait service }", "dropped += length(jobs) == room(jobs)", "push jobs value"], "internal": ["pop jobs", "if length(jobs) > 0 { wait service }"],
+-- "name": "line", "output": [{"port": 0, "value": "front(jobs)"}], "parameters": ["service"], "queues": {"jobs": 64}, "registers": {"dropped": 0}, "words": ["dropped", "jobs"]}
+abbrev pub line_text : Data
+line_text = object
+    (member (codes "external") (lines (codes "if length(jobs) == 0 { wait service }" ∷ codes "dropped += length(jobs) == room(jobs)" ∷ codes "push jobs value" ∷ []))
+    (member (codes "internal") (lines (codes "pop jobs" ∷ codes "if length(jobs) > 0 { wait service }" ∷ []))
+    (member (codes "name") (string (codes "line"))
+    (member (codes "output") (array (item (object (member (codes "port") (count 0) (member (codes "value") (string (codes "front(jobs)")) no_members))) no_items))
+    (member (codes "parameters") (lines (codes "service" ∷ []))
+    (member (codes "queues") (object (member (codes "jobs") (count 64) no_members))
+    (member (codes "registers") (object (member (codes "dropped") (count 0) no_members))
+    (member (codes "words") (lines (codes "dropped" ∷ codes "jobs" ∷ [])) no_members))))))))

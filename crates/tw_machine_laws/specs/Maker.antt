@@ -1,8 +1,9 @@
--- The generator as a machine: what it means, and which states stand for which.
---     maker g      the program with a generator's parameters
+-- The generator as a machine: what it means, its text, and which states stand for which.
+--     maker g, maker_text      the program with a generator's parameters, and what is written
 --     GenStands s t      the machine stands in t where the generator stands in s
-use Rattle.std.specs.Prelude.{◌≡◌, ◌<◌, pos, [], ◌∷◌, Some, None}
+use Rattle.std.specs.Prelude.{◌≡◌, ◌<◌, pos, [], ◌∷◌, Some, None, codes}
 use Rattle.std.specs.Int.{w64, cast_signed}
+use Rattle.serde_json.specs.Data.{Data, string, array, object, no_items, item, no_members, member}
 use Rattle.tw_machine.specs.declared.language.Leaf.TheVariants as leaf
 use Rattle.tw_machine.specs.declared.language.Expr.TheVariants.{Plain}
 use Rattle.tw_machine.specs.declared.language.Target.TheVariants.{Single}
@@ -14,6 +15,7 @@ use Rattle.tw_machine.specs.Program.{ProgramText}
 use Rattle.tw_machine.specs.Seen.{both}
 use Rattle.tw_models.specs.Parameters.{GenParameters}
 use Rattle.tw_models.specs.declared.generator.GenState.{GenState}
+use Rattle.tw_machine_laws.specs.Texts.{count, lines}
 
 -- first period; count += 1, wait period; it sends its amount
 abbrev pub maker : GenParameters → ProgramText
@@ -35,3 +37,14 @@ pub record GenStands (s : GenState) (t : State) : Type 0 where
   pub cells : t.memory.cells ≡ cast_signed w64 s.count ∷ []
   pub left : t.left ≡ s.left
   pub count : s.count < 18446744073709551616
+
+-- {"first": "period", "internal": ["count += 1", "wait period"], "name": "maker", "output": [{"port": 0, "value": "amount"}], "parameters": ["period", "amount"], "registers": {"count": 0}, "words": ["count"]}
+abbrev pub maker_text : Data
+maker_text = object
+    (member (codes "first") (string (codes "period"))
+    (member (codes "internal") (lines (codes "count += 1" ∷ codes "wait period" ∷ []))
+    (member (codes "name") (string (codes "maker"))
+    (member (codes "output") (array (item (object (member (codes "port") (count 0) (member (codes "value") (string (codes "amount")) no_members))) no_items))
+    (member (codes "parameters") (lines (codes "period" ∷ codes "amount" ∷ []))
+    (member (codes "registers") (object (member (codes "count") (count 0) no_members))
+    (member (codes "words") (lines (codes "count" ∷ [])) no_members)))))))

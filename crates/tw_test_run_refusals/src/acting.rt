@@ -2,9 +2,9 @@
 
 use crate::looking::look;
 use std::alloc::Global;
+use tw_any_model::AnyModel;
 use tw_exec::{Action, Done, Executive, Mark, Refused};
 use tw_inspect::Reply;
-use tw_models::Model;
 use tw_script::Command;
 use tw_test_refusal_tools::Told;
 
@@ -24,7 +24,7 @@ fn name_of(action: &Action) -> &'static str {
 pub(crate) fn act(
     told: &mut Told,
     alloc: Global,
-    executive: &mut Executive<Model>,
+    executive: &mut Executive<AnyModel>,
     action: &Action,
 ) -> Reply {
     let before = look(told, alloc, executive);
@@ -38,7 +38,7 @@ pub(crate) fn act(
 }
 
 /// A mark of where components stand, at the second try where the first finds no memory.
-pub(crate) fn mark(executive: &Executive<Model>) -> Option<Mark> {
+pub(crate) fn mark(executive: &Executive<AnyModel>) -> Option<Mark> {
     match executive.mark() {
         Err(_) => executive.mark().ok(),
         made => made.ok(),
@@ -46,7 +46,7 @@ pub(crate) fn mark(executive: &Executive<Model>) -> Option<Mark> {
 }
 
 /// Rewinds to a mark, which takes no memory. Without a mark there is none such.
-fn rewind(executive: &mut Executive<Model>, mark: Option<&Mark>) -> Reply {
+fn rewind(executive: &mut Executive<AnyModel>, mark: Option<&Mark>) -> Reply {
     match mark {
         None => Reply::Refused(Refused::NoSuch),
         Some(mark) => match executive.rewind(mark) {
@@ -60,7 +60,7 @@ fn rewind(executive: &mut Executive<Model>, mark: Option<&Mark>) -> Reply {
 pub(crate) fn obey(
     told: &mut Told,
     alloc: Global,
-    executive: &mut Executive<Model>,
+    executive: &mut Executive<AnyModel>,
     marked: &mut Option<Mark>,
     command: Command,
 ) -> Option<Reply> {

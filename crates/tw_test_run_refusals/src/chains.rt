@@ -3,9 +3,9 @@
 use crate::looking::look;
 use crate::telling::tell_number;
 use std::alloc::Global;
+use tw_any_model::AnyModel;
 use tw_chain::Cause;
 use tw_exec::{Action, Executive, Refused};
-use tw_models::Model;
 use tw_process::{Finished, Stop};
 use tw_test_refusal_tools::Told;
 use tw_vtime::Stamp;
@@ -26,7 +26,7 @@ pub(crate) fn is_refused(finished: Finished) -> bool {
 
 /// Works out a chain of a component, before the end tick, and installs it.
 fn install(
-    executive: &mut Executive<Model>,
+    executive: &mut Executive<AnyModel>,
     component: usize,
     burst: usize,
 ) -> Result<Finished, Refused> {
@@ -50,7 +50,7 @@ fn install(
 fn chain_once(
     told: &mut Told,
     alloc: Global,
-    executive: &mut Executive<Model>,
+    executive: &mut Executive<AnyModel>,
     component: usize,
     burst: usize,
 ) -> (usize, bool) {
@@ -69,7 +69,7 @@ fn chain_once(
 pub(crate) fn chain(
     told: &mut Told,
     alloc: Global,
-    executive: &mut Executive<Model>,
+    executive: &mut Executive<AnyModel>,
     component: usize,
     burst: usize,
 ) {
@@ -86,7 +86,7 @@ pub(crate) fn chain(
 }
 
 /// Replays what is left of a list of steps after so many, and answers how many of them were made.
-fn replay_rest(executive: &mut Executive<Model>, steps: &[Action], made: usize) -> usize {
+fn replay_rest(executive: &mut Executive<AnyModel>, steps: &[Action], made: usize) -> usize {
     match steps.get(made..) {
         Some(rest) => executive.replay(rest) as usize,
         None => 0,
@@ -94,7 +94,7 @@ fn replay_rest(executive: &mut Executive<Model>, steps: &[Action], made: usize) 
 }
 
 /// So many steps of a component by lists of actions, as many as are needed, and how many were made.
-pub(crate) fn replay(told: &mut Told, executive: &mut Executive<Model>, component: usize) {
+pub(crate) fn replay(told: &mut Told, executive: &mut Executive<AnyModel>, component: usize) {
     let steps = [Action::Step(component); STEPS];
     let made = replay_rest(executive, &steps, 0);
     let more = replay_rest(executive, &steps, made);

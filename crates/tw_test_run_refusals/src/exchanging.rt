@@ -11,9 +11,9 @@ use crate::telling::{
     name_of, tell_component, tell_fault, tell_number, tell_report, tell_seen, tell_trace,
 };
 use std::alloc::{AllocError, Global};
+use tw_any_model::AnyModel;
 use tw_board::Reader;
 use tw_exec::{Action, Executive, Refused};
-use tw_models::Model;
 use tw_network::Network;
 use tw_process::Finished;
 use tw_script::Command;
@@ -33,7 +33,7 @@ const COMPONENTS: usize = 4;
 const WINDOW: u64 = 1_000;
 
 /// The sum over the executive of an exchange, and which component comes next.
-fn look_at(told: &mut Told, alloc: Global, exchange: &Exchange<Model>) -> Sum {
+fn look_at(told: &mut Told, alloc: Global, exchange: &Exchange<AnyModel>) -> Sum {
     let mut sum = look(told, alloc, exchange.executive());
     for window in [0, WINDOW] {
         sum.add_count(exchange.next(window).unwrap_or(COMPONENTS));
@@ -42,7 +42,7 @@ fn look_at(told: &mut Told, alloc: Global, exchange: &Exchange<Model>) -> Sum {
 }
 
 /// Takes an action, at the second try where memory is refused at the first.
-fn act(told: &mut Told, alloc: Global, exchange: &mut Exchange<Model>, action: &Action) {
+fn act(told: &mut Told, alloc: Global, exchange: &mut Exchange<AnyModel>, action: &Action) {
     let before = look_at(told, alloc, exchange);
     if exchange.act(*action) == Err(Refused::OutOfMemory) {
         let after = look_at(told, alloc, exchange);
@@ -54,7 +54,7 @@ fn act(told: &mut Told, alloc: Global, exchange: &mut Exchange<Model>, action: &
 }
 
 /// Takes the actions of a script.
-fn follow(told: &mut Told, alloc: Global, exchange: &mut Exchange<Model>, commands: &[Command]) {
+fn follow(told: &mut Told, alloc: Global, exchange: &mut Exchange<AnyModel>, commands: &[Command]) {
     for command in commands {
         if let Command::Act(action) = *command {
             act(told, alloc, exchange, &action);
@@ -63,7 +63,11 @@ fn follow(told: &mut Told, alloc: Global, exchange: &mut Exchange<Model>, comman
 }
 
 /// Gives out the component that comes next, at the second try where memory is refused at the first.
-fn draw(told: &mut Told, alloc: Global, exchange: &mut Exchange<Model>) -> Option<Order<Model>> {
+fn draw(
+    told: &mut Told,
+    alloc: Global,
+    exchange: &mut Exchange<AnyModel>,
+) -> Option<Order<AnyModel>> {
     let before = look_at(told, alloc, exchange);
     if let Ok(drawn) = exchange.draw_near(1, WINDOW, 0) {
         return drawn;
@@ -77,7 +81,10 @@ fn draw(told: &mut Told, alloc: Global, exchange: &mut Exchange<Model>) -> Optio
 }
 
 /// A chain of the component that comes next, which is handed in. None where nothing is to be given out.
-fn hand_in(exchange: &mut Exchange<Model>, burst: usize) -> Result<Option<Finished>, AllocError> {
+fn hand_in(
+    exchange: &mut Exchange<AnyModel>,
+    burst: usize,
+) -> Result<Option<Finished>, AllocError> {
     let Some(order) = exchange.draw(burst, WINDOW)? else {
         return Ok(None);
     };
@@ -96,7 +103,7 @@ fn hand_in(exchange: &mut Exchange<Model>, burst: usize) -> Result<Option<Finish
 fn chain_once(
     told: &mut Told,
     alloc: Global,
-    exchange: &mut Exchange<Model>,
+    exchange: &mut Exchange<AnyModel>,
     burst: usize,
 ) -> (usize, bool) {
     let before = look_at(told, alloc, exchange);
@@ -112,7 +119,7 @@ fn chain_once(
 }
 
 /// So many steps of the component that comes next by chains, as many as are needed, and how many were made.
-fn chain(told: &mut Told, alloc: Global, exchange: &mut Exchange<Model>, burst: usize) -> usize {
+fn chain(told: &mut Told, alloc: Global, exchange: &mut Exchange<AnyModel>, burst: usize) -> usize {
     let mut made: usize = 0;
     for _ in 0..TRIES {
         let (more, is_refused) = chain_once(told, alloc, exchange, burst.saturating_sub(made));
@@ -125,7 +132,7 @@ fn chain(told: &mut Told, alloc: Global, exchange: &mut Exchange<Model>, burst: 
 }
 
 /// So many steps of the component that comes second, while the first is given out.
-fn chain_behind(told: &mut Told, alloc: Global, exchange: &mut Exchange<Model>, burst: usize) {
+fn chain_behind(told: &mut Told, alloc: Global, exchange: &mut Exchange<AnyModel>, burst: usize) {
     let Some(first) = draw(told, alloc, exchange) else {
         told.give_up("draw_near");
         return;
@@ -136,7 +143,7 @@ fn chain_behind(told: &mut Told, alloc: Global, exchange: &mut Exchange<Model>, 
 }
 
 /// How many records each component has committed.
-fn lengths_of(executive: &Executive<Model>) -> [usize; COMPONENTS] {
+fn lengths_of(executive: &Executive<AnyModel>) -> [usize; COMPONENTS] {
     let mut lengths = [0; COMPONENTS];
     for component in 0..executive.network().len().min(COMPONENTS) {
         lengths[component] = executive.committed(component).len();
@@ -145,7 +152,7 @@ fn lengths_of(executive: &Executive<Model>) -> [usize; COMPONENTS] {
 }
 
 /// The sum over the first records of each component, so many, where there are as many.
-fn beginnings(executive: &Executive<Model>, lengths: [usize; COMPONENTS]) -> Sum {
+fn beginnings(executive: &Executive<AnyModel>, lengths: [usize; COMPONENTS]) -> Sum {
     let mut sum = Sum::new();
     for component in 0..executive.network().len().min(COMPONENTS) {
         if let Some(first) = executive.committed(component).get(..lengths[component]) {
@@ -157,7 +164,7 @@ fn beginnings(executive: &Executive<Model>, lengths: [usize; COMPONENTS]) -> Sum
 
 /// Sweeps, at the second try where the first is cut short: global virtual time has not fallen then, what was committed is, and
 /// nothing is posted.
-fn sweep(told: &mut Told, exchange: &mut Exchange<Model>, reader: &mut Reader) {
+fn sweep(told: &mut Told, exchange: &mut Exchange<AnyModel>, reader: &mut Reader) {
     let gvt = exchange.executive().gvt();
     let lengths = lengths_of(exchange.executive());
     let before = beginnings(exchange.executive(), lengths);
@@ -177,7 +184,7 @@ fn sweep(told: &mut Told, exchange: &mut Exchange<Model>, reader: &mut Reader) {
 }
 
 /// Settles, at the second try where the first is cut short; nothing is committed.
-fn settle(told: &mut Told, exchange: &mut Exchange<Model>) {
+fn settle(told: &mut Told, exchange: &mut Exchange<AnyModel>) {
     let gvt = exchange.executive().gvt();
     let committed = exchange.executive().committed_len();
     if exchange.settle().is_err() && exchange.settle().is_err() {
@@ -191,7 +198,7 @@ fn settle(told: &mut Told, exchange: &mut Exchange<Model>) {
 }
 
 /// How the run stands, at the second try where the first finds no memory.
-fn state_of(told: &mut Told, alloc: Global, exchange: &mut Exchange<Model>) -> Option<State> {
+fn state_of(told: &mut Told, alloc: Global, exchange: &mut Exchange<AnyModel>) -> Option<State> {
     let before = look_at(told, alloc, exchange);
     let first = exchange.state();
     let after = look_at(told, alloc, exchange);
@@ -203,7 +210,7 @@ fn state_of(told: &mut Told, alloc: Global, exchange: &mut Exchange<Model>) -> O
 }
 
 /// Tells a state of a run of a network.
-fn tell_found(told: &mut Told, network: &Network<Model>, state: State) {
+fn tell_found(told: &mut Told, network: &Network<AnyModel>, state: State) {
     match state {
         State::Going => told.say("going\n"),
         State::Complete => told.say("complete\n"),
@@ -212,7 +219,7 @@ fn tell_found(told: &mut Told, network: &Network<Model>, state: State) {
 }
 
 /// Tells how the run stands.
-fn tell_state(told: &mut Told, alloc: Global, exchange: &mut Exchange<Model>) {
+fn tell_state(told: &mut Told, alloc: Global, exchange: &mut Exchange<AnyModel>) {
     if let Some(state) = state_of(told, alloc, exchange) {
         tell_found(told, exchange.executive().network(), state);
     } else {
@@ -221,7 +228,7 @@ fn tell_state(told: &mut Told, alloc: Global, exchange: &mut Exchange<Model>) {
 }
 
 /// Chains of so many steps, and what they send passed on, until nothing is left to be given out or so many were made.
-fn work(told: &mut Told, alloc: Global, exchange: &mut Exchange<Model>, burst: usize) {
+fn work(told: &mut Told, alloc: Global, exchange: &mut Exchange<AnyModel>, burst: usize) {
     for _ in 0..CHAINS {
         if chain(told, alloc, exchange, burst) == 0 {
             return;
@@ -234,7 +241,7 @@ fn work(told: &mut Told, alloc: Global, exchange: &mut Exchange<Model>, burst: u
 fn take_turn(
     told: &mut Told,
     alloc: Global,
-    exchange: &mut Exchange<Model>,
+    exchange: &mut Exchange<AnyModel>,
     reader: &mut Reader,
     turn: &Turn,
 ) {
@@ -255,7 +262,7 @@ fn take_turn(
 fn tell(
     told: &mut Told,
     alloc: Global,
-    exchange: &mut Exchange<Model>,
+    exchange: &mut Exchange<AnyModel>,
     reader: &mut Reader,
     turn: &Turn,
 ) {

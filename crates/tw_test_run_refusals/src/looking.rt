@@ -3,12 +3,12 @@
 ghost use Rattle.std.specs.Prelude.{◌<◌, length};
 
 use std::alloc::Global;
+use tw_any_model::AnyModel;
 use tw_exec::Executive;
-use tw_models::Model;
 use tw_test_refusal_tools::{Sum, Told, add_items, add_process, add_records};
 
 /// The sum over all that an executive tells without memory.
-pub(crate) fn look(told: &mut Told, alloc: Global, executive: &Executive<Model>) -> Sum {
+pub(crate) fn look(told: &mut Told, alloc: Global, executive: &Executive<AnyModel>) -> Sum {
     let mut sum = Sum::new();
     sum.add(executive.until());
     sum.add(executive.gvt().pack());
@@ -24,7 +24,7 @@ fn add_component(
     sum: &mut Sum,
     alloc: Global,
     words: &mut Vec<i128>,
-    executive: &Executive<Model>,
+    executive: &Executive<AnyModel>,
     component: usize,
 )
     requires { component < length executive.now.network.models }

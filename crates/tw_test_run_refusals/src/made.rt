@@ -4,8 +4,10 @@ ghost use Rattle.std.specs.Prelude.{◌≡◌, IfOk};
 ghost use Rattle.tw_theory.specs.Board.{nothing_posted};
 
 use std::alloc::{AllocError, Global};
+use tw_any_model::AnyModel;
 use tw_board::{Board, Publisher, Reader};
 use tw_exec::Executive;
+use tw_file_network::network_of_any_file;
 use tw_models::{BadModel, Model};
 use tw_network::{Coupling, Input, Network};
 use tw_process::Cancel;
@@ -25,7 +27,15 @@ pub(crate) enum Made {
 }
 
 /// What a network is made of.
-pub(crate) struct Net {
+pub(crate) enum Net {
+    /// Built-in models alone.
+    BuiltIn(Parts),
+    /// What a file says, which may define machines.
+    File(&'static str),
+}
+
+/// Built-in models, and how they are coupled.
+pub(crate) struct Parts {
     pub(crate) names: &'static [&'static str],
     pub(crate) models: &'static [Made],
     pub(crate) couplings: &'static [Coupling],
@@ -50,19 +60,28 @@ fn model_of(made: Made) -> Result<Model, BadModel> {
     }
 }
 
-/// The network, if there is memory for it.
-fn network_of(alloc: Global, net: &Net) -> Result<Network<Model>, Refusal> {
+/// The network of built-in models, if there is memory for it.
+fn built_in(alloc: Global, parts: &Parts) -> Result<Network<AnyModel>, Refusal> {
     let mut components = Vec::new(alloc);
-    for (name, made) in net.names.iter().zip(net.models) {
-        components.push((String::from_str(alloc, name)?, model_of(*made)?))?;
+    for (name, made) in parts.names.iter().zip(parts.models) {
+        let model = AnyModel::BuiltIn(model_of(*made)?);
+        components.push((String::from_str(alloc, name)?, model))?;
     }
-    let couplings = Vec::from_slice(alloc, net.couplings)?;
-    let inputs = Vec::from_slice(alloc, net.inputs)?;
-    Ok(Network::new(alloc, components, couplings, inputs, net.micro_limit)?)
+    let couplings = Vec::from_slice(alloc, parts.couplings)?;
+    let inputs = Vec::from_slice(alloc, parts.inputs)?;
+    Ok(Network::new(alloc, components, couplings, inputs, parts.micro_limit)?)
+}
+
+/// The network, if there is memory for it.
+fn network_of(alloc: Global, net: &Net) -> Result<Network<AnyModel>, Refusal> {
+    match net {
+        Net::BuiltIn(parts) => built_in(alloc, parts),
+        Net::File(text) => Ok(network_of_any_file(alloc, text.as_bytes())?),
+    }
 }
 
 /// The executive, if there is memory for it.
-fn begin(alloc: Global, run: &Run) -> Result<Executive<Model>, Refusal> {
+fn begin(alloc: Global, run: &Run) -> Result<Executive<AnyModel>, Refusal> {
     let network = network_of(alloc, &run.net)?;
     match run.cancel {
         Cancel::Aggressive => Ok(Executive::new(alloc, network, run.until)?),
@@ -71,7 +90,7 @@ fn begin(alloc: Global, run: &Run) -> Result<Executive<Model>, Refusal> {
 }
 
 /// The executive at the start of a run, at the second try where the first finds no memory.
-pub(crate) fn executive_of(alloc: Global, run: &Run) -> Option<Executive<Model>> {
+pub(crate) fn executive_of(alloc: Global, run: &Run) -> Option<Executive<AnyModel>> {
     match begin(alloc, run) {
         Err(Refusal::OutOfMemory) => begin(alloc, run).ok(),
         made => made.ok(),
@@ -90,8 +109,8 @@ pub(crate) fn ends_of_board(alloc: Global) -> Result<(Publisher, Reader), AllocE
 /// An exchange of an executive, and a reader of its board; where there is no memory for them the executive comes back.
 fn share(
     alloc: Global,
-    executive: Executive<Model>,
-) -> Result<(Exchange<Model>, Reader), Executive<Model>> {
+    executive: Executive<AnyModel>,
+) -> Result<(Exchange<AnyModel>, Reader), Executive<AnyModel>> {
     let Ok((publisher, reader)) = ends_of_board(alloc) else {
         return Err(executive);
     };
@@ -104,8 +123,8 @@ fn share(
 /// An exchange of an executive, and a reader of its board, at the second try where the first finds no memory.
 pub(crate) fn exchange_of(
     alloc: Global,
-    executive: Executive<Model>,
-) -> Option<(Exchange<Model>, Reader)> {
+    executive: Executive<AnyModel>,
+) -> Option<(Exchange<AnyModel>, Reader)> {
     match share(alloc, executive) {
         Ok(made) => Some(made),
         Err(executive) => share(alloc, executive).ok(),

@@ -6,15 +6,15 @@ use crate::made::executive_of;
 use crate::scenes::{Part, Scene};
 use crate::telling::{tell_component, tell_reply, tell_report, tell_trace};
 use std::alloc::Global;
+use tw_any_model::AnyModel;
 use tw_exec::{Executive, Mark};
-use tw_models::Model;
 use tw_script::{Command, commands_of_script};
 use tw_test_refusal_tools::Told;
 
 /// The commands of a script, at the second try where the first finds no memory.
 pub(crate) fn commands_of(
     alloc: Global,
-    executive: &Executive<Model>,
+    executive: &Executive<AnyModel>,
     script: &str,
 ) -> Option<Vec<Command>> {
     let network = executive.network();
@@ -25,7 +25,7 @@ pub(crate) fn commands_of(
 }
 
 /// Shows what a command asks to be shown.
-fn show(told: &mut Told, alloc: Global, executive: &Executive<Model>, command: Command) {
+fn show(told: &mut Told, alloc: Global, executive: &Executive<AnyModel>, command: Command) {
     match command {
         Command::Describe(component) => tell_component(told, alloc, executive, component),
         _ => tell_report(told, alloc, executive),
@@ -33,7 +33,12 @@ fn show(told: &mut Told, alloc: Global, executive: &Executive<Model>, command: C
 }
 
 /// Obeys each line of a script, and tells what came of it.
-fn follow(told: &mut Told, alloc: Global, executive: &mut Executive<Model>, commands: &[Command]) {
+fn follow(
+    told: &mut Told,
+    alloc: Global,
+    executive: &mut Executive<AnyModel>,
+    commands: &[Command],
+) {
     let mut marked = None;
     for command in commands {
         match obey(told, alloc, executive, &mut marked, *command) {
@@ -47,7 +52,7 @@ fn follow(told: &mut Told, alloc: Global, executive: &mut Executive<Model>, comm
 fn repeat(
     told: &mut Told,
     alloc: Global,
-    executive: &mut Executive<Model>,
+    executive: &mut Executive<AnyModel>,
     commands: &[Command],
     times: usize,
 ) {
@@ -63,7 +68,7 @@ fn repeat(
 fn play_script(
     told: &mut Told,
     alloc: Global,
-    executive: &mut Executive<Model>,
+    executive: &mut Executive<AnyModel>,
     script: &str,
     times: Option<usize>,
 ) {
@@ -78,7 +83,7 @@ fn play_script(
 }
 
 /// Plays a part of a scene.
-fn play_part(told: &mut Told, alloc: Global, executive: &mut Executive<Model>, part: &Part) {
+fn play_part(told: &mut Told, alloc: Global, executive: &mut Executive<AnyModel>, part: &Part) {
     match *part {
         Part::Chain(component, burst) => chain(told, alloc, executive, component, burst),
         Part::Replay(component) => replay(told, executive, component),

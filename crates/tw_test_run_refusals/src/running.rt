@@ -5,6 +5,7 @@ ghost use Rattle.tw_exchange.specs.Exchanged.{IsNotAhead};
 ghost use Rattle.tw_theory.specs.Board.{nothing_posted};
 
 use crate::made::ends_of_board;
+use crate::scenes::DESK;
 use crate::telling::{name_in, tell_fault, tell_lines, tell_seen};
 use std::alloc::{AllocError, Global};
 use std::sync::Wait;
@@ -27,7 +28,7 @@ struct Race {
     cancel: Cancel,
 }
 
-static RACES: [Race; 3] = [
+static RACES: [Race; 4] = [
     Race {
         name: "gen-tally",
         file: r#"{"format": "tw-1", "micro_limit": 100,
@@ -54,6 +55,13 @@ static RACES: [Race; 3] = [
  "inputs": [{"tick": 0, "to": "a", "port": 0, "value": 1}, {"tick": 0, "to": "b", "port": 0, "value": 2}]}"#,
         names: &["a", "b"],
         until: 3,
+        cancel: Cancel::Aggressive,
+    },
+    Race {
+        name: "a desk",
+        file: DESK,
+        names: &["g", "d", "t"],
+        until: 10,
         cancel: Cancel::Aggressive,
     },
 ];

@@ -1,55 +1,55 @@
 //! What is done with executives and exchanges.
 
-use crate::made::{Made, Net, Run};
+use crate::made::{Made, Net, Parts, Run};
 use tw_process::Cancel;
 
 /// A generator of 5 each 2 ticks, a relay with delay 1 and a tally in a row, of which the relay has 8 at tick 3.
-const ROW: Net = Net {
+const ROW: Net = Net::BuiltIn(Parts {
     names: &["g", "r", "t"],
     models: &[Made::Gen(2, 5), Made::Relay(1), Made::Tally],
     couplings: &[(0, 0, 1, 0), (1, 0, 2, 0)],
     inputs: &[(3, 1, 0, 8)],
     micro_limit: 100,
-};
+});
 
 /// A slower row, of which the relay has 8 at tick 4.
-const SLOW_ROW: Net = Net {
+const SLOW_ROW: Net = Net::BuiltIn(Parts {
     names: &["g", "r", "t"],
     models: &[Made::Gen(3, 5), Made::Relay(2), Made::Tally],
     couplings: &[(0, 0, 1, 0), (1, 0, 2, 0)],
     inputs: &[(4, 1, 0, 8)],
     micro_limit: 100,
-};
+});
 
 /// A generator of 5 each 2 ticks and a tally.
-const GEN_TALLY: Net = Net {
+const GEN_TALLY: Net = Net::BuiltIn(Parts {
     names: &["g", "t"],
     models: &[Made::Gen(2, 5), Made::Tally],
     couplings: &[(0, 0, 1, 0)],
     inputs: &[],
     micro_limit: 100,
-};
+});
 
 /// Two relays with no delay that hand a value to and fro, until they meet the greatest microstep.
-const MICROSTEPS: Net = Net {
+const MICROSTEPS: Net = Net::BuiltIn(Parts {
     names: &["a", "b"],
     models: &[Made::Relay(0), Made::Relay(0)],
     couplings: &[(0, 0, 1, 0), (1, 0, 0, 0)],
     inputs: &[(3, 0, 0, 1)],
     micro_limit: 3,
-};
+});
 
 /// Two relays that send to one another at the same times.
-const MUTUAL: Net = Net {
+const MUTUAL: Net = Net::BuiltIn(Parts {
     names: &["a", "b"],
     models: &[Made::Relay(1), Made::Relay(1)],
     couplings: &[(0, 0, 1, 0), (1, 0, 0, 0)],
     inputs: &[(0, 0, 0, 1), (0, 1, 0, 2)],
     micro_limit: 100,
-};
+});
 
 /// A queue that has eight jobs at tick 1 and three at tick 2.
-const CROWDED: Net = Net {
+const CROWDED: Net = Net::BuiltIn(Parts {
     names: &["q"],
     models: &[Made::Queue(100)],
     couplings: &[],
@@ -67,7 +67,22 @@ const CROWDED: Net = Net {
         (2, 0, 0, 103),
     ],
     micro_limit: 100,
-};
+});
+
+/// A generator of 5 each 2 ticks, a desk and a tally in a row, of which the desk has 8 on its port 1 at tick 3. The desk is a machine:
+/// it keeps what comes in order, works on each for one or two ticks, and sends the first; a random number too, where there are more.
+pub(crate) const DESK: &str = r#"{"format": "tw-3", "micro_limit": 100,
+ "models": [
+  {"name": "desk", "parameters": ["seed"], "random": "seed",
+   "registers": {"got": [0, 0], "idle": 0}, "queues": {"line": 3},
+   "internal": ["pop line", "if length(line) > 0 { draw; wait 1 + random(2) }"],
+   "external": ["got[port] += 1; idle += elapsed; insert line value", "if left < 0 { draw; wait 1 + random(2) }"],
+   "output": [{"port": 0, "value": "front(line)"}, {"when": "length(line) > 1", "port": 1, "value": "random"}],
+   "words": ["got", "idle", "random", "now", "line"]}],
+ "components": [{"name": "g", "model": "gen", "period": 2, "value": 5}, {"name": "d", "model": "desk", "seed": 1},
+                {"name": "t", "model": "tally"}],
+ "couplings": [["g", 0, "d", 0], ["d", 0, "t", 0], ["d", 1, "t", 1]],
+ "inputs": [{"tick": 3, "to": "d", "port": 1, "value": 8}]}"#;
 
 /// The row until tick 10.
 const SHORT: Run = Run {
@@ -96,6 +111,19 @@ const LONG_LAZILY: Run = Run {
     cancel: Cancel::Lazy,
 };
 
+/// The row with a desk until tick 10, and the same lazily.
+const AT_A_DESK: Run = Run {
+    net: Net::File(DESK),
+    until: 10,
+    cancel: Cancel::Aggressive,
+};
+
+const AT_A_DESK_LAZILY: Run = Run {
+    net: Net::File(DESK),
+    until: 10,
+    cancel: Cancel::Lazy,
+};
+
 /// A part of what is done with an executive.
 pub(crate) enum Part {
     /// The lines of a script, each of which is told of.
@@ -117,8 +145,10 @@ pub(crate) struct Scene {
     pub(crate) parts: &'static [Part],
 }
 
-/// The numbers of the relay and of the generator of a row, and of the queue.
+/// The numbers of the relay or the desk and of the generator of a row, and of the queue.
 const R: usize = 1;
+
+const D: usize = 1;
 
 const G: usize = 0;
 
@@ -127,8 +157,15 @@ const Q: usize = 0;
 /// Twenty messages of the generator to the relay.
 const SENT: Part = Part::Often(40, "step g");
 
+/// Three steps of the desk, and then a message from before them.
+const TAKEN_BACK: &str = "show d\nstep d\nstep d\nstep d\nstep g\npost g\ndeliver d 0\nshow d\n";
+
+/// The desk goes on, until a second message comes when it sends.
+const GONE_ON: &str =
+    "step d\nstep d\nstep d\nstep g\nstep g\npost g\ndeliver d 0\nstep d\npost d\nshow d\n";
+
 /// What is done with executives.
-pub(crate) static SCENES: [Scene; 11] = [
+pub(crate) static SCENES: [Scene; 14] = [
     Scene {
         name: "straggler-of-three",
         run: SHORT,
@@ -250,6 +287,41 @@ pub(crate) static SCENES: [Scene; 11] = [
             Part::Lines("show\n"),
         ],
     },
+    Scene {
+        name: "a desk taken back",
+        run: AT_A_DESK,
+        parts: &[
+            Part::Lines(TAKEN_BACK),
+            Part::Lines(GONE_ON),
+            Part::Lines("raise\nharvest g\nharvest d\nharvest t\nback d 4.0.1\nshow d\n"),
+            Part::Trace,
+        ],
+    },
+    Scene {
+        name: "a desk taken back, lazily",
+        run: AT_A_DESK_LAZILY,
+        parts: &[
+            Part::Lines(TAKEN_BACK),
+            Part::Lines(GONE_ON),
+            Part::Lines("mark\nstep d\nstep d\nrewind\nshow d\n"),
+        ],
+    },
+    Scene {
+        name: "chains of a desk",
+        run: AT_A_DESK,
+        parts: &[
+            Part::Chain(D, 3),
+            Part::Lines("show d\nback d 0.0.0\npost d\n"),
+            Part::Replay(G),
+            Part::Lines("post g\n"),
+            Part::Often(4, "deliver d 0"),
+            Part::Chain(D, 20),
+            Part::Lines("show\n"),
+            Part::Lines("back d 2.0.1\npost d\nshow d\n"),
+            Part::Replay(D),
+            Part::Lines("show d\n"),
+        ],
+    },
 ];
 
 /// A turn of what is done with an exchange.
@@ -290,8 +362,11 @@ const STRAGGLER: &str =
 /// The same, without the anti-message.
 const STRAGGLER_LAZILY: &str = "step r\nstep r\nstep r\nstep g\npost g\ndeliver r 0\n";
 
+/// Three steps of the desk, and then a message from before them.
+const STRAGGLER_AT_A_DESK: &str = "step d\nstep d\nstep d\nstep g\npost g\ndeliver d 0\n";
+
 /// What is done with exchanges.
-pub(crate) static SHARED: [Share; 8] = [
+pub(crate) static SHARED: [Share; 11] = [
     Share {
         name: "a chain behind another component",
         run: SHORT,
@@ -393,6 +468,41 @@ pub(crate) static SHARED: [Share; 8] = [
             Turn::Show,
             Turn::State,
             Turn::Seen,
+        ],
+    },
+    Share {
+        name: "a sweep with a desk",
+        run: AT_A_DESK,
+        turns: &[
+            Turn::Lines(STRAGGLER_AT_A_DESK),
+            Turn::Sweep,
+            Turn::Describe(D),
+            Turn::State,
+            Turn::Seen,
+        ],
+    },
+    Share {
+        name: "a desk by chains of one step",
+        run: AT_A_DESK,
+        turns: &[
+            Turn::Lines(STRAGGLER_AT_A_DESK),
+            Turn::Work(1),
+            Turn::Sweep,
+            Turn::State,
+            Turn::Seen,
+            Turn::Trace,
+        ],
+    },
+    Share {
+        name: "a desk by chains of sixteen steps",
+        run: AT_A_DESK_LAZILY,
+        turns: &[
+            Turn::Lines(STRAGGLER_AT_A_DESK),
+            Turn::Work(16),
+            Turn::Sweep,
+            Turn::State,
+            Turn::Seen,
+            Turn::Trace,
         ],
     },
 ];

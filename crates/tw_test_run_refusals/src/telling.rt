@@ -1,9 +1,9 @@
 //! Replies, reports, descriptions and traces, each made until it stands, and told.
 
 use std::alloc::{AllocError, Global};
+use tw_any_model::AnyModel;
 use tw_exec::Executive;
 use tw_inspect::{Reply, describe, push_reply, report};
-use tw_models::Model;
 use tw_msgs::Record;
 use tw_network::Network;
 use tw_test_refusal_tools::Told;
@@ -32,7 +32,7 @@ pub(crate) fn tell_reply(told: &mut Told, reply: &Reply) {
 }
 
 /// Tells the report of an executive.
-pub(crate) fn tell_report(told: &mut Told, alloc: Global, executive: &Executive<Model>) {
+pub(crate) fn tell_report(told: &mut Told, alloc: Global, executive: &Executive<AnyModel>) {
     let text = match report(alloc, executive) {
         Err(_) => report(alloc, executive),
         made => made,
@@ -44,7 +44,7 @@ pub(crate) fn tell_report(told: &mut Told, alloc: Global, executive: &Executive<
 pub(crate) fn tell_component(
     told: &mut Told,
     alloc: Global,
-    executive: &Executive<Model>,
+    executive: &Executive<AnyModel>,
     component: usize,
 ) {
     if component >= executive.network().len() {
@@ -58,7 +58,7 @@ pub(crate) fn tell_component(
 }
 
 /// The name of a component; nothing, where there is none such.
-pub(crate) fn name_of(network: &Network<Model>, component: usize) -> &str {
+pub(crate) fn name_of(network: &Network<AnyModel>, component: usize) -> &str {
     if component < network.len() {
         network.name(component)
     } else {
@@ -79,14 +79,14 @@ fn tell_record(told: &mut Told, name: &str, record: &Record) {
 }
 
 /// Tells the lines of records of a network.
-fn tell_records(told: &mut Told, network: &Network<Model>, records: &[Record]) {
+fn tell_records(told: &mut Told, network: &Network<AnyModel>, records: &[Record]) {
     for record in records {
         tell_record(told, name_of(network, record.component), record);
     }
 }
 
 /// Tells the trace of an executive, at the second try where the first finds no memory.
-pub(crate) fn tell_trace(told: &mut Told, alloc: Global, executive: &Executive<Model>) {
+pub(crate) fn tell_trace(told: &mut Told, alloc: Global, executive: &Executive<AnyModel>) {
     let trace = match executive.trace(alloc) {
         Err(_) => executive.trace(alloc),
         made => made,

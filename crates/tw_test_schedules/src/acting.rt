@@ -4,16 +4,14 @@ use crate::columns::count_wrong;
 use crate::differing::{Differing, begin_line};
 use crate::networks::{Case, executive_of};
 use std::alloc::{AllocError, Global};
+use tw_any_model::AnyModel;
 use tw_exec::{Executive, Refused};
-use tw_models::Model;
 use tw_process::Cancel;
 use tw_seeded::Schedule;
 use tw_seq::Seq;
 use tw_vtime::Refusal;
 
-// How many seeds there are for each network, and how many turns a seed has.
-const SEEDS: u64 = 100;
-
+// How many turns a seed has.
 const TURNS: u64 = 2_000;
 
 /// How much was done.
@@ -47,7 +45,7 @@ impl Counts {
 
 /// Takes the next action of a schedule. It may be refused, for want of memory only where the program is to give up.
 fn take_turn(
-    executive: &mut Executive<Model>,
+    executive: &mut Executive<AnyModel>,
     schedule: &mut Schedule,
     counts: &mut Counts,
 ) -> Result<(), AllocError> {
@@ -67,7 +65,7 @@ fn take_turn(
 
 /// Takes the turns of a seed.
 fn play(
-    executive: &mut Executive<Model>,
+    executive: &mut Executive<AnyModel>,
     seed: u64,
     counts: &mut Counts,
 ) -> Result<(), AllocError> {
@@ -106,29 +104,29 @@ pub(crate) fn add_line(
 ) -> Result<(), Refusal> {
     let mut differing = Differing::new();
     let mut counts = Counts::new();
-    for seed in 0..SEEDS {
+    for seed in 0..case.seeds {
         let right = is_right(alloc, case, cancel, seed, seq, &mut counts)?;
         differing.expect(seed, "a column", right);
     }
-    Ok(tell(text, case.name, cancel, &counts, differing)?)
+    Ok(tell(text, case, cancel, &counts, differing)?)
 }
 
 /// Tells what was done.
 fn tell(
     text: &mut String,
-    name: &str,
+    case: &Case,
     cancel: Cancel,
     counts: &Counts,
     differing: Differing,
 ) -> Result<(), AllocError> {
     let counts = [
-        (SEEDS, " seeds"),
+        (case.seeds, " seeds"),
         (counts.turns, " turns"),
         (counts.refused, " refused"),
         (counts.over_limit, " over a limit"),
         (counts.committed, " records"),
     ];
-    begin_line(text, name, way_of(cancel), &counts)?;
+    begin_line(text, case.name, way_of(cancel), &counts)?;
     differing.end_line(text, "columns right")
 }
 

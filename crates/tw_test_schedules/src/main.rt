@@ -12,6 +12,7 @@
 //! | File | Has |
 //! |---|---|
 //! | `networks` | the table, and the networks that it means |
+//! | `machines` | the files of those that have machines |
 //! | `columns` | columns and traces compared with the simulator's records |
 //! | `differing` | the lines: how much was done, and what differs, with the seed of which it was seen first |
 //! | `acting` | executives by the actions of a seed |
@@ -24,6 +25,7 @@ mod acting;
 mod columns;
 mod desk;
 mod differing;
+mod machines;
 mod networks;
 mod sharing;
 mod turning;

@@ -9,18 +9,16 @@ use crate::networks::{Case, executive_of};
 use crate::sharing::{Counts, Sharing};
 use std::alloc::{AllocError, Global};
 use std::marker::Brand;
+use tw_any_model::AnyModel;
 use tw_atomic::Atomic;
 use tw_board::Board;
 use tw_exec::Executive;
-use tw_models::Model;
 use tw_process::Cancel;
 use tw_seq::Seq;
 use tw_vtime::Refusal;
 use tw_workers::{Exchange, State};
 
-// How many seeds there are for each network, and within how many turns each of them must come to its end.
-const SEEDS: u64 = 100;
-
+// Within how many turns each seed must come to its end.
 const TURNS: u64 = 20_000;
 
 /// How a seed ended: how the run stood, the executive, and how many draws that were given back changed something.
@@ -67,7 +65,10 @@ fn share<M: Atomic, H: Given<M>>(
 }
 
 /// An exchange of an executive.
-fn exchange_of(alloc: Global, executive: Executive<Model>) -> Result<Exchange<Model>, AllocError> {
+fn exchange_of(
+    alloc: Global,
+    executive: Executive<AnyModel>,
+) -> Result<Exchange<AnyModel>, AllocError> {
     let (_, publisher) = Board::new(alloc)?;
     match Exchange::new(alloc, executive, publisher) {
         Ok(exchange) => Ok(exchange),
@@ -88,7 +89,7 @@ fn is_end(state: State, seq: &Seq) -> bool {
 fn compare(
     alloc: Global,
     seed: u64,
-    ended: &Ended<Model>,
+    ended: &Ended<AnyModel>,
     seq: &Seq,
     differing: &mut Differing,
 ) -> Result<(), AllocError> {
@@ -118,7 +119,7 @@ fn try_seed(
 ) -> Result<(), Refusal> {
     let executive = executive_of(alloc, case, cancel)?;
     let exchange = exchange_of(alloc, executive)?;
-    let ended = share::<Model, Brand>(alloc, exchange, seed, counts);
+    let ended = share::<AnyModel, Brand>(alloc, exchange, seed, counts);
     let compared = compare(alloc, seed, &ended, seq, differing);
     drop(ended);
     Ok(compared?)
@@ -134,10 +135,10 @@ pub(crate) fn add_line(
 ) -> Result<(), Refusal> {
     let mut differing = Differing::new();
     let mut counts = Counts::new();
-    for seed in 0..SEEDS {
+    for seed in 0..case.seeds {
         try_seed(alloc, case, cancel, seed, seq, &mut counts, &mut differing)?;
     }
-    Ok(tell(text, case.name, cancel, counts, differing)?)
+    Ok(tell(text, case, cancel, counts, differing)?)
 }
 
 /// What a run that is shared is called by its way of cancelling.
@@ -151,19 +152,19 @@ fn shared_way_of(cancel: Cancel) -> &'static str {
 /// Tells what was done.
 fn tell(
     text: &mut String,
-    name: &str,
+    case: &Case,
     cancel: Cancel,
     counts: Counts,
     differing: Differing,
 ) -> Result<(), AllocError> {
     let counts = [
-        (SEEDS, " seeds"),
+        (case.seeds, " seeds"),
         (counts.turns, " turns"),
         (counts.orders, " orders"),
         (counts.given_back, " given back"),
         (counts.stale, " stale"),
         (counts.steps, " steps"),
     ];
-    begin_line(text, name, shared_way_of(cancel), &counts)?;
+    begin_line(text, case.name, shared_way_of(cancel), &counts)?;
     differing.end_line(text, "traces right")
 }

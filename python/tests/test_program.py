@@ -10,9 +10,11 @@ import sys
 import textwrap
 import threading
 import time
+from contextlib import suppress
 from pathlib import Path
 from typing import Callable
 
+import pandas as pd
 import pytest
 from common import TOP, children, long_run, network, own_programs, program, script, short_run, wait_for
 
@@ -222,6 +224,23 @@ def test_ctrl_c(call: str, workers: object, whom: str) -> None:
         python.wait()
     assert (out, err, python.returncode) == (b"interrupted\n", b"", 0) and programs
     assert not any(Path(f"/proc/{one}").exists() for one in programs)
+
+
+def test_an_interrupt_is_not_lost(monkeypatch: pytest.MonkeyPatch) -> None:
+    """The parser of pandas can lose the exception of a signal, and reads on."""
+    parse = pd.read_csv
+
+    def lose(source: object, **options: object) -> object:
+        with suppress(KeyboardInterrupt):
+            os.kill(os.getpid(), signal.SIGINT)
+            time.sleep(1)
+        return parse(source, **options)  # type: ignore[call-overload]
+
+    before = signal.getsignal(signal.SIGINT)
+    monkeypatch.setattr(pd, "read_csv", lose)
+    with pytest.raises(KeyboardInterrupt):
+        short_run().table()
+    assert signal.getsignal(signal.SIGINT) is before
 
 
 def test_the_end_of_python_ends_the_program() -> None:

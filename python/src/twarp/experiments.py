@@ -260,7 +260,9 @@ class _Bar:
                 from tqdm.auto import tqdm
             except ImportError:
                 return
-            self._bar = tqdm(total=0, disable=None, unit="run")
+            # (stubs of tqdm, where they are installed, know no None here)
+            bar: Any = tqdm
+            self._bar = bar(total=0, disable=None, unit="run")
 
     def expect(self, runs: int) -> None:
         """So many more runs are to be made."""

@@ -137,7 +137,7 @@ class Process:
         """Waits until the program has ended: its status (a signal's number, negated, where it was
         killed), and what it said on standard error. What it still writes is not read.
 
-        >>> with Process(["stats"], b"") as process:
+        >>> with Process(["seq"], b"") as process:
         ...     process.end()
         (2, 'twarp: 23 BadLine\\n')
         """
@@ -152,7 +152,7 @@ class Process:
         """The same where the program ends so soon; else it is ended, and the answer is None. Neither is
         there an answer where it ends because nobody reads what it writes.
 
-        >>> with Process(["stats"], b"") as process:
+        >>> with Process(["seq"], b"") as process:
         ...     process.end_soon(5)
         (2, 'twarp: 23 BadLine\\n')
         """

@@ -4,7 +4,11 @@ from __future__ import annotations
 
 import fcntl
 import os
+import signal
+import threading
 from collections.abc import Callable, Iterator, Mapping, Sequence
+from contextlib import contextmanager
+from types import FrameType
 from typing import IO, Any, Optional
 
 import pandas as pd
@@ -54,15 +58,15 @@ def read_table(
     }
     unbounded = [name for name, kind in last.items() if kind == "object"]
     wrong: Optional[Exception] = None
-    with Process(words, network) as process:
+    with Process(words, network) as process, _raised_by_signals() as raised:
         try:
-            for frame in _frames(process.out, dtypes, rows):
+            for frame in _frames(_Source(process.out, _HEAD, raised), dtypes, rows):
                 for name in unbounded:
                     frame[name] = pd.Series([int(number) for number in frame[name]], index=frame.index, dtype=object)
                 take(frame)
         except Exception as error:
             wrong = error
-        stop = wrong and _lost(wrong)
+        stop = raised[0] if raised else wrong and _lost(wrong)
         if stop is not None:
             raise stop from None
         ended = process.end() if wrong is None else process.end_soon(1)
@@ -72,9 +76,33 @@ def read_table(
     return fault
 
 
-def _frames(pipe: IO[bytes], dtypes: Mapping[str, Any], rows: Optional[int]) -> Iterator[Any]:
+@contextmanager
+def _raised_by_signals() -> Iterator[list[BaseException]]:
+    """What Python's handler of SIGINT raises meanwhile. The parser of pandas can lose it and read on, so it is kept
+    here to be raised again."""
+    raised: list[BaseException] = []
+    handler = signal.getsignal(signal.SIGINT)
+    if not callable(handler) or threading.current_thread() is not threading.main_thread():
+        yield raised
+        return
+    call = handler
+
+    def keep(number: int, frame: Optional[FrameType]) -> None:
+        try:
+            call(number, frame)
+        except BaseException as error:
+            raised.append(error)
+            raise
+
+    signal.signal(signal.SIGINT, keep)
+    try:
+        yield raised
+    finally:
+        signal.signal(signal.SIGINT, handler)
+
+
+def _frames(source: _Source, dtypes: Mapping[str, Any], rows: Optional[int]) -> Iterator[Any]:
     """The frames of a table: one, or as many as there are so many rows."""
-    source = _Source(pipe, _HEAD)
     options: dict[str, Any] = {"dtype": dict(dtypes), "na_filter": False, "engine": "c"}
     if rows is None:
         yield pd.read_csv(source, **options)
@@ -84,8 +112,8 @@ def _frames(pipe: IO[bytes], dtypes: Mapping[str, Any], rows: Optional[int]) -> 
 
 
 def _lost(error: Exception) -> Optional[BaseException]:
-    """What ended the reading where that is not for the program to explain. The parser of pandas loses a
-    KeyboardInterrupt of a signal in a read, and has its own words for want of memory."""
+    """What ended the reading where that is not for the program to explain. The parser of pandas has its own words
+    for what a read raises, and for want of memory."""
     if isinstance(error, MemoryError):
         return error
     if "read(nbytes) on source failed" in str(error):
@@ -98,8 +126,10 @@ def _lost(error: Exception) -> Optional[BaseException]:
 class _Source:
     """The pipe of a table as pandas reads it: in large pieces, as bytes, which its parser takes as they are."""
 
-    def __init__(self, pipe: IO[bytes], head: bytes) -> None:
-        """Raises `ValueError` where what comes does not begin with the head of a table."""
+    def __init__(self, pipe: IO[bytes], head: bytes, raised: Sequence[BaseException]) -> None:
+        """Raises `ValueError` where what comes does not begin with the head of a table. A read raises again
+        what was `raised` by a signal before it."""
+        self._raised = raised
         self._end = pipe.fileno()
         try:
             fcntl.fcntl(self._end, getattr(fcntl, "F_SETPIPE_SZ", 1031), _WIDE)
@@ -115,6 +145,8 @@ class _Source:
             raise ValueError(f"a table began with {self._begun[:80]!r}")
 
     def read(self, size: int = -1) -> bytes:
+        if self._raised:
+            raise self._raised[0]
         if self._begun:
             size = size if size > 0 else len(self._begun)
             begun, self._begun = self._begun[:size], self._begun[size:]

@@ -5,7 +5,7 @@ while IFS= read -r line; do
     # shellcheck disable=SC2086 # a line is words
     "$program" $line >"$out" 2>"$err"
     ended=$?
-    [[ ! -s $out && $(<"$err") == "twarp: 23 BadLine" ]]
+    [[ ! -s $out && $(head -n 1 "$err") == "twarp: 23 BadLine" ]]
     count "twarp $line" 2 "$ended" $?
 done <tests/lines.txt
 

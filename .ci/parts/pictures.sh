@@ -50,7 +50,7 @@ for words in "--only nobody" "--only $first,nobody" "--figure nothing"; do
     # shellcheck disable=SC2086 # a line is words
     "$program" draw "$network" --until 16 $words >"$out" 2>"$err"
     ended=$?
-    [[ ! -s $out && $(<"$err") == "twarp: 15 NoSuch" ]]
+    [[ ! -s $out && $(head -n 1 "$err") == "twarp: 15 NoSuch" ]]
     count "twarp draw $words" 2 "$ended" $?
 done
 

@@ -84,15 +84,15 @@ for line in stats table "table --items" draw "draw --seed 1 --steps 9" "draw --s
     # shellcheck disable=SC2086 # a line is words
     "$program" "$job" nowhere.json --until 5 $more >"$out" 2>"$err"
     ended=$?
-    [[ ! -s $out && $(<"$err") == "twarp: 19 Unreadable" ]]
+    [[ ! -s $out && $(head -n 1 "$err") == "twarp: 19 Unreadable" ]]
     count "twarp $line of a file that is not there" 2 "$ended" $?
     # shellcheck disable=SC2086 # a line is words
     "$program" "$job" examples/straggler.txt --until 5 $more >"$out" 2>"$err"
     ended=$?
-    [[ ! -s $out && $(<"$err") == "twarp: 20 NotJson" ]]
+    [[ ! -s $out && $(head -n 1 "$err") == "twarp: 20 NotJson" ]]
     count "twarp $line of a file that is no JSON" 2 "$ended" $?
 done
 "$program" draw examples/a-row.json --until 10 --script nowhere.txt >"$out" 2>"$err"
 ended=$?
-[[ ! -s $out && $(<"$err") == "twarp: 19 Unreadable" ]]
+[[ ! -s $out && $(head -n 1 "$err") == "twarp: 19 Unreadable" ]]
 count "twarp draw by a script that is not there" 2 "$ended" $?

@@ -6,6 +6,7 @@ pub(crate) const VERSION: &str = "0.1.0 (rattle-kit-13f logic dac8208d650f15bf)"
 pub(crate) const TWARP_END: &str = "Example: twarp demo
 
 Exit status: 0 success; 2 bad command line or file; 3 a component met a limit; 4 out of memory or nodes; 5 standard output failed.
+Environment: with a variable TWARP_EXPLAIN, seq, run, play and demo say in words why they are refused, as the others always do.
 Formats of the network file, the trace and the script, and all refusals: docs/FORMATS.md.
 ";
 

@@ -14,12 +14,14 @@
 //! | `values` | the text, the number or the flag of one option; each number in its range, or none |
 //! | `driving` | what drives an executive ([`Driver`]), and how it cancels |
 //! | `setting` | what workers are set to ([`RunOptions`], [`Workers`]) |
+//! | `explaining` | words for a line that is refused ([`line_words`]) |
 //! | `seeing` | what is seen of a run: the lines of a table, and a picture ([`Picture`]) |
 #![tactic(auto)]
 
 mod command_line;
 mod commands;
 mod driving;
+mod explaining;
 mod help;
 mod jobs;
 mod seeing;
@@ -28,6 +30,7 @@ mod values;
 
 pub use command_line::job;
 pub use driving::Driver;
+pub use explaining::line_words;
 pub use jobs::{Job, NoJob, Task};
 pub use seeing::Picture;
 pub use setting::{RunOptions, Workers};

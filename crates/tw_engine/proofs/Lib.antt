@@ -4,3 +4,4 @@ pub mod Checked
 pub mod Viewed
 pub mod Drawn
 pub mod Passing
+pub mod NoNetwork

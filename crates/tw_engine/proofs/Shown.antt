@@ -1,10 +1,17 @@
 -- From the text that is written to what it says of the bytes of the file.
 use Rattle.std.proofs.Common.{◌≡◌, ◌≤◌, ◌++◌, ◌∙◌, ℕ, List, [], length, refl, sym, ap, subst, append_assoc, arith, inl, inr}
-use Rattle.std.specs.Prelude.{Option, None, Ok, Err}
+use Rattle.std.specs.Prelude.{◌⊎◌, Option, None, Ok, Err}
 use Rattle.std.proofs.lemmas.Option.{slice_get_past}
 use Rattle.tw_msgs.specs.declared.record.Record.{Record}
 use Rattle.tw_any_model.specs.declared.any_model.AnyModel.{AnyModel}
 use Rattle.tw_any_model.specs.AnyModel.{any_meaning}
+use Rattle.tw_any_model.specs.declared.any_model.AnyState.{AnyState}
+use Rattle.tw_exec.specs.Running.{Running, start}
+use Rattle.tw_theory.specs.Contents.{Cancel, Aggressive}
+use Rattle.tw_vtime.specs.declared.refusal.Refusal.{Refusal}
+use Rattle.tw_vtime.specs.declared.refusal.Refusal.TheVariants as refusal
+use Rattle.tw_workers.specs.Runs.{CanBeFull}
+use Rattle.tw_engine.proofs.Driven.{keeps_all}
 use Rattle.tw_network.specs.Contents.{Contents, network_of}
 use Rattle.tw_theory.specs.Transitions.{output, moved, transition}
 use Rattle.tw_theory.specs.Simulator.{sequential, rounds, round}
@@ -65,18 +72,24 @@ run_of_ordered bytes until n (Err why) old new means (inr late) =
     subst (λ w. IsRun bytes until (Err w) old new) (sym late.0.0) (late.1, refl, inl (refl, late.0.1))
 
 -- what workers write of it
-pub run_of_worked : (bytes : List ℕ) (until : ℕ) (n : Contents AnyModel) (end : RunEnd) (old new : Option (List ℕ)) → IsMeaning bytes n
-    → IsWorked n until end old new → IsRunByWorkers bytes until end old new
-run_of_worked bytes until n end old new means (inl ordered) = inl (run_of_ordered bytes until n end old new means ordered)
-run_of_worked bytes until n end old new means (inr full) = inr full
+pub run_of_worked : (bytes : List ℕ) (way : Cancel) (until : ℕ) (n : Contents AnyModel) (end : RunEnd) (old new : Option (List ℕ)) → IsMeaning bytes n
+    → IsWorked (start any_meaning n way until) end old new → IsRunByWorkers bytes way until end old new
+run_of_worked bytes way until n end old new means (inl ordered) = inl (run_of_ordered bytes until n end old new means ordered)
+run_of_worked bytes way until n end old new means (inr full) = inr (n, means, full)
+
+-- workers who give up for memory or for nodes
+pub given_up : (e : Running AnyModel AnyState) (why : Refusal) (old : Option (List ℕ)) → (why ≡ refusal.OutOfMemory) ⊎ (why ≡ refusal.Full)
+    → (why ≡ refusal.Full → CanBeFull any_meaning e) → IsWorked e (Err (Want why)) old old
+given_up e why old (inl memory) full = inl (inl (memory, inl (keeps_all old)))
+given_up e why old (inr nodes) full = inr ((ap (λ w. Want w) nodes, full nodes), keeps_all old)
 
 -- what they write of the demonstration
-pub demo_of_worked : (n : Contents AnyModel) (end : RunEnd) (old new : Option (List ℕ)) → n ≡ demo_network → IsWorked n 5 end old new → IsDemo end old new
-demo_of_worked n end old new is worked = demo_of end (subst (λ (m : Contents AnyModel). IsWorked m 5 end old new) is worked)
+pub demo_of_worked : (n : Contents AnyModel) (end : RunEnd) (old new : Option (List ℕ)) → n ≡ demo_network → IsWorked (start any_meaning n Aggressive 5) end old new → IsDemo end old new
+demo_of_worked n end old new is (inl ordered) = demo_of end (subst (λ (m : Contents AnyModel). IsMadeInOrder m 5 end old new) is ordered)
   where
-    demo_of : (e : RunEnd) → IsWorked demo_network 5 e old new → IsDemo e old new
-    demo_of e (inl (inl shown)) = demo_of_shown e old new shown
-    demo_of (Ok fault) (inl (inr late)) = absurd late.0
-    demo_of (Err why) (inl (inr late)) = let after = late.0.1 in absurd (omega (arith, after))
-    demo_of (Ok fault) (inr full) = absurd full.0
-    demo_of (Err why) (inr full) = subst (λ w. IsDemo (Err w) old new) (sym full.0) (inr (refl, full.1))
+    demo_of : (e : RunEnd) → IsMadeInOrder demo_network 5 e old new → IsDemo e old new
+    demo_of e (inl shown) = demo_of_shown e old new shown
+    demo_of (Ok fault) (inr late) = absurd late.0
+    demo_of (Err why) (inr late) = let after = late.0.1 in absurd (omega (arith, after))
+demo_of_worked n (Ok fault) old new is (inr full) = absurd full.0
+demo_of_worked n (Err why) old new is (inr full) = subst (λ w. IsDemo (Err w) old new) (sym full.0.0) (inr (refl, full.1))

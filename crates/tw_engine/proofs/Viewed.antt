@@ -1,20 +1,25 @@
 -- From what is told of a network's run to what is said of its view, and how that ends.
-use Rattle.std.proofs.Common.{◌≡◌, ◌<◌, ℕ, List, [], ◌∷◌, ap, inl, inr, length, map, refl, subst, suc, sym}
-use Rattle.std.specs.List.{AllZip}
+use Rattle.std.proofs.Common.{◌≡◌, ◌<◌, ◌+◌, ℕ, suc, List, [], ◌∷◌, ap, inl, inr, length, refl, subst, sym}
 use Rattle.std.specs.Global.{Global}
-use Rattle.std.specs.Prelude.{◌≢◌, ◌⊎◌, Bool, Option, Ok, Err, String}
+use Rattle.serde_json.specs.Data.{Data, Items}
+use Rattle.std.specs.Option.{option_map_or}
+use Rattle.std.specs.Prelude.{◌≢◌, ◌⊎◌, Bool, Option, Result, Ok, Err, String, codes}
+use Rattle.std.specs.Result.{result_ok}
 use Rattle.std.specs.Io.KnownBytes.{Appends, Keeps}
 use Rattle.tw_any_model.specs.AnyModel.{any_meaning}
 use Rattle.tw_any_model.specs.declared.any_model.AnyModel.{AnyModel}
 use Rattle.tw_engine.proofs.Driven.{keeps_all}
 use Rattle.tw_engine.specs.Ends.{Fault, failed_of}
 use Rattle.tw_engine.specs.Runs.{HasNoRun, name_in, run_fault}
-use Rattle.tw_engine.specs.Views.{IsLineOf, IsSummedOf, IsTabulatedOf, run_table}
+use Rattle.tw_engine.specs.Views.{IsLineOf, IsSummedOf, IsTabulatedOf, file_labels, run_table}
 use Rattle.tw_engine.specs.declared.failed.Failed.{Failed}
 use Rattle.tw_figures.specs.declared.seeing.Rows.{Rows}
-use Rattle.tw_figure_names.specs.Labels.{AreLabels}
-use Rattle.tw_figures.specs.Labelled.{label}
-use Rattle.tw_figures.specs.declared.labels.Labels.{Labels}
+use Rattle.tw_figure_names.specs.Said.{atoms_of, labels_from, labels_said, machines_said}
+use Rattle.tw_file_members.specs.Members.{items_in}
+use Rattle.tw_machine_file.specs.Seen.{Machine}
+use Rattle.tw_figures.specs.Labelled.{Label}
+use Rattle.tw_file_network.specs.Meaning.{json_of}
+use Rattle.tw_file_network.specs.declared.refused.FileRefused.{FileRefused}
 use Rattle.tw_network.specs.Contents.{Contents, network_of}
 use Rattle.tw_stats.specs.Reports.{IsReport}
 use Rattle.tw_stats.specs.Written.{report_bytes}
@@ -28,34 +33,40 @@ use Rattle.tw_texts.specs.declared.traces.NotWritten.{NotWritten}
 use Rattle.tw_texts.specs.declared.traces.NotWritten.TheVariants as writing
 use Rattle.tw_vtime.specs.Stamps.{max_tick}
 
--- there are as many of the one as of the other
-pub as_many : {X Y : Type 0} (R : X → Y → Type 0) (xs : List X) (ys : List Y) → AllZip R xs ys → length ys ≡ length xs
-as_many R [] [] h = refl
-as_many R [] (y ∷ ys) h = absurd h
-as_many R (x ∷ xs) [] h = absurd h
-as_many R (x ∷ xs) (y ∷ ys) h = ap suc (as_many R xs ys h.1)
+-- there is a label for each model
+as_many_from : (machines : List Machine) (values : Items) (said : List Data) (k : ℕ) (models : List AnyModel) → length (labels_from machines values said k models) ≡ length models
+as_many_from machines values said k [] = refl
+as_many_from machines values said k (m ∷ ms) = ap suc (as_many_from machines values said (k + 1) ms)
+
+pub as_many : (file : Data) (models : List AnyModel) → length (labels_said file models) ≡ length models
+as_many file models = as_many_from (machines_said file) (items_in (codes "models") file) (atoms_of file) 0 models
+
+-- the labels of the file that was read are those of its bytes
+pub labels_of_bytes : (bytes : List ℕ) (file : Data) (n : Contents AnyModel) → json_of bytes ≡ Ok file → labels_said file n.models ≡ file_labels bytes n
+unfolding file_labels
+labels_of_bytes bytes file n is = sym (ap (λ (r : Result Data FileRefused). option_map_or (λ file. labels_said file n.models) (result_ok r) []) is)
 
 -- ---- counts and figures
 
-module _ (n : Contents AnyModel) (until : ℕ) (json : Bool) where
+module _ (n : Contents AnyModel) (labels : List Label) (until : ℕ) (json : Bool) where
   -- they are of the run
-  pub summed_up : (labels : List Labels) (report : Report) (line : Option (String Global)) (old new : Option (List ℕ))
-      → AllZip AreLabels n.models labels → IsReport (network_of any_meaning n) until (map label labels) report → IsLineOf n report.fault line
-      → Appends old new (report_bytes json (name_in n.names) (map label labels) report) → IsSummedOf n until json (Ok line) old new
-  summed_up labels report line old new named is of written = (
+  pub summed_up : (report : Report) (line : Option (String Global)) (old new : Option (List ℕ))
+      → IsReport (network_of any_meaning n) until labels report → IsLineOf n report.fault line
+      → Appends old new (report_bytes json (name_in n.names) labels report) → IsSummedOf n labels until json (Ok line) old new
+  summed_up report line old new is of written = (
     subst (λ (f : Option Fault). IsLineOf n f line) is.fault of,
-    record { labels = labels; named = named; report = report; is = is; written = written },
+    record { report = report; is = is; written = written },
   )
 
   -- a run that is refused
   pub not_reported : (why : SeqRefused) (old : Option (List ℕ))
-      → (why ≡ run.BadTick → max_tick < until) → IsSummedOf n until json (Err (failed_of (seq_refusal why))) old old
+      → (why ≡ run.BadTick → max_tick < until) → IsSummedOf n labels until json (Err (failed_of (seq_refusal why))) old old
   not_reported run.OutOfMemory old late = (refl, keeps_all old)
   not_reported run.BadTick old late = ((refl, late refl), keeps_all old)
 
   -- writing that is refused
   pub not_summed : (why : NotWritten) (old new : Option (List ℕ))
-      → (why ≢ writing.WriteFailed → Keeps old new) → IsSummedOf n until json (Err (failed_of (not_written_refusal why))) old new
+      → (why ≢ writing.WriteFailed → Keeps old new) → IsSummedOf n labels until json (Err (failed_of (not_written_refusal why))) old new
   not_summed writing.OutOfMemory old new keeps = (refl, keeps (λ e. cc))
   not_summed writing.WriteFailed old new keeps = tt
 

@@ -4,7 +4,7 @@
 --     PlainEnd    all is written
 --     Fails end P      it is no end, for a reason of which P is true
 use Rattle.std.specs.Global.{Global}
-use Rattle.std.specs.Prelude.{ℕ, Option, None, Result, Ok, Err, String}
+use Rattle.std.specs.Prelude.{Option, None, Result, Ok, Err, String}
 use Rattle.tw_engine.specs.declared.failed.Failed.{Failed}
 use Rattle.tw_engine.specs.declared.failed.Failed.TheVariants.{Bad, Want, NoWrite}
 pub use Rattle.tw_theory.specs.Simulator.{Fault}

@@ -48,7 +48,7 @@ IsTaskDone (Seq progress) until exit bytes script old new = Ends exit_of_run exi
 IsTaskDone (Stats json progress) until exit bytes script old new = Ends exit_of_view exit (λ end. IsSummed bytes until json end old new)
 IsTaskDone (Table rows progress) until exit bytes script old new = Ends exit_of_view exit (λ end. IsTabulated bytes until rows end old new)
 IsTaskDone (Draw picture) until exit bytes script old new = Ends exit_of_view exit (λ end. IsDrawn picture until end bytes script old new)
-IsTaskDone (Run cancel setting) until exit bytes script old new = Ends exit_of_run exit (λ end. IsRunByWorkers bytes until end old new)
+IsTaskDone (Run cancel setting) until exit bytes script old new = Ends exit_of_run exit (λ end. IsRunByWorkers bytes cancel until end old new)
 IsTaskDone (Play cancel driver) until exit bytes script old new = Ends exit_of_rest exit (λ end. IsPlay driver until cancel end bytes script old new)
 
 abbrev pub IsDone : Job → Exit → List ℕ → Option (List ℕ) → Option (List ℕ) → Option (List ℕ) → Type 0

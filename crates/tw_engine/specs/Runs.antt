@@ -2,7 +2,7 @@
 --     run_text n until      the trace of a network's sequential run, and a line for its fault
 --     IsRun bytes until end old new      how a run of the network that a file's bytes mean ends, and what is then written
 --     IsDemo end old new      the same of the demonstration
-use Rattle.std.specs.Prelude.{◌≡◌, ◌<◌, ◌≤◌, ◌⊎◌, ◌++◌, ℕ, List, [], ◌∷◌, codes, pos, Option, Some, None, Result, Ok, Err, slice_get}
+use Rattle.std.specs.Prelude.{◌≡◌, ◌<◌, ◌⊎◌, ◌++◌, ℕ, List, [], ◌∷◌, codes, pos, Option, Some, None, Result, Ok, Err, slice_get}
 use Rattle.std.specs.Io.KnownBytes.{Appends, Keeps}
 use Rattle.tw_vtime.specs.Stamps.{max_tick}
 use Rattle.tw_vtime.specs.declared.refusal.Refusal.{Refusal}
@@ -12,8 +12,12 @@ use Rattle.tw_any_model.specs.declared.any_model.AnyModel.{AnyModel}
 use Rattle.tw_any_model.specs.declared.any_model.AnyModel.TheVariants.{BuiltIn}
 use Rattle.tw_models.specs.declared.model.Model.TheVariants.{Gen, Tally}
 use Rattle.tw_any_model.specs.AnyModel.{any_meaning}
+use Rattle.tw_any_model.specs.declared.any_model.AnyState.{AnyState}
 use Rattle.tw_network.specs.Contents.{Contents, network_of}
+use Rattle.tw_exec.specs.Running.{Running, start}
+use Rattle.tw_theory.specs.Contents.{Cancel}
 use Rattle.tw_theory.specs.Simulator.{sequential}
+use Rattle.tw_workers.specs.Runs.{CanBeFull}
 use Rattle.tw_file_network.specs.Refused.{file_refusal}
 use Rattle.tw_file_network.specs.TreeMeaning.{IsFault, IsMeaning}
 use Rattle.tw_file_network.specs.declared.refused.FileRefused.{FileRefused}
@@ -70,9 +74,15 @@ IsRun bytes until (Err (Want why)) old new =
     (why ≡ refusal.OutOfMemory) × (Keeps old new ⊎ Means bytes (λ n. AppendsBeginning old new (run_text n until)))
 IsRun bytes until (Err NoWrite) old new = Unit {0}
 
--- by workers, who may also want nodes (12) before anything is written
-abbrev pub IsRunByWorkers : List ℕ → ℕ → RunEnd → Option (List ℕ) → Option (List ℕ) → Type 0
-IsRunByWorkers bytes until end old new = IsRun bytes until end old new ⊎ (Fails end (λ why. why ≡ Want refusal.Full) × Keeps old new)
+-- workers give an executive up for nodes (12), before anything is written: only where it can come so far that a process of it would hold
+-- too many
+abbrev pub IsGivenUp : Running AnyModel AnyState → RunEnd → Option (List ℕ) → Option (List ℕ) → Type 0
+IsGivenUp e end old new = Fails end (λ why. (why ≡ Want refusal.Full) × CanBeFull any_meaning e) × Keeps old new
+
+-- by workers, who may also give up for nodes
+abbrev pub IsRunByWorkers : List ℕ → Cancel → ℕ → RunEnd → Option (List ℕ) → Option (List ℕ) → Type 0
+IsRunByWorkers bytes way until end old new =
+    IsRun bytes until end old new ⊎ Means bytes (λ n. IsGivenUp (start any_meaning n way until) end old new)
 
 -- no byte of the file is known to be read, and nothing is written
 abbrev pub IsUnread : {A : Type 0} → Result A Failed → Option (List ℕ) → Option (List ℕ) → Type 0
@@ -107,9 +117,9 @@ IsMadeInOrder n until end old new =
     IsShown n (sequential (network_of any_meaning n) until).records (run_fault n until) end old new
     ⊎ (Fails end (IsLate until) × Keeps old new)
 
--- how one by workers ends, who may also want nodes (12)
-abbrev pub IsWorked : Contents AnyModel → ℕ → RunEnd → Option (List ℕ) → Option (List ℕ) → Type 0
-IsWorked n until end old new = IsMadeInOrder n until end old new ⊎ (Fails end (λ why. why ≡ Want refusal.Full) × Keeps old new)
+-- how one by workers ends, who begin with this executive
+abbrev pub IsWorked : Running AnyModel AnyState → RunEnd → Option (List ℕ) → Option (List ℕ) → Type 0
+IsWorked e end old new = IsMadeInOrder e.network e.until end old new ⊎ IsGivenUp e end old new
 
 -- ---- the jobs
 

@@ -1,20 +1,22 @@
 -- What the engine writes where figures or a table of a run are asked for, and how that ends.
 --     IsLineOf n fault line      a line says the fault that a run ends in, and there is none where there is no fault
+--     file_labels bytes n      what the models of the network of a file are called, and their figures
 --     IsSummed bytes until json end old new      counts and figures of the run of the network that a file's bytes mean
 --     IsTabulated bytes until rows end old new      its table
 use Rattle.std.specs.Global.{Global}
-use Rattle.std.specs.List.{AllZip}
-use Rattle.std.specs.Prelude.{◌≡◌, ◌⊎◌, ℕ, Bool, List, Option, None, Some, Ok, Err, String, map, string_bytes}
+use Rattle.std.specs.Option.{option_map_or}
+use Rattle.std.specs.Prelude.{◌≡◌, ◌⊎◌, ℕ, [], Bool, List, Option, None, Some, Ok, Err, String, string_bytes}
+use Rattle.std.specs.Result.{result_ok}
 use Rattle.std.specs.Io.KnownBytes.{Appends, Keeps}
 use Rattle.tw_any_model.specs.AnyModel.{any_meaning}
 use Rattle.tw_any_model.specs.declared.any_model.AnyModel.{AnyModel}
 use Rattle.tw_engine.specs.Ends.{Fails, Fault, ViewEnd}
 use Rattle.tw_engine.specs.Runs.{HasNoNetwork, IsLate, Means, fault_text, name_in, run_fault}
 use Rattle.tw_engine.specs.declared.failed.Failed.TheVariants.{Bad, Want, NoWrite}
-use Rattle.tw_figure_names.specs.Labels.{AreLabels}
-use Rattle.tw_figures.specs.Labelled.{label}
-use Rattle.tw_figures.specs.declared.labels.Labels.{Labels}
+use Rattle.tw_figure_names.specs.Said.{labels_said}
+use Rattle.tw_figures.specs.Labelled.{Label}
 use Rattle.tw_figures.specs.declared.seeing.Rows.{Rows}
+use Rattle.tw_file_network.specs.Meaning.{json_of}
 use Rattle.tw_network.specs.Contents.{Contents, network_of}
 use Rattle.tw_record_lines.specs.Tables.{table_text}
 use Rattle.tw_stats.specs.Reports.{IsReport}
@@ -33,23 +35,26 @@ IsLineOf n fault (Some line) = ((met : Fault) × (fault ≡ Some met)) × (strin
 
 -- ---- counts and figures
 
--- a report of a network's sequential run is written, with names and figures of its components' models
-pub record IsReported (n : Contents AnyModel) (until : ℕ) (json : Bool) (old new : Option (List ℕ)) : Type 0 where
-  pub labels : List Labels
-  pub named : AllZip AreLabels n.models labels
+-- what the models of a network are called, and their figures, as the file of these bytes says it
+unfoldable pub file_labels : List ℕ → Contents AnyModel → List Label
+file_labels bytes n = option_map_or (λ file. labels_said file n.models) (result_ok (json_of bytes)) []
+
+-- the report of a network's sequential run is written, with these names and figures of its components' models
+pub record IsReported (n : Contents AnyModel) (labels : List Label) (until : ℕ) (json : Bool) (old new : Option (List ℕ)) : Type 0 where
   pub report : Report
-  pub is : IsReport (network_of any_meaning n) until (map label labels) report
-  pub written : Appends old new (report_bytes json (name_in n.names) (map label labels) report)
+  pub is : IsReport (network_of any_meaning n) until labels report
+  pub written : Appends old new (report_bytes json (name_in n.names) labels report)
 
 -- where memory is wanting nothing is written
-abbrev pub IsSummedOf : Contents AnyModel → ℕ → Bool → ViewEnd → Option (List ℕ) → Option (List ℕ) → Type 0
-IsSummedOf n until json (Ok line) old new = IsLineOf n (run_fault n until) line × IsReported n until json old new
-IsSummedOf n until json (Err (Bad why line)) old new = IsLate until (Bad why line) × Keeps old new
-IsSummedOf n until json (Err (Want why)) old new = (why ≡ refusal.OutOfMemory) × Keeps old new
-IsSummedOf n until json (Err NoWrite) old new = Unit {0}
+abbrev pub IsSummedOf : Contents AnyModel → List Label → ℕ → Bool → ViewEnd → Option (List ℕ) → Option (List ℕ) → Type 0
+IsSummedOf n labels until json (Ok line) old new = IsLineOf n (run_fault n until) line × IsReported n labels until json old new
+IsSummedOf n labels until json (Err (Bad why line)) old new = IsLate until (Bad why line) × Keeps old new
+IsSummedOf n labels until json (Err (Want why)) old new = (why ≡ refusal.OutOfMemory) × Keeps old new
+IsSummedOf n labels until json (Err NoWrite) old new = Unit {0}
 
 abbrev pub IsSummed : List ℕ → ℕ → Bool → ViewEnd → Option (List ℕ) → Option (List ℕ) → Type 0
-IsSummed bytes until json end old new = (Fails end (HasNoNetwork bytes) × Keeps old new) ⊎ Means bytes (λ n. IsSummedOf n until json end old new)
+IsSummed bytes until json end old new =
+    (Fails end (HasNoNetwork bytes) × Keeps old new) ⊎ Means bytes (λ n. IsSummedOf n (file_labels bytes n) until json end old new)
 
 -- ---- the table
 

@@ -1,13 +1,18 @@
 //! The job `check`: a look at a network file that simulates nothing.
 
+ghost use Rattle.std.specs.Prelude.{◌≡◌, ℕ, List, Ok, IfOk, string_bytes};
+ghost use Rattle.serde_json.specs.View.{view};
+ghost use Rattle.tw_file_faults.specs.Lines.{HasNoLineEnd};
+ghost use Rattle.tw_file_network.specs.Meaning.{json_of};
 ghost use Rattle.tw_engine.specs.Checks.{IsCheck, IsCounted, IsTold};
 
 use crate::failed::Failed;
-use std::alloc::Global;
+use serde_json::Value;
+use std::alloc::{AllocError, Global};
 use std::io::Write;
 use tw_any_model::AnyModel;
-use tw_file_faults::explain;
-use tw_file_network::{FileRefused, network_of_any_file};
+use tw_file_faults::{explain, explain_text};
+use tw_file_network::{FileRefused, json_of, network_of_value};
 use tw_network::Network;
 use tw_vtime::Refusal;
 
@@ -18,9 +23,20 @@ use tw_vtime::Refusal;
 pub fn check<W: Write>(alloc: Global, bytes: &[u8], out: &mut W) -> Result<(), Failed>
     ensures { IsCheck bytes.now result (W.contents out.old) (W.contents out.new) }
 {
-    match network_of_any_file(alloc, bytes) {
+    match json_of(alloc, bytes) {
+        Ok(value) => check_value(alloc, &value, out),
+        Err(fault) => Err(write_fault(fault, explain_text(alloc, bytes), out)),
+    }
+}
+
+/// Checks a file by its JSON value.
+fn check_value<W: Write>(alloc: Global, value: &Value, out: &mut W) -> Result<(), Failed>
+    ensures { (bytes : List ℕ) → json_of bytes ≡ Ok (view value.now)
+        → IsCheck bytes result (W.contents out.old) (W.contents out.new) }
+{
+    match network_of_value(alloc, value) {
         Ok(network) => write_counts(&network, out),
-        Err(fault) => Err(write_fault(alloc, bytes, fault, out)),
+        Err(fault) => Err(write_fault(fault, explain(alloc, value, fault), out)),
     }
 }
 
@@ -41,13 +57,18 @@ fn write_counts<W: Write>(network: &Network<AnyModel>, out: &mut W) -> Result<()
 }
 
 /// Writes the words for a file's fault, and answers how the job fails.
-fn write_fault<W: Write>(alloc: Global, bytes: &[u8], fault: FileRefused, out: &mut W) -> Failed
+fn write_fault<W: Write>(
+    fault: FileRefused,
+    words: Result<String, AllocError>,
+    out: &mut W,
+) -> Failed
+    requires { IfOk words (λ w. HasNoLineEnd (string_bytes w)) }
     ensures { IsTold fault result (W.contents out.old) (W.contents out.new) }
 {
     if fault == FileRefused::OutOfMemory {
         return Failed::Want(Refusal::OutOfMemory);
     }
-    let Ok(words) = explain(alloc, bytes, fault) else {
+    let Ok(words) = words else {
         return Failed::Want(Refusal::OutOfMemory);
     };
     match writeln!(out, "{words}") {

@@ -9,7 +9,8 @@ use crate::failed::Failed;
 use crate::faults::fault_line;
 use crate::job_play::{Start, commands_in, player_of};
 use crate::names::NetworkNames;
-use crate::reading::{Run, network_in, read_all};
+use crate::reading::{Run, file_in, network_in, read_all};
+use serde_json::Value;
 use std::alloc::Global;
 use std::io::{Read, Write};
 use tw_any_model::AnyModel;
@@ -88,18 +89,18 @@ fn draw_file<W: Write>(
 ) -> Result<Option<String>, Failed>
     ensures { IsViewDrawn bytes.now until result (W.contents out.old) (W.contents out.new) }
 {
-    let network = network_in(alloc, bytes)?;
+    let file = file_in(alloc, bytes)?;
     let run = Run {
-        network: &network,
+        network: &file.network,
         until,
     };
-    draw_network(alloc, bytes, &run, title, view, out)
+    draw_network(alloc, &file.value, &run, title, view, out)
 }
 
-/// Draws a network's run.
+/// Draws a network's run, with the names that its file has for its figures.
 fn draw_network<W: Write>(
     alloc: Global,
-    bytes: &[u8],
+    file: &Value,
     run: &Run<'_>,
     title: &str,
     view: &View<'_>,
@@ -108,7 +109,7 @@ fn draw_network<W: Write>(
     ensures { IsViewDrawnOf run.now.network.now run.now.until result
         (W.contents out.old) (W.contents out.new) }
 {
-    let labels = labels_in(alloc, bytes, run.network)?;
+    let labels = labels_in(alloc, file, run.network)?;
     let names = NetworkNames {
         network: run.network,
     };

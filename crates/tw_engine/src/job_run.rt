@@ -1,6 +1,8 @@
 //! The job `run`: a run by workers, or in order where that is left to the program and workers would not pay.
 
 ghost use Rattle.std.specs.Prelude.{◌≡◌, IfErr, IfOk};
+ghost use Rattle.tw_any_model.specs.AnyModel.{any_meaning};
+ghost use Rattle.tw_exec.specs.Running.{start};
 ghost use Rattle.tw_engine.specs.Runs.{HasNoRun, IsRunByWorkers, IsShown, IsWorked};
 ghost use Rattle.tw_workers_progress.specs.Settings.{IsSet};
 
@@ -46,7 +48,8 @@ pub(crate) fn run<R: Threads + Wait + Clock + Eprint + Sync, W: Write>(
     plan: Plan,
     out: &mut W,
 ) -> Result<Option<Fault>, Failed>
-    ensures { IsRunByWorkers bytes.now plan.until result (W.contents out.old) (W.contents out.new) }
+    ensures { IsRunByWorkers bytes.now plan.cancel plan.until result
+        (W.contents out.old) (W.contents out.new) }
 {
     let network = network_in(alloc, bytes)?;
     run_network(rt, alloc, network, plan, out)
@@ -60,7 +63,8 @@ pub(crate) fn run_network<R: Threads + Wait + Clock + Eprint + Sync, W: Write>(
     plan: Plan,
     out: &mut W,
 ) -> Result<Option<Fault>, Failed>
-    ensures { IsWorked network plan.until result (W.contents out.old) (W.contents out.new) }
+    ensures { IsWorked (start any_meaning network plan.cancel plan.until) result
+        (W.contents out.old) (W.contents out.new) }
 {
     let Plan {
         until,
@@ -94,12 +98,13 @@ fn run_executive<R: Threads + Wait + Clock + Eprint + Sync, W: Write>(
     out: &mut W,
 ) -> Result<Option<Fault>, Failed>
     requires { IsSet setting }
-    ensures { IsWorked executive.network executive.until result
-        (W.contents out.old) (W.contents out.new) }
+    ensures { IsWorked executive result (W.contents out.old) (W.contents out.new) }
 {
     let network = Arc::try_clone(executive.network())?;
-    let (records, fault) = run_by_workers(rt, alloc, executive, setting, progress)?;
-    write_made(alloc, &network, records.as_slice(), fault, out)
+    match run_by_workers(rt, alloc, executive, setting, progress) {
+        Ok((records, fault)) => write_made(alloc, &network, records.as_slice(), fault, out),
+        Err(why) => Err(Failed::Want(why)),
+    }
 }
 
 /// Writes the text of a run that is made: the lines of its records, and that of its fault.
@@ -129,8 +134,7 @@ fn start_executive(
     until: u64,
     cancel: Cancel,
 ) -> Result<Executive<AnyModel>, Failed>
-    ensures network { IfOk result (λ e. e.network ≡ network) }
-    ensures until { IfOk result (λ e. e.until ≡ until) }
+    ensures start { IfOk result (λ e. e ≡ start any_meaning network cancel until) }
     ensures err { IfErr result (HasNoRun until) }
 {
     match Executive::with_cancel(alloc, network, until, cancel) {

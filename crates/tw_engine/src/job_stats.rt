@@ -1,11 +1,14 @@
 //! The job `stats`: counts and figures of a sequential run.
 
+ghost use Rattle.serde_json.specs.View.{view};
+ghost use Rattle.tw_figure_names.specs.Said.{labels_said};
 ghost use Rattle.tw_engine.specs.Views.{IsSummed, IsSummedOf};
 
 use crate::failed::Failed;
 use crate::faults::fault_line;
 use crate::names::NetworkNames;
-use crate::reading::{Run, network_in};
+use crate::reading::{Run, file_in};
+use serde_json::Value;
 use std::alloc::Global;
 use std::io::Write;
 use tw_figure_names::labels_in;
@@ -27,27 +30,28 @@ pub fn stats<L: Listener, W: Write>(
 ) -> Result<Option<String>, Failed>
     ensures { IsSummed bytes.now until json result (W.contents out.old) (W.contents out.new) }
 {
-    let network = network_in(alloc, bytes)?;
+    let file = file_in(alloc, bytes)?;
     let run = Run {
-        network: &network,
+        network: &file.network,
         until,
     };
-    sum_up(alloc, bytes, &run, json, listener, out)
+    sum_up(alloc, &file.value, &run, json, listener, out)
 }
 
-/// Writes the counts and the figures of a network's run.
+/// Writes the counts and the figures of a network's run, with the names that its file has for them.
 fn sum_up<L: Listener, W: Write>(
     alloc: Global,
-    bytes: &[u8],
+    file: &Value,
     run: &Run<'_>,
     json: bool,
     listener: &mut L,
     out: &mut W,
 ) -> Result<Option<String>, Failed>
-    ensures { IsSummedOf run.now.network.now run.now.until json result
+    ensures { let n = run.now.network.now in
+        IsSummedOf n (labels_said (view file.now) n.models) run.now.until json result
         (W.contents out.old) (W.contents out.new) }
 {
-    let labels = labels_in(alloc, bytes, run.network)?;
+    let labels = labels_in(alloc, file, run.network)?;
     let labels = labels.as_slice();
     let report = match report_of(alloc, run.network, labels, run.until, listener) {
         Ok(report) => report,

@@ -1,7 +1,7 @@
 -- Two ends of one job on the same bytes.
 use Rattle.std.proofs.Common.{◌≡◌, ◌∙◌, ◌⊎◌, ◌++◌, ℕ, List, ap, append_assoc, inl, inr, refl, subst, sym}
 use Rattle.std.specs.Global.{Global}
-use Rattle.std.specs.Prelude.{Option, Some, None, Result, Ok, Err, String}
+use Rattle.std.specs.Prelude.{Bool, Option, Some, None, Result, Ok, Err, String}
 use Rattle.std.specs.Io.KnownBytes.{Appends}
 use Rattle.tw_any_model.specs.AnyModel.{any_meaning}
 use Rattle.tw_any_model.specs.declared.any_model.AnyModel.{AnyModel}
@@ -18,12 +18,13 @@ use Rattle.tw_engine.specs.Exits.{exit_of, exit_of_rest, exit_of_run, exit_of_vi
 use Rattle.tw_engine.specs.Jobs.{Ends, IsDone, IsPlay, IsScriptedBy}
 use Rattle.tw_engine.specs.Plays.{IsScripted, IsSeeded, committed_text, first}
 use Rattle.tw_engine.specs.Runs.{IsDemo, IsRun, IsRunByWorkers, demo_network, run_fault, run_text}
-use Rattle.tw_engine.specs.Views.{IsLineOf, IsTabulated, run_table}
+use Rattle.tw_engine.specs.Views.{IsLineOf, IsSummed, IsTabulated, run_table}
 use Rattle.tw_engine.specs.declared.exit.Exit.{Exit}
 use Rattle.tw_engine.specs.declared.failed.Failed.{Failed}
 use Rattle.tw_engine.specs.declared.failed.Failed.TheVariants as failed
 use Rattle.tw_engine_laws.proofs.One.{AreOne, are_one, one_check, one_fault, one_line, one_run, one_table}
 use Rattle.tw_engine_laws.proofs.OnePlay.{draw_one, full_before, play_one}
+use Rattle.tw_engine_laws.proofs.OneSummary.{one_summary}
 use Rattle.tw_engine_laws.specs.OneText.{HasFullLine, HasOneText, IsDoneWhole, IsSameEnd, WasFull}
 use Rattle.tw_figures.specs.declared.seeing.Rows.{Rows}
 use Rattle.tw_file_network.specs.OneMeaning.{MeansOne}
@@ -103,11 +104,11 @@ module _ (means : (bytes : List ℕ) → MeansOne bytes) (law : CouplingsLaw Any
   run_ends until fault fault' is is' (n, of_n, done) (m, of_m, done') =
       run_end n m (one n m of_n of_m) until exit exit' old new new' fault fault' is is' done.0 done'.0 done.1 done'.1
 
-  worked_ends : (until : ℕ) (fault fault' : Option Fault) → exit ≡ exit_of_run (Ok fault) → exit' ≡ exit_of_run (Ok fault')
-      → IsRunByWorkers bytes until (Ok fault) (Some old) (Some new) → IsRunByWorkers bytes until (Ok fault') (Some old) (Some new') → IsSameEnd exit exit' new new'
-  worked_ends until fault fault' is is' (inl done) (inl done') = run_ends until fault fault' is is' done done'
-  worked_ends until fault fault' is is' (inr full) done' = absurd full.0
-  worked_ends until fault fault' is is' (inl done) (inr full) = absurd full.0
+  worked_ends : (way : Cancel) (until : ℕ) (fault fault' : Option Fault) → exit ≡ exit_of_run (Ok fault) → exit' ≡ exit_of_run (Ok fault')
+      → IsRunByWorkers bytes way until (Ok fault) (Some old) (Some new) → IsRunByWorkers bytes way until (Ok fault') (Some old) (Some new') → IsSameEnd exit exit' new new'
+  worked_ends way until fault fault' is is' (inl done) (inl done') = run_ends until fault fault' is is' done done'
+  worked_ends way until fault fault' is is' (inr (n, of_n, full)) done' = absurd full.0
+  worked_ends way until fault fault' is is' (inl done) (inr (n, of_n, full)) = absurd full.0
 
   demo_ends : (fault fault' : Option Fault) → exit ≡ exit_of_run (Ok fault) → exit' ≡ exit_of_run (Ok fault')
       → IsDemo (Ok fault) (Some old) (Some new) → IsDemo (Ok fault') (Some old) (Some new') → IsSameEnd exit exit' new new'
@@ -128,6 +129,15 @@ module _ (means : (bytes : List ℕ) → MeansOne bytes) (law : CouplingsLaw Any
       let same = one n m of_n of_m in
       view_end n m same until exit exit' old new new' line line' is is'
       (one_out old new new' (run_table n until rows) (run_table m until rows) done.1 done'.1 (one_table n m same until rows)) done.0 done'.0
+
+  stats_ends : (until : ℕ) (json : Bool) (line line' : Option (String Global)) → exit ≡ exit_of_view (Ok line) → exit' ≡ exit_of_view (Ok line')
+      → IsSummed bytes until json (Ok line) (Some old) (Some new) → IsSummed bytes until json (Ok line') (Some old) (Some new') → IsSameEnd exit exit' new new'
+  stats_ends until json line line' is is' (inl refused) done' = absurd refused.0
+  stats_ends until json line line' is is' (inr done) (inl refused) = absurd refused.0
+  stats_ends until json line line' is is' (inr (n, of_n, done)) (inr (m, of_m, done')) =
+      let same = one n m of_n of_m in
+      view_end n m same until exit exit' old new new' line line' is is'
+      (one_out old new new' _ _ done.1.written done'.1.written (one_summary bytes n m of_n same until json done.1.report done'.1.report done.1.is done'.1.is)) done.0 done'.0
 
 -- ---- plays
 
@@ -211,16 +221,19 @@ module _ (means : (bytes : List ℕ) → MeansOne bytes) (scripts : ScriptLaw) (
       let e = end_of exit_of_run run_fails (λ end. IsRun bytes until end (Some old) (Some new)) exit done whole in
       let f = end_of exit_of_run run_fails (λ end. IsRun bytes until end (Some old) (Some new')) exit' done' whole' in
       run_ends means law bytes exit exit' old new new' until e.0 f.0 e.1 f.1 e.2 f.2
-  one_text (Simulate net until (Stats json progress)) bytes script old new new' exit exit' done done' whole whole' = tt
+  one_text (Simulate net until (Stats json progress)) bytes script old new new' exit exit' done done' whole whole' =
+      let e = end_of exit_of_view view_fails (λ end. IsSummed bytes until json end (Some old) (Some new)) exit done whole in
+      let f = end_of exit_of_view view_fails (λ end. IsSummed bytes until json end (Some old) (Some new')) exit' done' whole' in
+      stats_ends means law bytes exit exit' old new new' until json e.0 f.0 e.1 f.1 e.2 f.2
   one_text (Simulate net until (Table rows progress)) bytes script old new new' exit exit' done done' whole whole' =
       let e = end_of exit_of_view view_fails (λ end. IsTabulated bytes until rows end (Some old) (Some new)) exit done whole in
       let f = end_of exit_of_view view_fails (λ end. IsTabulated bytes until rows end (Some old) (Some new')) exit' done' whole' in
       table_ends means law bytes exit exit' old new new' until rows e.0 f.0 e.1 f.1 e.2 f.2
   one_text (Simulate net until (Draw picture)) bytes script old new new' exit exit' done done' whole whole' = tt
   one_text (Simulate net until (Run cancel setting)) bytes script old new new' exit exit' done done' whole whole' =
-      let e = end_of exit_of_run run_fails (λ end. IsRunByWorkers bytes until end (Some old) (Some new)) exit done whole in
-      let f = end_of exit_of_run run_fails (λ end. IsRunByWorkers bytes until end (Some old) (Some new')) exit' done' whole' in
-      worked_ends means law bytes exit exit' old new new' until e.0 f.0 e.1 f.1 e.2 f.2
+      let e = end_of exit_of_run run_fails (λ end. IsRunByWorkers bytes cancel until end (Some old) (Some new)) exit done whole in
+      let f = end_of exit_of_run run_fails (λ end. IsRunByWorkers bytes cancel until end (Some old) (Some new')) exit' done' whole' in
+      worked_ends means law bytes exit exit' old new new' cancel until e.0 f.0 e.1 f.1 e.2 f.2
   one_text (Simulate net until (Play cancel driver)) bytes script old new new' exit exit' done done' whole whole' =
       let e = end_of exit_of_rest rest_fails (λ end. IsPlay driver until cancel end bytes (Some script) (Some old) (Some new)) exit done whole in
       let f = end_of exit_of_rest rest_fails (λ end. IsPlay driver until cancel end bytes (Some script) (Some old) (Some new')) exit' done' whole' in

@@ -45,11 +45,11 @@ WasFull old new = (text : List ℕ) × (new ≡ old ++ text) × HasFullLine text
 
 -- ---- what is said of two ends of one job
 
--- of pictures and of figures nothing; of plays where neither has the line of a process that would hold too many nodes (12), which may be said of
+-- of pictures nothing; of plays where neither has the line of a process that would hold too many nodes (12), which may be said of
 -- a step that would otherwise be made
 abbrev pub AreOneTask : Task → Exit → Exit → List ℕ → List ℕ → List ℕ → Type 0
 AreOneTask (Seq progress) exit exit' old new new' = IsSameEnd exit exit' new new'
-AreOneTask (Stats json progress) exit exit' old new new' = ⊤
+AreOneTask (Stats json progress) exit exit' old new new' = IsSameEnd exit exit' new new'
 AreOneTask (Table rows progress) exit exit' old new new' = IsSameEnd exit exit' new new'
 AreOneTask (Draw picture) exit exit' old new new' = ⊤
 AreOneTask (Run cancel setting) exit exit' old new new' = IsSameEnd exit exit' new new'

@@ -1,8 +1,8 @@
 //! The names and the figures of the built-in models.
 
-ghost use Rattle.std.specs.Prelude.{◌≡◌, ◌++◌, ◌∷◌, [], IfOk, OnOk, map, string_bytes};
-ghost use Rattle.tw_models.specs.Kinds.{kind_name};
-ghost use Rattle.tw_figure_names.specs.Labels.{figures_in, figure_shown};
+ghost use Rattle.std.specs.Prelude.{◌≡◌, ◌++◌, ◌∷◌, [], IfOk, OnOk, map};
+ghost use Rattle.tw_figures.specs.Labelled.{figure, label};
+ghost use Rattle.tw_figure_names.specs.Labels.{built_in, figures_in};
 
 use std::alloc::{AllocError, Global};
 use tw_figures::{Figure, Labels, Measure};
@@ -13,9 +13,7 @@ use tw_models::Model;
 ///
 /// Refused for want of memory (4).
 pub fn labels_of(alloc: Global, model: &Model) -> Result<Labels, AllocError>
-    ensures model { IfOk result (λ labels. string_bytes labels.model ≡ kind_name model.now) }
-    ensures figures { IfOk result
-        (λ labels. map figure_shown labels.figures.items ≡ figures_in model.now) }
+    ensures { IfOk result (λ labels. label labels ≡ built_in model.now) }
 {
     let figures = figures_of(alloc, model)?;
     let name = String::from_str(alloc, model.kind_name())?;
@@ -27,7 +25,7 @@ pub fn labels_of(alloc: Global, model: &Model) -> Result<Labels, AllocError>
 
 /// The figures of a model.
 fn figures_of(alloc: Global, model: &Model) -> Result<Vec<Figure>, AllocError>
-    ensures { IfOk result (λ figures. map figure_shown figures.items ≡ figures_in model.now) }
+    ensures { IfOk result (λ figures. map figure figures.items ≡ figures_in model.now) }
 {
     let mut figures = Vec::new(alloc);
     match model {
@@ -57,8 +55,8 @@ fn add(
     name: &str,
     measure: Measure,
 ) -> Result<(), AllocError>
-    ensures { OnOk result (map figure_shown figures.new.items
-        ≡ map figure_shown figures.old.items ++ (name.now, measure) ∷ []) }
+    ensures { OnOk result (map figure figures.new.items
+        ≡ map figure figures.old.items ++ (name.now, measure) ∷ []) }
 {
     let name = String::from_str(alloc, name)?;
     figures.push(Figure { name, measure })?;

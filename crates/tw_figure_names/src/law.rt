@@ -1,8 +1,17 @@
 //! What the figures are of a state.
 
+ghost use Rattle.tw_figure_names.specs.EntriesLaw.{EntriesLaw};
 ghost use Rattle.tw_figure_names.specs.Law.{FiguresLaw};
+ghost use Rattle.tw_figure_names.specs.MachineLaw.{MachineLaw};
 
 /// What the figures of a model tell of a state: they are parts of it, or how many values it holds. It does nothing.
 pub fn figures_law()
     ensures { FiguresLaw }
+{}
+
+/// What the figures of a machine tell of a state: the values of the entries of its `words`, each by that entry's text, and how many
+/// values all queues among them have together. It does nothing.
+pub fn machine_figures_law()
+    ensures entries { EntriesLaw }
+    ensures machine { MachineLaw }
 {}

@@ -1,22 +1,26 @@
 //! What the models of a file's network are called, and their figures.
 //!
-//! - `network`: [`labels_in`], those of all components of a network, with the bytes of its file.
+//! - `network`: [`labels_in`], those of all components of a network, with the JSON value of its file.
 //! - `labels`: [`labels_of`], the name and the figures of one of the five models.
-//! - `law`: [`figures_law`], what the figures are of a state: its count, its sum, how many values it holds.
+//! - `law`: [`figures_law`], what the figures of the five models are of a state: its count, its sum, how many values it
+//!   holds; [`machine_figures_law`], what those of a machine are: the values of the entries by whose texts they are called.
 //! - `atoms`: the components of a file, in the order of their numbers.
-//! - `machine`: the name and the figures of a machine, which stand in its file alone. `shown`: what an entry of its `words`
-//!   shows.
+//! - `machines`: the machines of a file, and the figures of one of them. `entries`: what the entries of its `words` show,
+//!   `texts`: what they are called, `figures`: the figures that they make.
 //!
-//! Of the names and figures of machines nothing is proved: they are shown by tests.
+//! So no figure of a file's machine stands under another's name. That an array register has all its cells in a state is a
+//! premise of that law.
 #![tactic(auto)]
 
 mod atoms;
+mod entries;
+mod figures;
 mod labels;
 mod law;
-mod machine;
+mod machines;
 mod network;
-mod shown;
+mod texts;
 
 pub use labels::labels_of;
-pub use law::figures_law;
+pub use law::{figures_law, machine_figures_law};
 pub use network::labels_in;

@@ -234,7 +234,7 @@ fn first_like(couplings: &[Value], item: &Value) -> Option<usize> {
 pub(crate) fn bad_ticks(alloc: Global, value: &Value, outline: &Outline<'_>) -> Result<(), Stop> {
     if outline.has_machines {
         let machines = machines_of(alloc, value)?;
-        late_starts(alloc, outline, machines.as_slice())?;
+        late_starts(alloc, outline, &machines)?;
     }
     for (i, input) in items_in(value, "inputs").iter().enumerate() {
         let place = format!(in alloc; "inputs[{i}]")?;

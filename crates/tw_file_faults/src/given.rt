@@ -6,23 +6,10 @@ use serde_json::Value;
 use std::alloc::Global;
 use tw_machine::limits::{MAX_FILE_NUMBERS, MAX_NUMBERS};
 use tw_machine_declaration::constant;
-use tw_machine_faults::{Machine, Stop, WHOLE};
+use tw_machine_faults::{Machine, Machines, Stop, WHOLE};
 use tw_machine_file::{MachineFault, given_of};
 use tw_machine_text_faults::{described, quoted};
 use tw_vtime::MAX_TICK;
-
-/// The machine of this name.
-pub(crate) fn machine_named<'a, 'b>(
-    machines: &'a [Machine<'b>],
-    name: &str,
-) -> Option<&'a Machine<'b>> {
-    for machine in machines {
-        if machine.read.name.as_str() == name {
-            return Some(machine);
-        }
-    }
-    None
-}
 
 /// Looks at a component of a machine.
 pub(crate) fn check_given(
@@ -49,7 +36,7 @@ pub(crate) fn check_given(
             check_value(alloc, place, component, name)?;
         }
     }
-    match given_of(alloc, &machine.read, component) {
+    match given_of(alloc, machine.read, component) {
         Ok(given) => machine.check_limits(alloc, place, &given),
         Err(MachineFault::OutOfMemory) => Err(Stop::OutOfMemory),
         Err(fault) => Err(Stop::Fault(format!(in alloc; "{place}: {fault}")?)),
@@ -85,19 +72,16 @@ fn check_numbers(alloc: Global, place: &str, component: &Value, name: &str) -> R
 pub(crate) fn check_tables(
     alloc: Global,
     outline: &Outline<'_>,
-    machines: &[Machine<'_>],
+    machines: &Machines<'_>,
 ) -> Result<(), Stop> {
-    let mut total = 0usize;
-    for machine in machines {
-        total = total.saturating_add(machine.own_numbers(alloc));
-    }
+    let mut total = machines.own_numbers(alloc);
     for atom in &outline.atoms {
         let model = atom
             .value
             .get("model")
             .and_then(Value::as_str)
             .unwrap_or("");
-        if let Some(machine) = machine_named(machines, model) {
+        if let Some(machine) = machines.named(model) {
             for list in &machine.read.lists {
                 let numbers = atom.value.get(list.as_str()).and_then(Value::as_array);
                 total = total.saturating_add(match numbers {
@@ -120,7 +104,7 @@ pub(crate) fn check_tables(
 pub(crate) fn late_starts(
     alloc: Global,
     outline: &Outline<'_>,
-    machines: &[Machine<'_>],
+    machines: &Machines<'_>,
 ) -> Result<(), Stop> {
     for atom in &outline.atoms {
         let model = atom
@@ -128,8 +112,8 @@ pub(crate) fn late_starts(
             .get("model")
             .and_then(Value::as_str)
             .unwrap_or("");
-        if let Some(machine) = machine_named(machines, model) {
-            let wait = first_wait(alloc, machine, atom.value)?;
+        if let Some(machine) = machines.named(model) {
+            let wait = first_wait(alloc, &machine, atom.value)?;
             if wait > MAX_TICK {
                 let place = atom.place.as_str();
                 let line = format!(in alloc; "{place}: first is {wait}, at most {MAX_TICK}")?;
@@ -142,7 +126,7 @@ pub(crate) fn late_starts(
 
 /// The first wait of a component; 0 where it has none.
 fn first_wait(alloc: Global, machine: &Machine<'_>, component: &Value) -> Result<u64, Stop> {
-    let given = match given_of(alloc, &machine.read, component) {
+    let given = match given_of(alloc, machine.read, component) {
         Ok(given) => given,
         Err(MachineFault::OutOfMemory) => return Err(Stop::OutOfMemory),
         Err(_) => return Ok(0),

@@ -17,7 +17,8 @@ use tw_file_network::FileRefused;
 use tw_machine_faults::Stop;
 use tw_network::NetworkRefused;
 
-/// The place and the reason of a fault that the reader has found in a file's bytes, in words, in which no byte ends a line:
+/// The place and the reason of a fault that the reader has found in the JSON value of a file, in words, in which no byte
+/// ends a line:
 ///
 /// - `components[3] "q": service is 1099511627775, at most 1099511627774`: a component, by its place from 0 in the
 ///   file's list, and its name. One of a coupled model has the places on its way, and its flat name:
@@ -25,17 +26,33 @@ use tw_network::NetworkRefused;
 /// - `couplings[500]: no component is named "h1001"`, and in the same form a place in `inputs`; a coupling of a
 ///   coupled model has that model's place before it.
 /// - `the file: micro_limit is 0, at least 1`.
-/// - `line 12, column 8: not JSON: expected a comma`: lines and columns count from 1, columns in bytes. Where the text
-///   ends too early it is the last byte's place.
 ///
-/// The words are those of the first place of this fault; which they are is shown by tests. For a fault that the file does
+/// The words are those of the first place of this fault; which they are is shown by tests. For a fault that the value does
 /// not have, the words are the fault's own.
 ///
 /// Refused where a growth of memory is.
-pub fn explain(alloc: Global, bytes: &[u8], fault: FileRefused) -> Result<String, AllocError>
+pub fn explain(alloc: Global, value: &Value, fault: FileRefused) -> Result<String, AllocError>
     ensures { IfOk result (λ words. HasNoLineEnd (string_bytes words)) }
 {
-    let words = words_for(alloc, bytes, fault)?;
+    let words = words_for(alloc, value, fault)?;
+    String::from_str(alloc, first_line(words.as_str()))
+}
+
+/// The place and the reason why a file's bytes are no JSON, in words, in which no byte ends a line:
+/// `line 12, column 8: not JSON: expected a comma`.
+///
+/// Lines and columns count from 1, columns in bytes. Where the text ends too early it is the last byte's place. Which
+/// words they are is shown by tests. For bytes that are JSON, the words are those of [`FileRefused::NotJson`].
+///
+/// Refused where a growth of memory is.
+pub fn explain_text(alloc: Global, bytes: &[u8]) -> Result<String, AllocError>
+    ensures { IfOk result (λ words. HasNoLineEnd (string_bytes words)) }
+{
+    let words = match Value::from_slice(alloc, bytes) {
+        Ok(_) => format!(in alloc; "{}", FileRefused::NotJson)?,
+        Err(error) if error.is_memory() => return Err(AllocError),
+        Err(error) => not_json(alloc, bytes, &error)?,
+    };
     String::from_str(alloc, first_line(words.as_str()))
 }
 
@@ -50,8 +67,8 @@ fn first_line(text: &str) -> &str
 }
 
 /// The words for a fault: those of its first place, or the fault's own.
-fn words_for(alloc: Global, bytes: &[u8], fault: FileRefused) -> Result<String, AllocError> {
-    match found(alloc, bytes, fault) {
+fn words_for(alloc: Global, value: &Value, fault: FileRefused) -> Result<String, AllocError> {
+    match found(alloc, value, fault) {
         Err(Stop::Fault(line)) => Ok(line),
         Err(Stop::OutOfMemory) => Err(AllocError),
         Ok(()) => format!(in alloc; "{fault}"),
@@ -59,18 +76,13 @@ fn words_for(alloc: Global, bytes: &[u8], fault: FileRefused) -> Result<String, 
 }
 
 /// Looks for a fault, and stops there.
-fn found(alloc: Global, bytes: &[u8], fault: FileRefused) -> Result<(), Stop> {
-    let value = match Value::from_slice(alloc, bytes) {
-        Ok(value) => value,
-        Err(error) if error.is_memory() => return Err(Stop::OutOfMemory),
-        Err(error) => return Err(Stop::Fault(not_json(alloc, bytes, &error)?)),
-    };
-    let outline = Outline::new(alloc, &value)?;
+fn found(alloc: Global, value: &Value, fault: FileRefused) -> Result<(), Stop> {
+    let outline = Outline::new(alloc, value)?;
     match fault {
         FileRefused::OutOfMemory | FileRefused::NotJson => Ok(()),
-        FileRefused::BadShape => bad_shape(alloc, &value, &outline),
+        FileRefused::BadShape => bad_shape(alloc, value, &outline),
         FileRefused::Parameter(_) => bad_parameters(alloc, &outline),
-        FileRefused::Network(fault) => unconnected(alloc, &value, &outline, fault),
+        FileRefused::Network(fault) => unconnected(alloc, value, &outline, fault),
     }
 }
 

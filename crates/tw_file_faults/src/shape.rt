@@ -1,11 +1,11 @@
 //! Members that are missing, unknown or of another type.
 
-use crate::given::{check_given, check_tables, machine_named};
+use crate::given::{check_given, check_tables};
 use crate::outline::{Outline, place_of};
 use serde_json::Value;
 use std::alloc::Global;
 use tw_file_members::items_in;
-use tw_machine_faults::{Machine, Stop, machines_of};
+use tw_machine_faults::{Machines, Stop, machines_of};
 use tw_machine_text_faults::{Nearest, described, listed, quoted};
 use tw_models::{KINDS, Kind, Numbers};
 
@@ -29,10 +29,10 @@ pub(crate) fn bad_shape(alloc: Global, value: &Value, outline: &Outline<'_>) -> 
     let machines = if outline.has_machines {
         machines_of(alloc, value)?
     } else {
-        Vec::new(alloc)
+        Machines::none(alloc)
     };
-    check_levels(alloc, outline, machines.as_slice())?;
-    check_tables(alloc, outline, machines.as_slice())?;
+    check_levels(alloc, outline, &machines)?;
+    check_tables(alloc, outline, &machines)?;
     for (i, input) in items_in(value, "inputs").iter().enumerate() {
         let place = format!(in alloc; "inputs[{i}]")?;
         check_input(alloc, place.as_str(), input)?;
@@ -41,11 +41,7 @@ pub(crate) fn bad_shape(alloc: Global, value: &Value, outline: &Outline<'_>) -> 
 }
 
 /// Looks at the components and couplings of the file and of the models in it.
-fn check_levels(
-    alloc: Global,
-    outline: &Outline<'_>,
-    machines: &[Machine<'_>],
-) -> Result<(), Stop> {
+fn check_levels(alloc: Global, outline: &Outline<'_>, machines: &Machines<'_>) -> Result<(), Stop> {
     for level in &outline.levels {
         let place = level.place.as_str();
         check_list(alloc, place, level.value, "components")?;
@@ -104,7 +100,7 @@ fn check_component(
     place: &str,
     component: &Value,
     has_trees: bool,
-    machines: &[Machine<'_>],
+    machines: &Machines<'_>,
 ) -> Result<(), Stop> {
     if has_trees && component.is_object() && component.get("model").is_none() {
         if component.get("components").is_none() && component.get("couplings").is_none() {
@@ -129,7 +125,7 @@ fn check_atom(
     alloc: Global,
     place: &str,
     atom: &Value,
-    machines: &[Machine<'_>],
+    machines: &Machines<'_>,
 ) -> Result<(), Stop> {
     check_present(alloc, place, atom, "a component", "name")?;
     check_text(alloc, place, atom, "name")?;
@@ -141,8 +137,8 @@ fn check_atom(
             return check_built_in(alloc, place, atom, kind);
         }
     }
-    match machine_named(machines, model) {
-        Some(machine) => check_given(alloc, place, atom, machine),
+    match machines.named(model) {
+        Some(machine) => check_given(alloc, place, atom, &machine),
         None => unknown_model(alloc, place, model, machines),
     }
 }
@@ -169,7 +165,7 @@ fn unknown_model(
     alloc: Global,
     place: &str,
     model: &str,
-    machines: &[Machine<'_>],
+    machines: &Machines<'_>,
 ) -> Result<(), Stop> {
     let shown = quoted(alloc, model)?;
     let mut kinds = String::new(alloc);
@@ -177,13 +173,13 @@ fn unknown_model(
         kinds.push_str(if i > 0 { ", " } else { "" })?;
         kinds.push_str(kind.name)?;
     }
-    if machines.is_empty() {
+    if machines.read().is_empty() {
         let line = format!(in alloc; "{place}: no model {shown}; there are {kinds}")?;
         return Err(Stop::Fault(line));
     }
     let mut nearest = Nearest::new(model);
-    for machine in machines {
-        nearest.look(alloc, machine.read.name.as_str())?;
+    for machine in machines.read() {
+        nearest.look(alloc, machine.name.as_str())?;
     }
     for kind in &KINDS {
         nearest.look(alloc, kind.name)?;

@@ -9,7 +9,7 @@ use Rattle.serde_json.specs.Data.{Data}
 use Rattle.tw_machine_file.specs.Seen.{Machine}
 use Rattle.tw_file_members.specs.Members.{has_members, text_at}
 use Rattle.tw_file_network.specs.Components.{after}
-use Rattle.tw_file_network.specs.Meaning.{json_of, meaning_of, network_of, shape_of}
+use Rattle.tw_file_network.specs.Meaning.{json_of, meaning_of, meaning_of_value, network_of}
 use Rattle.tw_file_network.specs.Shape.{file_of, is_format}
 use Rattle.tw_file_network.specs.TreeMeaning.{tree_in}
 use Rattle.tw_file_network.specs.TreeShape.{TreeFile, is_machines_format, is_tree_format, machines_declared, machines_file_of, machines_file_with, tree_file_of, tree_of}
@@ -57,6 +57,6 @@ no_file d file is = by (is_tree_format (text_at (codes "format") d)) is
 pub one_format : (bytes : List ℕ) (file : TreeFile) → tree_in bytes ≡ Some file → meaning_of bytes ≡ Err BadShape
 one_format bytes file is = by (json_of bytes) is
   where
-    by : (r : Result Data FileRefused) → option_and_then tree_of (result_ok r) ≡ Some file → after (λ d. after network_of (shape_of d)) r ≡ Err BadShape
+    by : (r : Result Data FileRefused) → option_and_then tree_of (result_ok r) ≡ Some file → after meaning_of_value r ≡ Err BadShape
     by (Ok d) at = ap (λ o. after network_of (ok_or o BadShape)) (no_file d file at)
     by (Err e) at = absurd cc

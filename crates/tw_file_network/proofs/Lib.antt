@@ -1,5 +1,6 @@
 pub mod AnyFormat
 pub mod AtomNumbers
+pub mod BytesOfValue
 pub mod Counting
 pub mod FlatMembers
 pub mod Formats

@@ -19,12 +19,12 @@ use Rattle.tw_network.specs.FlatTrees.{IsSameNetwork}
 use Rattle.tw_network.specs.TreeFaults.{IsTreeFault, in_tree, in_couplings, in_inputs, tree_count_fault, tree_fault}
 use Rattle.tw_network.specs.declared.refused.NetworkRefused.{NetworkRefused}
 use Rattle.tw_file_network.specs.Components.{after, components_made}
-use Rattle.tw_file_network.specs.Meaning.{json_of, judged, meaning_of, network_numbered, network_of, shape_of}
+use Rattle.tw_file_network.specs.Meaning.{json_of, judged, meaning_of_value, network_numbered, network_of, shape_of}
 use Rattle.tw_file_network.specs.Numbers.{names_of, number_of, numbered_coupling, numbered_input}
 use Rattle.tw_file_network.specs.OneMeaning.{MeansOne}
 use Rattle.tw_file_network.specs.Shape.{File}
-use Rattle.tw_file_network.specs.TreeMeaning.{IsFaultBy, IsMeaningBy, IsNetworkOfTree, IsRefusedTree, IsTreeFileFault, IsTreeMeaning, in_network, in_parameter, inputs_named, tree_in}
-use Rattle.tw_file_network.specs.TreeShape.{TreeFile, tree_made}
+use Rattle.tw_file_network.specs.TreeMeaning.{IsFaultBy, IsFaultOfJson, IsMeaningBy, IsMeaningOfJson, IsNetworkOfTree, IsRefusedTree, IsTreeFileFault, IsTreeMeaning, in_network, in_parameter, inputs_named}
+use Rattle.tw_file_network.specs.TreeShape.{TreeFile, tree_made, tree_of}
 use Rattle.tw_file_network.specs.declared.refused.FileRefused.{FileRefused}
 use Rattle.tw_file_network.specs.declared.refused.FileRefused.TheVariants.{Network}
 use Rattle.tw_theory.specs.Network.{Coupling}
@@ -151,34 +151,50 @@ file_whole file n e =
     after_ok (network_numbered number file) (components_made file.components) (IsWhole any_meaning) n e
     (λ components at. judged_whole components (map (numbered_coupling number) file.couplings) (map (numbered_input number) file.inputs) file.micro_limit n _ refl at)
 
-flat_whole : (bytes : List ℕ) (n : Contents AnyModel) → meaning_of bytes ≡ Ok n → IsWhole any_meaning n
-flat_whole bytes n e =
-    after_ok (λ (d : Data). after network_of (shape_of d)) (json_of bytes) (IsWhole any_meaning) n e
-    (λ d at. after_ok network_of (shape_of d) (IsWhole any_meaning) n at (λ file there. file_whole file n there))
+flat_whole : (d : Data) (n : Contents AnyModel) → meaning_of_value d ≡ Ok n → IsWhole any_meaning n
+flat_whole d n e = after_ok network_of (shape_of d) (IsWhole any_meaning) n e (λ file there. file_whole file n there)
+
+-- ---- of the JSON value of a file
+
+module _ (d : Data) where
+  network_by : (tree : Option TreeFile) (n m : Contents AnyModel) → IsMeaningBy tree d n → IsMeaningBy tree d m → IsSameNetwork n m
+  network_by None n m x y = same_network n m (ok_is (meaning_of_value d) n m x y)
+  network_by (Some file) n m x y = tree_network file n m x y
+
+  whole_by : (tree : Option TreeFile) (n : Contents AnyModel) → IsMeaningBy tree d n → IsWhole any_meaning n
+  whole_by None n x = flat_whole d n x
+  whole_by (Some file) n x = tree_is_whole file n x
+
+  fault_by : (tree : Option TreeFile) (e f : FileRefused) → IsFaultBy tree d e → IsFaultBy tree d f → e ≡ f
+  fault_by None e f x y = err_is (meaning_of_value d) e f x y
+  fault_by (Some file) e f x y = tree_refusal file e f x y
+
+  apart_by : (tree : Option TreeFile) (n : Contents AnyModel) (e : FileRefused) → IsMeaningBy tree d n → IsFaultBy tree d e → ⊥
+  apart_by None n e x y = not_both (meaning_of_value d) n e x y
+  apart_by (Some file) n e x y = tree_apart file n e x y
 
 -- ---- of the bytes of a file
 
-module _ (bytes : List ℕ) where
-  network_by : (tree : Option TreeFile) (n m : Contents AnyModel) → IsMeaningBy tree bytes n → IsMeaningBy tree bytes m → IsSameNetwork n m
-  network_by None n m x y = same_network n m (ok_is (meaning_of bytes) n m x y)
-  network_by (Some file) n m x y = tree_network file n m x y
+json_network : (r : Result Data FileRefused) (n m : Contents AnyModel) → IsMeaningOfJson r n → IsMeaningOfJson r m → IsSameNetwork n m
+json_network (Ok d) n m is was = network_by d (tree_of d) n m is was
+json_network (Err e) n m is was = absurd is
 
-  whole_by : (tree : Option TreeFile) (n : Contents AnyModel) → IsMeaningBy tree bytes n → IsWhole any_meaning n
-  whole_by None n x = flat_whole bytes n x
-  whole_by (Some file) n x = tree_is_whole file n x
+json_whole : (r : Result Data FileRefused) (n : Contents AnyModel) → IsMeaningOfJson r n → IsWhole any_meaning n
+json_whole (Ok d) n is = whole_by d (tree_of d) n is
+json_whole (Err e) n is = absurd is
 
-  fault_by : (tree : Option TreeFile) (e f : FileRefused) → IsFaultBy tree bytes e → IsFaultBy tree bytes f → e ≡ f
-  fault_by None e f x y = err_is (meaning_of bytes) e f x y
-  fault_by (Some file) e f x y = tree_refusal file e f x y
+json_fault : (r : Result Data FileRefused) (e f : FileRefused) → IsFaultOfJson r e → IsFaultOfJson r f → e ≡ f
+json_fault (Ok d) e f is was = fault_by d (tree_of d) e f is was
+json_fault (Err g) e f is was = sym is ∙ was
 
-  apart_by : (tree : Option TreeFile) (n : Contents AnyModel) (e : FileRefused) → IsMeaningBy tree bytes n → IsFaultBy tree bytes e → ⊥
-  apart_by None n e x y = not_both (meaning_of bytes) n e x y
-  apart_by (Some file) n e x y = tree_apart file n e x y
+json_apart : (r : Result Data FileRefused) (n : Contents AnyModel) (e : FileRefused) → IsMeaningOfJson r n → IsFaultOfJson r e → ⊥
+json_apart (Ok d) n e is was = apart_by d (tree_of d) n e is was
+json_apart (Err f) n e is was = is
 
 pub means_one : (bytes : List ℕ) → MeansOne bytes
 means_one bytes = record {
-  network = network_by bytes (tree_in bytes);
-  whole = whole_by bytes (tree_in bytes);
-  fault = fault_by bytes (tree_in bytes);
-  apart = apart_by bytes (tree_in bytes);
+  network = json_network (json_of bytes);
+  whole = json_whole (json_of bytes);
+  fault = json_fault (json_of bytes);
+  apart = json_apart (json_of bytes);
 }

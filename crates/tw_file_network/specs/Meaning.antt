@@ -1,5 +1,7 @@
 -- What the bytes of a network file mean: a network's contents, or the first fault.
---     meaning_of bytes      in three steps: the JSON value, what it says, and the network
+--     json_of bytes      the JSON value that they write
+--     meaning_of_value d      what a JSON value says, and then the network of it
+--     meaning_of bytes      what the value that they write means
 use Rattle.std.specs.Prelude.{ℕ, List, map, Option, None, Some, Result, Ok, Err, if◌then◌else◌}
 use Rattle.std.specs.Option.{ok_or}
 use Rattle.std.specs.Str.{is_utf8}
@@ -43,5 +45,8 @@ network_numbered number file components =
 abbrev pub network_of : File → Result (Contents AnyModel) FileRefused
 network_of file = after (network_numbered (number_of (names_of file.components)) file) (components_made file.components)
 
+abbrev pub meaning_of_value : Data → Result (Contents AnyModel) FileRefused
+meaning_of_value d = after network_of (shape_of d)
+
 abbrev pub meaning_of : List ℕ → Result (Contents AnyModel) FileRefused
-meaning_of bytes = after (λ d. after network_of (shape_of d)) (json_of bytes)
+meaning_of bytes = after meaning_of_value (json_of bytes)

@@ -1,9 +1,12 @@
 -- What the bytes of a network file mean, of any format: a network, or the first fault.
 --     tree_in bytes      the tree that they say as a file of format tw-2 or tw-3, if they say one
---     IsMeaning bytes n      they mean this network
+--     IsMeaningOfValue d n      the JSON value of a file means this network
+--     IsFaultOfValue d e      this is its first fault
+--     IsMeaning bytes n      the bytes mean this network
 --     IsFault bytes e      this is their first fault
-use Rattle.std.specs.Prelude.{ℕ, ◌≡◌, List, [], length, map, Option, None, Some, Ok, Err, option_and_then}
+use Rattle.std.specs.Prelude.{ℕ, ◌≡◌, List, [], length, map, Option, None, Some, Result, Ok, Err, option_and_then}
 use Rattle.std.specs.Result.{result_ok}
+use Rattle.serde_json.specs.Data.{Data}
 use Rattle.tw_any_model.specs.declared.any_model.AnyModel.{AnyModel}
 use Rattle.tw_any_model.specs.AnyModel.{any_meaning}
 use Rattle.tw_nested.specs.Tree.{Parts, Link, flat_names, models_in}
@@ -12,7 +15,7 @@ use Rattle.tw_network.specs.Contents.{Contents, Input}
 use Rattle.tw_network.specs.Faults.{inputs_fault}
 use Rattle.tw_network.specs.TreeFaults.{IsTreeFault, tree_fault}
 use Rattle.tw_network.specs.declared.refused.NetworkRefused.{NetworkRefused}
-use Rattle.tw_file_network.specs.Meaning.{json_of, meaning_of}
+use Rattle.tw_file_network.specs.Meaning.{json_of, meaning_of_value}
 use Rattle.tw_file_network.specs.Numbers.{number_of, numbered_input}
 use Rattle.tw_file_network.specs.Shape.{FileInput}
 use Rattle.tw_file_network.specs.TreeShape.{TreeFile, tree_of, tree_made}
@@ -53,22 +56,40 @@ pub data IsTreeFileFault (file : TreeFile) : FileRefused → Type 0 where
   in_network : (parts : Parts AnyModel) (e : FileRefused) → tree_made file.parts ≡ Ok parts
       → IsRefusedTree parts file.links (inputs_named parts file.inputs) file.micro_limit e → IsTreeFileFault file e
 
+-- ---- values
+
+-- the network of the tree that was read, and else of the file of format tw-1
+abbrev pub IsMeaningBy : Option TreeFile → Data → Contents AnyModel → Type 0
+IsMeaningBy None d n = meaning_of_value d ≡ Ok n
+IsMeaningBy (Some file) d n = IsTreeMeaning file n
+
+abbrev pub IsFaultBy : Option TreeFile → Data → FileRefused → Type 0
+IsFaultBy None d e = meaning_of_value d ≡ Err e
+IsFaultBy (Some file) d e = IsTreeFileFault file e
+
+abbrev pub IsMeaningOfValue : Data → Contents AnyModel → Type 0
+IsMeaningOfValue d n = IsMeaningBy (tree_of d) d n
+
+abbrev pub IsFaultOfValue : Data → FileRefused → Type 0
+IsFaultOfValue d e = IsFaultBy (tree_of d) d e
+
 -- ---- files
 
 abbrev pub tree_in : List ℕ → Option TreeFile
 tree_in bytes = option_and_then tree_of (result_ok (json_of bytes))
 
--- the network of the tree that was read, and else of the file of format tw-1
-abbrev pub IsMeaningBy : Option TreeFile → List ℕ → Contents AnyModel → Type 0
-IsMeaningBy None bytes n = meaning_of bytes ≡ Ok n
-IsMeaningBy (Some file) bytes n = IsTreeMeaning file n
+-- what is read in bytes, if it is a value, means the network
+abbrev pub IsMeaningOfJson : Result Data FileRefused → Contents AnyModel → Type 0
+IsMeaningOfJson (Ok d) n = IsMeaningOfValue d n
+IsMeaningOfJson (Err e) n = ⊥
 
-abbrev pub IsFaultBy : Option TreeFile → List ℕ → FileRefused → Type 0
-IsFaultBy None bytes e = meaning_of bytes ≡ Err e
-IsFaultBy (Some file) bytes e = IsTreeFileFault file e
+-- the fault is that no value is read, or it is the value's
+abbrev pub IsFaultOfJson : Result Data FileRefused → FileRefused → Type 0
+IsFaultOfJson (Ok d) e = IsFaultOfValue d e
+IsFaultOfJson (Err f) e = f ≡ e
 
 abbrev pub IsMeaning : List ℕ → Contents AnyModel → Type 0
-IsMeaning bytes n = IsMeaningBy (tree_in bytes) bytes n
+IsMeaning bytes n = IsMeaningOfJson (json_of bytes) n
 
 abbrev pub IsFault : List ℕ → FileRefused → Type 0
-IsFault bytes e = IsFaultBy (tree_in bytes) bytes e
+IsFault bytes e = IsFaultOfJson (json_of bytes) e

@@ -36,10 +36,13 @@ pub fn network_of_file(alloc: Global, bytes: &[u8]) -> Result<Network<AnyModel>,
     network_of(alloc, &draft)
 }
 
-/// The JSON value that the bytes write.
-pub(crate) fn json_of(alloc: Global, bytes: &[u8]) -> Result<Value, FileRefused>
-    ensures ok { IfOk result (λ v. json_of bytes.now ≡ Ok (view v)) }
-    ensures err { FailsBy result (json_of bytes.now) }
+/// The JSON value that a file's bytes write.
+///
+/// Refused where they are not UTF-8, not JSON or nested deeper than 127 levels ([`FileRefused::NotJson`], 20), or for want
+/// of memory ([`FileRefused::OutOfMemory`], 4).
+pub fn json_of(alloc: Global, bytes: &[u8]) -> Result<Value, FileRefused>
+    ensures value { IfOk result (λ v. json_of bytes.now ≡ Ok (view v)) }
+    ensures first_fault { FailsBy result (json_of bytes.now) }
 {
     match Value::from_slice(alloc, bytes) {
         Ok(value) => Ok(value),

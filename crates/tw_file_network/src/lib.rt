@@ -1,10 +1,12 @@
 //! Network files: the bytes of a JSON text (format `tw-1`, `tw-2` or `tw-3`) to a network of the five models and of
 //! machines.
 //!
-//! - `trees`: [`network_of_any_file`], the network that a file of any format means, or the first fault in a fixed order.
-//!   [`meaning_law`]: there is at most one such network, but for the order of a tree's couplings, and at most one such
-//!   fault. [`formats_law`]: bytes that say a tree say no file of format `tw-1`.
-//! - `file`: [`network_of_file`], the same of a file of format `tw-1` alone; one of another format has another shape.
+//! - `trees`: [`network_of_any_file`], the network that a file of any format means, or the first fault in a fixed order;
+//!   [`network_of_value`], the same of the JSON value of a file. [`meaning_law`]: there is at most one such network, but
+//!   for the order of a tree's couplings, and at most one such fault. [`formats_law`]: bytes that say a tree say no file of
+//!   format `tw-1`.
+//! - `file`: [`json_of`], the JSON value of a file. [`network_of_file`], the network of a file of format `tw-1` alone; one
+//!   of another format has another shape.
 //! - `shape`: what the JSON value of a `tw-1` file says: exactly its members, each of its type.
 //! - `tree_shape`: the same of a tree (`tw-2`, `tw-3`).
 //! - `draft`: what a file says, before it is known to be a network.
@@ -35,6 +37,6 @@ mod tree_models;
 mod tree_shape;
 mod trees;
 
-pub use file::network_of_file;
+pub use file::{json_of, network_of_file};
 pub use refused::FileRefused;
-pub use trees::{formats_law, meaning_law, network_of_any_file};
+pub use trees::{formats_law, meaning_law, network_of_any_file, network_of_value};

@@ -1,6 +1,7 @@
 //! Network files of any format to the networks that they mean.
 
 ghost use Rattle.std.specs.Prelude.{◌≡◌, ◌<◌, ℕ, List, Some, Err, IfOk, length, map};
+ghost use Rattle.serde_json.specs.View.{view};
 ghost use Rattle.tw_file_network.specs.Answers.{FailsAs};
 ghost use Rattle.tw_nested.specs.Tree.{models_in, parts_of};
 ghost use Rattle.tw_file_network.specs.Draft.{inputs_view};
@@ -12,7 +13,9 @@ ghost use Rattle.tw_file_network.specs.TreeShape.{TreeFile};
 ghost use Rattle.tw_file_network.specs.declared.refused.FileRefused.TheVariants.{BadShape};
 ghost use Rattle.tw_file_network.specs.TreeMeaning.{
   IsFault,
+  IsFaultOfValue,
   IsMeaning,
+  IsMeaningOfValue,
   IsNetworkOfTree,
   IsRefusedTree,
   IsTreeFileFault,
@@ -29,6 +32,7 @@ use crate::tree_models::{atoms, tree_fault, tree_made};
 use crate::tree_shape::{
     has_machines, is_tree, machines_declared, machines_draft_with, tree_draft_of,
 };
+use serde_json::Value;
 use std::alloc::{AllocError, Global};
 use tw_any_model::AnyModel;
 use tw_network::{Input, MAX_COMPONENTS, MAX_INPUTS, Nested, Network, NetworkRefused};
@@ -54,16 +58,27 @@ pub fn network_of_any_file(alloc: Global, bytes: &[u8]) -> Result<Network<AnyMod
     ensures first_fault { FailsAs result (IsFault bytes.now) }
 {
     let value = json_of(alloc, bytes)?;
-    if is_tree(&value) {
-        let tree = tree_draft_of(alloc, &value)?;
+    network_of_value(alloc, &value)
+}
+
+/// The network that the JSON value of a file means, for a caller that reads more of the value than the network.
+///
+/// With the value that [`json_of`](crate::json_of) reads in a file's bytes it answers what [`network_of_any_file`] answers
+/// for them. Its faults are those there but for 20.
+pub fn network_of_value(alloc: Global, value: &Value) -> Result<Network<AnyModel>, FileRefused>
+    ensures network { IfOk result (IsMeaningOfValue (view value.now)) }
+    ensures first_fault { FailsAs result (IsFaultOfValue (view value.now)) }
+{
+    if is_tree(value) {
+        let tree = tree_draft_of(alloc, value)?;
         return network_of_tree(alloc, &tree);
     }
-    if has_machines(&value) {
-        let machines = machines_declared(alloc, &value)?;
-        let tree = machines_draft_with(alloc, &value, machines.as_slice())?;
+    if has_machines(value) {
+        let machines = machines_declared(alloc, value)?;
+        let tree = machines_draft_with(alloc, value, machines.as_slice())?;
         return network_of_tree(alloc, &tree);
     }
-    let draft = draft_of(alloc, &value)?;
+    let draft = draft_of(alloc, value)?;
     network_of(alloc, &draft)
 }
 

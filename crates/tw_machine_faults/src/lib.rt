@@ -5,7 +5,7 @@
 //! nothing is proved but that they are made safely and that the search ends: they are shown by tests, one for each kind of
 //! fault.
 //!
-//! - `machines`: [`machines_of`] and [`Machine`], the machines of a file, the parameters that components give, and the
+//! - `machines`: [`machines_of`], [`Machines`] and [`Machine`], the machines of a file, the parameters that components give, and the
 //!   limits with these.
 //! - `names`: the names that a machine declares.
 //! - `entries`: faults of parameters, registers, queues and tables; [`WHOLE`], the words for a whole number.
@@ -23,6 +23,6 @@ mod stop;
 mod values;
 
 pub use entries::WHOLE;
-pub use machines::{Machine, machines_of};
+pub use machines::{Machine, Machines, machines_of};
 pub use stop::Stop;
 pub use values::name_of;

@@ -31,7 +31,7 @@ pub(crate) fn limit_fault(
     machine: &Machine<'_>,
     bad: BadMachine,
 ) -> Result<String, AllocError> {
-    let read = &machine.read;
+    let read = machine.read;
     match bad {
         BadMachine::QueueCount => queue_fault(alloc, given, read, bad),
         BadMachine::Longest => longest_fault(alloc, given, read, bad),
@@ -198,7 +198,7 @@ fn turns_fault(
         for word in &words_of(alloc, said.text.as_str())? {
             if is_repeated {
                 let name = word.text.as_str();
-                if let Some(words) = turns_words(alloc, given, &machine.read, name)? {
+                if let Some(words) = turns_words(alloc, given, machine.read, name)? {
                     let place = said.place.as_str();
                     let (line, column) = (word.place.line, word.place.column);
                     return format!(in alloc;

@@ -8,7 +8,7 @@ use crate::stop::Stop;
 use crate::values::name_of;
 use serde_json::Value;
 use std::alloc::{AllocError, Global};
-use tw_file_members::items_in;
+use tw_file_members::{items_in, machine_index};
 use tw_machine::limits::{MAX_MACHINES, MAX_WORDS};
 use tw_machine_compiler::{BadMachine, Given, compile};
 use tw_machine_file::{FileMachine, MachineFault, Part, Why, is_used, machine_of};
@@ -33,12 +33,51 @@ const MEMBERS: [&str; 12] = [
     "words",
 ];
 
-/// A machine of a file, and the value that declares it.
+/// The machines of a file, in order.
 #[derive(Drop)]
+pub struct Machines<'a> {
+    values: &'a [Value],
+    read: Vec<FileMachine>,
+}
+
+impl<'a> Machines<'a> {
+    /// No machines.
+    pub fn none(alloc: Global) -> Machines<'a> {
+        Machines {
+            values: &[],
+            read: Vec::new(alloc),
+        }
+    }
+
+    /// What they declare.
+    pub fn read(&self) -> &[FileMachine] {
+        self.read.as_slice()
+    }
+
+    /// The first machine of a name.
+    pub fn named(&self, name: &str) -> Option<Machine<'_>> {
+        let index = machine_index(self.read(), name)?;
+        let value = self.values.get(index)?;
+        let read = self.read().get(index)?;
+        Some(Machine { value, read })
+    }
+
+    /// How many numbers the tables have that stand in the machines themselves.
+    pub fn own_numbers(&self, alloc: Global) -> usize {
+        let mut total = 0usize;
+        for machine in self.read() {
+            total = total.saturating_add(own_numbers(alloc, machine));
+        }
+        total
+    }
+}
+
+/// A machine of a file, and the value that declares it.
+#[derive(Clone, Copy)]
 pub struct Machine<'a> {
     pub(crate) value: &'a Value,
     /// What it declares.
-    pub read: FileMachine,
+    pub read: &'a FileMachine,
 }
 
 impl<'a> Machine<'a> {
@@ -52,11 +91,6 @@ impl<'a> Machine<'a> {
     /// Whether a component gives a list for the parameter of this name: a table is named after it.
     pub fn takes_list(&self, name: &str) -> bool {
         is_list(self.value, name)
-    }
-
-    /// How many numbers its tables have that stand in the machine itself.
-    pub fn own_numbers(&self, alloc: Global) -> usize {
-        own_numbers(alloc, &self.read)
     }
 
     /// Stops at the first limit that it passes with these numbers; `place` is where the line says that this is.
@@ -73,7 +107,7 @@ impl<'a> Machine<'a> {
 }
 
 /// The machines of a file in order; stops at the first fault of one.
-pub fn machines_of<'a>(alloc: Global, value: &'a Value) -> Result<Vec<Machine<'a>>, Stop> {
+pub fn machines_of<'a>(alloc: Global, value: &'a Value) -> Result<Machines<'a>, Stop> {
     let models = items_in(value, "models");
     let count = models.len();
     if count > MAX_MACHINES {
@@ -82,54 +116,55 @@ pub fn machines_of<'a>(alloc: Global, value: &'a Value) -> Result<Vec<Machine<'a
         )?;
         return Err(Stop::Fault(line));
     }
-    let mut machines = Vec::new(alloc);
+    let mut read = Vec::new(alloc);
     let mut names = Vec::new(alloc);
     for (i, model) in models.iter().enumerate() {
         let machine = read_machine(alloc, names.as_slice(), models, i, model)?;
-        if !is_used(value, machine.read.name.as_str()) {
-            check_alone(alloc, i, &machine)?;
+        if !is_used(value, machine.name.as_str()) {
+            check_alone(alloc, i, model, &machine)?;
         }
-        names.push(machine.read.name.clone()?)?;
-        machines.push(machine)?;
+        names.push(machine.name.clone()?)?;
+        read.push(machine)?;
     }
-    Ok(machines)
+    Ok(Machines {
+        values: models,
+        read,
+    })
 }
 
 /// Looks at the limits of the machine at a place of `models`, which no component uses.
-fn check_alone(alloc: Global, i: usize, machine: &Machine<'_>) -> Result<(), Stop> {
+fn check_alone(alloc: Global, i: usize, value: &Value, read: &FileMachine) -> Result<(), Stop> {
     let nothing = Given {
         numbers: Vec::new(alloc),
         lists: Vec::new(alloc),
     };
-    let place = machine_place(alloc, i, machine.value)?;
+    let place = machine_place(alloc, i, value)?;
+    let machine = Machine { value, read };
     machine.check_limits(alloc, place.as_str(), &nothing)
 }
 
 /// The machine at a place of `models`.
-fn read_machine<'a>(
+fn read_machine(
     alloc: Global,
     before: &[String],
-    models: &'a [Value],
+    models: &[Value],
     i: usize,
-    model: &'a Value,
-) -> Result<Machine<'a>, Stop> {
+    model: &Value,
+) -> Result<FileMachine, Stop> {
     let place = machine_place(alloc, i, model)?;
-    let read = match machine_of(alloc, before, model) {
-        Ok(read) => read,
-        Err(MachineFault::OutOfMemory) => return Err(Stop::OutOfMemory),
+    match machine_of(alloc, before, model) {
+        Ok(read) => Ok(read),
+        Err(MachineFault::OutOfMemory) => Err(Stop::OutOfMemory),
         Err(MachineFault::Wrong(part, why)) => {
             let reason = wrong(alloc, models, model, part, why)?;
-            return Err(Stop::Fault(format!(in alloc; "{place}: {reason}")?));
+            Err(Stop::Fault(format!(in alloc; "{place}: {reason}")?))
         }
         Err(MachineFault::Text(part, at)) => {
             let reason = wrong_text(alloc, model, part, at)?;
-            return Err(Stop::Fault(format!(in alloc; "{place}: {reason}")?));
+            Err(Stop::Fault(format!(in alloc; "{place}: {reason}")?))
         }
-        Err(MachineFault::Limit(bad)) => {
-            return Err(Stop::Fault(format!(in alloc; "{place}: {bad}")?));
-        }
-    };
-    Ok(Machine { value: model, read })
+        Err(MachineFault::Limit(bad)) => { Err(Stop::Fault(format!(in alloc; "{place}: {bad}")?)) }
+    }
 }
 
 /// The place of a machine, with its name where it has one.

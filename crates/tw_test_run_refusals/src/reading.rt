@@ -4,8 +4,8 @@ use crate::telling::tell_number;
 use std::alloc::{AllocError, Global};
 use tw_any_model::AnyModel;
 use tw_cli::{Job, NoJob, Task, job};
-use tw_file_faults::explain;
-use tw_file_network::{FileRefused, network_of_any_file};
+use tw_file_faults::{explain, explain_text};
+use tw_file_network::{FileRefused, json_of, network_of_any_file};
 use tw_network::Network;
 use tw_script::{ScriptRefused, commands_of_script};
 use tw_test_refusal_tools::Told;
@@ -44,11 +44,20 @@ fn read(alloc: Global, file: &str) -> Result<Network<AnyModel>, FileRefused> {
     }
 }
 
+/// What explains a file's fault.
+fn explained(alloc: Global, file: &str, fault: FileRefused) -> Result<String, AllocError> {
+    match json_of(alloc, file.as_bytes()) {
+        Ok(value) => explain(alloc, &value, fault),
+        Err(FileRefused::OutOfMemory) => Err(AllocError),
+        Err(_) => explain_text(alloc, file.as_bytes()),
+    }
+}
+
 /// Tells a file's fault: its number and name, and what explains it, which is made until it stands.
 fn tell_refused(told: &mut Told, alloc: Global, file: &str, fault: FileRefused) {
     let refusal = Refusal::from(fault);
-    let words = match explain(alloc, file.as_bytes(), fault) {
-        Err(_) => explain(alloc, file.as_bytes(), fault),
+    let words = match explained(alloc, file, fault) {
+        Err(_) => explained(alloc, file, fault),
         made => made,
     };
     match words {

@@ -1,40 +1,63 @@
 //! The program: its words, its file and its standard streams.
 //!
 //! What it does is [`tw_cli::job`], [`tw_engine::alone`] and [`tw_engine::engine`]; here they only get the process's arguments, the
-//! bytes of the network's file, the script and the streams.
+//! bytes of the network's file, the script and the streams. `explaining` says in words what is wrong where a job is refused.
 #![tactic(auto)]
 
+mod explaining;
 mod source;
 
+use crate::explaining::{is_explained, job_words, unread_words};
 use crate::source::Source;
 use std::fs::File;
-use std::io::ErrorKind;
+use std::io::{ErrorKind, Write};
 use std::process::ExitCode;
 use std::sync::Wait;
 use std::thread::Threads;
 use std::time::Clock;
 use std::{env, io};
-use tw_cli::{Driver, Job, NoJob, Picture, Task, job};
+use tw_cli::{Driver, Job, NoJob, Picture, Task, job, line_words};
 use tw_engine::{Exit, Failed, alone, engine, read_all};
 use tw_vtime::Refusal;
 
-/// How the run of the program ends.
-fn run<T: Threads + Wait + Clock + Eprint + Sync>(rt: &HostRuntime, threads: &T) -> Exit {
+/// How the run of the program ends, and the words behind its line for standard error.
+#[derive(Drop)]
+struct End {
+    exit: Exit,
+    words: Option<String>,
+}
+
+impl From<Exit> for End {
+    fn from(exit: Exit) -> End {
+        End { exit, words: None }
+    }
+}
+
+/// Runs the program.
+fn run<T: Threads + Wait + Clock + Eprint + Sync>(rt: &HostRuntime, threads: &T) -> End {
     let given = match env::args(rt) {
         Ok(given) => given,
-        Err(error) => return exit_of(&error),
+        Err(error) => return End::from(exit_of(&error)),
     };
     let Ok(words) = given.collect::<Vec<String>>(rt.alloc()) else {
-        return Exit::Want(Refusal::OutOfMemory);
+        return End::from(Exit::Want(Refusal::OutOfMemory));
     };
+    let explained = is_explained(rt, words.as_slice());
     match job(rt.alloc(), words.as_slice()) {
-        Ok(job) => do_job(rt, threads, &job),
-        Err(NoJob::Help(text) | NoJob::Version(text)) => match text.print(rt) {
+        Ok(job) => do_job(rt, threads, &job, explained),
+        Err(NoJob::Help(text) | NoJob::Version(text)) => End::from(match text.print(rt) {
             Ok(()) => Exit::Done,
             Err(_) => Exit::NoWrite,
+        }),
+        Err(NoJob::BadLine) => End {
+            exit: Exit::from(Refusal::BadLine),
+            words: if explained {
+                line_words(rt.alloc(), words.as_slice()).ok()
+            } else {
+                None
+            },
         },
-        Err(NoJob::BadLine) => Exit::from(Refusal::BadLine),
-        Err(NoJob::OutOfMemory) => Exit::Want(Refusal::OutOfMemory),
+        Err(NoJob::OutOfMemory) => End::from(Exit::Want(Refusal::OutOfMemory)),
     }
 }
 
@@ -47,17 +70,40 @@ fn exit_of(error: &io::Error) -> Exit {
     }
 }
 
-/// Does a job on its files and standard output: alone, or by these threads where it takes any.
+/// Does a job on its files and standard output: alone, or by these threads where it takes any. Where it is to be explained, words say
+/// why it is refused.
 fn do_job<T: Threads + Wait + Clock + Eprint + Sync>(
     rt: &HostRuntime,
     threads: &T,
     job: &Job<'_>,
-) -> Exit {
+    explained: bool,
+) -> End {
     let bytes = match network_bytes(rt, job) {
         Ok(bytes) => bytes,
-        Err(failed) => return Exit::from(failed),
+        Err(failed) => {
+            return End {
+                exit: Exit::from(failed),
+                words: network_words(rt, job, explained),
+            };
+        }
     };
     let bytes = bytes.as_slice();
+    let exit = exit_of_job(rt, threads, job, bytes);
+    let words = if explained {
+        job_words(rt, job, bytes, &exit)
+    } else {
+        None
+    };
+    End { exit, words }
+}
+
+/// How a job ends that is done on the bytes of its network's file.
+fn exit_of_job<T: Threads + Wait + Clock + Eprint + Sync>(
+    rt: &HostRuntime,
+    threads: &T,
+    job: &Job<'_>,
+    bytes: &[u8],
+) -> Exit {
     let mut script = match script_of(job) {
         Some(path) => Source::from(File::open(rt, path)),
         None => Source::Missing(ErrorKind::NotFound),
@@ -82,8 +128,16 @@ fn network_bytes(rt: &HostRuntime, job: &Job<'_>) -> Result<Vec<u8>, Failed> {
     }
 }
 
+/// The words for a network's file that cannot be read, where they are asked for.
+fn network_words(rt: &HostRuntime, job: &Job<'_>, explained: bool) -> Option<String> {
+    match job {
+        Job::Check { net } | Job::Simulate { net, .. } if explained => unread_words(rt, *net),
+        _ => None,
+    }
+}
+
 /// The path of the script that a job is driven by, if it is.
-fn script_of<'a>(job: &Job<'a>) -> Option<&'a str> {
+pub(crate) fn script_of<'a>(job: &Job<'a>) -> Option<&'a str> {
     let Job::Simulate { task, .. } = job else {
         return None;
     };
@@ -102,16 +156,22 @@ fn script_of<'a>(job: &Job<'a>) -> Option<&'a str> {
     }
 }
 
-/// Writes the line for standard error, and answers the status. Where standard error is gone, the status
+/// Writes the line for standard error and the words behind it, and answers the status. Where standard error is gone, the status
 /// still tells.
-fn finish(rt: &HostRuntime, exit: Exit) -> u8 {
+fn finish(rt: &HostRuntime, end: &End) -> u8 {
     let errors = rt.stderr();
     let mut errors = &errors;
-    let _ = exit.write_line(&mut errors);
-    exit.status()
+    let _ = end.exit.write_line(&mut errors);
+    if let Some(words) = &end.words {
+        let _ = errors.write_all(words.as_bytes());
+        if !words.ends_with('\n') {
+            let _ = errors.write_all(b"\n");
+        }
+    }
+    end.exit.status()
 }
 
 fn main(rt: HostRuntime) -> ExitCode {
-    let exit = run(&rt, &rt);
-    ExitCode::from(finish(&rt, exit))
+    let end = run(&rt, &rt);
+    ExitCode::from(finish(&rt, &end))
 }

@@ -1,7 +1,9 @@
 use Rattle.std.proofs.Common.{◌∙◌, ap, length, subst, sym}
+use Rattle.std.proofs.lemmas.List.{length-map}
 use Rattle.std.specs.Prelude.{Err}
 use Rattle.std.specs.Io.KnownBytes.{Keeps}
-use Rattle.tw_figure_names.specs.Labels.{AreLabels}
+use Rattle.serde_json.specs.View.{view}
+use Rattle.tw_figures.specs.Labelled.{label}
 use Rattle.tw_engine.proofs.Drawn.{view_refused}
 use Rattle.tw_engine.proofs.Driven.{keeps_all}
 use Rattle.tw_engine.proofs.Viewed.{as_many}
@@ -10,7 +12,9 @@ use Rattle.tw_engine.specs.Ends.{failed_of}
 use Rattle.tw_engine.proofs.job_draw.draw_network.Goals as goal
 
 pub draw_run-requires : goal.draw_run-requires
-draw_run-requires g c = ap length c.as_slice.ensures.value ∙ as_many AreLabels c.args.run.now.network.now.models c.in_ok-labels.labels.items c.in_ok-labels.ensures
+draw_run-requires g c =
+    ap length c.as_slice.ensures.value ∙ sym (length-map c.in_ok-labels.labels.items label)
+    ∙ ap length c.in_ok-labels.ensures ∙ as_many (view c.args.file.now) c.args.run.now.network.now.models
 
 pub returns : goal.returns
 returns g c =

@@ -6,6 +6,4 @@ pub returns-in_ok-executive-in-Some : goal.returns-in_ok-executive-in-Some
 returns-in_ok-executive-in-Some g c =
     let old = g.W.Write.contents c.args.out.now in
     let new = g.W.Write.contents c.run_executive.new.out in
-    let met = c.in_ok-executive-in-Some in
-    subst (λ x. IsWorked x c.args.plan.until c.run_executive.result old new) met.ensures.network
-    (subst (λ u. IsWorked met.executive.network u c.run_executive.result old new) met.ensures.until c.run_executive.ensures)
+    subst (λ e. IsWorked e c.run_executive.result old new) c.in_ok-executive-in-Some.ensures.start c.run_executive.ensures

@@ -1,16 +1,30 @@
-use Rattle.std.proofs.Common.{◌∙◌, ap, length, subst, sym}
-use Rattle.std.specs.List.{AllZip}
-use Rattle.tw_figure_names.specs.Labels.{AreLabels}
+use Rattle.std.proofs.Common.{◌∙◌, ap, length, map, subst, sym}
+use Rattle.std.proofs.lemmas.List.{length-map}
+use Rattle.serde_json.specs.View.{view}
+use Rattle.tw_any_model.specs.AnyModel.{any_meaning}
 use Rattle.tw_engine.proofs.Viewed.{as_many, summed_up}
+use Rattle.tw_engine.specs.Runs.{name_in}
+use Rattle.tw_network.specs.Contents.{network_of}
+use Rattle.tw_stats.specs.Reports.{IsReport}
+use Rattle.tw_stats.specs.Written.{report_bytes}
+use Rattle.std.specs.Io.KnownBytes.{Appends}
+use Rattle.tw_figure_names.specs.Said.{labels_said}
+use Rattle.tw_figures.specs.Labelled.{label}
 use Rattle.tw_engine.proofs.job_stats.sum_up.Goals as goal
 
 pub report_of-requires : goal.report_of-requires
-report_of-requires g c = ap length c.as_slice-labels.ensures.value ∙ as_many AreLabels c.args.run.now.network.now.models c.in_ok-labels.labels.items c.in_ok-labels.ensures
+report_of-requires g c =
+    let n = c.args.run.now.network.now in
+    ap length c.as_slice-labels.ensures.value ∙ sym (length-map c.in_ok-labels.labels.items label)
+    ∙ ap length c.in_ok-labels.ensures ∙ as_many (view c.args.file.now) n.models
 
 pub returns-in-Ok-write_report : goal.returns-in-Ok-write_report
 returns-in-Ok-write_report g c =
     let n = c.args.run.now.network.now in
-    let named = subst (AllZip AreLabels n.models) (sym c.as_slice-labels.ensures.value) c.in_ok-labels.ensures in
-    summed_up n c.args.run.now.until c.args.json c.as_slice-labels.result.now c.in-Ok.report c.in_ok-line.line
-    (g.W.Write.contents c.args.out.now) (g.W.Write.contents c.write_report.new.out)
-    named c.in-Ok.ensures.report c.in_ok-line.ensures c.in-Ok-write_report.ensures.written
+    let old = g.W.Write.contents c.args.out.now in
+    let new = g.W.Write.contents c.write_report.new.out in
+    let same = ap (map label) c.as_slice-labels.ensures.value ∙ c.in_ok-labels.ensures in
+    summed_up n (labels_said (view c.args.file.now) n.models) c.args.run.now.until c.args.json c.in-Ok.report c.in_ok-line.line old new
+    (subst (λ ls. IsReport (network_of any_meaning n) c.args.run.now.until ls c.in-Ok.report) same c.in-Ok.ensures.report)
+    c.in_ok-line.ensures
+    (subst (λ ls. Appends old new (report_bytes c.args.json (name_in n.names) ls c.in-Ok.report)) same c.in-Ok-write_report.ensures.written)

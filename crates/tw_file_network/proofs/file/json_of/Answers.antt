@@ -15,10 +15,10 @@ no_json bytes nothing = by (is_utf8 bytes) refl
     by true is = rw (is, nothing (IsUtf8-from_is_utf8 bytes is)) refl
     by false is = rw is refl
 
-pub returns-in-Ok-clause-ok : goal.returns-in-Ok-clause-ok
-returns-in-Ok-clause-ok c =
+pub returns-in-Ok-clause-value : goal.returns-in-Ok-clause-value
+returns-in-Ok-clause-value c =
     rw (is_utf8-from_IsUtf8 c.args.bytes.now c.in-Ok.ensures.ok.0, c.in-Ok.ensures.ok.1) refl
 
-pub returns-in-Err-2-clause-err : goal.returns-in-Err-2-clause-err
-returns-in-Err-2-clause-err c = λ other.
+pub returns-in-Err-2-clause-first_fault : goal.returns-in-Err-2-clause-first_fault
+returns-in-Err-2-clause-first_fault c = λ other.
     no_json c.args.bytes.now (c.in-Err.ensures.err (λ memory. true≢false (sym (c.if-is_memory.ensures.1 memory))))

@@ -1,69 +1,18 @@
-use Rattle.std.proofs.Common.{◌∙◌, ap, map, sym}
 use Rattle.serde_json.specs.View.{view}
-use Rattle.tw_machine_file.specs.Seen.{machine}
-use Rattle.tw_file_network.specs.Draft.{draft_view}
-use Rattle.tw_file_network.specs.TreeDraft.{tree_view}
 use Rattle.tw_file_network.specs.TreeMeaning.{IsFault}
-use Rattle.tw_file_network.proofs.AnyFormat.{flat_fails, flat_means, no_draft, no_json, no_machines, no_tree, tree_fails, tree_means}
-use Rattle.tw_file_network.proofs.MachinesOfFile.{fails, means, no_shape}
+use Rattle.tw_file_network.proofs.BytesOfValue.{bytes_fail, bytes_mean, no_value}
 use Rattle.tw_file_network.proofs.PartsInOrder.{passed_on}
 use Rattle.tw_file_network.proofs.trees.network_of_any_file.Goals as goal
-
-pub returns-in_err-tree-2-clause-first_fault : goal.returns-in_err-tree-2-clause-first_fault
-returns-in_err-tree-2-clause-first_fault c =
-    passed_on c.from_residual-in_err-tree-2.result c.in_err-tree-2.field-0.0 (IsFault c.args.bytes.now) c.from_residual-in_err-tree-2.ensures.1
-    (λ other. no_shape c.args.bytes.now (view c.in_ok-value.value) (map machine c.in_ok-machines.machines.items) (map machine c.as_slice.result.now)
-    c.in_ok-value.ensures.ok (sym c.is_tree.ensures ∙ c.if-is_tree.false) c.in_ok-machines.ensures.ok (ap (map machine) c.as_slice.ensures.value)
-    c.in_err-tree-2.field-0.0 (c.in_err-tree-2.ensures.err other))
-
-pub returns-then-has_machines-clause-network : goal.returns-then-has_machines-clause-network
-returns-then-has_machines-clause-network c =
-    means c.args.bytes.now (view c.in_ok-value.value) (map machine c.in_ok-machines.machines.items) (map machine c.as_slice.result.now)
-    c.in_ok-value.ensures.ok (sym c.is_tree.ensures ∙ c.if-is_tree.false) c.in_ok-machines.ensures.ok (ap (map machine) c.as_slice.ensures.value)
-    (tree_view c.in_ok-tree-2.tree) c.in_ok-tree-2.ensures.ok c.network_of_tree-then-has_machines.result c.network_of_tree-then-has_machines.ensures.ok
-
-pub returns-then-has_machines-clause-first_fault : goal.returns-then-has_machines-clause-first_fault
-returns-then-has_machines-clause-first_fault c =
-    fails c.args.bytes.now (view c.in_ok-value.value) (map machine c.in_ok-machines.machines.items) (map machine c.as_slice.result.now)
-    c.in_ok-value.ensures.ok (sym c.is_tree.ensures ∙ c.if-is_tree.false) c.in_ok-machines.ensures.ok (ap (map machine) c.as_slice.ensures.value)
-    (tree_view c.in_ok-tree-2.tree) c.in_ok-tree-2.ensures.ok c.network_of_tree-then-has_machines.result c.network_of_tree-then-has_machines.ensures.err
 
 pub returns-in_err-value-clause-first_fault : goal.returns-in_err-value-clause-first_fault
 returns-in_err-value-clause-first_fault c =
     passed_on c.from_residual.result c.in_err-value.field-0.0 (IsFault c.args.bytes.now) c.from_residual.ensures.1
-    (λ other. no_json c.args.bytes.now c.in_err-value.field-0.0 (c.in_err-value.ensures.err other))
-
-pub returns-in_err-tree-clause-first_fault : goal.returns-in_err-tree-clause-first_fault
-returns-in_err-tree-clause-first_fault c =
-    passed_on c.from_residual-in_err-tree.result c.in_err-tree.field-0.0 (IsFault c.args.bytes.now) c.from_residual-in_err-tree.ensures.1
-    (λ other. no_tree c.args.bytes.now (view c.in_ok-value.value) c.in_ok-value.ensures.ok (sym c.is_tree.ensures ∙ c.if-is_tree.true) c.in_err-tree.field-0.0 (c.in_err-tree.ensures.err other))
-
-pub returns-in_err-machines-clause-first_fault : goal.returns-in_err-machines-clause-first_fault
-returns-in_err-machines-clause-first_fault c =
-    passed_on c.from_residual-in_err-machines.result c.in_err-machines.field-0.0 (IsFault c.args.bytes.now) c.from_residual-in_err-machines.ensures.1
-    (λ other. no_machines c.args.bytes.now (view c.in_ok-value.value) c.in_ok-value.ensures.ok (sym c.is_tree.ensures ∙ c.if-is_tree.false) (sym c.has_machines.ensures ∙ c.if-has_machines.true) c.in_err-machines.field-0.0 (c.in_err-machines.ensures.err other))
-
-pub returns-in_err-draft-clause-first_fault : goal.returns-in_err-draft-clause-first_fault
-returns-in_err-draft-clause-first_fault c =
-    passed_on c.from_residual-in_err-draft.result c.in_err-draft.field-0.0 (IsFault c.args.bytes.now) c.from_residual-in_err-draft.ensures.1
-    (λ other. no_draft c.args.bytes.now (view c.in_ok-value.value) c.in_ok-value.ensures.ok (sym c.is_tree.ensures ∙ c.if-is_tree.false) (sym c.has_machines.ensures ∙ c.if-has_machines.false) c.in_err-draft.field-0.0 (c.in_err-draft.ensures.err other))
-
-pub returns-then-is_tree-clause-network : goal.returns-then-is_tree-clause-network
-returns-then-is_tree-clause-network c =
-    tree_means c.args.bytes.now (view c.in_ok-value.value) c.in_ok-value.ensures.ok (sym c.is_tree.ensures ∙ c.if-is_tree.true) (tree_view c.in_ok-tree.tree) c.in_ok-tree.ensures.ok
-    c.network_of_tree.result c.network_of_tree.ensures.ok
-
-pub returns-then-is_tree-clause-first_fault : goal.returns-then-is_tree-clause-first_fault
-returns-then-is_tree-clause-first_fault c =
-    tree_fails c.args.bytes.now (view c.in_ok-value.value) c.in_ok-value.ensures.ok (sym c.is_tree.ensures ∙ c.if-is_tree.true) (tree_view c.in_ok-tree.tree) c.in_ok-tree.ensures.ok
-    c.network_of_tree.result c.network_of_tree.ensures.err
+    (λ other. no_value c.args.bytes.now c.in_err-value.field-0.0 (c.in_err-value.ensures.first_fault other))
 
 pub returns-clause-network : goal.returns-clause-network
 returns-clause-network c =
-    flat_means c.args.bytes.now (view c.in_ok-value.value) c.in_ok-value.ensures.ok (sym c.is_tree.ensures ∙ c.if-is_tree.false) (sym c.has_machines.ensures ∙ c.if-has_machines.false) (draft_view c.in_ok-draft.draft) c.in_ok-draft.ensures.ok
-    c.network_of.result c.network_of.ensures.ok
+    bytes_mean c.args.bytes.now (view c.in_ok-value.value) c.in_ok-value.ensures.value c.network_of_value.result c.network_of_value.ensures.network
 
 pub returns-clause-first_fault : goal.returns-clause-first_fault
 returns-clause-first_fault c =
-    flat_fails c.args.bytes.now (view c.in_ok-value.value) c.in_ok-value.ensures.ok (sym c.is_tree.ensures ∙ c.if-is_tree.false) (sym c.has_machines.ensures ∙ c.if-has_machines.false) (draft_view c.in_ok-draft.draft) c.in_ok-draft.ensures.ok
-    c.network_of.result c.network_of.ensures.err
+    bytes_fail c.args.bytes.now (view c.in_ok-value.value) c.in_ok-value.ensures.value c.network_of_value.result c.network_of_value.ensures.first_fault

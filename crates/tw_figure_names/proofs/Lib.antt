@@ -1,0 +1,6 @@
+pub mod Labelling
+pub mod Placing
+pub mod Programs
+pub mod Squeezing
+pub mod Standings
+pub mod Telling

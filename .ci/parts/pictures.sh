@@ -7,6 +7,11 @@ picture() {
     ! command -v xmllint >/dev/null || xmllint --noout "$1" 2>/dev/null
 }
 
+# Whether a file of Graphviz has a picture.
+picture_in() {
+    [[ $(tail -n 1 "$1") == "</svg>" ]]
+}
+
 # Draws a network, twice, and compares the ends, and with a number of marks where one is given.
 drawn() {
     "$program" draw "$network" --until "$until" "${@:2}" >"$out" 2>"$err"
@@ -36,6 +41,22 @@ for case in tests/program/*/; do
             drawn "" "${more[@]}"
             ;;
     esac
+done
+
+# Graphs: the same for the same file, and drawn by Graphviz where it is there, without a word.
+for network in examples/*.json tests/program/*/network.json; do
+    "$program" check "$network" >"$out" 2>"$err" || continue
+    "$program" dot "$network" >"$out" 2>"$err"
+    ended=$?
+    "$program" dot "$network" 2>/dev/null | cmp --silent - "$out" && [ ! -s "$err" ] &&
+        { ! command -v dot >/dev/null || { dot -Tsvg "$out" >"$room/graph" 2>"$room/words" && [ ! -s "$room/words" ] && picture_in "$room/graph"; }; }
+    count "twarp dot $network" 0 "$ended" $?
+done
+for network in nowhere.json examples/straggler.txt; do
+    "$program" dot "$network" >"$out" 2>"$err"
+    ended=$?
+    [[ ! -s $out && $(head -n 1 "$err") =~ ^"twarp: "(19 Unreadable|20 NotJson)$ ]]
+    count "twarp dot $network" 2 "$ended" $?
 done
 
 # A part of a run, and names that are none.

@@ -113,7 +113,7 @@ machine-tally machine-tally-played play --seed 1 --steps 40"
     cp -r tests/program/figures-of-gen-tally "$ours/figures-as-json"
     cp tests/program/gen-tally/stats.json "$ours/figures-as-json/stdout"
     echo --json >>"$ours/figures-as-json/args"
-    for case in $PWD/tests/program/{demonstration,check-whole,check-comma-forgotten,gen-tally,items-of-a-microstep-fault} \
+    for case in $PWD/tests/program/{demonstration,check-whole,graph-of-gen-tally,check-comma-forgotten,gen-tally,items-of-a-microstep-fault} \
         "$ours"/{figures-as-json,gen-tally-drawn} $PWD/tests/program/{all-of-tick-2-committed,a-seed}; do
         mapfile -t words <"$case/args"
         refuse_each_byte "${words[@]}"

@@ -1,6 +1,6 @@
 # Counts, figures and tables of the cases of `seq` in tests/program/ and of the networks of examples/. The wanted counts and figures
-# are the files stats and stats.json there and in tests/views/, which tests/views/expected.py made of the wanted traces; the wanted
-# tables are made here of the same traces.
+# are the files stats and stats.json there and in tests/views/, which tests/views/expected.py made of the wanted traces; those from a
+# tick on, and the wanted tables, are made here of the same traces.
 
 # The table of a trace: of its records, its items or its words.
 as_table() {
@@ -38,6 +38,18 @@ view() {
     count "twarp $1 ${*:3} of $network" "$status" "$ended" $?
 }
 
+# Counts and figures from the middle of a run of that trace on, from its start, and from its end.
+views_from() {
+    local from
+    for from in $((until / 2)) 0 "$until"; do
+        python3 tests/views/expected.py "$network" "$1" "$until" --from "$from" >"$room/from"
+        view stats "$room/from" --from "$from"
+    done
+    from=$((until / 2))
+    python3 tests/views/expected.py "$network" "$1" "$until" --from "$from" --json >"$room/from"
+    view stats "$room/from" --json --from "$from"
+}
+
 # All views of a network of which there is a trace, and counts and figures where these files are there.
 views() {
     grep '^fault: ' "$1" >"$room/fault"
@@ -47,6 +59,9 @@ views() {
         view stats "$2"
         view stats "$3" --json
     fi
+    [ ! -e "$2" ] || views_from "$1"
+    awk -F. -v from="$((until / 2))" '/^fault: / || $1 + 0 >= from' "$1" | as_table items >"$room/table"
+    view table "$room/table" --items --from "$((until / 2))"
     for rows in records items words; do
         as_table "$rows" <"$1" >"$room/table"
         if [ "$rows" = records ]; then view table "$room/table"; else view table "$room/table" "--$rows"; fi

@@ -1,5 +1,6 @@
 #!/usr/bin/env python3
-"""expected.py NETWORK TRACE UNTIL [--json]: what `twarp stats` writes of a run, computed from its trace and its network file alone.
+"""expected.py NETWORK TRACE UNTIL [--json] [--from T0]: what `twarp stats` writes of a run, computed from its trace and its network file
+alone.
 
 It is a second, independent way to the numbers: the trace is that of tests/program/ and examples/, whose bytes are not the
 program's own. Of machines it knows the start values of registers, queues, `length` and a table's number at `random`, which is what the networks here
@@ -94,17 +95,20 @@ def thousandths(total, time):
     return f"{'-' if n < 0 else ''}{abs(n) // 1000}.{abs(n) % 1000:03}"
 
 
-def course(value, start, moves, time):
-    """Least, greatest, last, mean and busy of a figure; and the sums behind these two."""
-    now, since, total, busy = value(start), 0, 0, 0
+def course(value, start, moves, first, end):
+    """Least, greatest, last, mean and busy of a figure from a tick on and before another; and the sums behind these two."""
+    start = ([start] + [words for tick, words in moves if tick < first])[-1]
+    now, since, total, busy, time = value(start), first, 0, 0, end - first
     if now is None:
         sys.exit(f"a start value that is not known here: {start}")
     least = greatest = now
     for tick, words in moves:
+        if tick < first:
+            continue
         total, busy, since = total + now * (tick - since), busy + (now != 0) * (tick - since), tick
         now = value(words)
         least, greatest = min(least, now), max(greatest, now)
-    total, busy = total + now * (time - since), busy + (now != 0) * (time - since)
+    total, busy = total + now * (end - since), busy + (now != 0) * (end - since)
     if time == 0:
         return least, greatest, now, thousandths(now, 1), thousandths(int(now != 0), 1), total, busy
     return least, greatest, now, thousandths(total, time), thousandths(busy, time), total, busy
@@ -122,28 +126,35 @@ def table(head, left, rows):
 def main():
     net, until, as_json = json.load(open(sys.argv[1])), int(sys.argv[3]), "--json" in sys.argv
     records, fault = read(open(sys.argv[2]).read())
-    time = fault[1] if fault else until
-    microsteps = max((it[1] + 1 for it in records), default=0)
+    asked = int(sys.argv[sys.argv.index("--from") + 1]) if "--from" in sys.argv else None
+    first = asked or 0
+    end = max(fault[1] if fault else until, first)
+    time = end - first
+    counted = [it for it in records if it[0] >= first]
+    microsteps = max((it[1] + 1 for it in counted), default=0)
     counts, rows, parts = [], [], []
     for name, part in atoms(net):
         mine = [it for it in records if it[2] == name]
-        kinds = {kind: [it for it in mine if it[3] == kind] for kind in ("out", "int", "ext", "con")}
+        kinds = {kind: [it for it in mine if it[3] == kind and it[0] >= first] for kind in ("out", "int", "ext", "con")}
         numbers = [len(kinds["out"]), sum(it[4] for it in kinds["out"]), sum(it[4] for it in kinds["ext"] + kinds["con"]),
                    len(kinds["int"]), len(kinds["ext"]), len(kinds["con"])]
         counts.append([name, part["model"], *map(str, numbers)])
         figures, start = figures_of(net, part)
         moves = [(it[0], it[5]) for it in mine if it[3] != "out"]
-        told = [(figure, *course(value, start, moves, time)) for figure, value in figures]
+        told = [(figure, *course(value, start, moves, first, end)) for figure, value in figures]
         rows += [[name, *map(str, it[:6])] for it in told]
         of = ",".join('{"name":%s,"least":%d,"greatest":%d,"last":%d,"mean":%s,"busy":%s,"mean_of":[%d,%d],"busy_of":[%d,%d]}'
                       % (json.dumps(it[0]), *it[1:7], time, it[7], time) for it in told)
         parts.append('{"name":"%s","model":"%s","outputs":%d,"sent":%d,"received":%d,"int":%d,"ext":%d,"con":%d,"figures":[%s]}'
                      % (name, part["model"], *numbers, of))
     if as_json:
-        end = ',"fault":{"component":"%s","tick":%d,"microstep":%d,"limit":"%s"}' % fault if fault else ""
-        print('{"until":%d,"records":%d,"microsteps":%d,"components":[%s]%s}' % (until, len(records), microsteps, ",".join(parts), end))
+        begin = "" if asked is None else f'"from":{asked},'
+        last = ',"fault":{"component":"%s","tick":%d,"microstep":%d,"limit":"%s"}' % fault if fault else ""
+        print('{%s"until":%d,"records":%d,"microsteps":%d,"components":[%s]%s}'
+              % (begin, until, len(counted), microsteps, ",".join(parts), last))
         return
-    print(f"until {until}  components {len(parts)}  records {len(records)}  microsteps {microsteps}\n")
+    begin = "" if asked is None else f"from {asked}  "
+    print(f"{begin}until {until}  components {len(parts)}  records {len(counted)}  microsteps {microsteps}\n")
     print(table(["component", "model", "outputs", "sent", "received", "int", "ext", "con"], 2, counts))
     print(table(["component", "figure", "least", "greatest", "last", "mean", "busy"], 2, rows), end="")
 

@@ -3,20 +3,23 @@ use Rattle.std.proofs.Common.{◌≡◌, ◌+◌, ◌*◌, ◌==◌, ℕ, List, 
 use Rattle.std.specs.Prelude.{◌≢◌, IfNone, None, Option, Some}
 use Rattle.clap.specs.Words.{Row, Text}
 use Rattle.tw_actions.specs.declared.cancel.Cancel.{Cancel}
-use Rattle.tw_cli.specs.Options.{IsCancelIn, IsDriverIn, IsPictureIn, IsRowsIn, IsSettingIn}
+use Rattle.tw_cli.specs.Options.{IsCancelIn, IsDriverIn, IsFromIn, IsPictureIn, IsRowsIn, IsSettingIn, IsStartIn}
 use Rattle.tw_cli.specs.declared.driving.Driver.{Driver}
 use Rattle.tw_cli.specs.declared.seeing.Picture.{Picture}
 use Rattle.tw_cli.specs.declared.setting.RunOptions.{RunOptions}
 use Rattle.tw_figures.specs.declared.seeing.Rows.{Rows}
 use Rattle.tw_cli.specs.Lines.{IsJobOf, IsSimulationOf, IsTaskOf, task_name}
 use Rattle.tw_cli.specs.declared.jobs.Job.{Job}
-use Rattle.tw_cli.specs.declared.jobs.Job.TheVariants.{Demo, Check, Simulate}
+use Rattle.tw_cli.specs.declared.jobs.Job.TheVariants.{Demo, Check, Dot, Simulate}
 use Rattle.tw_cli.specs.declared.jobs.Task.{Task}
 use Rattle.tw_cli.specs.declared.jobs.Task.TheVariants.{Seq, Stats, Table, Draw, Run, Play}
 
 -- the first two letters of a name, as a number: they tell the names of tasks apart
 abbrev pub letters : Text → ℕ
 letters name = 1000 * slice_index name 0 + slice_index name 1
+
+abbrev pub stats_letters : ℕ
+stats_letters = letters (codes "stats")
 
 abbrev pub table_letters : ℕ
 table_letters = letters (codes "table")
@@ -33,15 +36,16 @@ play_letters = letters (codes "play")
 -- what the options say to a task of this name, beside flags
 abbrev pub Needs : ℕ → List Row → Type 0
 Needs name rows =
-    MatchBool (name == table_letters) ((r : Rows) × IsRowsIn rows r)
+    MatchBool (name == stats_letters) ((from : Option ℕ) × IsStartIn rows from)
+    (MatchBool (name == table_letters) ((from : ℕ) × (r : Rows) × IsFromIn rows from × IsRowsIn rows r)
     (MatchBool (name == draw_letters) ((p : Picture) × IsPictureIn rows p)
     (MatchBool (name == run_letters) ((c : Cancel) × (s : RunOptions) × IsCancelIn rows c × IsSettingIn rows s)
-    (MatchBool (name == play_letters) ((c : Cancel) × (d : Driver) × IsCancelIn rows c × IsDriverIn rows d) (Unit {0}))))
+    (MatchBool (name == play_letters) ((c : Cancel) × (d : Driver) × IsCancelIn rows c × IsDriverIn rows d) (Unit {0})))))
 
 met : (rows : List Row) (t : Task) → IsTaskOf (task_name t) rows t → Needs (letters (task_name t)) rows
 met rows (Seq progress) is = tt
-met rows (Stats json progress) is = tt
-met rows (Table lines progress) is = (lines, is.1.0)
+met rows (Stats from json progress) is = (from, is.1.0)
+met rows (Table from lines progress) is = (from, lines, is.1.0, is.1.1)
 met rows (Draw picture) is = (picture, is.1)
 met rows (Run cancel setting) is = (cancel, setting, is.1.0, is.1.1)
 met rows (Play cancel driver) is = (cancel, driver, is.1.0, is.1.1)
@@ -51,11 +55,12 @@ pub needs_met : (name : Text) (rows : List Row) (t : Task) → IsTaskOf name row
 needs_met name rows t is = subst (λ (n : Text). Needs (letters n) rows) (sym is.0) (met rows t (subst (λ (n : Text). IsTaskOf n rows t) is.0 is))
 
 -- where no simulation stands, and the name is of no other job, there is none
-pub no_job : (name : Text) (rows : List Row) → name ≢ codes "demo" → name ≢ codes "check"
+pub no_job : (name : Text) (rows : List Row) → name ≢ codes "demo" → name ≢ codes "check" → name ≢ codes "dot"
     → ((net : Text) (n : ℕ) (t : Task) → ¬ (IsSimulationOf name rows net n t)) → (j : Job) → ¬ (IsJobOf name rows j)
-no_job name rows demo check none Demo is = demo is
-no_job name rows demo check none (Check net) is = check is.0
-no_job name rows demo check none (Simulate net until task) is = none net.now until task is
+no_job name rows demo check dot none Demo is = demo is
+no_job name rows demo check dot none (Check net) is = check is.0
+no_job name rows demo check dot none (Dot net) is = dot is.0
+no_job name rows demo check dot none (Simulate net until task) is = none net.now until task is
 
 pub none_then : {X P Q : Type 0} (o : Option X) → (P → Q) → IfNone o P → IfNone o Q
 none_then None f h = f h

@@ -4,7 +4,7 @@ use Rattle.std.specs.Prelude.{Option, Some, None, find, is_some, option_and_then
 use Rattle.clap.specs.Values.{read_as}
 use Rattle.clap.specs.Walk.{row_text}
 use Rattle.clap.specs.Words.{Row, Text, first_of}
-use Rattle.tw_cli.specs.Options.{HasNumber, IsDriverIn, IsFromIn, IsPictureIn, IsUndriven, IsWorkersIn}
+use Rattle.tw_cli.specs.Options.{HasNumber, IsDriverIn, IsFromIn, IsPictureIn, IsStartIn, IsUndriven, IsWorkersIn}
 use Rattle.tw_cli.specs.declared.driving.Driver.{Driver}
 use Rattle.tw_cli.specs.declared.driving.Driver.TheVariants.{Script, Seed}
 use Rattle.tw_cli.specs.declared.seeing.Picture.{Picture}
@@ -39,6 +39,11 @@ no_workers rows counted missing (Count n) is = missing n is
 no_workers rows counted missing Auto is = counted is
 
 -- where the option stands, its number says from when on
+pub no_start : (rows : List Row) → is_some (first_of (codes "from") rows) ≡ true
+    → ((n : ℕ) → ¬ (HasNumber (codes "from") 0 1099511627774 rows n)) → (o : Option ℕ) → ¬ (IsStartIn rows o)
+no_start rows stands missing None is = let bad : is_some {T = Text} None ≡ true = sym (ap is_some is) ∙ stands in cc
+no_start rows stands missing (Some n) has = missing n has
+
 pub no_from : (rows : List Row) → is_some (first_of (codes "from") rows) ≡ true
     → ((n : ℕ) → ¬ (HasNumber (codes "from") 0 1099511627774 rows n)) → (n : ℕ) → ¬ (IsFromIn rows n)
 no_from rows stands missing n (inl left_out) = let bad : is_some {T = Text} None ≡ true = sym (ap is_some left_out.0) ∙ stands in cc

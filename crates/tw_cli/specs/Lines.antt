@@ -15,9 +15,9 @@ use Rattle.clap.specs.declared.error.kind.ErrorKind.{ErrorKind}
 use Rattle.clap.specs.declared.error.kind.ErrorKind.TheVariants as kind
 use Rattle.tw_vtime.specs.declared.refusal.Refusal.{Refusal}
 use Rattle.tw_vtime.specs.declared.refusal.Refusal.TheVariants as refusal
-use Rattle.tw_cli.specs.Options.{HasFlag, HasNumber, IsCancelIn, IsDriverIn, IsPictureIn, IsRowsIn, IsSettingIn}
+use Rattle.tw_cli.specs.Options.{HasFlag, HasNumber, IsCancelIn, IsDriverIn, IsFromIn, IsPictureIn, IsRowsIn, IsSettingIn, IsStartIn}
 use Rattle.tw_cli.specs.declared.jobs.Job.{Job}
-use Rattle.tw_cli.specs.declared.jobs.Job.TheVariants.{Demo, Check, Simulate}
+use Rattle.tw_cli.specs.declared.jobs.Job.TheVariants.{Demo, Check, Dot, Simulate}
 use Rattle.tw_cli.specs.declared.jobs.Task.{Task}
 use Rattle.tw_cli.specs.declared.jobs.Task.TheVariants.{Seq, Stats, Table, Draw, Run, Play}
 use Rattle.tw_cli.specs.declared.jobs.NoJob.{NoJob}
@@ -60,12 +60,22 @@ flag_rule id = record (new_rule id) { long = Some id; action = Some SetTrue }
 abbrev pub until_rule : Rule
 until_rule = record (number_rule (codes "until") 0 1099511627774) { required = true }
 
+-- a tick from which on a run is told or seen
+abbrev pub from_rule : Rule
+from_rule = number_rule (codes "from") 0 1099511627774
+
 abbrev pub demo_app : App
 demo_app = new_app (codes "demo")
 
 -- a subcommand that takes a network file alone
+abbrev pub file_app : Text → App
+file_app name = with_rule (new_app name) net_rule
+
 abbrev pub check_app : App
-check_app = with_rule (new_app (codes "check")) net_rule
+check_app = file_app (codes "check")
+
+abbrev pub dot_app : App
+dot_app = file_app (codes "dot")
 
 -- a subcommand over a network, up to an end tick
 abbrev pub network_app : Text → App
@@ -79,10 +89,10 @@ abbrev pub seq_app : App
 seq_app = told_app (codes "seq")
 
 abbrev pub stats_app : App
-stats_app = with_rule (told_app (codes "stats")) (flag_rule (codes "json"))
+stats_app = with_rule (with_rule (told_app (codes "stats")) from_rule) (flag_rule (codes "json"))
 
 abbrev pub table_app : App
-table_app = with_rule (with_rule (told_app (codes "table")) (flag_rule (codes "items"))) (flag_rule (codes "words"))
+table_app = with_rule (with_rule (with_rule (told_app (codes "table")) from_rule) (flag_rule (codes "items"))) (flag_rule (codes "words"))
 
 -- `run` and what its workers are set to: 2 workers, bursts of 64 steps and a window of all ticks where it is left out,
 -- and no word of how far it is
@@ -112,7 +122,7 @@ play_app = cancelled_app (network_app (codes "play"))
 -- `draw` and what is seen of a run, before what may drive it
 abbrev pub seen_app : App
 seen_app = with_rule (with_rule (with_rule (network_app (codes "draw"))
-    (number_rule (codes "from") 0 1099511627774))
+    from_rule)
     (text_rule (codes "only")))
     (text_rule (codes "figure"))
 
@@ -125,7 +135,7 @@ bare_app = record { top = record (new_app (codes "twarp")).top { has_version = t
 
 -- with the subcommands that simulate no network of a file
 abbrev pub first_app : App
-first_app = with_subcommand (with_subcommand bare_app demo_app.top) check_app.top
+first_app = with_subcommand (with_subcommand (with_subcommand bare_app demo_app.top) check_app.top) dot_app.top
 
 -- with those that tell of the sequential run
 abbrev pub alone_app : App
@@ -143,8 +153,8 @@ IsJoined old made new = (sub : Command) × (made ≡ Ok sub) × AddsSubcommand o
 -- the name of the subcommand of a task
 abbrev pub task_name : Task → Text
 task_name (Seq progress) = codes "seq"
-task_name (Stats json progress) = codes "stats"
-task_name (Table lines progress) = codes "table"
+task_name (Stats from json progress) = codes "stats"
+task_name (Table from lines progress) = codes "table"
 task_name (Draw picture) = codes "draw"
 task_name (Run cancel setting) = codes "run"
 task_name (Play cancel driver) = codes "play"
@@ -152,8 +162,8 @@ task_name (Play cancel driver) = codes "play"
 -- its options say what it is to do
 abbrev pub IsTaskIn : List Row → Task → Type 0
 IsTaskIn rows (Seq progress) = HasFlag (codes "progress") rows progress
-IsTaskIn rows (Stats json progress) = HasFlag (codes "json") rows json × HasFlag (codes "progress") rows progress
-IsTaskIn rows (Table lines progress) = IsRowsIn rows lines × HasFlag (codes "progress") rows progress
+IsTaskIn rows (Stats from json progress) = IsStartIn rows from × HasFlag (codes "json") rows json × HasFlag (codes "progress") rows progress
+IsTaskIn rows (Table from lines progress) = IsFromIn rows from × IsRowsIn rows lines × HasFlag (codes "progress") rows progress
 IsTaskIn rows (Draw picture) = IsPictureIn rows picture
 IsTaskIn rows (Run cancel setting) = IsCancelIn rows cancel × IsSettingIn rows setting
 IsTaskIn rows (Play cancel driver) = IsCancelIn rows cancel × IsDriverIn rows driver
@@ -170,6 +180,7 @@ IsSimulationOf name rows net until task =
 abbrev pub IsJobOf : Text → List Row → Job → Type 0
 IsJobOf name rows Demo = name ≡ codes "demo"
 IsJobOf name rows (Check net) = (name ≡ codes "check") × (first_of (codes "net") rows ≡ Some net.now)
+IsJobOf name rows (Dot net) = (name ≡ codes "dot") × (first_of (codes "net") rows ≡ Some net.now)
 IsJobOf name rows (Simulate net until task) = IsSimulationOf name rows net.now until task
 
 -- of no subcommand there is none

@@ -1,7 +1,7 @@
 -- What the options of a subcommand say, over the rows that clap's parse finds.
 --     HasNumber id least most rows n      the number of an option, in its range
---     IsCancelIn, IsDriverIn, IsSettingIn, IsRowsIn, IsPictureIn      what several of them say together
-use Rattle.std.specs.Prelude.{◌≡◌, ◌≢◌, ◌≤◌, ◌⊎◌, ℕ, Bool, List, None, Some, codes, false, true, option_map}
+--     IsStartIn, IsCancelIn, IsDriverIn, IsSettingIn, IsRowsIn, IsPictureIn      what several of them say together
+use Rattle.std.specs.Prelude.{◌≡◌, ◌≢◌, ◌≤◌, ◌⊎◌, ℕ, Bool, List, Option, None, Some, codes, false, true, option_map}
 use Rattle.std.specs.Str.Parse.{IsNumeral, digits_value, without_leading_plus}
 use Rattle.clap.specs.Words.{Row, Text, first_of, one_of}
 use Rattle.tw_actions.specs.declared.cancel.Cancel.{Cancel}
@@ -61,7 +61,12 @@ IsRowsIn rows Records = HasFlag (codes "items") rows false × HasFlag (codes "wo
 IsRowsIn rows Items = HasFlag (codes "items") rows true × HasFlag (codes "words") rows false
 IsRowsIn rows Words = HasFlag (codes "items") rows false × HasFlag (codes "words") rows true
 
--- from a tick on, or from the first one where no option stands
+-- from a tick on, where the option stands
+abbrev pub IsStartIn : List Row → Option ℕ → Type 0
+IsStartIn rows None = first_of (codes "from") rows ≡ None
+IsStartIn rows (Some from) = HasNumber (codes "from") 0 1099511627774 rows from
+
+-- or from the first one where no option stands
 abbrev pub IsFromIn : List Row → ℕ → Type 0
 IsFromIn rows from = ((first_of (codes "from") rows ≡ None) × (from ≡ 0)) ⊎ HasNumber (codes "from") 0 1099511627774 rows from
 

@@ -7,7 +7,7 @@ ghost use Rattle.tw_cli.specs.Lines.{twarp_app, IsJob, IsJobOf, IsReason, IsMade
 use crate::commands::command;
 use crate::driving::{cancel_in, driver_in};
 use crate::jobs::{Job, NoJob, Task};
-use crate::seeing::{picture_in, rows_in};
+use crate::seeing::{from_in, picture_in, rows_in, start_in};
 use crate::setting::setting_in;
 use crate::values::{flag_in, number_in, text_in};
 use clap::error::ErrorKind;
@@ -25,15 +25,46 @@ fn check_in<'a>(options: &ArgMatches<'a>) -> Option<Job<'a>>
     Some(Job::Check { net })
 }
 
-/// The task of `table` and its options; none where they do not say what a line is of.
+/// The job of `dot` and its options; none where no path of a file stands there.
+fn dot_in<'a>(options: &ArgMatches<'a>) -> Option<Job<'a>>
+    ensures some { IfSome result (IsJobOf (codes "dot") (rows_of (found_of options.now))) }
+    ensures none { let rows = rows_of (found_of options.now) in
+        IfNone result ((net : _) → first_of (codes "net") rows ≢ Some net) }
+{
+    let net = text_in(options, "net")?;
+    Some(Job::Dot { net })
+}
+
+/// The task of `stats` and its options; none where they do not say from when on it counts.
+fn stats_in<'a>(options: &ArgMatches<'a>) -> Option<Task<'a>>
+    ensures some { IfSome result (IsTaskOf (codes "stats") (rows_of (found_of options.now))) }
+    ensures none { let rows = rows_of (found_of options.now) in
+        IfNone result ((t : _) → ¬ (IsTaskOf (codes "stats") rows t)) }
+{
+    let from = start_in(options)?;
+    let json = flag_in(options, "json");
+    let progress = flag_in(options, "progress");
+    Some(Task::Stats {
+        from,
+        json,
+        progress,
+    })
+}
+
+/// The task of `table` and its options; none where they do not say what a line is of, or from when on there are any.
 fn table_in<'a>(options: &ArgMatches<'a>) -> Option<Task<'a>>
     ensures some { IfSome result (IsTaskOf (codes "table") (rows_of (found_of options.now))) }
     ensures none { let rows = rows_of (found_of options.now) in
         IfNone result ((t : _) → ¬ (IsTaskOf (codes "table") rows t)) }
 {
+    let from = from_in(options)?;
     let rows = rows_in(options)?;
     let progress = flag_in(options, "progress");
-    Some(Task::Table { rows, progress })
+    Some(Task::Table {
+        from,
+        rows,
+        progress,
+    })
 }
 
 /// The task of `draw` and its options; none where they do not say what the picture is of.
@@ -78,10 +109,7 @@ fn task_named<'a>(name: &str, options: &ArgMatches<'a>) -> Option<Task<'a>>
         "seq" => Some(Task::Seq {
             progress: flag_in(options, "progress"),
         }),
-        "stats" => Some(Task::Stats {
-            json: flag_in(options, "json"),
-            progress: flag_in(options, "progress"),
-        }),
+        "stats" => stats_in(options),
         "table" => table_in(options),
         "draw" => draw_in(options),
         "run" => run_in(options),
@@ -111,6 +139,7 @@ fn job_named<'a>(name: &str, options: &ArgMatches<'a>) -> Option<Job<'a>>
     match name {
         "demo" => Some(Job::Demo),
         "check" => check_in(options),
+        "dot" => dot_in(options),
         _ => simulation_in(name, options),
     }
 }
@@ -138,8 +167,9 @@ fn no_job(error: Error) -> NoJob
 
 /// The job that a command line asks for. The first word is the program's name.
 ///
-/// The jobs are `demo`; `check NET`; `seq NET --until T`; `stats NET --until T` with `--json` or without; `table NET --until T`
-/// with `--items` or `--words` or neither; `run NET --until T` with `--workers N` (1 to 64) or `--workers auto`, `--burst K` (1 to
+/// The jobs are `demo`; `check NET`; `dot NET`; `seq NET --until T`; `stats NET --until T` with `--json` or without, and with `--from T0` (0 to
+/// 1,099,511,627,774 ticks) or without; `table NET --until T`
+/// with `--items` or `--words` or neither, and with `--from T0` or without; `run NET --until T` with `--workers N` (1 to 64) or `--workers auto`, `--burst K` (1 to
 /// 256 steps) and `--window W` (0 to 1,099,511,627,774 ticks), which are 2, 64 and 1,099,511,627,774 where they are left out;
 /// `play NET --until T` with what drives it, either `--script FILE` alone or both `--seed S` and `--steps N`; and
 /// `draw NET --until T`, either with what drives an executive, as `play`, or with what is seen of a run: `--from T0` (0 to

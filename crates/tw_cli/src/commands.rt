@@ -2,12 +2,12 @@
 
 ghost use Rattle.std.specs.Prelude.{◌≡◌, IfOk, codes};
 ghost use Rattle.clap.specs.Words.{App, app_of};
-ghost use Rattle.tw_cli.specs.Lines.{flag_rule, net_rule, number_rule, text_rule, until_rule, alone_app, cancelled_app, check_app, demo_app, draw_app, driven_app, first_app, network_app, play_app, preset_rule, preset_text_rule, run_app, seen_app, seq_app, set_app, stats_app, table_app, told_app, twarp_app, IsArg, IsCommand, IsJoined};
+ghost use Rattle.tw_cli.specs.Lines.{flag_rule, from_rule, net_rule, number_rule, text_rule, until_rule, alone_app, cancelled_app, check_app, demo_app, dot_app, draw_app, driven_app, file_app, first_app, network_app, play_app, preset_rule, preset_text_rule, run_app, seen_app, seq_app, set_app, stats_app, table_app, told_app, twarp_app, IsArg, IsCommand, IsJoined};
 
 use crate::driving::MAX_STEPS;
 use crate::help::{
-    CHECK_END, DEMO_END, DRAW_END, PLAY_END, RUN_END, SEQ_END, STATS_END, TABLE_END, TWARP_END,
-    VERSION,
+    CHECK_END, DEMO_END, DOT_END, DRAW_END, PLAY_END, RUN_END, SEQ_END, STATS_END, TABLE_END,
+    TWARP_END, VERSION,
 };
 use clap::builder::ValueParser;
 use clap::{Arg, ArgAction, Command};
@@ -87,15 +87,41 @@ fn demo_command<'a>(alloc: Global) -> Command<'a>
         .after_help(DEMO_END)
 }
 
+/// A subcommand that takes a network file alone.
+fn file_command<'a>(
+    alloc: Global,
+    name: &'a str,
+    about: &'a str,
+    end: &'a str,
+) -> Result<Command<'a>, AllocError>
+    ensures { IfOk result (IsCommand (file_app name.entry.now)) }
+{
+    Command::new(alloc, name)
+        .about(about)
+        .after_help(end)
+        .arg(net(alloc))
+}
+
 fn check_command<'a>(alloc: Global) -> Result<Command<'a>, AllocError>
     ensures { IfOk result (IsCommand check_app) }
 {
-    Command::new(alloc, "check")
-        .about(
-            "Check a network file. Print what it contains, or the place and the reason of its first fault",
-        )
-        .after_help(CHECK_END)
-        .arg(net(alloc))
+    file_command(
+        alloc,
+        "check",
+        "Check a network file. Print what it contains, or the place and the reason of its first fault",
+        CHECK_END,
+    )
+}
+
+fn dot_command<'a>(alloc: Global) -> Result<Command<'a>, AllocError>
+    ensures { IfOk result (IsCommand dot_app) }
+{
+    file_command(
+        alloc,
+        "dot",
+        "Print a network as a graph that Graphviz draws: components, ports, couplings and coupled models",
+        DOT_END,
+    )
 }
 
 /// A subcommand over a network, up to an end.
@@ -151,6 +177,13 @@ fn json<'a>(alloc: Global) -> Arg<'a>
     flag(alloc, "json").help("Print one line of JSON")
 }
 
+/// The tick from which on a run is told or seen.
+fn from<'a>(alloc: Global, help: &'a str) -> Arg<'a>
+    ensures { IsArg from_rule result }
+{
+    number(alloc, "from", "T0", 0, MAX_TICK).help(help)
+}
+
 fn stats_command<'a>(alloc: Global) -> Result<Command<'a>, AllocError>
     ensures { IfOk result (IsCommand stats_app) }
 {
@@ -160,6 +193,10 @@ fn stats_command<'a>(alloc: Global) -> Result<Command<'a>, AllocError>
         "Simulate a network. Print the counts of each component, and the least, greatest, last and mean value of each figure",
         STATS_END,
     )?
+    .arg(from(
+        alloc,
+        "Count from tick T0 on, 0 to 1099511627774. Without it the whole run counts",
+    ))?
     .arg(json(alloc))
 }
 
@@ -186,6 +223,10 @@ fn table_command<'a>(alloc: Global) -> Result<Command<'a>, AllocError>
         "Simulate a network and print its records as comma-separated values, one record per line",
         TABLE_END,
     )?
+    .arg(from(
+        alloc,
+        "First tick of the table, 0 to 1099511627774. Default: 0",
+    ))?
     .arg(items(alloc))?
     .arg(words(alloc))
 }
@@ -308,14 +349,6 @@ fn play_command<'a>(alloc: Global) -> Result<Command<'a>, AllocError>
     cancelled_command(bare, alloc)
 }
 
-fn from<'a>(alloc: Global) -> Arg<'a>
-    ensures { IsArg (number_rule (codes "from") 0 1099511627774) result }
-{
-    number(alloc, "from", "T0", 0, MAX_TICK).help(
-        "First tick of the picture, 0 to 1099511627774. Default: 0",
-    )
-}
-
 fn only<'a>(alloc: Global) -> Arg<'a>
     ensures { IsArg (text_rule (codes "only")) result }
 {
@@ -342,7 +375,10 @@ fn seen_command<'a>(alloc: Global) -> Result<Command<'a>, AllocError>
         "Draw a run as an SVG picture, one lane per component. With --script or --seed, draw a Time Warp run with its rollbacks",
         DRAW_END,
     )?
-    .arg(from(alloc))?
+    .arg(from(
+        alloc,
+        "First tick of the picture, 0 to 1099511627774. Default: 0",
+    ))?
     .arg(only(alloc))?
     .arg(figure(alloc))
 }
@@ -374,7 +410,8 @@ fn first_commands<'a>(alloc: Global) -> Result<Command<'a>, AllocError>
         .after_help(TWARP_END)
         .subcommand_required(true)
         .subcommand(demo_command(alloc))?;
-    with_made(first, check_command(alloc))
+    let second = with_made(first, check_command(alloc))?;
+    with_made(second, dot_command(alloc))
 }
 
 /// The program with the subcommands that tell of the sequential run.

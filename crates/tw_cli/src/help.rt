@@ -22,13 +22,19 @@ Exit status: 0 no fault; 2 a fault: its number is on standard error, its place a
 Format of the network file: docs/FORMATS.md.
 ";
 
+pub(crate) const DOT_END: &str = "Example: twarp dot examples/two-lines.json | dot -Tsvg >lines.svg
+
+Exit status: 0 success; 2 bad command line or file; 4 out of memory; 5 standard output failed.
+What the picture shows: docs/PICTURES.md.
+";
+
 pub(crate) const SEQ_END: &str = "Example: twarp seq examples/gen-tally.json --until 5
 
 Exit status: 0 success; 2 bad command line or file; 3 a component met a limit; 4 out of memory; 5 standard output failed.
 Formats of the network file and the trace: docs/FORMATS.md.
 ";
 
-pub(crate) const STATS_END: &str = "Example: twarp stats examples/gen-tally.json --until 5
+pub(crate) const STATS_END: &str = "Example: twarp stats examples/gen-tally.json --until 5 --from 2
 
 Exit status: 0 success; 2 bad command line or file; 3 a component met a limit: its line is on standard error; 4 out of memory; 5 standard output failed.
 Figures of each model, means, and the JSON: docs/FORMATS.md.

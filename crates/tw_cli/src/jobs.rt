@@ -22,6 +22,11 @@ pub enum Job<'a> {
         /// The path of the network file.
         net: &'a str,
     },
+    /// Read a network file and write the network as Graphviz reads it; simulate nothing.
+    Dot {
+        /// The path of the network file.
+        net: &'a str,
+    },
     /// Simulate a network.
     Simulate {
         /// The path of the network file.
@@ -43,6 +48,8 @@ pub enum Task<'a> {
     },
     /// The same way; write counts and figures of the run.
     Stats {
+        /// The tick from which on they are counted, 0 to 1,099,511,627,774; of the whole run where there is none.
+        from: Option<u64>,
         /// Whether they are written as a line of JSON, in place of tables.
         json: bool,
         /// Whether a line on standard error tells once a second how far the run is.
@@ -50,6 +57,8 @@ pub enum Task<'a> {
     },
     /// The same way; write its records as comma-separated values.
     Table {
+        /// The tick from which on it has records, 0 to 1,099,511,627,774; 0 where none was asked for.
+        from: u64,
         /// What a line is of.
         rows: Rows,
         /// Whether a line on standard error tells once a second how far the run is.

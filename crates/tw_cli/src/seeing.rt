@@ -2,7 +2,7 @@
 
 ghost use Rattle.std.specs.Prelude.{IfSome, IfNone, IsTrue, IsFalse};
 ghost use Rattle.clap.specs.Words.{rows_of, found_of};
-ghost use Rattle.tw_cli.specs.Options.{IsFromIn, IsPictureIn, IsRowsIn, IsUnseen};
+ghost use Rattle.tw_cli.specs.Options.{IsFromIn, IsPictureIn, IsRowsIn, IsStartIn, IsUnseen};
 
 use crate::driving::{Driver, cancel_in, driver_in, is_driven};
 use crate::values::{flag_in, has, number_in, text_in};
@@ -48,8 +48,20 @@ fn is_seen(options: &ArgMatches<'_>) -> bool
     has(options, "from") || has(options, "only") || has(options, "figure")
 }
 
+/// The tick from which on figures are told, among the options; none where that is left out.
+pub fn start_in(options: &ArgMatches<'_>) -> Option<Option<u64>>
+    ensures some { IfSome result (IsStartIn (rows_of (found_of options.now))) }
+    ensures none { IfNone result ((o : _) → ¬ (IsStartIn (rows_of (found_of options.now)) o)) }
+{
+    if !has(options, "from") {
+        return Some(None);
+    }
+    let from = number_in(options, "from", 0, MAX_TICK)?;
+    Some(Some(from))
+}
+
 /// The tick from which on a run is seen, among the options.
-fn from_in(options: &ArgMatches<'_>) -> Option<u64>
+pub(crate) fn from_in(options: &ArgMatches<'_>) -> Option<u64>
     ensures some { IfSome result (IsFromIn (rows_of (found_of options.now))) }
     ensures none { IfNone result ((n : _) → ¬ (IsFromIn (rows_of (found_of options.now)) n)) }
 {

@@ -5,7 +5,7 @@ use Rattle.std.specs.Prelude.{◌≢◌, ◌⊎◌, Option, None, Some, Ok, Err,
 use Rattle.std.specs.Io.KnownBytes.{Keeps}
 use Rattle.tw_any_model.specs.declared.any_model.AnyModel.{AnyModel}
 use Rattle.tw_engine.proofs.Driven.{keeps_all}
-use Rattle.tw_engine.specs.Drawings.{IsScriptDrawn, IsViewDrawnOf}
+use Rattle.tw_engine.specs.Drawings.{IsGraphedOf, IsScriptDrawn, IsViewDrawnOf}
 use Rattle.tw_engine.specs.Ends.{Fault, failed_of}
 use Rattle.tw_engine.specs.Runs.{HasNoRun, run_fault}
 use Rattle.tw_engine.specs.Scripting.{HasNoCommands}
@@ -20,6 +20,12 @@ use Rattle.tw_texts.specs.Refusals.{not_written_refusal}
 use Rattle.tw_texts.specs.declared.traces.NotWritten.{NotWritten}
 use Rattle.tw_texts.specs.declared.traces.NotWritten.TheVariants.{OutOfMemory, WriteFailed}
 use Rattle.tw_vtime.specs.Stamps.{max_tick}
+
+-- ---- of a network
+
+pub not_graphed : (why : NotWritten) (old new : Option (List ℕ)) → (why ≡ OutOfMemory → new ≡ old) → IsGraphedOf (Err (failed_of (not_written_refusal why))) old new
+not_graphed OutOfMemory old new idle = (refl, subst (Keeps old) (sym (idle refl)) (keeps_all old))
+not_graphed WriteFailed old new idle = tt
 
 -- ---- of a sequential run
 

@@ -48,11 +48,11 @@ labels_of_bytes bytes file n is = sym (ap (λ (r : Result Data FileRefused). opt
 
 -- ---- counts and figures
 
-module _ (n : Contents AnyModel) (labels : List Label) (until : ℕ) (json : Bool) where
+module _ (n : Contents AnyModel) (labels : List Label) (from : Option ℕ) (until : ℕ) (json : Bool) where
   -- they are of the run
   pub summed_up : (report : Report) (line : Option (String Global)) (old new : Option (List ℕ))
-      → IsReport (network_of any_meaning n) until labels report → IsLineOf n report.fault line
-      → Appends old new (report_bytes json (name_in n.names) labels report) → IsSummedOf n labels until json (Ok line) old new
+      → IsReport (network_of any_meaning n) from until labels report → IsLineOf n report.fault line
+      → Appends old new (report_bytes json (name_in n.names) labels report) → IsSummedOf n labels from until json (Ok line) old new
   summed_up report line old new is of written = (
     subst (λ (f : Option Fault). IsLineOf n f line) is.fault of,
     record { report = report; is = is; written = written },
@@ -60,30 +60,30 @@ module _ (n : Contents AnyModel) (labels : List Label) (until : ℕ) (json : Boo
 
   -- a run that is refused
   pub not_reported : (why : SeqRefused) (old : Option (List ℕ))
-      → (why ≡ run.BadTick → max_tick < until) → IsSummedOf n labels until json (Err (failed_of (seq_refusal why))) old old
+      → (why ≡ run.BadTick → max_tick < until) → IsSummedOf n labels from until json (Err (failed_of (seq_refusal why))) old old
   not_reported run.OutOfMemory old late = (refl, keeps_all old)
   not_reported run.BadTick old late = ((refl, late refl), keeps_all old)
 
   -- writing that is refused
   pub not_summed : (why : NotWritten) (old new : Option (List ℕ))
-      → (why ≢ writing.WriteFailed → Keeps old new) → IsSummedOf n labels until json (Err (failed_of (not_written_refusal why))) old new
+      → (why ≢ writing.WriteFailed → Keeps old new) → IsSummedOf n labels from until json (Err (failed_of (not_written_refusal why))) old new
   not_summed writing.OutOfMemory old new keeps = (refl, keeps (λ e. cc))
   not_summed writing.WriteFailed old new keeps = tt
 
 -- ---- the table
 
-pub tabulated : (n : Contents AnyModel) (until : ℕ) (rows : Rows) (fault : Option Fault) (line : Option (String Global)) (old new : Option (List ℕ))
-    → fault ≡ run_fault n until → IsLineOf n fault line → Appends old new (run_table n until rows) → IsTabulatedOf n until rows (Ok line) old new
-tabulated n until rows fault line old new is of written = (subst (λ (f : Option Fault). IsLineOf n f line) is of, written)
+pub tabulated : (n : Contents AnyModel) (from until : ℕ) (rows : Rows) (fault : Option Fault) (line : Option (String Global)) (old new : Option (List ℕ))
+    → fault ≡ run_fault n until → IsLineOf n fault line → Appends old new (run_table n from until rows) → IsTabulatedOf n from until rows (Ok line) old new
+tabulated n from until rows fault line old new is of written = (subst (λ (f : Option Fault). IsLineOf n f line) is of, written)
 
 -- a run that is refused, before anything is written
-pub not_tabulated : (n : Contents AnyModel) (until : ℕ) (rows : Rows) (why : Failed) (old : Option (List ℕ))
-    → HasNoRun until why → IsTabulatedOf n until rows (Err why) old old
-not_tabulated n until rows why old (inl want) = subst (λ w. IsTabulatedOf n until rows (Err w) old old) (sym want) (refl, inl (keeps_all old))
-not_tabulated n until rows why old (inr late) = subst (λ w. IsTabulatedOf n until rows (Err w) old old) (sym late.0) ((refl, late.1), keeps_all old)
+pub not_tabulated : (n : Contents AnyModel) (from until : ℕ) (rows : Rows) (why : Failed) (old : Option (List ℕ))
+    → HasNoRun until why → IsTabulatedOf n from until rows (Err why) old old
+not_tabulated n from until rows why old (inl want) = subst (λ w. IsTabulatedOf n from until rows (Err w) old old) (sym want) (refl, inl (keeps_all old))
+not_tabulated n from until rows why old (inr late) = subst (λ w. IsTabulatedOf n from until rows (Err w) old old) (sym late.0) ((refl, late.1), keeps_all old)
 
 -- a table that is not written to its end
-pub table_short : (n : Contents AnyModel) (until : ℕ) (rows : Rows) (why : NotWritten) (old new : Option (List ℕ))
-    → (why ≡ writing.OutOfMemory → AppendsBeginning old new (run_table n until rows)) → IsTabulatedOf n until rows (Err (failed_of (not_written_refusal why))) old new
-table_short n until rows writing.OutOfMemory old new begun = (refl, inr (begun refl))
-table_short n until rows writing.WriteFailed old new begun = tt
+pub table_short : (n : Contents AnyModel) (from until : ℕ) (rows : Rows) (why : NotWritten) (old new : Option (List ℕ))
+    → (why ≡ writing.OutOfMemory → AppendsBeginning old new (run_table n from until rows)) → IsTabulatedOf n from until rows (Err (failed_of (not_written_refusal why))) old new
+table_short n from until rows writing.OutOfMemory old new begun = (refl, inr (begun refl))
+table_short n from until rows writing.WriteFailed old new begun = tt

@@ -1,10 +1,11 @@
 -- How a picture ends, and when nothing is written. What is drawn is told by tests.
+--     IsGraphed bytes end old new      the graph of the network that a file's bytes mean
 --     IsViewDrawn bytes until end old new      the picture of the run of the network that a file's bytes mean
 --     IsWarpDrawn driver bytes until end script old new      that of a run of Time Warp, with what drives it
 use Rattle.std.specs.Prelude.{◌≡◌, ◌⊎◌, ℕ, List, Option, None, Some, IfSome, Ok, Err, ⊤}
 use Rattle.std.specs.Io.KnownBytes.{Keeps}
 use Rattle.tw_any_model.specs.declared.any_model.AnyModel.{AnyModel}
-use Rattle.tw_engine.specs.Ends.{Fails, ViewEnd}
+use Rattle.tw_engine.specs.Ends.{Fails, PlainEnd, ViewEnd}
 use Rattle.tw_engine.specs.Runs.{HasNoNetwork, IsCause, IsLate, IsUnread, Means, run_fault}
 use Rattle.tw_engine.specs.Views.{IsLineOf}
 use Rattle.tw_engine.specs.declared.failed.Failed.TheVariants.{Bad, Want, NoWrite}
@@ -15,6 +16,18 @@ use Rattle.tw_script.specs.Scripts.{IsRefusedFor, IsScript}
 use Rattle.tw_script.specs.declared.command.Command.{Command}
 use Rattle.tw_script.specs.declared.refused.ScriptRefused.TheVariants.{TooMany, BadLine}
 use Rattle.tw_vtime.specs.declared.refusal.Refusal.TheVariants as refusal
+
+-- ---- of a network
+
+-- where memory is wanting nothing is written
+abbrev pub IsGraphedOf : PlainEnd → Option (List ℕ) → Option (List ℕ) → Type 0
+IsGraphedOf (Ok done) old new = Unit {0}
+IsGraphedOf (Err (Bad why line)) old new = ⊥
+IsGraphedOf (Err (Want why)) old new = (why ≡ refusal.OutOfMemory) × Keeps old new
+IsGraphedOf (Err NoWrite) old new = Unit {0}
+
+abbrev pub IsGraphed : List ℕ → PlainEnd → Option (List ℕ) → Option (List ℕ) → Type 0
+IsGraphed bytes end old new = (Fails end (HasNoNetwork bytes) × Keeps old new) ⊎ Means bytes (λ n. IsGraphedOf end old new)
 
 -- ---- of a sequential run
 

@@ -5,7 +5,7 @@
 use Rattle.std.specs.Prelude.{◌≡◌, ◌⊎◌, ℕ, List, Option, IfSome, Result, ⊤}
 use Rattle.std.specs.Io.KnownBytes.{Keeps}
 use Rattle.tw_engine.specs.Checks.{IsCheck}
-use Rattle.tw_engine.specs.Drawings.{IsViewDrawn, IsWarpDrawn}
+use Rattle.tw_engine.specs.Drawings.{IsGraphed, IsViewDrawn, IsWarpDrawn}
 use Rattle.tw_engine.specs.Plays.{IsScripted, IsSeeded}
 use Rattle.tw_engine.specs.Ends.{Fails, PlainEnd, ViewEnd}
 use Rattle.tw_engine.specs.Exits.{exit_of_rest, exit_of_run, exit_of_view}
@@ -18,7 +18,7 @@ use Rattle.tw_cli.specs.declared.driving.Driver.TheVariants.{Script, Seed}
 use Rattle.tw_cli.specs.declared.seeing.Picture.{Picture}
 use Rattle.tw_cli.specs.declared.seeing.Picture.TheVariants as of
 use Rattle.tw_cli.specs.declared.jobs.Job.{Job}
-use Rattle.tw_cli.specs.declared.jobs.Job.TheVariants.{Demo, Check, Simulate}
+use Rattle.tw_cli.specs.declared.jobs.Job.TheVariants.{Demo, Check, Dot, Simulate}
 use Rattle.tw_cli.specs.declared.jobs.Task.{Task}
 use Rattle.tw_cli.specs.declared.jobs.Task.TheVariants.{Seq, Stats, Table, Draw, Run, Play}
 use Rattle.tw_theory.specs.Contents.{Cancel}
@@ -45,8 +45,8 @@ Ends {A} exit_for exit Is = (end : Result A Failed) × (exit ≡ exit_for end) �
 -- a network is simulated up to an end tick
 abbrev pub IsTaskDone : Task → ℕ → Exit → List ℕ → Option (List ℕ) → Option (List ℕ) → Option (List ℕ) → Type 0
 IsTaskDone (Seq progress) until exit bytes script old new = Ends exit_of_run exit (λ end. IsRun bytes until end old new)
-IsTaskDone (Stats json progress) until exit bytes script old new = Ends exit_of_view exit (λ end. IsSummed bytes until json end old new)
-IsTaskDone (Table rows progress) until exit bytes script old new = Ends exit_of_view exit (λ end. IsTabulated bytes until rows end old new)
+IsTaskDone (Stats from json progress) until exit bytes script old new = Ends exit_of_view exit (λ end. IsSummed bytes from until json end old new)
+IsTaskDone (Table from rows progress) until exit bytes script old new = Ends exit_of_view exit (λ end. IsTabulated bytes from until rows end old new)
 IsTaskDone (Draw picture) until exit bytes script old new = Ends exit_of_view exit (λ end. IsDrawn picture until end bytes script old new)
 IsTaskDone (Run cancel setting) until exit bytes script old new = Ends exit_of_run exit (λ end. IsRunByWorkers bytes cancel until end old new)
 IsTaskDone (Play cancel driver) until exit bytes script old new = Ends exit_of_rest exit (λ end. IsPlay driver until cancel end bytes script old new)
@@ -54,6 +54,7 @@ IsTaskDone (Play cancel driver) until exit bytes script old new = Ends exit_of_r
 abbrev pub IsDone : Job → Exit → List ℕ → Option (List ℕ) → Option (List ℕ) → Option (List ℕ) → Type 0
 IsDone Demo exit bytes script old new = Ends exit_of_run exit (λ end. IsDemo end old new)
 IsDone (Check net) exit bytes script old new = Ends exit_of_rest exit (λ end. IsCheck bytes end old new)
+IsDone (Dot net) exit bytes script old new = Ends exit_of_rest exit (λ end. IsGraphed bytes end old new)
 IsDone (Simulate net until task) exit bytes script old new = IsTaskDone task until exit bytes script old new
 
 -- ---- whether the script is read
@@ -72,8 +73,8 @@ PictureReads (of.Warp way driver) bytes = DriverReads driver bytes
 
 abbrev pub TaskReads : Task → List ℕ → Type 0
 TaskReads (Seq progress) bytes = ⊥
-TaskReads (Stats json progress) bytes = ⊥
-TaskReads (Table rows progress) bytes = ⊥
+TaskReads (Stats from json progress) bytes = ⊥
+TaskReads (Table from rows progress) bytes = ⊥
 TaskReads (Draw picture) bytes = PictureReads picture bytes
 TaskReads (Run cancel setting) bytes = ⊥
 TaskReads (Play cancel driver) bytes = DriverReads driver bytes
@@ -81,14 +82,15 @@ TaskReads (Play cancel driver) bytes = DriverReads driver bytes
 abbrev pub ReadsScript : Job → List ℕ → Type 0
 ReadsScript Demo bytes = ⊥
 ReadsScript (Check net) bytes = ⊥
+ReadsScript (Dot net) bytes = ⊥
 ReadsScript (Simulate net until task) bytes = TaskReads task bytes
 
 -- ---- whether threads do it
 
 abbrev pub IsByWorkers : Task → Type 0
 IsByWorkers (Seq progress) = ⊥
-IsByWorkers (Stats json progress) = ⊥
-IsByWorkers (Table rows progress) = ⊥
+IsByWorkers (Stats from json progress) = ⊥
+IsByWorkers (Table from rows progress) = ⊥
 IsByWorkers (Draw picture) = ⊥
 IsByWorkers (Run cancel setting) = ⊤
 IsByWorkers (Play cancel driver) = ⊥
@@ -96,4 +98,5 @@ IsByWorkers (Play cancel driver) = ⊥
 abbrev pub TakesThreads : Job → Type 0
 TakesThreads Demo = ⊤
 TakesThreads (Check net) = ⊥
+TakesThreads (Dot net) = ⊥
 TakesThreads (Simulate net until task) = IsByWorkers task

@@ -1,8 +1,8 @@
 -- What the engine writes where figures or a table of a run are asked for, and how that ends.
 --     IsLineOf n fault line      a line says the fault that a run ends in, and there is none where there is no fault
 --     file_labels bytes n      what the models of the network of a file are called, and their figures
---     IsSummed bytes until json end old new      counts and figures of the run of the network that a file's bytes mean
---     IsTabulated bytes until rows end old new      its table
+--     IsSummed bytes from until json end old new      counts and figures of the run of the network that a file's bytes mean, from a tick on where one was asked for
+--     IsTabulated bytes from until rows end old new      its table, from a tick on
 use Rattle.std.specs.Global.{Global}
 use Rattle.std.specs.Option.{option_map_or}
 use Rattle.std.specs.Prelude.{◌≡◌, ◌⊎◌, ℕ, [], Bool, List, Option, None, Some, Ok, Err, String, string_bytes}
@@ -14,6 +14,7 @@ use Rattle.tw_engine.specs.Ends.{Fails, Fault, ViewEnd}
 use Rattle.tw_engine.specs.Runs.{HasNoNetwork, IsLate, Means, fault_text, name_in, run_fault}
 use Rattle.tw_engine.specs.declared.failed.Failed.TheVariants.{Bad, Want, NoWrite}
 use Rattle.tw_figure_names.specs.Said.{labels_said}
+use Rattle.tw_figures.specs.Figures.{from_on}
 use Rattle.tw_figures.specs.Labelled.{Label}
 use Rattle.tw_figures.specs.declared.seeing.Rows.{Rows}
 use Rattle.tw_file_network.specs.Meaning.{json_of}
@@ -40,33 +41,33 @@ unfoldable pub file_labels : List ℕ → Contents AnyModel → List Label
 file_labels bytes n = option_map_or (λ file. labels_said file n.models) (result_ok (json_of bytes)) []
 
 -- the report of a network's sequential run is written, with these names and figures of its components' models
-pub record IsReported (n : Contents AnyModel) (labels : List Label) (until : ℕ) (json : Bool) (old new : Option (List ℕ)) : Type 0 where
+pub record IsReported (n : Contents AnyModel) (labels : List Label) (from : Option ℕ) (until : ℕ) (json : Bool) (old new : Option (List ℕ)) : Type 0 where
   pub report : Report
-  pub is : IsReport (network_of any_meaning n) until labels report
+  pub is : IsReport (network_of any_meaning n) from until labels report
   pub written : Appends old new (report_bytes json (name_in n.names) labels report)
 
 -- where memory is wanting nothing is written
-abbrev pub IsSummedOf : Contents AnyModel → List Label → ℕ → Bool → ViewEnd → Option (List ℕ) → Option (List ℕ) → Type 0
-IsSummedOf n labels until json (Ok line) old new = IsLineOf n (run_fault n until) line × IsReported n labels until json old new
-IsSummedOf n labels until json (Err (Bad why line)) old new = IsLate until (Bad why line) × Keeps old new
-IsSummedOf n labels until json (Err (Want why)) old new = (why ≡ refusal.OutOfMemory) × Keeps old new
-IsSummedOf n labels until json (Err NoWrite) old new = Unit {0}
+abbrev pub IsSummedOf : Contents AnyModel → List Label → Option ℕ → ℕ → Bool → ViewEnd → Option (List ℕ) → Option (List ℕ) → Type 0
+IsSummedOf n labels from until json (Ok line) old new = IsLineOf n (run_fault n until) line × IsReported n labels from until json old new
+IsSummedOf n labels from until json (Err (Bad why line)) old new = IsLate until (Bad why line) × Keeps old new
+IsSummedOf n labels from until json (Err (Want why)) old new = (why ≡ refusal.OutOfMemory) × Keeps old new
+IsSummedOf n labels from until json (Err NoWrite) old new = Unit {0}
 
-abbrev pub IsSummed : List ℕ → ℕ → Bool → ViewEnd → Option (List ℕ) → Option (List ℕ) → Type 0
-IsSummed bytes until json end old new =
-    (Fails end (HasNoNetwork bytes) × Keeps old new) ⊎ Means bytes (λ n. IsSummedOf n (file_labels bytes n) until json end old new)
+abbrev pub IsSummed : List ℕ → Option ℕ → ℕ → Bool → ViewEnd → Option (List ℕ) → Option (List ℕ) → Type 0
+IsSummed bytes from until json end old new =
+    (Fails end (HasNoNetwork bytes) × Keeps old new) ⊎ Means bytes (λ n. IsSummedOf n (file_labels bytes n) from until json end old new)
 
 -- ---- the table
 
--- the table of the records of a network's sequential run
-abbrev pub run_table : Contents AnyModel → ℕ → Rows → List ℕ
-run_table n until rows = table_text rows (name_in n.names) (sequential (network_of any_meaning n) until).records
+-- the table of the records of a network's sequential run, from a tick on
+abbrev pub run_table : Contents AnyModel → ℕ → ℕ → Rows → List ℕ
+run_table n from until rows = table_text rows (name_in n.names) (from_on from (sequential (network_of any_meaning n) until).records)
 
-abbrev pub IsTabulatedOf : Contents AnyModel → ℕ → Rows → ViewEnd → Option (List ℕ) → Option (List ℕ) → Type 0
-IsTabulatedOf n until rows (Ok line) old new = IsLineOf n (run_fault n until) line × Appends old new (run_table n until rows)
-IsTabulatedOf n until rows (Err (Bad why line)) old new = IsLate until (Bad why line) × Keeps old new
-IsTabulatedOf n until rows (Err (Want why)) old new = (why ≡ refusal.OutOfMemory) × (Keeps old new ⊎ AppendsBeginning old new (run_table n until rows))
-IsTabulatedOf n until rows (Err NoWrite) old new = Unit {0}
+abbrev pub IsTabulatedOf : Contents AnyModel → ℕ → ℕ → Rows → ViewEnd → Option (List ℕ) → Option (List ℕ) → Type 0
+IsTabulatedOf n from until rows (Ok line) old new = IsLineOf n (run_fault n until) line × Appends old new (run_table n from until rows)
+IsTabulatedOf n from until rows (Err (Bad why line)) old new = IsLate until (Bad why line) × Keeps old new
+IsTabulatedOf n from until rows (Err (Want why)) old new = (why ≡ refusal.OutOfMemory) × (Keeps old new ⊎ AppendsBeginning old new (run_table n from until rows))
+IsTabulatedOf n from until rows (Err NoWrite) old new = Unit {0}
 
-abbrev pub IsTabulated : List ℕ → ℕ → Rows → ViewEnd → Option (List ℕ) → Option (List ℕ) → Type 0
-IsTabulated bytes until rows end old new = (Fails end (HasNoNetwork bytes) × Keeps old new) ⊎ Means bytes (λ n. IsTabulatedOf n until rows end old new)
+abbrev pub IsTabulated : List ℕ → ℕ → ℕ → Rows → ViewEnd → Option (List ℕ) → Option (List ℕ) → Type 0
+IsTabulated bytes from until rows end old new = (Fails end (HasNoNetwork bytes) × Keeps old new) ⊎ Means bytes (λ n. IsTabulatedOf n from until rows end old new)

@@ -6,12 +6,13 @@ ghost use Rattle.tw_engine.specs.Jobs.{IsDone, ReadsScript, TakesThreads};
 use crate::exit::Exit;
 use crate::job_check::check;
 use crate::job_demo::demo;
+use crate::job_dot::dot;
 use crate::job_draw::{Drawing, draw, title_of};
 use crate::job_play::{Start, play};
 use crate::job_run::{Plan, run};
 use crate::job_seq::seq;
-use crate::job_stats::stats;
-use crate::job_table::table;
+use crate::job_stats::{Summary, stats};
+use crate::job_table::{Tabulation, table};
 use crate::telling::Teller;
 use std::alloc::Global;
 use std::io::{Read, Write};
@@ -28,14 +29,15 @@ use tw_cli::{Job, Task};
 /// | Job | Reads | Writes |
 /// |---|---|---|
 /// | `check` | the network | what the network has, or the place and the reason of the file's first fault; it simulates nothing |
+/// | `dot` | the network | the network as Graphviz reads it; it simulates nothing |
 /// | `seq` | the network | the trace of its sequential run, and the line of its fault if there is one |
-/// | `stats` | the network | counts and figures of that run |
-/// | `table` | the network | its records as comma-separated values |
+/// | `stats` | the network | counts and figures of that run, from a tick on where one was asked for |
+/// | `table` | the network | its records from a tick on as comma-separated values |
 /// | `draw` | the network, and then the script, if one drives an executive | a picture of that run, or of a run of Time Warp |
 /// | `play` | the network, and then the script, if one drives it | the answer to each command as it comes, and then the trace up to the least commit line |
 ///
 /// A script is read to its end, and only where the bytes of the network's file mean a network. Of `seq` and `table` nothing is written
-/// before the outcome of the simulation is known, of `stats` and `draw` nothing before all is known. Where they say so, `seq`, `stats`
+/// before the outcome of the simulation is known, of `stats`, `draw` and `dot` nothing before all is known. Where they say so, `seq`, `stats`
 /// and `table` tell on standard error how far they are.
 ///
 /// | Exit | Status | Number | Written |
@@ -43,7 +45,7 @@ use tw_cli::{Job, Task};
 /// | [`Exit::Done`], [`Exit::Fault`] | 0, 3 | | the whole text; of `check` its line |
 /// | [`Exit::Limited`] | 3 | of `stats`, `table` and `draw`: a component met a limit | what is told of the run before it |
 /// | [`Exit::Bad`] | 2 | 19: the script cannot be read; 5 to 11, 17, 18, 20, 21: the network's file is refused; 10: the end tick is above the greatest one; 15: of `draw`, no component or no figure has the name; 9, 22: the script has too many lines, or one that says nothing | nothing; of `check` a line of words |
-/// | [`Exit::Want`] | 4 | 4: a growth of memory was refused | a beginning of the text; of `play` only answers, and the line `refused 4 OutOfMemory` after them where a command was refused; of `stats` nothing |
+/// | [`Exit::Want`] | 4 | 4: a growth of memory was refused | a beginning of the text; of `play` only answers, and the line `refused 4 OutOfMemory` after them where a command was refused; of `stats` and `dot` nothing |
 /// | [`Exit::NoWrite`] | 5 | 24: the writer failed | only the writer knows |
 pub fn alone<R: Clock + Eprint, S: Read, W: Write>(
     rt: &R,
@@ -63,19 +65,38 @@ pub fn alone<R: Clock + Eprint, S: Read, W: Write>(
     match job {
         Job::Demo => None,
         Job::Check { .. } => Some(Exit::of_rest(check(alloc, bytes, out))),
+        Job::Dot { .. } => Some(Exit::of_rest(dot(alloc, bytes, out))),
         Job::Simulate { net, until, task } => match task {
             Task::Seq { progress } => {
                 let mut teller = Teller::new(rt, *until, *progress);
                 Some(Exit::of_run(seq(alloc, bytes, *until, &mut teller, out)))
             }
-            Task::Stats { json, progress } => {
+            Task::Stats {
+                from,
+                json,
+                progress,
+            } => {
                 let mut teller = Teller::new(rt, *until, *progress);
-                let ended = stats(alloc, bytes, *until, *json, &mut teller, out);
+                let summary = Summary {
+                    from: *from,
+                    until: *until,
+                    json: *json,
+                };
+                let ended = stats(alloc, bytes, summary, &mut teller, out);
                 Some(Exit::of_view(ended))
             }
-            Task::Table { rows, progress } => {
+            Task::Table {
+                from,
+                rows,
+                progress,
+            } => {
                 let mut teller = Teller::new(rt, *until, *progress);
-                let ended = table(alloc, bytes, *until, *rows, &mut teller, out);
+                let tabulation = Tabulation {
+                    from: *from,
+                    until: *until,
+                    rows: *rows,
+                };
+                let ended = table(alloc, bytes, tabulation, &mut teller, out);
                 Some(Exit::of_view(ended))
             }
             Task::Draw { picture } => {
@@ -140,7 +161,7 @@ fn by_threads<R: Threads + Wait + Clock + Eprint + Sync, W: Write>(
 {
     match job {
         Job::Demo => Exit::of_run(demo(rt, alloc, out)),
-        Job::Check { .. } => unreachable!(),
+        Job::Check { .. } | Job::Dot { .. } => unreachable!(),
         Job::Simulate { until, task, .. } => {
             let Task::Run { cancel, setting } = task else {
                 unreachable!()

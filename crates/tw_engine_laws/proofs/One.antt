@@ -9,6 +9,7 @@ use Rattle.tw_any_model.specs.declared.any_model.AnyState.{AnyState}
 use Rattle.tw_engine.specs.Checks.{check_text}
 use Rattle.tw_engine.specs.Runs.{fault_text, name_in, run_fault, run_text}
 use Rattle.tw_engine.specs.Views.{run_table}
+use Rattle.tw_figures.specs.Figures.{from_on}
 use Rattle.tw_figures.specs.declared.seeing.Rows.{Rows}
 use Rattle.tw_file_network.specs.OneMeaning.{MeansOne}
 use Rattle.tw_file_network.specs.TreeMeaning.{IsMeaning}
@@ -54,8 +55,8 @@ one_fault n m one until = ap (λ (r : Run AnyState). r.fault) (one.run until)
 pub one_line : (n m : Contents AnyModel) → AreOne n m → (until : ℕ) → fault_text n.names (run_fault n until) ≡ fault_text m.names (run_fault m until)
 one_line n m one until = ap₂ (λ names (r : Run AnyState). fault_text names r.fault) (sym one.same.names) (one.run until)
 
-pub one_table : (n m : Contents AnyModel) → AreOne n m → (until : ℕ) (rows : Rows) → run_table n until rows ≡ run_table m until rows
-one_table n m one until rows = ap₂ (λ names (r : Run AnyState). table_text rows (name_in names) r.records) (sym one.same.names) (one.run until)
+pub one_table : (n m : Contents AnyModel) → AreOne n m → (from until : ℕ) (rows : Rows) → run_table n from until rows ≡ run_table m from until rows
+one_table n m one from until rows = ap₂ (λ names (r : Run AnyState). table_text rows (name_in names) (from_on from r.records)) (sym one.same.names) (one.run until)
 
 -- what a network has, by the counts
 abbrev counts_text : ℕ → ℕ → ℕ → List ℕ

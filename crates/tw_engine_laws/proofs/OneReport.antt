@@ -1,11 +1,11 @@
 -- Two reports of one run, with the same names of components and the same labels, are the same bytes.
-use Rattle.std.proofs.Common.{◌≡◌, ◌∙◌, ◌<◌, ◌≤◌, ◌+◌, ◌++◌, ℕ, zero, suc, ℤ, pos, ◌≤ℤ◌, List, [], ◌∷◌, Bool, true, false, Option, Some, None, ap, ap₂, arith, get_or, le_antisymm, length, map, refl, subst, sym}
+use Rattle.std.proofs.Common.{◌≡◌, ◌∙◌, ◌<◌, ◌+◌, ◌-◌, ◌++◌, ℕ, zero, suc, ℤ, pos, ◌≤ℤ◌, List, [], ◌∷◌, Bool, true, false, Option, Some, ap, ap₂, arith, get_or, le_antisymm, length, map, refl, subst, sym}
 use Rattle.std.proofs.lemmas.Int.{ints}
 use Rattle.std.proofs.lemmas.Option.{slice_get-get_or, slice_get_within}
 use Rattle.std.specs.Fmt.{decimal}
 use Rattle.std.specs.List.{AllByRecursion as Each, AllZip, Contains, zip}
 use Rattle.std.specs.Prelude.{codes, flat_map, slice_get, slice_index_or}
-use Rattle.tw_figures.specs.Figures.{IsGreatest, IsLeast, busy_at, sum_over, transitions, value_at, value_of, values, words_after}
+use Rattle.tw_figures.specs.Figures.{IsGreatest, IsLeast, from_on, transitions, values_from}
 use Rattle.tw_figures.specs.Gathered.{IsAboveMicrosteps}
 use Rattle.tw_figures.specs.Labelled.{Label}
 use Rattle.tw_figures.specs.Shares.{IsMean, IsShare, IsThousandths}
@@ -17,14 +17,14 @@ use Rattle.tw_msgs.specs.declared.record.Record.{Record}
 use Rattle.tw_stats.specs.Gathering.{run_ticks, start_words}
 use Rattle.tw_stats.specs.Grids.{grid_text}
 use Rattle.tw_stats.specs.Json.{report_json}
-use Rattle.tw_stats.specs.Reports.{AreTold, IsReport, IsToldOf}
+use Rattle.tw_stats.specs.Reports.{AreTold, IsReport, IsToldOf, first_tick}
 use Rattle.tw_stats.specs.Rows.{Row, row_of, rows_from, rows_of}
-use Rattle.tw_stats.specs.Texts.{counts_head, counts_line, figure_lines, figures_head, report_text}
+use Rattle.tw_stats.specs.Texts.{counts_head, counts_line, figure_lines, figures_head, from_text}
 use Rattle.tw_stats.specs.Written.{report_bytes, rows_bytes}
 use Rattle.tw_stats.specs.declared.report.Part.{Part}
 use Rattle.tw_stats.specs.declared.report.Report.{Report}
 use Rattle.tw_theory.specs.Network.{Network}
-use Rattle.tw_theory.specs.Simulator.{Fault, sequential}
+use Rattle.tw_theory.specs.Simulator.{sequential}
 use Rattle.tw_theory.specs.Traces.{of_component}
 
 -- ---- a figure
@@ -60,10 +60,10 @@ one_share busy last (suc ticks) n m h h' = one_quotient (pos busy) (suc ticks) n
 pos_one : (x y : ℕ) → pos x ≡ pos y → x ≡ y
 pos_one x y e = cc e
 
-told_one : (measure : Measure) (start : List ℤ) (moves : List Record) (ticks : ℕ) (a b : Told) → IsTold measure start moves ticks a → IsTold measure start moves ticks b → a ≡ b
-told_one measure start moves ticks a b h h' =
-    let least : a.least ≡ b.least = one_least (values measure start moves) a.least b.least h.least h'.least in
-    let greatest : a.greatest ≡ b.greatest = one_greatest (values measure start moves) a.greatest b.greatest h.greatest h'.greatest in
+told_one : (from : ℕ) (measure : Measure) (start : List ℤ) (moves : List Record) (ticks : ℕ) (a b : Told) → IsTold from measure start moves ticks a → IsTold from measure start moves ticks b → a ≡ b
+told_one from measure start moves ticks a b h h' =
+    let least : a.least ≡ b.least = one_least (values_from measure from start moves) a.least b.least h.least h'.least in
+    let greatest : a.greatest ≡ b.greatest = one_greatest (values_from measure from start moves) a.greatest b.greatest h.greatest h'.greatest in
     let last : a.last ≡ b.last = h.last ∙ sym h'.last in
     let sum : a.sums.sum ≡ b.sums.sum = h.sum ∙ sym h'.sum in
     let count : a.sums.busy ≡ b.sums.busy = pos_one a.sums.busy b.sums.busy (h.counted ∙ sym h'.counted) in
@@ -94,11 +94,11 @@ one_list P one (x ∷ xs) (y ∷ ys) (z ∷ zs) h h' = ap₂ (λ v vs. v ∷ vs)
 abbrev AreOne : Part → Part → Type 0
 AreOne p q = (p.counts ≡ q.counts) × (p.figures.items ≡ q.figures.items)
 
-part_one : (label : Label) (start : List ℤ) (records : List Record) (ticks : ℕ) (p q : Part) → IsToldOf label start records ticks p → IsToldOf label start records ticks q → AreOne p q
-part_one label start records ticks p q h h' = (
+part_one : (from : ℕ) (label : Label) (start : List ℤ) (records : List Record) (ticks : ℕ) (p q : Part) → IsToldOf from label start records ticks p → IsToldOf from label start records ticks q → AreOne p q
+part_one from label start records ticks p q h h' = (
   h.counts ∙ sym h'.counts,
-  one_list (λ (figure : List ℕ × Measure) told. IsTold figure.1 start (transitions records) ticks told)
-      (λ figure a b x y. told_one figure.1 start (transitions records) ticks a b x y) label.figures p.figures.items q.figures.items h.figures h'.figures,
+  one_list (λ (figure : List ℕ × Measure) told. IsTold from figure.1 start (transitions records) ticks told)
+      (λ figure a b x y. told_one from figure.1 start (transitions records) ticks a b x y) label.figures p.figures.items q.figures.items h.figures h'.figures,
 )
 
 row_one : (name : List ℕ) (label : Label) (p q : Part) → AreOne p q → row_of name label p ≡ row_of name label q
@@ -121,13 +121,13 @@ rows_one name_of component (label ∷ labels) (p ∷ ps) (q ∷ qs) size size' e
     ap₂ (λ (r : Row) rs. r ∷ rs) (row_one (name_of component) label p q (each 0 label p q refl refl refl))
     (rows_one name_of (component + 1) labels ps qs (omega (arith, size)) (omega (arith, size')) (λ c l x y a b d. each (suc c) l x y a b d))
 
-parts_one : (name_of : ℕ → List ℕ) (labels : List Label) (starts : List (List ℤ)) (rs : List Record) (ticks : ℕ) (ps qs : List Part) → length starts ≡ length labels
-    → AreTold labels starts rs ticks ps → AreTold labels starts rs ticks qs → rows_of name_of labels ps ≡ rows_of name_of labels qs
-parts_one name_of labels starts rs ticks ps qs many h h' =
+parts_one : (from : ℕ) (name_of : ℕ → List ℕ) (labels : List Label) (starts : List (List ℤ)) (rs : List Record) (ticks : ℕ) (ps qs : List Part) → length starts ≡ length labels
+    → AreTold from labels starts rs ticks ps → AreTold from labels starts rs ticks qs → rows_of name_of labels ps ≡ rows_of name_of labels qs
+parts_one from name_of labels starts rs ticks ps qs many h h' =
     rows_one name_of 0 labels ps qs h.size h'.size
     (λ c label p q at here there.
     let start = slice_get-get_or starts c [] (within c label at) in
-    part_one label (get_or starts c []) (of_component c rs) ticks p q (h.each c label (get_or starts c []) p at start here) (h'.each c label (get_or starts c []) q at start there))
+    part_one from label (get_or starts c []) (of_component c rs) ticks p q (h.each c label (get_or starts c []) p at start here) (h'.each c label (get_or starts c []) q at start there))
   where
     within : (c : ℕ) (label : Label) → slice_get labels c ≡ Some label → c < length starts
     within c label at = let l = slice_get_within labels c label at in omega (arith, l, many)
@@ -138,38 +138,41 @@ one_count : (rs : List Record) (n m : ℕ) → IsAboveMicrosteps n rs → IsAbov
 one_count rs n m h h' = le_antisymm (h.least m h'.above) (h'.least n h.above)
 
 -- a line of text of these numbers
-abbrev first_with : ℕ → ℕ → ℕ → ℕ → List ℕ
-first_with until components records microsteps =
-    codes "until " ++ decimal until
+abbrev first_with : Option ℕ → ℕ → ℕ → ℕ → ℕ → List ℕ
+first_with from until components records microsteps =
+    from_text from
+    ++ (codes "until " ++ decimal until
     ++ codes "  components " ++ decimal components
     ++ codes "  records " ++ decimal records
     ++ codes "  microsteps " ++ decimal microsteps
-    ++ codes "\n"
+    ++ codes "\n")
 
 abbrev text_with : List Row → List ℕ → List ℕ
 text_with rows first = first ++ codes "\n" ++ grid_text 2 (counts_head ∷ map counts_line rows) ++ codes "\n" ++ grid_text 2 (figures_head ∷ flat_map figure_lines rows)
 
-module _ (name_of : ℕ → List ℕ) (rows rows' : List Row) (r s : Report) (same : rows ≡ rows') (until : r.until ≡ s.until) (ticks : r.ticks ≡ s.ticks)
+module _ (name_of : ℕ → List ℕ) (rows rows' : List Row) (r s : Report) (same : rows ≡ rows') (from : r.from ≡ s.from) (until : r.until ≡ s.until) (ticks : r.ticks ≡ s.ticks)
     (records : r.records ≡ s.records) (microsteps : r.microsteps ≡ s.microsteps) (fault : r.fault ≡ s.fault) (parts : length r.parts.items ≡ length s.parts.items) where
   bytes_one : (json : Bool) → rows_bytes json name_of rows r ≡ rows_bytes json name_of rows' s
   bytes_one true = λ k. report_json name_of (same k)
-      (record { parts = r.parts; until = until k; ticks = ticks k; records = records k; microsteps = microsteps k; fault = fault k })
-  bytes_one false = λ k. text_with (same k) (first_with (until k) (parts k) (records k) (microsteps k))
+      (record { parts = r.parts; from = from k; until = until k; ticks = ticks k; records = records k; microsteps = microsteps k; fault = fault k })
+  bytes_one false = λ k. text_with (same k) (first_with (from k) (until k) (parts k) (records k) (microsteps k))
 
-module _ {S : Type 0} (net net' : Network S) (until : ℕ) (starts : start_words net ≡ start_words net') (run : sequential net until ≡ sequential net' until) where
+module _ {S : Type 0} (net net' : Network S) (from : Option ℕ) (until : ℕ) (starts : start_words net ≡ start_words net') (run : sequential net until ≡ sequential net' until) where
   -- of two networks that have one run
   pub one_report : (json : Bool) (name_of : ℕ → List ℕ) (labels : List Label) (r s : Report) → length (start_words net) ≡ length labels
-      → IsReport net until labels r → IsReport net' until labels s → report_bytes json name_of labels r ≡ report_bytes json name_of labels s
+      → IsReport net from until labels r → IsReport net' from until labels s → report_bytes json name_of labels r ≡ report_bytes json name_of labels s
   one_report json name_of labels r s many h h' =
       let faults : (sequential net until).fault ≡ (sequential net' until).fault = ap (λ x. x.fault) run in
       let records : (sequential net until).records ≡ (sequential net' until).records = ap (λ x. x.records) run in
-      let ticks : r.ticks ≡ s.ticks = h.ticks ∙ ap (run_ticks until) faults ∙ sym h'.ticks in
-      let told : AreTold labels (start_words net) (sequential net until).records r.ticks s.parts.items =
-      subst (λ t. AreTold labels (start_words net) (sequential net until).records t s.parts.items) (sym ticks)
-      (subst (λ ss. AreTold labels ss (sequential net until).records s.ticks s.parts.items) (sym starts)
-      (subst (λ rs. AreTold labels (start_words net') rs s.ticks s.parts.items) (sym records) h'.parts)) in
+      let first = first_tick from in
+      let counted : from_on first (sequential net until).records ≡ from_on first (sequential net' until).records = ap (from_on first) records in
+      let ticks : r.ticks ≡ s.ticks = h.ticks ∙ ap (λ f. run_ticks until f - first) faults ∙ sym h'.ticks in
+      let told : AreTold first labels (start_words net) (sequential net until).records r.ticks s.parts.items =
+      subst (λ t. AreTold first labels (start_words net) (sequential net until).records t s.parts.items) (sym ticks)
+      (subst (λ ss. AreTold first labels ss (sequential net until).records s.ticks s.parts.items) (sym starts)
+      (subst (λ rs. AreTold first labels (start_words net') rs s.ticks s.parts.items) (sym records) h'.parts)) in
       bytes_one name_of (rows_of name_of labels r.parts.items) (rows_of name_of labels s.parts.items) r s
-      (parts_one name_of labels (start_words net) (sequential net until).records r.ticks r.parts.items s.parts.items many h.parts told)
-      (h.end ∙ sym h'.end) ticks (h.records ∙ ap length records ∙ sym h'.records)
-      (one_count (sequential net until).records r.microsteps s.microsteps h.microsteps (subst (λ rs. IsAboveMicrosteps s.microsteps rs) (sym records) h'.microsteps))
+      (parts_one first name_of labels (start_words net) (sequential net until).records r.ticks r.parts.items s.parts.items many h.parts told)
+      (h.begin ∙ sym h'.begin) (h.end ∙ sym h'.end) ticks (h.records ∙ ap length counted ∙ sym h'.records)
+      (one_count (from_on first (sequential net until).records) r.microsteps s.microsteps h.microsteps (subst (λ rs. IsAboveMicrosteps s.microsteps rs) (sym counted) h'.microsteps))
       (h.fault ∙ faults ∙ sym h'.fault) (h.parts.size ∙ sym told.size) json

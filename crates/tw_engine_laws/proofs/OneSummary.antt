@@ -2,7 +2,7 @@
 use Rattle.std.proofs.Common.{◌≡◌, ◌∙◌, ℕ, List, [], Bool, ap, ap₂, length, map, subst, sym}
 use Rattle.std.proofs.lemmas.List.{length-map}
 use Rattle.std.specs.Option.{option_map_or}
-use Rattle.std.specs.Prelude.{Result, Ok, Err}
+use Rattle.std.specs.Prelude.{Option, Result, Ok, Err}
 use Rattle.std.specs.Result.{result_ok}
 use Rattle.serde_json.specs.Data.{Data}
 use Rattle.tw_any_model.specs.AnyModel.{any_meaning}
@@ -40,12 +40,12 @@ one_labels : (bytes : List ℕ) (n m : Contents AnyModel) → AreOne n m → fil
 unfolding file_labels
 one_labels bytes n m one = ap (λ models. option_map_or (λ d. labels_said d models) (result_ok (json_of bytes)) []) (sym one.same.models)
 
-pub one_summary : (bytes : List ℕ) (n m : Contents AnyModel) → IsMeaning bytes n → AreOne n m → (until : ℕ) (json : Bool) (r s : Report)
-    → IsReport (network_of any_meaning n) until (file_labels bytes n) r → IsReport (network_of any_meaning m) until (file_labels bytes m) s
+pub one_summary : (bytes : List ℕ) (n m : Contents AnyModel) → IsMeaning bytes n → AreOne n m → (from : Option ℕ) (until : ℕ) (json : Bool) (r s : Report)
+    → IsReport (network_of any_meaning n) from until (file_labels bytes n) r → IsReport (network_of any_meaning m) from until (file_labels bytes m) s
     → report_bytes json (name_in n.names) (file_labels bytes n) r ≡ report_bytes json (name_in m.names) (file_labels bytes m) s
-one_summary bytes n m of_n one until json r s is is' =
+one_summary bytes n m of_n one from until json r s is is' =
     let labels = one_labels bytes n m one in
     let starts : start_words (network_of any_meaning n) ≡ start_words (network_of any_meaning m) = ap (λ models. map (λ x. x.words x.start) (map any_meaning models)) (sym one.same.models) in
-    one_report (network_of any_meaning n) (network_of any_meaning m) until starts (one.run until) json (name_in n.names) (file_labels bytes n) r s
-    (starts_many n ∙ sym (many bytes n of_n)) is (subst (λ ls. IsReport (network_of any_meaning m) until ls s) (sym labels) is')
+    one_report (network_of any_meaning n) (network_of any_meaning m) from until starts (one.run until) json (name_in n.names) (file_labels bytes n) r s
+    (starts_many n ∙ sym (many bytes n of_n)) is (subst (λ ls. IsReport (network_of any_meaning m) from until ls s) (sym labels) is')
     ∙ ap₂ (λ names ls. report_bytes json (name_in names) ls s) (sym one.same.names) labels

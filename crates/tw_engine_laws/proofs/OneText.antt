@@ -9,7 +9,7 @@ use Rattle.tw_any_model.specs.declared.any_model.AnyState.{AnyState}
 use Rattle.tw_cli.specs.declared.driving.Driver.{Driver}
 use Rattle.tw_cli.specs.declared.driving.Driver.TheVariants.{Script, Seed}
 use Rattle.tw_cli.specs.declared.jobs.Job.{Job}
-use Rattle.tw_cli.specs.declared.jobs.Job.TheVariants.{Demo, Check, Simulate}
+use Rattle.tw_cli.specs.declared.jobs.Job.TheVariants.{Demo, Check, Dot, Simulate}
 use Rattle.tw_cli.specs.declared.jobs.Task.{Task}
 use Rattle.tw_cli.specs.declared.jobs.Task.TheVariants.{Seq, Stats, Table, Draw, Run, Play}
 use Rattle.tw_engine.specs.Checks.{IsCheck, check_text}
@@ -121,23 +121,23 @@ module _ (means : (bytes : List ℕ) → MeansOne bytes) (law : CouplingsLaw Any
   check_ends done done' is is' (n, of_n, out) (m, of_m, out') =
       whole_end exit exit' new new' is is' (one_out old new new' (check_text n) (check_text m) out out' (one_check n m (one n m of_n of_m)))
 
-  table_ends : (until : ℕ) (rows : Rows) (line line' : Option (String Global)) → exit ≡ exit_of_view (Ok line) → exit' ≡ exit_of_view (Ok line')
-      → IsTabulated bytes until rows (Ok line) (Some old) (Some new) → IsTabulated bytes until rows (Ok line') (Some old) (Some new') → IsSameEnd exit exit' new new'
-  table_ends until rows line line' is is' (inl refused) done' = absurd refused.0
-  table_ends until rows line line' is is' (inr done) (inl refused) = absurd refused.0
-  table_ends until rows line line' is is' (inr (n, of_n, done)) (inr (m, of_m, done')) =
+  table_ends : (from until : ℕ) (rows : Rows) (line line' : Option (String Global)) → exit ≡ exit_of_view (Ok line) → exit' ≡ exit_of_view (Ok line')
+      → IsTabulated bytes from until rows (Ok line) (Some old) (Some new) → IsTabulated bytes from until rows (Ok line') (Some old) (Some new') → IsSameEnd exit exit' new new'
+  table_ends from until rows line line' is is' (inl refused) done' = absurd refused.0
+  table_ends from until rows line line' is is' (inr done) (inl refused) = absurd refused.0
+  table_ends from until rows line line' is is' (inr (n, of_n, done)) (inr (m, of_m, done')) =
       let same = one n m of_n of_m in
       view_end n m same until exit exit' old new new' line line' is is'
-      (one_out old new new' (run_table n until rows) (run_table m until rows) done.1 done'.1 (one_table n m same until rows)) done.0 done'.0
+      (one_out old new new' (run_table n from until rows) (run_table m from until rows) done.1 done'.1 (one_table n m same from until rows)) done.0 done'.0
 
-  stats_ends : (until : ℕ) (json : Bool) (line line' : Option (String Global)) → exit ≡ exit_of_view (Ok line) → exit' ≡ exit_of_view (Ok line')
-      → IsSummed bytes until json (Ok line) (Some old) (Some new) → IsSummed bytes until json (Ok line') (Some old) (Some new') → IsSameEnd exit exit' new new'
-  stats_ends until json line line' is is' (inl refused) done' = absurd refused.0
-  stats_ends until json line line' is is' (inr done) (inl refused) = absurd refused.0
-  stats_ends until json line line' is is' (inr (n, of_n, done)) (inr (m, of_m, done')) =
+  stats_ends : (from : Option ℕ) (until : ℕ) (json : Bool) (line line' : Option (String Global)) → exit ≡ exit_of_view (Ok line) → exit' ≡ exit_of_view (Ok line')
+      → IsSummed bytes from until json (Ok line) (Some old) (Some new) → IsSummed bytes from until json (Ok line') (Some old) (Some new') → IsSameEnd exit exit' new new'
+  stats_ends from until json line line' is is' (inl refused) done' = absurd refused.0
+  stats_ends from until json line line' is is' (inr done) (inl refused) = absurd refused.0
+  stats_ends from until json line line' is is' (inr (n, of_n, done)) (inr (m, of_m, done')) =
       let same = one n m of_n of_m in
       view_end n m same until exit exit' old new new' line line' is is'
-      (one_out old new new' _ _ done.1.written done'.1.written (one_summary bytes n m of_n same until json done.1.report done'.1.report done.1.is done'.1.is)) done.0 done'.0
+      (one_out old new new' _ _ done.1.written done'.1.written (one_summary bytes n m of_n same from until json done.1.report done'.1.report done.1.is done'.1.is)) done.0 done'.0
 
 -- ---- plays
 
@@ -217,18 +217,19 @@ module _ (means : (bytes : List ℕ) → MeansOne bytes) (scripts : ScriptLaw) (
       let e = end_of exit_of_rest rest_fails (λ end. IsCheck bytes end (Some old) (Some new)) exit done whole in
       let f = end_of exit_of_rest rest_fails (λ end. IsCheck bytes end (Some old) (Some new')) exit' done' whole' in
       check_ends means law bytes exit exit' old new new' e.0 f.0 e.1 f.1 e.2 f.2
+  one_text (Dot net) bytes script old new new' exit exit' done done' whole whole' = tt
   one_text (Simulate net until (Seq progress)) bytes script old new new' exit exit' done done' whole whole' =
       let e = end_of exit_of_run run_fails (λ end. IsRun bytes until end (Some old) (Some new)) exit done whole in
       let f = end_of exit_of_run run_fails (λ end. IsRun bytes until end (Some old) (Some new')) exit' done' whole' in
       run_ends means law bytes exit exit' old new new' until e.0 f.0 e.1 f.1 e.2 f.2
-  one_text (Simulate net until (Stats json progress)) bytes script old new new' exit exit' done done' whole whole' =
-      let e = end_of exit_of_view view_fails (λ end. IsSummed bytes until json end (Some old) (Some new)) exit done whole in
-      let f = end_of exit_of_view view_fails (λ end. IsSummed bytes until json end (Some old) (Some new')) exit' done' whole' in
-      stats_ends means law bytes exit exit' old new new' until json e.0 f.0 e.1 f.1 e.2 f.2
-  one_text (Simulate net until (Table rows progress)) bytes script old new new' exit exit' done done' whole whole' =
-      let e = end_of exit_of_view view_fails (λ end. IsTabulated bytes until rows end (Some old) (Some new)) exit done whole in
-      let f = end_of exit_of_view view_fails (λ end. IsTabulated bytes until rows end (Some old) (Some new')) exit' done' whole' in
-      table_ends means law bytes exit exit' old new new' until rows e.0 f.0 e.1 f.1 e.2 f.2
+  one_text (Simulate net until (Stats from json progress)) bytes script old new new' exit exit' done done' whole whole' =
+      let e = end_of exit_of_view view_fails (λ end. IsSummed bytes from until json end (Some old) (Some new)) exit done whole in
+      let f = end_of exit_of_view view_fails (λ end. IsSummed bytes from until json end (Some old) (Some new')) exit' done' whole' in
+      stats_ends means law bytes exit exit' old new new' from until json e.0 f.0 e.1 f.1 e.2 f.2
+  one_text (Simulate net until (Table from rows progress)) bytes script old new new' exit exit' done done' whole whole' =
+      let e = end_of exit_of_view view_fails (λ end. IsTabulated bytes from until rows end (Some old) (Some new)) exit done whole in
+      let f = end_of exit_of_view view_fails (λ end. IsTabulated bytes from until rows end (Some old) (Some new')) exit' done' whole' in
+      table_ends means law bytes exit exit' old new new' from until rows e.0 f.0 e.1 f.1 e.2 f.2
   one_text (Simulate net until (Draw picture)) bytes script old new new' exit exit' done done' whole whole' = tt
   one_text (Simulate net until (Run cancel setting)) bytes script old new new' exit exit' done done' whole whole' =
       let e = end_of exit_of_run run_fails (λ end. IsRunByWorkers bytes cancel until end (Some old) (Some new)) exit done whole in

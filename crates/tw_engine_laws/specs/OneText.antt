@@ -3,7 +3,7 @@
 --     HasOneText job      whenever it is done to its end on the same bytes, it has the same text, status and line
 use Rattle.std.specs.Prelude.{◌≡◌, ◌⊎◌, ◌++◌, ℕ, List, Some, ⊤}
 use Rattle.tw_cli.specs.declared.jobs.Job.{Job}
-use Rattle.tw_cli.specs.declared.jobs.Job.TheVariants.{Demo, Check, Simulate}
+use Rattle.tw_cli.specs.declared.jobs.Job.TheVariants.{Demo, Check, Dot, Simulate}
 use Rattle.tw_cli.specs.declared.jobs.Task.{Task}
 use Rattle.tw_cli.specs.declared.jobs.Task.TheVariants.{Seq, Stats, Table, Draw, Run, Play}
 use Rattle.tw_engine.specs.Exits.{line_of, status_of}
@@ -45,12 +45,12 @@ WasFull old new = (text : List ℕ) × (new ≡ old ++ text) × HasFullLine text
 
 -- ---- what is said of two ends of one job
 
--- of pictures nothing; of plays where neither has the line of a process that would hold too many nodes (12), which may be said of
+-- of pictures and graphs nothing; of plays where neither has the line of a process that would hold too many nodes (12), which may be said of
 -- a step that would otherwise be made
 abbrev pub AreOneTask : Task → Exit → Exit → List ℕ → List ℕ → List ℕ → Type 0
 AreOneTask (Seq progress) exit exit' old new new' = IsSameEnd exit exit' new new'
-AreOneTask (Stats json progress) exit exit' old new new' = IsSameEnd exit exit' new new'
-AreOneTask (Table rows progress) exit exit' old new new' = IsSameEnd exit exit' new new'
+AreOneTask (Stats from json progress) exit exit' old new new' = IsSameEnd exit exit' new new'
+AreOneTask (Table from rows progress) exit exit' old new new' = IsSameEnd exit exit' new new'
 AreOneTask (Draw picture) exit exit' old new new' = ⊤
 AreOneTask (Run cancel setting) exit exit' old new new' = IsSameEnd exit exit' new new'
 AreOneTask (Play cancel driver) exit exit' old new new' = WasFull old new ⊎ (WasFull old new' ⊎ IsSameEnd exit exit' new new')
@@ -58,6 +58,7 @@ AreOneTask (Play cancel driver) exit exit' old new new' = WasFull old new ⊎ (W
 abbrev pub AreOneEnd : Job → Exit → Exit → List ℕ → List ℕ → List ℕ → Type 0
 AreOneEnd Demo exit exit' old new new' = IsSameEnd exit exit' new new'
 AreOneEnd (Check net) exit exit' old new new' = IsSameEnd exit exit' new new'
+AreOneEnd (Dot net) exit exit' old new new' = ⊤
 AreOneEnd (Simulate net until task) exit exit' old new new' = AreOneTask task exit exit' old new new'
 
 abbrev pub HasOneText : Job → Type 0

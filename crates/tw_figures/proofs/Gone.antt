@@ -7,12 +7,12 @@ use Rattle.std.proofs.lemmas.List.{get_or_default, get_or-set_same, get_or-set_o
 use Rattle.std.proofs.Math.Seq.{map-set_same}
 use Rattle.tw_msgs.specs.declared.record.Record.{Record}
 use Rattle.tw_vtime.specs.Stamps.{tick_of}
-use Rattle.tw_figures.specs.Figures.{IsCourse}
+use Rattle.tw_figures.specs.Figures.{IsCourse, IsNext}
 use Rattle.tw_figures.specs.declared.course.Course.{Course}
 
 -- the course after a transition at a tick to a state of these words
 pub record HasGone (tick : ℕ) (words : List ℤ) (old new : Course) : Type 0 where
-  pub course : (start : List ℤ) (moves : List Record) (r : Record) → tick_of r.stamp ≡ tick → r.words ≡ words → IsCourse start moves old → IsCourse start (moves ++ r ∷ []) new
+  pub course : (from : ℕ) (start : List ℤ) (moves : List Record) (r : Record) → tick_of r.stamp ≡ tick → r.words ≡ words → IsNext moves r → IsCourse from start moves old → IsCourse from start (moves ++ r ∷ []) new
 
 -- those before the index have gone on, and the others are as they were
 pub record AreGoing (tick : ℕ) (words : List ℤ) (olds news : List Course) (index : ℕ) : Type 0 where
@@ -49,8 +49,8 @@ module _ (tick : ℕ) (words : List ℤ) (olds news : List Course) (index : ℕ)
           (subst (λ o. HasGone tick words o new) same_old has)
 
 pub gone_all : (tick : ℕ) (words : List ℤ) (olds news : List Course) (end : ℕ) → AreGoing tick words olds news end → length olds ≤ end
-    → (start : List ℤ) (moves : List Record) (r : Record) → tick_of r.stamp ≡ tick → r.words ≡ words
-    → All (IsCourse start moves) olds → All (IsCourse start (moves ++ r ∷ [])) news
-gone_all tick words olds news end h over start moves r at said all = λ k d l.
+    → (from : ℕ) (start : List ℤ) (moves : List Record) (r : Record) → tick_of r.stamp ≡ tick → r.words ≡ words → IsNext moves r
+    → All (IsCourse from start moves) olds → All (IsCourse from start (moves ++ r ∷ [])) news
+gone_all tick words olds news end h over from start moves r at said next all = λ k d l.
     let size = h.size in
-    (h.gone k d (omega (arith, size))).course start moves r at said (all k d (omega (arith, size)))
+    (h.gone k d (omega (arith, size))).course from start moves r at said next (all k d (omega (arith, size)))

@@ -1,5 +1,5 @@
 -- The records of a component and those of its transitions.
-use Rattle.std.proofs.Common.{◌≡◌, ◌∙◌, ℕ, ◌+◌, ◌<◌, ◌≤◌, List, [], ◌∷◌, ◌++◌, ℤ, true, false, length, get_or, map, take, ap, sym, inl, inr, append-nil}
+use Rattle.std.proofs.Common.{◌≡◌, ◌∙◌, ℕ, ◌+◌, ◌<◌, ◌≤◌, List, [], ◌∷◌, ◌++◌, true, false, length, get_or, map, take, ap, sym, inl, inr, append-nil}
 use Rattle.std.specs.Prelude.{◌⊎◌}
 use Rattle.std.specs.List.{All}
 use Rattle.std.proofs.lemmas.Bool.{cond-true, cond-false}
@@ -9,7 +9,7 @@ use Rattle.tw_msgs.specs.declared.record.Record.{Record}
 use Rattle.tw_msgs.specs.declared.record_kind.RecordKind.TheVariants.{Out, Int, Ext, Con}
 use Rattle.tw_vtime.specs.Stamps.{tick_of}
 use Rattle.tw_theory.proofs.Elements.{each-filter}
-use Rattle.tw_figures.specs.Figures.{IsCourse, IsNext, is_transition, transitions}
+use Rattle.tw_figures.specs.Figures.{IsNext, is_transition, transitions}
 use Rattle.tw_figures.specs.declared.course.Course.{Course}
 use Rattle.tw_figures.specs.declared.figure.Figure.{Figure}
 
@@ -23,11 +23,9 @@ output_more records r is = filter-append is_transition records (r ∷ []) ∙ ap
 pub no_output : (r : Record) → r.kind ≡ Out → is_transition r ≡ false
 no_output r is = ap (λ k. elim k [ Out ↦ false | Int ↦ true | Ext ↦ true | Con ↦ true ]) is
 
--- the last transition is of no later tick than the next record
-pub since_before : (start : List ℤ) (records : List Record) (r : Record) (courses : List Course) → IsNext records r → All (IsCourse start (transitions records)) courses
-    → All (λ c. c.since ≤ tick_of r.stamp) courses
-since_before start records r courses next all = λ k d l.
-    (all k d l).since (tick_of r.stamp) (each-filter (λ x. tick_of x.stamp ≤ tick_of r.stamp) is_transition records next)
+-- what is so of all records is so of the transitions
+pub next_move : (records : List Record) (r : Record) → IsNext records r → IsNext (transitions records) r
+next_move records r next = each-filter (λ x. tick_of x.stamp ≤ tick_of r.stamp) is_transition records next
 
 -- ---- one course more
 

@@ -1,15 +1,19 @@
 -- Figures: numbers that the words of a component's state tell, and how they went.
 --     value_of measure words      the number that a figure tells of a state
 --     transitions rs      the records of transitions among these
+--     before t rs, from_on t rs      those at the ticks before t, and those at t or later
 --     words_at start moves t      the words of the state after all transitions of a tick up to t: the state in which the component is until the next tick
 --     value_at measure start moves t, busy_at measure start moves t      the figure in that state, and 1 where it is not 0
+--     words_before from start moves      the words of the state in which the component comes to a tick
 --     values measure start moves      all values that it had, at the start and after each transition
+--     values_from measure from start moves      all values that it had from a tick on: the one with which it came to that tick, and those after each transition from there on
 --     sum_over n of      the sum of a number of each tick, over the ticks before n
+--     sum_from from n of      the same over n ticks, of which `from` is the first
 --     IsLeast x xs, IsGreatest x xs      x is one of them, and none is less or greater
 --     IsNext records r      no record is of a later tick than the record that comes next
 --     IsSteady rs      no record is of a later tick than one behind it, and none stands at the end of time
---     IsCourse start moves course      how a figure went, over the ticks before its last transition
-use Rattle.std.specs.Prelude.{◌≡◌, ◌≢◌, ◌≤◌, ◌++◌, ◌-◌, ◌≤ℤ◌, ◌+ℤ◌, ℕ, zero, suc, ℤ, pos, List, [], ◌∷◌, Bool, true, false, length, map, filter, nat_le, if◌then◌else◌, slice_index_or}
+--     IsCourse from start moves course      how a figure went from a tick on, over the ticks before its last transition
+use Rattle.std.specs.Prelude.{◌≡◌, ◌≢◌, ◌≤◌, ◌++◌, ◌+◌, ◌-◌, ◌≤ℤ◌, ◌+ℤ◌, ℕ, zero, suc, ℤ, pos, List, [], ◌∷◌, Bool, true, false, length, map, filter, nat_le, nat_lt, if◌then◌else◌, slice_index_or}
 use Rattle.std.specs.List.{AllByRecursion as Each, Contains}
 use Rattle.std.specs.Ordering.{int_eq}
 use Rattle.tw_msgs.specs.declared.record.Record.{Record}
@@ -28,6 +32,12 @@ is_transition r = elim r.kind [ Out ↦ false | Int ↦ true | Ext ↦ true | Co
 
 abbrev pub transitions : List Record → List Record
 transitions records = filter is_transition records
+
+abbrev pub before : ℕ → List Record → List Record
+before t records = filter (λ r. nat_lt (tick_of r.stamp) t) records
+
+abbrev pub from_on : ℕ → List Record → List Record
+from_on t records = filter (λ r. nat_le t (tick_of r.stamp)) records
 
 -- the last of a list behind x
 abbrev pub last_of : {X : Type 0} → X → List X → X
@@ -55,9 +65,19 @@ busy_at measure start moves t = one_if_some (value_at measure start moves t)
 abbrev pub values : Measure → List ℤ → List Record → List ℤ
 values measure start moves = map (value_of measure) (start ∷ map (λ r. r.words) moves)
 
+abbrev pub words_before : ℕ → List ℤ → List Record → List ℤ
+words_before from start moves = words_after start (before from moves)
+
+-- a value that it leaves at the first tick itself is one of them
+abbrev pub values_from : Measure → ℕ → List ℤ → List Record → List ℤ
+values_from measure from start moves = values measure (words_before from start moves) (from_on from moves)
+
 unfoldable pub sum_over : ℕ → (ℕ → ℤ) → ℤ
 sum_over zero of = pos 0
 sum_over (suc n) of = sum_over n of +ℤ of n
+
+abbrev pub sum_from : ℕ → ℕ → (ℕ → ℤ) → ℤ
+sum_from from n of = sum_over n (λ t. of (from + t))
 
 pub record IsLeast (x : ℤ) (xs : List ℤ) : Type 0 where
   pub one : Contains xs x
@@ -75,12 +95,13 @@ IsNext records r = Each (λ x. tick_of x.stamp ≤ tick_of r.stamp) records
 pub record IsSteady (rs : List Record) : Type 0 where
   pub each : (front back : List Record) (r : Record) → rs ≡ front ++ r ∷ back → IsNext front r × (r.stamp ≢ never)
 
--- `since` is the tick of its last transition, or 0: the least tick that none of them passes
-pub record IsCourse (start : List ℤ) (moves : List Record) (course : Course) : Type 0 where
-  pub least : IsLeast course.least (values course.measure start moves)
-  pub greatest : IsGreatest course.greatest (values course.measure start moves)
+-- `since` is the tick of its last transition, or `from` where there is none from there on: the least tick not before `from` that none of them passes
+pub record IsCourse (from : ℕ) (start : List ℤ) (moves : List Record) (course : Course) : Type 0 where
+  pub least : IsLeast course.least (values_from course.measure from start moves)
+  pub greatest : IsGreatest course.greatest (values_from course.measure from start moves)
   pub last : course.last ≡ value_of course.measure (words_after start moves)
+  pub begun : from ≤ course.since
   pub past : Each (λ r. tick_of r.stamp ≤ course.since) moves
-  pub since : (t : ℕ) → Each (λ r. tick_of r.stamp ≤ t) moves → course.since ≤ t
-  pub sum : course.sum ≡ sum_over course.since (value_at course.measure start moves)
-  pub busy : pos course.busy ≡ sum_over course.since (busy_at course.measure start moves)
+  pub since : (t : ℕ) → from ≤ t → Each (λ r. tick_of r.stamp ≤ t) moves → course.since ≤ t
+  pub sum : course.sum ≡ sum_from from (course.since - from) (value_at course.measure start moves)
+  pub busy : pos course.busy ≡ sum_from from (course.since - from) (busy_at course.measure start moves)

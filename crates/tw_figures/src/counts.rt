@@ -1,8 +1,10 @@
 //! How much a component did.
 
-ghost use Rattle.std.specs.Prelude.{◌≡◌, ◌+◌, ◌++◌, ◌∷◌, [], List, IfOk, OnOk};
+ghost use Rattle.std.specs.Prelude.{◌≡◌, ◌≢◌, ◌+◌, ◌++◌, ◌∷◌, [], List, IfOk, OnOk};
 ghost use Rattle.tw_figures.specs.Counts.{counts_of};
+ghost use Rattle.tw_figures.specs.Figures.{from_on};
 ghost use Rattle.tw_msgs.specs.declared.record.Record.{Record as TheRecord};
+ghost use Rattle.tw_vtime.specs.Stamps.{never};
 
 use std::alloc::AllocError;
 use tw_msgs::{Record, RecordKind};
@@ -37,6 +39,20 @@ impl Counts {
             ext: 0,
             con: 0,
         }
+    }
+
+    /// Counts one record more where it is at the tick `from` or later.
+    ///
+    /// Refused for want of room (4) where a count would pass 2^64 - 1; then the counts are of no more use.
+    pub fn take_from(&mut self, from: u64, step: &Record) -> Result<(), AllocError>
+        requires { step.now.stamp ≢ never }
+        ensures { (records : List TheRecord) → self.old ≡ counts_of (from_on from records)
+            → OnOk result (self.new ≡ counts_of (from_on from (records ++ step.now ∷ []))) }
+    {
+        if step.stamp.tick() < from {
+            return Ok(());
+        }
+        self.take(step)
     }
 
     /// Counts one record more.

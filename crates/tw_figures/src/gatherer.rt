@@ -1,8 +1,8 @@
 //! What is gathered of a run.
 
-ghost use Rattle.std.specs.Prelude.{◌≡◌, ◌≢◌, ◌++◌, ◌∷◌, [], ℤ, List, IfOk, OnOk, map};
-ghost use Rattle.tw_figures.specs.Figures.{IsNext, IsSteady};
-ghost use Rattle.tw_figures.specs.Gathered.{IsGathered, measures_of};
+ghost use Rattle.std.specs.Prelude.{◌≡◌, ◌≢◌, ◌++◌, ◌∷◌, [], ℕ, ℤ, List, IfOk, OnOk, map};
+ghost use Rattle.tw_figures.specs.Figures.{IsNext, IsSteady, from_on};
+ghost use Rattle.tw_figures.specs.Gathered.{AreCounted, IsGathered, measures_of};
 ghost use Rattle.tw_msgs.specs.declared.record.Record.{Record as TheRecord};
 ghost use Rattle.tw_vtime.specs.Stamps.{never};
 
@@ -11,25 +11,29 @@ use crate::figure::Figure;
 use crate::member::Member;
 use std::alloc::{AllocError, Global};
 use tw_msgs::{Record, Words};
+use tw_vtime::Stamp;
 
-/// What is gathered of a run: of each component, and how many records there are and microsteps.
+/// What is gathered of a run from a tick on: of each component, and how many records there are and microsteps.
 #[derive(Debug, Drop)]
 pub struct Gatherer {
+    /// The tick from which on records count.
+    pub from: u64,
     /// The components, in order.
     pub members: Vec<Member>,
-    /// How many records there are.
+    /// How many records there are at that tick or later.
     pub records: u64,
-    /// The greatest microstep of a record plus one; 0 where there is no record.
+    /// The greatest microstep of one of these plus one; 0 where there is none.
     pub microsteps: u64,
 }
 
 impl Gatherer {
-    /// No component yet. It takes no memory.
-    pub fn new(alloc: Global) -> Gatherer
-        ensures gathered { IsGathered [] [] result }
+    /// No component yet, of a run of which is told from the tick `from` on. It takes no memory.
+    pub fn new(alloc: Global, from: u64) -> Gatherer
+        ensures gathered { IsGathered from [] [] result }
         ensures measures { measures_of result.members.items ≡ [] }
     {
         Gatherer {
+            from,
             members: Vec::new(alloc),
             records: 0,
             microsteps: 0,
@@ -45,12 +49,12 @@ impl Gatherer {
         figures: &[Figure],
         words: &Words,
     ) -> Result<(), AllocError>
-        ensures gathered { (starts : List (List ℤ)) → IsGathered starts [] self.old
-            → OnOk result (IsGathered (starts ++ words.now ∷ []) [] self.new) }
+        ensures gathered { (from : ℕ) (starts : List (List ℤ)) → IsGathered from starts [] self.old
+            → OnOk result (IsGathered from (starts ++ words.now ∷ []) [] self.new) }
         ensures measures { OnOk result (measures_of self.new.members.items
             ≡ measures_of self.old.members.items ++ map (λ f. f.measure) figures.now ∷ []) }
     {
-        let member = Member::new(alloc, figures, words)?;
+        let member = Member::new(alloc, self.from, figures, words)?;
         self.members.push(member)?;
         Ok(())
     }
@@ -59,11 +63,10 @@ impl Gatherer {
     ///
     /// Refused for want of room (4) where a count or a sum would pass the range of its type; then it is of no more use.
     pub fn take_all(&mut self, steps: &[Record]) -> Result<(), AllocError>
-        requires { (starts : List (List ℤ)) × (records : List TheRecord)
-            × IsGathered starts records self.old × IsSteady (records ++ steps.now) }
-        ensures gathered { (starts : List (List ℤ)) (records : List TheRecord)
-            → IsSteady (records ++ steps.now) → IsGathered starts records self.old
-            → OnOk result (IsGathered starts (records ++ steps.now) self.new) }
+        requires { (records : List TheRecord) × IsSteady (records ++ steps.now) }
+        ensures gathered { (from : ℕ) (starts : List (List ℤ)) (records : List TheRecord)
+            → IsSteady (records ++ steps.now) → IsGathered from starts records self.old
+            → OnOk result (IsGathered from starts (records ++ steps.now) self.new) }
         ensures measures { measures_of self.new.members.items ≡ measures_of self.old.members.items }
     {
         for step in steps {
@@ -76,19 +79,35 @@ impl Gatherer {
     ///
     /// Refused for want of room (4) where a count or a sum would pass the range of its type; then it is of no more use.
     pub fn take(&mut self, step: &Record) -> Result<(), AllocError>
-        requires before_end { step.now.stamp ≢ never }
-        requires next { (starts : List (List ℤ)) × (records : List TheRecord)
-            × IsGathered starts records self.old × IsNext records step.now }
-        ensures gathered { (starts : List (List ℤ)) (records : List TheRecord)
-            → IsNext records step.now → IsGathered starts records self.old
-            → OnOk result (IsGathered starts (records ++ step.now ∷ []) self.new) }
+        requires { step.now.stamp ≢ never }
+        ensures gathered { (from : ℕ) (starts : List (List ℤ)) (records : List TheRecord)
+            → IsNext records step.now → IsGathered from starts records self.old
+            → OnOk result (IsGathered from starts (records ++ step.now ∷ []) self.new) }
         ensures measures { measures_of self.new.members.items ≡ measures_of self.old.members.items }
     {
-        self.records = more(self.records, 1)?;
-        self.microsteps = self.microsteps.max(u64::from(step.stamp.micro()) + 1);
+        self.count(step.stamp)?;
         if step.component < self.members.len() {
-            self.members[step.component].take(step)?;
+            self.members[step.component].take(self.from, step)?;
         }
+        Ok(())
+    }
+
+    /// Counts a record at this time among all, where it is at the tick from which on records count, or later.
+    ///
+    /// Refused for want of room (4) where there would be 2^64 records; then nothing is changed.
+    fn count(&mut self, at: Stamp) -> Result<(), AllocError>
+        requires { at ≢ never }
+        ensures counted { (records : List TheRecord) (r : TheRecord) → r.stamp ≡ at
+            → AreCounted (from_on self.old.from records) self.old
+            → OnOk result (AreCounted (from_on self.old.from (records ++ r ∷ [])) self.new) }
+        ensures from { self.new.from ≡ self.old.from }
+        ensures members { self.new.members ≡ self.old.members }
+    {
+        if at.tick() < self.from {
+            return Ok(());
+        }
+        self.records = more(self.records, 1)?;
+        self.microsteps = self.microsteps.max(u64::from(at.micro()) + 1);
         Ok(())
     }
 }

@@ -1,10 +1,10 @@
-//! Counts and figures of a run: what its components did, and how numbers of their states went.
+//! Counts and figures of a run from a tick on: what its components did, and how numbers of their states went.
 //!
 //! - [`Counts`] (`counts`): how many outputs, items and transitions of each kind a component has.
 //! - [`Figure`], [`Measure`] (`figure`): a number that the words of a state tell, given as data; [`Labels`] (`labels`): the name of a
 //!   component's model, and its figures.
 //! - [`Course`], [`Sums`] (`course`): how a figure went: its least and greatest value, its last, the sum over the ticks, and the ticks in
-//!   which it was not 0.
+//!   which it was not 0. Before the first tick that counts it only keeps the value with which the figure comes to that.
 //! - [`Told`] (`told`): what is told of it over a time: its sums exactly; [`mean`] and [`share`] (`shares`) round them to three decimals.
 //! - [`sums_fit_law`], [`means_fit_law`] (`fitting`): sums of numbers of 64 bits over the ticks of a run fit, and their means.
 //! - [`Member`] (`member`), [`Gatherer`] (`gatherer`): all of these, of the records of a component and of a run, that were given one after

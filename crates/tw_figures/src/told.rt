@@ -1,6 +1,6 @@
 //! What is told of a figure.
 
-ghost use Rattle.std.specs.Prelude.{◌≤◌, ℤ, List, IfSome};
+ghost use Rattle.std.specs.Prelude.{◌≤◌, ◌-◌, ℤ, List, IfSome};
 ghost use Rattle.tw_figures.specs.Figures.{IsCourse};
 ghost use Rattle.tw_figures.specs.Told.{IsTold};
 ghost use Rattle.tw_msgs.specs.declared.record.Record.{Record as TheRecord};
@@ -8,10 +8,11 @@ ghost use Rattle.tw_msgs.specs.declared.record.Record.{Record as TheRecord};
 use crate::course::{Course, Sums};
 use crate::shares::{mean, share};
 
-/// What is told of a figure over the ticks before a time.
+/// What is told of a figure over the ticks of a time.
 #[derive(Clone, Copy, Debug, PartialEq, Eq)]
 pub struct Told {
-    /// The least of the values that it had, at the start and after each transition.
+    /// The least of the values that it had: the one with which it came to the first of the ticks, and those after each
+    /// transition from there on.
     pub least: i128,
     /// The greatest of these.
     pub greatest: i128,
@@ -26,15 +27,17 @@ pub struct Told {
 }
 
 impl Course {
-    /// What is told of the figure over so many ticks, where no transition has come since the last one.
+    /// What is told of the figure over the ticks from `from` on, its first one, and before `end`, after which no transition
+    /// has come. Where `end` is `from`, that is no tick.
     ///
     /// `None` where a sum would pass the range of its type.
-    pub fn told(&self, ticks: u64) -> Option<Told>
-        requires { self.now.since ≤ ticks }
-        ensures { (start : List ℤ) (moves : List TheRecord) → IsCourse start moves self.now
-            → IfSome result (IsTold self.now.measure start moves ticks) }
+    pub fn told(&self, from: u64, end: u64) -> Option<Told>
+        requires { self.now.since ≤ end }
+        ensures { (start : List ℤ) (moves : List TheRecord) → IsCourse from start moves self.now
+            → IfSome result (IsTold from self.now.measure start moves (end - from)) }
     {
-        let sums = self.sums(ticks)?;
+        let sums = self.sums(end)?;
+        let ticks = end.saturating_sub(from);
         Some(Told {
             least: self.least,
             greatest: self.greatest,

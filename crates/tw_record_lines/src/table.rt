@@ -2,6 +2,7 @@
 
 ghost use Rattle.std.specs.Prelude.{◌≡◌, ◌≤◌, ◌++◌, [], OnOk, IfErr, string_bytes};
 ghost use Rattle.std.specs.Io.KnownBytes.{Appends};
+ghost use Rattle.tw_figures.specs.Figures.{from_on};
 ghost use Rattle.tw_network.specs.Contents.{network_of};
 ghost use Rattle.tw_record_lines.specs.Tables.{table_text};
 ghost use Rattle.tw_texts.specs.Traces.{AppendsBeginning};
@@ -18,8 +19,9 @@ use tw_network::Network;
 use tw_rounds::{Advanced, begin};
 use tw_texts::{Names, NotWritten, write_out, write_portion};
 
-/// Simulates a network up to the end tick `until`, and writes this table of its records: after each round, in portions of about 65,536 bytes. It keeps the lines of one round and one portion. After
-/// each round the listener hears how far the run is.
+/// Simulates a network up to the end tick `until`, and writes this table of its records from the table's first tick on: after
+/// each round, in portions of about 65,536 bytes. It keeps the lines of one round and one portion. After each round the listener
+/// hears how far the run is.
 ///
 /// Refused by [`NotWritten::OutOfMemory`] (4), and the writer then has got a beginning of the table; by
 /// [`NotWritten::WriteFailed`] (24) where the writer failed, and then only the writer knows what it took.
@@ -33,12 +35,12 @@ pub fn write_table<M: Atomic, N: Names, L: Listener, W: Write>(
 ) -> Result<(), NotWritten>
     requires { until ≤ max_tick }
     ensures ok { let run = sequential (network_of M.meaning network.now) until in
-        OnOk result (Appends (W.contents out.old) (W.contents out.new)
-        (table_text table.now.rows (N.name_of table.now.names.now) run.records)) }
+        OnOk result (Appends (W.contents out.old) (W.contents out.new) (table_text table.now.rows
+        (N.name_of table.now.names.now) (from_on table.now.from run.records))) }
     ensures err { let run = sequential (network_of M.meaning network.now) until in
         IfErr result (λ e. e ≡ NotWritten.OutOfMemory
-        → AppendsBeginning (W.contents out.old) (W.contents out.new)
-        (table_text table.now.rows (N.name_of table.now.names.now) run.records)) }
+        → AppendsBeginning (W.contents out.old) (W.contents out.new) (table_text table.now.rows
+        (N.name_of table.now.names.now) (from_on table.now.from run.records))) }
 {
     let Ok(mut simulation) = begin(alloc, network, until) else {
         return Err(NotWritten::OutOfMemory);
@@ -46,8 +48,8 @@ pub fn write_table<M: Atomic, N: Names, L: Listener, W: Write>(
     let Ok(first) = String::from_str(alloc, head(table.rows)) else {
         return Err(NotWritten::OutOfMemory);
     };
-    let mut outputs = TableLines::new(table.names, table.rows, first);
-    let mut transitions = TableLines::new(table.names, table.rows, String::new(alloc));
+    let mut outputs = TableLines::new(table, first);
+    let mut transitions = TableLines::new(table, String::new(alloc));
     loop {
         let Ok(step) = advance_telling(
             alloc,

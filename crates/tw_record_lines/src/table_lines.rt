@@ -1,7 +1,9 @@
 //! The lines of a table that are gathered until they are written.
 
-ghost use Rattle.std.specs.Prelude.{◌≡◌, ◌++◌, string_bytes};
-ghost use Rattle.tw_record_lines.specs.Tables.{row_text};
+ghost use Rattle.std.specs.Prelude.{◌≡◌, ◌++◌, ◌∷◌, [], string_bytes};
+ghost use Rattle.tw_figures.specs.Figures.{from_on};
+ghost use Rattle.tw_record_lines.specs.Tables.{rows_text};
+ghost use Rattle.tw_vtime.specs.Stamps.{tick_of};
 
 use crate::rows::{add_each_item, add_each_word, add_record};
 use std::alloc::AllocError;
@@ -12,13 +14,15 @@ use tw_rounds::Receiver;
 use tw_texts::Names;
 use tw_vtime::Stamp;
 
-/// A table: what its lines are of, and the names of the components.
+/// A table: what its lines are of, the names of the components, and from which tick on it has records.
 #[derive(Drop)]
 pub struct Table<'a, N: Names> {
     /// What a line is of.
     pub rows: Rows,
     /// The names.
     pub names: &'a N,
+    /// The tick from which on it has records.
+    pub from: u64,
 }
 
 /// Lines with names of components, gathered until they are written, and how far their run is.
@@ -26,31 +30,35 @@ pub struct Table<'a, N: Names> {
 pub struct TableLines<'a, N: Names> {
     names: &'a N,
     rows: Rows,
+    from: u64,
     pub(crate) lines: String,
     reached: Reached,
 }
 
 impl<'a, N: Names> TableLines<'a, N> {
-    /// These lines.
-    pub(crate) fn new(names: &'a N, rows: Rows, lines: String) -> TableLines<'a, N>
-        ensures names { result.names.now ≡ names.now }
-        ensures rows { result.rows ≡ rows }
+    /// These lines, to which lines of a table are added.
+    pub(crate) fn new(table: &Table<'a, N>, lines: String) -> TableLines<'a, N>
+        ensures names { result.names.now ≡ table.now.names.now }
+        ensures rows { result.rows ≡ table.now.rows }
+        ensures from { result.from ≡ table.now.from }
         ensures lines { result.lines ≡ lines }
     {
         TableLines {
-            names,
-            rows,
+            names: table.names,
+            rows: table.rows,
+            from: table.from,
             lines,
             reached: Reached::nothing(),
         }
     }
 }
 
-/// Adds the lines of each record.
+/// Adds the lines of each record that is not before the table's first tick.
 impl<N: Names> Receiver for TableLines<'_, N> {
     ghost takes = { λ old r new. (new.names.now ≡ old.names.now) × (new.rows ≡ old.rows)
-        × (string_bytes new.lines
-        ≡ string_bytes old.lines ++ row_text old.rows (N.name_of old.names.now r.component) r) };
+        × (new.from ≡ old.from)
+        × (string_bytes new.lines ≡ string_bytes old.lines
+        ++ rows_text old.rows (N.name_of old.names.now) (from_on old.from (r ∷ []))) };
 
     fn take(
         &mut self,
@@ -61,6 +69,9 @@ impl<N: Names> Receiver for TableLines<'_, N> {
         words: &[i128],
     ) -> Result<(), AllocError> {
         self.reached.add(stamp);
+        if tick(stamp) < self.from {
+            return Ok(());
+        }
         let name = self.names.name(component);
         let text = &mut self.lines;
         match self.rows {
@@ -69,6 +80,13 @@ impl<N: Names> Receiver for TableLines<'_, N> {
             Rows::Words => add_each_word(text, name, stamp, kind, words),
         }
     }
+}
+
+/// The tick of a stamp. Of the end it is behind those of all others.
+fn tick(stamp: Stamp) -> u64
+    ensures { result ≡ tick_of stamp }
+{
+    stamp.pack() / 16_777_216
 }
 
 impl<N: Names> Counting for TableLines<'_, N> {

@@ -1,7 +1,9 @@
 -- The objects of a report, as they are written piece by piece.
-use Rattle.std.proofs.Common.{◌≡◌, ◌++◌, ◌∷◌, ◌∙◌, [], ℕ, List, codes, flat_map, sym, ap, append_assoc, append-nil}
+use Rattle.std.proofs.Common.{◌≡◌, ◌++◌, ◌∷◌, ◌∙◌, [], ℕ, List, Some, None, codes, decimal, flat_map, sym, ap, append_assoc, append-nil}
+use Rattle.std.specs.Prelude.{Option}
 use Rattle.std.proofs.lemmas.Grind.{flat_map-append}
-use Rattle.tw_stats.specs.Strings.{behind_comma, member, object_text}
+use Rattle.tw_stats.specs.Json.{time_members}
+use Rattle.tw_stats.specs.Strings.{behind_comma, member, object_text, with_commas}
 
 -- members behind a name
 pub named_object : (name : List ℕ) (members : List (List ℕ)) → codes "{\"name\":" ++ (name ++ (flat_map behind_comma members ++ codes "}")) ≡ object_text (member (codes "name") name ∷ members)
@@ -35,10 +37,10 @@ fault_object name tick micro limit =
     ∙ ap (λ l. behind_comma tick ++ l) (append_assoc (behind_comma micro) last end
     ∙ ap (λ l. behind_comma micro ++ l) (ap (λ l. l ++ end) (append-nil (behind_comma (member (codes "limit") limit))))))))
 
-pub report_object : (until records microsteps rows : List ℕ) (faults : List (List ℕ))
+whole_object : (until records microsteps rows : List ℕ) (faults : List (List ℕ))
     → (codes "{" ++ until) ++ (behind_comma records ++ (behind_comma microsteps ++ (codes ",\"components\":[" ++ (rows ++ (codes "]" ++ (flat_map behind_comma faults ++ codes "}\n"))))))
     ≡ object_text (until ∷ records ∷ microsteps ∷ member (codes "components") (codes "[" ++ rows ++ codes "]") ∷ faults) ++ codes "\n"
-report_object until records microsteps rows faults =
+whole_object until records microsteps rows faults =
     let end = codes "}\n" in
     let fourth = flat_map behind_comma faults in
     let listed = behind_comma (member (codes "components") (codes "[" ++ rows ++ codes "]")) in
@@ -51,3 +53,20 @@ report_object until records microsteps rows faults =
     ∙ ap (λ l. behind_comma records ++ l) (append_assoc (behind_comma microsteps) third end
     ∙ ap (λ l. behind_comma microsteps ++ l) (append_assoc listed fourth end
     ∙ ap (λ l. codes ",\"components\":[" ++ l) (append_assoc rows (codes "]") (fourth ++ end)))))))
+
+-- the members before the others
+times_first : (from : Option ℕ) (until : ℕ) (rest : List (List ℕ)) → with_commas (time_members from until ++ rest) ≡ with_commas (time_members from until) ++ flat_map behind_comma rest
+times_first None until rest = ap (λ l. l ++ flat_map behind_comma rest) (sym (append-nil (member (codes "until") (decimal until))))
+times_first (Some from) until rest =
+    let first = member (codes "from") (decimal from) in
+    let second = behind_comma (member (codes "until") (decimal until)) in
+    let others = flat_map behind_comma rest in
+    ap (λ l. first ++ (l ++ others)) (sym (append-nil second)) ∙ sym (append_assoc first (second ++ []) others)
+
+pub report_object : (from : Option ℕ) (until : ℕ) (records microsteps rows : List ℕ) (faults : List (List ℕ))
+    → (codes "{" ++ with_commas (time_members from until)) ++ (behind_comma records ++ (behind_comma microsteps ++ (codes ",\"components\":[" ++ (rows ++ (codes "]" ++ (flat_map behind_comma faults ++ codes "}\n"))))))
+    ≡ object_text (time_members from until ++ records ∷ microsteps ∷ member (codes "components") (codes "[" ++ rows ++ codes "]") ∷ faults) ++ codes "\n"
+report_object from until records microsteps rows faults =
+    let rest = records ∷ microsteps ∷ member (codes "components") (codes "[" ++ rows ++ codes "]") ∷ faults in
+    whole_object (with_commas (time_members from until)) records microsteps rows faults
+    ∙ ap (λ l. ((codes "{" ++ l) ++ codes "}") ++ codes "\n") (sym (times_first from until rest))

@@ -1,5 +1,5 @@
 -- How far a run has come: none of its records is of a later tick than its last.
-use Rattle.std.proofs.Common.{◌≡◌, ◌∙◌, ℕ, ◌<◌, ◌≤◌, List, [], Some, None, get_or, ap, refl, sym, subst, arith}
+use Rattle.std.proofs.Common.{◌≡◌, ◌∙◌, ℕ, ◌<◌, ◌≤◌, max, List, [], Some, None, get_or, ap, refl, sym, subst, arith}
 use Rattle.std.specs.Prelude.{◌==◌, Option}
 use Rattle.std.specs.List.{All, AllByRecursion as Each}
 use Rattle.std.proofs.lemmas.Option.{none-some, same_Some, slice_get-get_or}
@@ -47,13 +47,15 @@ module _ {S : Type 0} (net : Network S) (until : ℕ) (ok : IsNetwork net) (boun
   within_ticks (Some fault) e =
       each_weaker (λ r. r.stamp < fault.stamp) (λ r. tick_of r.stamp ≤ tick_of fault.stamp) (λ r l. omega arith) (sequential net until).records (fault_in_time fault (sym e)).past
 
-  -- no figure has had its last value from a later tick on
-  pub since_within : (gathered : Gatherer) → IsGathered (start_words net) (sequential net until).records gathered
-      → All (λ (m : Member). All (λ (c : Course). c.since ≤ run_ticks until (sequential net until).fault) m.courses.items) gathered.members.items
-  since_within gathered h = λ k d l j e m.
+  -- no figure has had its last value from a later tick on than the end, or the first tick
+  pub since_within : (from : ℕ) (gathered : Gatherer) → IsGathered from (start_words net) (sequential net until).records gathered
+      → All (λ (m : Member). All (λ (c : Course). c.since ≤ max from (run_ticks until (sequential net until).fault)) m.courses.items) gathered.members.items
+  since_within from gathered h = λ k d l j e m.
       let ticks = run_ticks until (sequential net until).fault in
+      let latest = max from ticks in
       let size = h.size in
       let start = slice_get-get_or (start_words net) k [] (omega (arith, size, l)) in
       let member = h.members k (get_or (start_words net) k []) (get_or gathered.members.items k d) start (slice_get-get_or gathered.members.items k d l) in
-      let own = each-filter (λ r. tick_of r.stamp ≤ ticks) (λ r. r.component == k) (sequential net until).records (within_ticks (sequential net until).fault refl) in
-      (member.courses j e m).since ticks (each-filter (λ r. tick_of r.stamp ≤ ticks) is_transition (of_component k (sequential net until).records) own)
+      let all = each_weaker (λ r. tick_of r.stamp ≤ ticks) (λ r. tick_of r.stamp ≤ latest) (λ r p. omega arith) (sequential net until).records (within_ticks (sequential net until).fault refl) in
+      let own = each-filter (λ r. tick_of r.stamp ≤ latest) (λ r. r.component == k) (sequential net until).records all in
+      (member.courses j e m).since latest (omega arith) (each-filter (λ r. tick_of r.stamp ≤ latest) is_transition (of_component k (sequential net until).records) own)

@@ -65,10 +65,15 @@ fault_members name_of (Some fault) = member (codes "fault") (fault_json (name_of
 
 -- ---- the report
 
+-- the tick from which on it tells, where one was asked for, and the end tick
+abbrev pub time_members : Option ℕ → ℕ → List (List ℕ)
+time_members None until = member (codes "until") (decimal until) ∷ []
+time_members (Some from) until = member (codes "from") (decimal from) ∷ member (codes "until") (decimal until) ∷ []
+
 abbrev pub report_members : (ℕ → List ℕ) → List Row → Report → List (List ℕ)
 report_members name_of rows report =
-    member (codes "until") (decimal report.until)
-    ∷ member (codes "records") (decimal report.records)
+    time_members report.from report.until
+    ++ member (codes "records") (decimal report.records)
     ∷ member (codes "microsteps") (decimal report.microsteps)
     ∷ member (codes "components") (array_text (map (row_json report.ticks) rows))
     ∷ fault_members name_of report.fault

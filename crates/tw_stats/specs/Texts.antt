@@ -1,8 +1,8 @@
 -- A report as text: a line of what it is of, the counts of the components, and their figures.
---     first_line report      the end tick, and how many components, records and microsteps there are
+--     first_line report      the tick from which on it tells, where one was asked for, the end tick, and how many components, records and microsteps there are
 --     counts_line row, figure_lines row      the cells of a component in each of the two tables
 --     report_text rows report      the whole text, of components with these rows
-use Rattle.std.specs.Prelude.{◌++◌, ◌∷◌, [], ℕ, List, codes, flat_map, length, map}
+use Rattle.std.specs.Prelude.{◌++◌, ◌∷◌, [], ℕ, List, Option, Some, None, codes, flat_map, length, map}
 use Rattle.std.specs.Fmt.{decimal, signed_decimal}
 use Rattle.tw_figures.specs.declared.told.Told.{Told}
 use Rattle.tw_stats.specs.Decimals.{thousandths_text}
@@ -10,13 +10,20 @@ use Rattle.tw_stats.specs.Grids.{grid_text}
 use Rattle.tw_stats.specs.Rows.{Row}
 use Rattle.tw_stats.specs.declared.report.Report.{Report}
 
-abbrev pub first_line : Report → List ℕ
-first_line report =
+abbrev pub from_text : Option ℕ → List ℕ
+from_text None = []
+from_text (Some from) = codes "from " ++ decimal from ++ codes "  "
+
+abbrev pub extent_text : Report → List ℕ
+extent_text report =
     codes "until " ++ decimal report.until
     ++ codes "  components " ++ decimal (length report.parts.items)
     ++ codes "  records " ++ decimal report.records
     ++ codes "  microsteps " ++ decimal report.microsteps
     ++ codes "\n"
+
+abbrev pub first_line : Report → List ℕ
+first_line report = from_text report.from ++ extent_text report
 
 -- ---- counts
 

@@ -1,6 +1,6 @@
 //! Counts and figures, gathered while a network is simulated.
 
-ghost use Rattle.std.specs.Prelude.{◌≡◌, ◌≤◌, ◌<◌, ◌↔◌, ◌++◌, ◌∷◌, [], ℤ, List, IfOk, IsErrOf, OnOk, length, map};
+ghost use Rattle.std.specs.Prelude.{◌≡◌, ◌≤◌, ◌<◌, ◌↔◌, ◌++◌, ◌∷◌, [], ℕ, ℤ, List, IfOk, IsErrOf, OnOk, length, map, max};
 ghost use Rattle.std.specs.List.{All};
 ghost use Rattle.tw_figures.specs.Gathered.{IsGathered, measures_of};
 ghost use Rattle.tw_network.specs.Contents.{network_of};
@@ -22,7 +22,7 @@ use tw_vtime::Stamp;
 /// What is gathered of a network's run.
 #[derive(Debug, Drop)]
 pub(crate) struct Gathering {
-    /// The counts and the courses of the figures of each component.
+    /// The counts and the courses of the figures of each component, from a tick on.
     pub(crate) gathered: Gatherer,
     /// The limit fault that ended the run.
     pub(crate) fault: Option<Fault>,
@@ -30,8 +30,8 @@ pub(crate) struct Gathering {
     pub(crate) ticks: u64,
 }
 
-/// Simulates a network up to the end tick `until` and gathers the counts of its components and the courses of their
-/// figures. After each round the listener hears how far the run is.
+/// Simulates a network up to the end tick `until` and gathers, from the tick `from` on, the counts of its components and the
+/// courses of their figures. After each round the listener hears how far the run is.
 ///
 /// Refused by [`SeqRefused::BadTick`] (10) exactly where `until` is above 1,099,511,627,774, and by
 /// [`SeqRefused::OutOfMemory`] (4) where a growth of memory was refused, or a count or a sum would pass the range of its
@@ -40,26 +40,28 @@ pub(crate) fn gather<M: Atomic, L: Listener>(
     alloc: Global,
     network: &Network<M>,
     labels: &[Labels],
+    from: u64,
     until: u64,
     listener: &mut L,
 ) -> Result<Gathering, SeqRefused>
     requires { length labels.now ≡ length network.now.models }
     ensures gathered { let net = network_of M.meaning network.now in
-        IfOk result (λ g. IsGathered (start_words net) (sequential net until).records g.gathered) }
+        IfOk result
+        (λ g. IsGathered from (start_words net) (sequential net until).records g.gathered) }
     ensures measures { IfOk result
         (λ g. measures_of g.gathered.members.items ≡ measures_in labels.now) }
     ensures fault { let run = sequential (network_of M.meaning network.now) until in
         IfOk result (λ g. g.fault ≡ run.fault) }
     ensures ticks { let run = sequential (network_of M.meaning network.now) until in
         IfOk result (λ g. g.ticks ≡ run_ticks until run.fault) }
-    ensures reached { IfOk result
-        (λ g. All (λ m. All (λ c. c.since ≤ g.ticks) m.courses.items) g.gathered.members.items) }
+    ensures reached { IfOk result (λ g. All
+        (λ m. All (λ c. c.since ≤ max from g.ticks) m.courses.items) g.gathered.members.items) }
     ensures in_time { IfOk result (λ g. BeforeEnd g.fault) }
     ensures bad_tick { IsErrOf result BadTick ↔ (max_tick < until) }
 {
     network.facts();
     let simulation = begin(alloc, network, until)?;
-    let mut gathered = start(alloc, network, labels)?;
+    let mut gathered = start(alloc, network, labels, from)?;
     let fault = follow(alloc, network, simulation, &mut gathered, listener)?;
     Ok(gathering_of(gathered, until, fault))
 }
@@ -90,11 +92,10 @@ fn follow<M: Atomic, L: Listener>(
     gathered: &mut Gatherer,
     listener: &mut L,
 ) -> Result<Option<Fault>, AllocError>
-    requires so_far { IsSimulating M.valid M.meaning network.now [] simulation }
-    requires gathered { (starts : List (List ℤ)) × IsGathered starts [] gathered.old }
+    requires { IsSimulating M.valid M.meaning network.now [] simulation }
     ensures gathered { let run = sequential (network_of M.meaning network.now) simulation.until in
-        (starts : List (List ℤ)) → IsGathered starts [] gathered.old
-        → OnOk result (IsGathered starts run.records gathered.new) }
+        (from : ℕ) (starts : List (List ℤ)) → IsGathered from starts [] gathered.old
+        → OnOk result (IsGathered from starts run.records gathered.new) }
     ensures measures { measures_of gathered.new.members.items
         ≡ measures_of gathered.old.members.items }
     ensures fault { let run = sequential (network_of M.meaning network.now) simulation.until in
@@ -103,6 +104,8 @@ fn follow<M: Atomic, L: Listener>(
     network.facts();
     let mut outputs = Vec::new(alloc);
     let mut transitions = Vec::new(alloc);
+    // All records, also those that do not count.
+    let mut seen: u64 = 0;
     loop {
         let step = advance(
             alloc,
@@ -116,7 +119,8 @@ fn follow<M: Atomic, L: Listener>(
                 outputs.append(&mut transitions)?;
                 let records = outputs.as_slice();
                 gathered.take_all(records)?;
-                listener.hear(reached(records, gathered.records));
+                seen = seen.saturating_add(records.len() as u64);
+                listener.hear(reached(records, seen));
                 outputs.clear();
             }
             Advanced::End(fault) => {
@@ -141,18 +145,20 @@ fn reached(round: &[Record], records: u64) -> Reached {
     }
 }
 
-/// Nothing gathered yet of the components of a network. Refused for want of memory (4).
+/// Nothing gathered yet of the components of a network, of which is told from the tick `from` on. Refused for want of
+/// memory (4).
 fn start<M: Atomic>(
     alloc: Global,
     network: &Network<M>,
     labels: &[Labels],
+    from: u64,
 ) -> Result<Gatherer, AllocError>
     requires { length labels.now ≡ length network.now.models }
     ensures gathered { let net = network_of M.meaning network.now in
-        IfOk result (IsGathered (start_words net) []) }
+        IfOk result (IsGathered from (start_words net) []) }
     ensures measures { IfOk result (λ g. measures_of g.members.items ≡ measures_in labels.now) }
 {
-    let mut gathered = Gatherer::new(alloc);
+    let mut gathered = Gatherer::new(alloc, from);
     for (component, label) in labels.iter().enumerate() {
         let model = network.model(component);
         add(alloc, model, label.figures.as_slice(), &mut gathered)?;
@@ -168,8 +174,8 @@ fn add<M: Atomic>(
     gathered: &mut Gatherer,
 ) -> Result<(), AllocError>
     ensures gathered { let means = M.meaning model.now in
-        (starts : List (List ℤ)) → IsGathered starts [] gathered.old
-        → OnOk result (IsGathered (starts ++ means.words means.start ∷ []) [] gathered.new) }
+        (from : ℕ) (starts : List (List ℤ)) → IsGathered from starts [] gathered.old
+        → OnOk result (IsGathered from (starts ++ means.words means.start ∷ []) [] gathered.new) }
     ensures measures { OnOk result (measures_of gathered.new.members.items
         ≡ measures_of gathered.old.members.items ++ map (λ f. f.measure) figures.now ∷ []) }
 {

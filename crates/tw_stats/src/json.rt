@@ -4,7 +4,7 @@ ghost use Rattle.std.specs.Prelude.{◌≡◌, ◌≢◌, ◌++◌, ◌∷◌, [
 ghost use Rattle.std.specs.Fmt.{signed_decimal};
 ghost use Rattle.tw_stats.specs.Gathering.{BeforeEnd};
 ghost use Rattle.tw_stats.specs.Decimals.{thousandths_text};
-ghost use Rattle.tw_stats.specs.Json.{counts_members, fault_json, fault_members, figure_json, report_json, row_json};
+ghost use Rattle.tw_stats.specs.Json.{counts_members, fault_json, fault_members, figure_json, report_json, row_json, time_members};
 ghost use Rattle.tw_stats.specs.Rows as plain;
 ghost use Rattle.tw_stats.specs.Strings.{array_text, behind_comma, member, quoted, with_commas};
 ghost use Rattle.tw_texts.specs.Texts.{limit_text};
@@ -32,7 +32,7 @@ pub(crate) fn add_json<N: Names>(
         OnOk result (string_bytes text.new ≡ string_bytes text.old
         ++ report_json (N.name_of names.now) said report.now) }
 {
-    add_first(text, report.until)?;
+    add_first(text, report.from, report.until)?;
     add_count(text, "records", report.records)?;
     add_count(text, "microsteps", report.microsteps)?;
     text.push_str(",\"components\":[")?;
@@ -43,12 +43,15 @@ pub(crate) fn add_json<N: Names>(
     Ok(())
 }
 
-/// The beginning, with the end tick.
-fn add_first(text: &mut String, until: u64) -> Result<(), AllocError>
+/// The beginning, with the tick from which on is told, where one was asked for, and the end tick.
+fn add_first(text: &mut String, from: Option<u64>, until: u64) -> Result<(), AllocError>
     ensures { OnOk result (string_bytes text.new
-        ≡ string_bytes text.old ++ (codes "{" ++ member (codes "until") (decimal until))) }
+        ≡ string_bytes text.old ++ (codes "{" ++ with_commas (time_members from until))) }
 {
-    write!(text, "{{\"until\":{until}")
+    match from {
+        Some(from) => write!(text, "{{\"from\":{from},\"until\":{until}"),
+        None => write!(text, "{{\"until\":{until}"),
+    }
 }
 
 /// The components, with commas between.

@@ -1,6 +1,6 @@
 //! What is told of a run.
 
-ghost use Rattle.std.specs.Prelude.{◌≡◌, ◌≤◌, ◌<◌, ◌↔◌, IfOk, IsErrOf, length, map};
+ghost use Rattle.std.specs.Prelude.{◌≡◌, ◌≤◌, ◌<◌, ◌-◌, ◌↔◌, IfOk, IsErrOf, length, map};
 ghost use Rattle.std.specs.List.{All, AllZip};
 ghost use Rattle.tw_figures.specs.Labelled.{label};
 ghost use Rattle.tw_network.specs.Contents.{network_of};
@@ -31,21 +31,26 @@ pub struct Part {
 pub struct Report {
     /// The components, in order.
     pub parts: Vec<Part>,
+    /// The tick from which on is told, where one was asked for.
+    pub from: Option<u64>,
     /// The end tick.
     pub until: u64,
-    /// The time that the figures are of, in ticks: up to the end tick, or to the tick of the fault that ended the run.
+    /// The time that the figures are of, in ticks: from that tick, or else from the start, up to the end tick, or to the
+    /// tick of the fault that ended the run.
     pub ticks: u64,
-    /// How many records there are.
+    /// How many records there are from that tick on.
     pub records: u64,
-    /// The greatest microstep of a record plus one; 0 where there is no record.
+    /// The greatest microstep of one of these plus one; 0 where there is none.
     pub microsteps: u64,
     /// The limit fault that ended the run.
     pub fault: Option<Fault>,
 }
 
 /// Simulates a network up to the end tick `until` and tells the counts and the figures of its components: of the records of
-/// its sequential run, over its time, which is up to the end tick, or up to that of the fault that ended the run. After each
-/// round the listener hears how far the run is.
+/// its sequential run, over its time, which is up to the end tick, or up to that of the fault that ended the run. With
+/// `from` it tells them from that tick on: the records before it do not count, and a figure comes to it with the value that
+/// they left. Where the run ends before it, no record counts, and each figure is over no time. After each round the listener
+/// hears how far the run is.
 ///
 /// Refused by [`SeqRefused::BadTick`] (10) exactly where `until` is above 1,099,511,627,774, and by
 /// [`SeqRefused::OutOfMemory`] (4) where a growth of memory was refused, or a count or a sum would pass the range of its
@@ -54,54 +59,62 @@ pub fn report_of<M: Atomic, L: Listener>(
     alloc: Global,
     network: &Network<M>,
     labels: &[Labels],
+    from: Option<u64>,
     until: u64,
     listener: &mut L,
 ) -> Result<Report, SeqRefused>
     requires { length labels.now ≡ length network.now.models }
     ensures report { let net = network_of M.meaning network.now in
-        IfOk result (IsReport net until (map label labels.now)) }
+        IfOk result (IsReport net from until (map label labels.now)) }
     ensures in_time { IfOk result (λ r. BeforeEnd r.fault) }
     ensures bad_tick { IsErrOf result BadTick ↔ (max_tick < until) }
 {
+    let first = from.unwrap_or(0);
     let Gathering {
         gathered,
         fault,
         ticks,
-    } = gather(alloc, network, labels, until, listener)?;
-    let parts = tell_all(alloc, gathered.members.as_slice(), ticks)?;
+    } = gather(alloc, network, labels, first, until, listener)?;
+    let end = ticks.max(first);
+    let parts = tell_all(alloc, gathered.members.as_slice(), first, end)?;
     Ok(Report {
         parts,
+        from,
         until,
-        ticks,
+        ticks: end - first,
         records: gathered.records,
         microsteps: gathered.microsteps,
         fault,
     })
 }
 
-/// What is told of each component over so many ticks. Refused for want of memory (4), or where a sum would pass its range (4).
-fn tell_all(alloc: Global, members: &[Member], ticks: u64) -> Result<Vec<Part>, AllocError>
-    requires { All (λ m. All (λ c. c.since ≤ ticks) m.courses.items) members.now }
-    ensures { IfOk result (λ parts. AllZip (TellsPart ticks) members.now parts.items) }
+/// What is told of each component over the ticks from `from` on and before `end`. Refused for want of memory (4), or where a
+/// sum would pass its range (4).
+fn tell_all(alloc: Global, members: &[Member], from: u64, end: u64) -> Result<Vec<Part>, AllocError>
+    requires { All (λ m. All (λ c. c.since ≤ end) m.courses.items) members.now }
+    ensures { IfOk result
+        (λ parts. AllZip (TellsPart from (end - from)) members.now parts.items) }
 {
     let mut parts = Vec::new(alloc);
     for member in members {
         parts.push(Part {
             counts: member.counts,
-            figures: tell(alloc, member.courses.as_slice(), ticks)?,
+            figures: tell(alloc, member.courses.as_slice(), from, end)?,
         })?;
     }
     Ok(parts)
 }
 
-/// What is told of figures over so many ticks. Refused for want of memory (4), or where a sum would pass its range (4).
-fn tell(alloc: Global, courses: &[Course], ticks: u64) -> Result<Vec<Told>, AllocError>
-    requires { All (λ c. c.since ≤ ticks) courses.now }
-    ensures { IfOk result (λ figures. AllZip (TellsFigure ticks) courses.now figures.items) }
+/// What is told of figures over the ticks from `from` on and before `end`. Refused for want of memory (4), or where a sum
+/// would pass its range (4).
+fn tell(alloc: Global, courses: &[Course], from: u64, end: u64) -> Result<Vec<Told>, AllocError>
+    requires { All (λ c. c.since ≤ end) courses.now }
+    ensures { IfOk result
+        (λ figures. AllZip (TellsFigure from (end - from)) courses.now figures.items) }
 {
     let mut figures = Vec::new(alloc);
     for course in courses {
-        let Some(told) = course.told(ticks) else {
+        let Some(told) = course.told(from, end) else {
             return Err(AllocError);
         };
         figures.push(told)?;

@@ -5,7 +5,7 @@ ghost use Rattle.std.specs.Fmt.{signed_decimal};
 ghost use Rattle.tw_stats.specs.Decimals.{thousandths_text};
 ghost use Rattle.tw_stats.specs.Grids.{grid_text, lines_of};
 ghost use Rattle.tw_stats.specs.Rows as plain;
-ghost use Rattle.tw_stats.specs.Texts.{counts_head, counts_line, figure_line, figure_lines, figures_head, first_line, report_text};
+ghost use Rattle.tw_stats.specs.Texts.{counts_head, counts_line, figure_line, figure_lines, extent_text, figures_head, first_line, from_text, report_text};
 
 use crate::decimals::add_thousandths;
 use crate::grid::add_grid;
@@ -38,12 +38,30 @@ pub(crate) fn add_text(
 fn add_first_line(text: &mut String, report: &Report) -> Result<(), AllocError>
     ensures { OnOk result (string_bytes text.new ≡ string_bytes text.old ++ first_line report.now) }
 {
+    add_from(text, report.from)?;
+    add_extent(text, report)
+}
+
+/// The end tick, and how many components, records and microsteps there are.
+fn add_extent(text: &mut String, report: &Report) -> Result<(), AllocError>
+    ensures { OnOk result (string_bytes text.new ≡ string_bytes text.old ++ extent_text report.now) }
+{
     let until = report.until;
     let components = report.parts.len();
     let records = report.records;
     let microsteps = report.microsteps;
     write!(text, "until {until}  components {components}")?;
     write!(text, "  records {records}  microsteps {microsteps}\n")
+}
+
+/// The tick from which on is told, where one was asked for.
+fn add_from(text: &mut String, from: Option<u64>) -> Result<(), AllocError>
+    ensures { OnOk result (string_bytes text.new ≡ string_bytes text.old ++ from_text from) }
+{
+    match from {
+        Some(from) => write!(text, "from {from}  "),
+        None => Ok(()),
+    }
 }
 
 /// The lines of the counts.

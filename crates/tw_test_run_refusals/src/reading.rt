@@ -102,6 +102,7 @@ fn name_of(job: &Job<'_>) -> &'static str {
     match job {
         Job::Demo => "demo\n",
         Job::Check { .. } => "check\n",
+        Job::Dot { .. } => "dot\n",
         Job::Simulate { task, .. } => match task {
             Task::Seq { .. } => "seq\n",
             Task::Stats { .. } => "stats\n",

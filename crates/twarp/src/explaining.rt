@@ -47,8 +47,10 @@ pub(crate) fn job_words(
     let Exit::Bad { refusal, line } = exit else {
         return None;
     };
-    let Job::Simulate { task, .. } = job else {
-        return None;
+    let task = match job {
+        Job::Demo | Job::Check { .. } => return None,
+        Job::Dot { .. } => return file_words(rt.alloc(), bytes).ok()?,
+        Job::Simulate { task, .. } => task,
     };
     if let Some(words) = file_words(rt.alloc(), bytes).ok()? {
         return Some(words);

@@ -121,7 +121,7 @@ fn exit_of_job<T: Threads + Wait + Clock + Eprint + Sync>(
 fn network_bytes(rt: &HostRuntime, job: &Job<'_>) -> Result<Vec<u8>, Failed> {
     match job {
         Job::Demo => Ok(Vec::new(rt.alloc())),
-        Job::Check { net } | Job::Simulate { net, .. } => {
+        Job::Check { net } | Job::Dot { net } | Job::Simulate { net, .. } => {
             let mut file = Source::from(File::open(rt, *net));
             read_all(rt.alloc(), &mut file)
         }
@@ -131,7 +131,9 @@ fn network_bytes(rt: &HostRuntime, job: &Job<'_>) -> Result<Vec<u8>, Failed> {
 /// The words for a network's file that cannot be read, where they are asked for.
 fn network_words(rt: &HostRuntime, job: &Job<'_>, explained: bool) -> Option<String> {
     match job {
-        Job::Check { net } | Job::Simulate { net, .. } if explained => unread_words(rt, *net),
+        Job::Check { net } | Job::Dot { net } | Job::Simulate { net, .. } if explained => {
+            unread_words(rt, *net)
+        }
         _ => None,
     }
 }

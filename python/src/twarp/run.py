@@ -247,16 +247,27 @@ class Run:
             self._figured()
         return self._fault
 
-    def stats(self) -> Stats:
-        """Counts and figures; see `Stats`. They are kept: asked again, nothing is simulated.
+    def stats(self, start: Optional[int] = None) -> Stats:
+        """Counts and figures; see `Stats`. Those of the whole run are kept: asked again, nothing is simulated.
 
-        Raises `LimitFault` (with the figures up to it as `partial`), and what `simulate` says.
+        With `start` they are of the time from that tick on, without a warm-up: records before it do not
+        count, and a figure comes to it with the value that they left.
+
+        Raises `LimitFault` (with the figures up to it as `partial`), `TypeError` where `start` is no whole
+        number, `RequestError` where it is no tick, and what `simulate` says.
 
         >>> from twarp import Network, simulate
-        >>> simulate(Network().add("g", "gen", period=2, value=5), until=5).stats()
+        >>> run = simulate(Network().add("g", "gen", period=2, value=5), until=5)
+        >>> run.stats()
         Stats(until=5, records=4, microsteps=1)
+        >>> run.stats(start=3).figures.loc[("g", "count"), "mean"]
+        1.5
         """
-        stats = self._figured()
+        if start is None:
+            stats = self._figured()
+        else:
+            stats = Stats(_figures(self._network, self.until, _whole(start, "start")))
+            self._learn(stats.fault)
         self._met(stats.fault, stats)
         return stats
 
@@ -447,9 +458,10 @@ class Run:
 _ROWS = 200_000
 
 
-def _figures(network: bytes, until: int) -> Any:
+def _figures(network: bytes, until: int, start: Optional[int] = None) -> Any:
     """The answer of `stats --json`."""
-    given = answer(["stats", "/dev/stdin", "--until", str(until), "--json"], network)
+    since = [] if start is None else [f"--from={start}"]
+    given = answer(["stats", "/dev/stdin", "--until", str(until), *since, "--json"], network)
     try:
         raw = json.loads(given.out)
         return raw if isinstance(raw, dict) and raw.keys() >= {"until", "records", "components"} else _refuse(given.out)

@@ -11,6 +11,8 @@ twarp check n.json
 Check { net: "n.json" }
 twarp check -- -n.json
 Check { net: "-n.json" }
+twarp dot n.json
+Dot { net: "n.json" }
 twarp seq n.json --until 5
 Simulate { net: "n.json", until: 5, task: Seq { progress: false } }
 twarp seq n.json --until=5
@@ -30,15 +32,21 @@ Simulate { net: "n.json", until: 1099511627774, task: Seq { progress: false } }
 twarp seq --progress n.json --until 5
 Simulate { net: "n.json", until: 5, task: Seq { progress: true } }
 twarp stats n.json --until 5
-Simulate { net: "n.json", until: 5, task: Stats { json: false, progress: false } }
+Simulate { net: "n.json", until: 5, task: Stats { from: None, json: false, progress: false } }
 twarp stats --json --until=5 --progress n.json
-Simulate { net: "n.json", until: 5, task: Stats { json: true, progress: true } }
+Simulate { net: "n.json", until: 5, task: Stats { from: None, json: true, progress: true } }
+twarp stats n.json --from 0 --until 5
+Simulate { net: "n.json", until: 5, task: Stats { from: Some(0), json: false, progress: false } }
+twarp stats n.json --from=1099511627774 --json --until 5
+Simulate { net: "n.json", until: 5, task: Stats { from: Some(1099511627774), json: true, progress: false } }
 twarp table n.json --until 5
-Simulate { net: "n.json", until: 5, task: Table { rows: Records, progress: false } }
+Simulate { net: "n.json", until: 5, task: Table { from: 0, rows: Records, progress: false } }
 twarp table n.json --until 5 --items
-Simulate { net: "n.json", until: 5, task: Table { rows: Items, progress: false } }
+Simulate { net: "n.json", until: 5, task: Table { from: 0, rows: Items, progress: false } }
 twarp table --words --progress --until 5 -- --items
-Simulate { net: "--items", until: 5, task: Table { rows: Words, progress: true } }
+Simulate { net: "--items", until: 5, task: Table { from: 0, rows: Words, progress: true } }
+twarp table n.json --from 7 --until 5 --words
+Simulate { net: "n.json", until: 5, task: Table { from: 7, rows: Words, progress: false } }
 twarp draw n.json --until 5
 Simulate { net: "n.json", until: 5, task: Draw { picture: Run(View { from: 0, only: None, figure: None }) } }
 twarp draw n.json --until 5 --from +2 --only a,b --figure jobs

@@ -5,4 +5,4 @@ use Rattle.tw_cli.proofs.command_line.job_named.Goals as goal
 pub returns-in_default-clause-none : goal.returns-in_default-clause-none
 returns-in_default-clause-none c =
     none_then c.simulation_in.result
-    (no_job c.args.name.now (rows_of (found_of c.args.options.now)) c.in_default.not-demo c.in_default.not-check) c.simulation_in.ensures.none
+    (no_job c.args.name.now (rows_of (found_of c.args.options.now)) c.in_default.not-demo c.in_default.not-check c.in_default.not-dot) c.simulation_in.ensures.none

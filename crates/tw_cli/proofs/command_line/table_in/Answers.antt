@@ -3,8 +3,14 @@ use Rattle.clap.specs.Words.{found_of, rows_of}
 use Rattle.tw_cli.proofs.Missing.{Needs, table_letters, needs_met}
 use Rattle.tw_cli.proofs.command_line.table_in.Goals as goal
 
-pub returns-in_err-rows-clause-none : goal.returns-in_err-rows-clause-none
-returns-in_err-rows-clause-none c = rw c.from_residual.ensures (λ t is.
+pub returns-in_err-from-clause-none : goal.returns-in_err-from-clause-none
+returns-in_err-from-clause-none c = rw c.from_residual.ensures (λ t is.
     let rows = rows_of (found_of c.args.options.now) in
     let met : Needs table_letters rows = needs_met (codes "table") rows t is in
-    c.in_err-rows.ensures.none met.0 met.1)
+    c.in_err-from.ensures.none met.0 met.2)
+
+pub returns-in_err-rows-clause-none : goal.returns-in_err-rows-clause-none
+returns-in_err-rows-clause-none c = rw c.from_residual-in_err-rows.ensures (λ t is.
+    let rows = rows_of (found_of c.args.options.now) in
+    let met : Needs table_letters rows = needs_met (codes "table") rows t is in
+    c.in_err-rows.ensures.none met.1 met.3)

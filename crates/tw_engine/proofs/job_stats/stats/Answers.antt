@@ -12,6 +12,6 @@ returns g c =
     inr (
       n,
       c.in_ok-file.ensures.network,
-      subst (λ ls. IsSummedOf n ls c.args.until c.args.json c.sum_up.result old new)
+      subst (λ ls. IsSummedOf n ls c.args.summary.from c.args.summary.until c.args.summary.json c.sum_up.result old new)
           (labels_of_bytes c.args.bytes.now (view c.in_ok-file.file.value) n c.in_ok-file.ensures.value) c.sum_up.ensures,
     )

@@ -14,17 +14,17 @@ use Rattle.tw_engine.proofs.job_stats.sum_up.Goals as goal
 
 pub report_of-requires : goal.report_of-requires
 report_of-requires g c =
-    let n = c.args.run.now.network.now in
+    let n = c.args.file.now.network in
     ap length c.as_slice-labels.ensures.value ∙ sym (length-map c.in_ok-labels.labels.items label)
-    ∙ ap length c.in_ok-labels.ensures ∙ as_many (view c.args.file.now) n.models
+    ∙ ap length c.in_ok-labels.ensures ∙ as_many (view c.args.file.now.value) n.models
 
 pub returns-in-Ok-write_report : goal.returns-in-Ok-write_report
 returns-in-Ok-write_report g c =
-    let n = c.args.run.now.network.now in
+    let n = c.args.file.now.network in
     let old = g.W.Write.contents c.args.out.now in
     let new = g.W.Write.contents c.write_report.new.out in
     let same = ap (map label) c.as_slice-labels.ensures.value ∙ c.in_ok-labels.ensures in
-    summed_up n (labels_said (view c.args.file.now) n.models) c.args.run.now.until c.args.json c.in-Ok.report c.in_ok-line.line old new
-    (subst (λ ls. IsReport (network_of any_meaning n) c.args.run.now.until ls c.in-Ok.report) same c.in-Ok.ensures.report)
+    summed_up n (labels_said (view c.args.file.now.value) n.models) c.args.summary.from c.args.summary.until c.args.summary.json c.in-Ok.report c.in_ok-line.line old new
+    (subst (λ ls. IsReport (network_of any_meaning n) c.args.summary.from c.args.summary.until ls c.in-Ok.report) same c.in-Ok.ensures.report)
     c.in_ok-line.ensures
-    (subst (λ ls. Appends old new (report_bytes c.args.json (name_in n.names) ls c.in-Ok.report)) same c.in-Ok-write_report.ensures.written)
+    (subst (λ ls. Appends old new (report_bytes c.args.summary.json (name_in n.names) ls c.in-Ok.report)) same c.in-Ok-write_report.ensures.written)

@@ -15,9 +15,9 @@ use Rattle.tw_stats.proofs.gathering.follow.Goals.{After-as_slice-records, After
 pub loop-transitions-init : goal.loop-transitions-init
 loop-transitions-init g c = record {
   done = [];
-  so_far = c.requires.so_far;
+  so_far = c.requires;
   until = refl;
-  gathered = λ starts h. h;
+  gathered = λ from starts h. h;
   measures = refl;
   no_outputs = c.new-outputs.ensures.items;
   no_transitions = c.new-transitions.ensures.items;
@@ -47,11 +47,8 @@ made_in g c =
 pub take_all-requires : goal.take_all-requires
 take_all-requires g c =
     let inv = c.loop-transitions.invariant in
-    let (starts, h) = c.requires.gathered in
     let made = made_in g (goal.at.take_all-requires g c).After-as_slice-records in (
-      starts,
       inv.done,
-      inv.gathered starts h,
       subst (λ l. IsSteady (inv.done ++ l)) (sym made.slice) (made_steady g.M.Atomic.valid g.M.Atomic.meaning c.args.network.now (inv.done ++ made.more) c.advance.new.simulation c.facts.ensures.network made.so_far),
     )
 
@@ -64,8 +61,8 @@ loop-transitions-preserved g c =
       done = inv.done ++ made.more;
       so_far = made.so_far;
       until = c.in_ok-step.ensures.until ∙ inv.until;
-      gathered = λ starts h. subst (λ l. IsGathered starts (inv.done ++ l) c.take_all.new.self) made.slice
-          (c.in_ok-take_all-in-Round.ensures.gathered starts inv.done steady (inv.gathered starts h));
+      gathered = λ from starts h. subst (λ l. IsGathered from starts (inv.done ++ l) c.take_all.new.self) made.slice
+          (c.in_ok-take_all-in-Round.ensures.gathered from starts inv.done steady (inv.gathered from starts h));
       measures = c.take_all.ensures.measures ∙ inv.measures;
       no_outputs = c.clear.ensures.items;
       no_transitions = c.in_ok-append-in-Round.ensures.other_items;
@@ -91,22 +88,19 @@ ended_in g c =
 pub take_all-requires-in-End : goal.take_all-requires-in-End
 take_all-requires-in-End g c =
     let inv = c.loop-transitions.invariant in
-    let (starts, h) = c.requires.gathered in
     let end = ended_in g c in (
-      starts,
       inv.done,
-      inv.gathered starts h,
-      subst IsSteady (sym end.whole) (run_steady (network_of g.M.Atomic.meaning c.args.network.now) c.args.simulation.until c.facts.ensures.network c.requires.so_far.part.small),
+      subst IsSteady (sym end.whole) (run_steady (network_of g.M.Atomic.meaning c.args.network.now) c.args.simulation.until c.facts.ensures.network c.requires.part.small),
     )
 
 pub returns-in-End-clause-gathered : goal.returns-in-End-clause-gathered
-returns-in-End-clause-gathered g c starts h =
+returns-in-End-clause-gathered g c from starts h =
     let inv = c.loop-transitions.invariant in
     let end = ended_in g (goal.at.returns-in-End-clause-gathered g c).After-as_slice in
-    subst (λ l. IsGathered starts l c.take_all-in-End.new.self) end.whole
-    (c.in_ok-take_all-in-End.ensures.gathered starts inv.done
-    (subst IsSteady (sym end.whole) (run_steady (network_of g.M.Atomic.meaning c.args.network.now) c.args.simulation.until c.facts.ensures.network c.requires.so_far.part.small))
-    (inv.gathered starts h))
+    subst (λ l. IsGathered from starts l c.take_all-in-End.new.self) end.whole
+    (c.in_ok-take_all-in-End.ensures.gathered from starts inv.done
+    (subst IsSteady (sym end.whole) (run_steady (network_of g.M.Atomic.meaning c.args.network.now) c.args.simulation.until c.facts.ensures.network c.requires.part.small))
+    (inv.gathered from starts h))
 
 pub returns-in-End-clause-fault : goal.returns-in-End-clause-fault
 returns-in-End-clause-fault g c = (ended_in g (goal.at.returns-in-End-clause-fault g c).After-as_slice).met

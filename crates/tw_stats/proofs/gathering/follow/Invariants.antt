@@ -1,5 +1,5 @@
 -- The records of the rounds so far are gathered; the rounds still to be made complete the run, and their times rise.
-use Rattle.std.proofs.Common.{◌≡◌, ◌-◌, ℤ, List, []}
+use Rattle.std.proofs.Common.{◌≡◌, ◌-◌, ℕ, ℤ, List, []}
 use Rattle.tw_figures.specs.Gathered.{IsGathered, measures_of}
 use Rattle.tw_msgs.specs.declared.record.Record.{Record}
 use Rattle.tw_rounds.specs.Parts.{IsSimulating}
@@ -12,7 +12,7 @@ invariant-loop-transitions g l = record {
   done : List Record;
   so_far : IsSimulating g.M.Atomic.valid g.M.Atomic.meaning l.network done l.simulation;
   until : l.simulation.until ≡ l.fn.simulation.until;
-  gathered : (starts : List (List ℤ)) → IsGathered starts [] l.fn.gathered → IsGathered starts done l.gathered;
+  gathered : (from : ℕ) (starts : List (List ℤ)) → IsGathered from starts [] l.fn.gathered → IsGathered from starts done l.gathered;
   measures : measures_of l.gathered.members.items ≡ measures_of l.fn.gathered.members.items;
   no_outputs : l.outputs.items ≡ [];
   no_transitions : l.transitions.items ≡ [];

@@ -11,9 +11,9 @@ loop-component-preserved g c =
     let at = c.loop-component.component in
     let starts = start_words (network_of g.M.Atomic.meaning c.args.network.now) in
     record {
-      gathered = subst (λ l. IsGathered l [] c.add.new.gathered)
+      gathered = subst (λ l. IsGathered c.args.from l [] c.add.new.gathered)
           (starts_more g.M.Atomic.meaning c.args.network.now at c.model-model.result.now c.model-model.ensures)
-          (c.in_ok-add.ensures.gathered (take at starts) inv.gathered);
+          (c.in_ok-add.ensures.gathered c.args.from (take at starts) inv.gathered);
       measures = c.in_ok-add.ensures.measures ∙ ap (λ l. l ++ map (λ f. f.measure) c.as_slice.result.now ∷ []) inv.measures
           ∙ ap (λ l. take at (measures_in c.args.labels.now) ++ map (λ f. f.measure) l ∷ []) c.as_slice.ensures.value
           ∙ measures_more c.args.labels.now at c.index-labels-component.result c.loop-component-test.true c.index-labels-component.is;

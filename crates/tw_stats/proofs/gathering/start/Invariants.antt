@@ -6,6 +6,6 @@ use Rattle.tw_stats.proofs.gathering.start.Given as goal
 
 abbrev pub invariant-loop-component : goal.invariant-loop-component
 invariant-loop-component g l = record {
-  gathered : IsGathered (take l.component (start_words (network_of g.M.Atomic.meaning l.network))) [] l.gathered;
+  gathered : IsGathered l.from (take l.component (start_words (network_of g.M.Atomic.meaning l.network))) [] l.gathered;
   measures : measures_of l.gathered.members.items ≡ take l.component (measures_in l.labels);
 }

@@ -1,4 +1,4 @@
-use Rattle.std.proofs.Common.{List, refl, subst}
+use Rattle.std.proofs.Common.{◌-◌, List, refl, subst}
 use Rattle.std.specs.List.{AllZip}
 use Rattle.tw_figures.specs.declared.course.Course.{Course}
 use Rattle.tw_stats.specs.Reports.{TellsFigure, TellsPart}
@@ -7,6 +7,6 @@ use Rattle.tw_stats.proofs.report.tell_all.Goals as goal
 
 pub loop-member-preserved : goal.loop-member-preserved
 loop-member-preserved c =
-    zip_more (TellsPart c.args.ticks) c.args.members.now c.loop-member.parts.items c.loop-member.member-index c.member-item.result _ _
+    zip_more (TellsPart c.args.from (c.args.end - c.args.from)) c.args.members.now c.loop-member.parts.items c.loop-member.member-index c.member-item.result _ _
     c.loop-member-test.true c.member-item.is c.in_ok-push.ensures.items c.loop-member.invariant
-    (record { counts = refl; figures = subst (λ (l : List Course). AllZip (TellsFigure c.args.ticks) l c.in_ok-tell.field-0.items) c.as_slice.ensures.value c.in_ok-tell.ensures })
+    (record { counts = refl; figures = subst (λ (l : List Course). AllZip (TellsFigure c.args.from (c.args.end - c.args.from)) l c.in_ok-tell.field-0.items) c.as_slice.ensures.value c.in_ok-tell.ensures })

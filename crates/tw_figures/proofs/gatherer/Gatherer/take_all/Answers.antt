@@ -6,30 +6,26 @@ use Rattle.tw_figures.proofs.gatherer.Gatherer.take_all.Goals as goal
 
 pub loop-step-init : goal.loop-step-init
 loop-step-init c = record {
-  gathered = λ starts records steady h. subst (λ l. IsGathered starts l c.args.self.now) (sym (append-nil records)) h;
+  gathered = λ from starts records steady h. subst (λ l. IsGathered from starts l c.args.self.now) (sym (append-nil records)) h;
   measures = refl;
 }
 
 pub take-requires : goal.take-requires
 take-requires c =
-    let (starts, records, h, steady) = c.requires in
-    let next = steady_next records c.args.steps.now c.loop-step.step-index c.step-item.result steady c.loop-step-test.true c.step-item.is in
-    record {
-      before_end = next.1;
-      next = (starts, records ++ take c.loop-step.step-index c.args.steps.now, c.loop-step.invariant.gathered starts records steady h, next.0);
-    }
+    let (records, steady) = c.requires in
+    (steady_next records c.args.steps.now c.loop-step.step-index c.step-item.result steady c.loop-step-test.true c.step-item.is).1
 
 pub loop-step-preserved : goal.loop-step-preserved
 loop-step-preserved c = record {
-  gathered = λ starts records steady h.
+  gathered = λ from starts records steady h.
       let next = steady_next records c.args.steps.now c.loop-step.step-index c.step-item.result steady c.loop-step-test.true c.step-item.is in
-      subst (λ l. IsGathered starts l c.take.new.self) (one_taken records c.args.steps.now c.loop-step.step-index c.step-item.result c.loop-step-test.true c.step-item.is)
-      (c.in_ok-take.ensures.gathered starts (records ++ take c.loop-step.step-index c.args.steps.now) next.0 (c.loop-step.invariant.gathered starts records steady h));
+      subst (λ l. IsGathered from starts l c.take.new.self) (one_taken records c.args.steps.now c.loop-step.step-index c.step-item.result c.loop-step-test.true c.step-item.is)
+      (c.in_ok-take.ensures.gathered from starts (records ++ take c.loop-step.step-index c.args.steps.now) next.0 (c.loop-step.invariant.gathered from starts records steady h));
   measures = c.take.ensures.measures ∙ c.loop-step.invariant.measures;
 }
 
 pub returns-clause-gathered : goal.returns-clause-gathered
-returns-clause-gathered c starts records steady h =
+returns-clause-gathered c from starts records steady h =
     let over : length c.args.steps.now ≤ c.loop-step.step-index = c.loop-step-test.false in
-    subst (λ l. IsGathered starts (records ++ l) c.loop-step.self) (take_all c.loop-step.step-index c.args.steps.now over)
-    (c.loop-step.invariant.gathered starts records steady h)
+    subst (λ l. IsGathered from starts (records ++ l) c.loop-step.self) (take_all c.loop-step.step-index c.args.steps.now over)
+    (c.loop-step.invariant.gathered from starts records steady h)

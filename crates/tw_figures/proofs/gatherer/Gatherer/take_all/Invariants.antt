@@ -1,4 +1,4 @@
-use Rattle.std.proofs.Common.{◌≡◌, ◌++◌, ℤ, List, take}
+use Rattle.std.proofs.Common.{◌≡◌, ◌++◌, ℕ, ℤ, List, take}
 use Rattle.tw_msgs.specs.declared.record.Record.{Record}
 use Rattle.tw_figures.specs.Figures.{IsSteady}
 use Rattle.tw_figures.specs.Gathered.{IsGathered, measures_of}
@@ -6,7 +6,7 @@ use Rattle.tw_figures.proofs.gatherer.Gatherer.take_all.Given as goal
 
 abbrev pub invariant-loop-step : goal.invariant-loop-step
 invariant-loop-step l = record {
-  gathered : (starts : List (List ℤ)) (records : List Record) → IsSteady (records ++ l.steps) → IsGathered starts records l.fn.self
-      → IsGathered starts (records ++ take l.step-index l.steps) l.self;
+  gathered : (from : ℕ) (starts : List (List ℤ)) (records : List Record) → IsSteady (records ++ l.steps) → IsGathered from starts records l.fn.self
+      → IsGathered from starts (records ++ take l.step-index l.steps) l.self;
   measures : measures_of l.self.members.items ≡ measures_of l.fn.self.members.items;
 }

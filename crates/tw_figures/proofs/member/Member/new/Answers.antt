@@ -6,7 +6,7 @@ use Rattle.tw_figures.proofs.member.Member.new.Goals as goal
 
 pub loop-figure-preserved : goal.loop-figure-preserved
 loop-figure-preserved c = record {
-  courses = subst (All (IsCourse c.args.words.now [])) (sym c.in_ok-push.ensures.items) (courses_more (IsCourse c.args.words.now []) _ c.new.result c.loop-figure.invariant.courses c.new.ensures.course);
+  courses = subst (All (IsCourse c.args.from c.args.words.now [])) (sym c.in_ok-push.ensures.items) (courses_more (IsCourse c.args.from c.args.words.now []) _ c.new.result c.loop-figure.invariant.courses c.new.ensures.course);
   measures = ap (map (λ x. x.measure)) c.in_ok-push.ensures.items
       ∙ measures_more c.loop-figure.courses.items c.args.figures.now c.loop-figure.figure-index c.new.result c.figure-item.result c.loop-figure-test.true c.figure-item.is c.new.ensures.measure c.loop-figure.invariant.measures;
 }

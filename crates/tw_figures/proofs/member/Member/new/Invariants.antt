@@ -5,6 +5,6 @@ use Rattle.tw_figures.proofs.member.Member.new.Given as goal
 
 abbrev pub invariant-loop-figure : goal.invariant-loop-figure
 invariant-loop-figure l = record {
-  courses : All (IsCourse l.words []) l.courses.items;
+  courses : All (IsCourse l.from l.words []) l.courses.items;
   measures : map (λ c. c.measure) l.courses.items ≡ map (λ f. f.measure) (take l.figure-index l.figures);
 }

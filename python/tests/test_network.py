@@ -57,6 +57,13 @@ def test_the_same_network_gives_the_same_bytes() -> None:
     assert one.to_json() == Network().add("h", "hop", spread=3, seed=1, ports=2).to_json()
 
 
+def test_a_graph() -> None:
+    wanted = TOP / "tests" / "program" / "graph-of-gen-tally" / "stdout"
+    assert network("gen-tally.json").dot() == wanted.read_text()
+    with pytest.raises(NetworkError, match="17 BadName"):
+        Network().add("a b", "tally").dot()
+
+
 def test_coupled_models_and_their_inputs() -> None:
     line = Network().add("saw", "queue", service=3).add("made", "tally")
     line.couple("", "saw").couple("saw", "made").couple("saw", 0, "", 2).input(1, "saw", 7)

@@ -96,6 +96,19 @@ def test_the_greatest_numbers() -> None:
     assert far.table()["tick"].tolist() == [1_099_511_627_773]
 
 
+def test_stats_from_a_tick_on() -> None:
+    run = simulate(network("gen-tally.json"), 5)
+    stats = run.stats(start=3)
+    assert (stats.raw["from"], stats.records, run.stats().records) == (3, 3, 6)
+    assert stats.figures.loc[("t", "sum"), ["least", "greatest", "last", "mean"]].tolist() == [5, 10, 10, 7.5]
+    late = run.stats(start=7)
+    assert late.records == 0 and late.figures.loc[("t", "sum"), ["least", "last", "mean"]].tolist() == [10, 10, 10]
+    with pytest.raises(TypeError, match="start is '3'"):
+        run.stats(start="3")  # type: ignore[arg-type]
+    with pytest.raises(twarp.RequestError, match="23 BadLine"):
+        run.stats(start=-1)
+
+
 @pytest.mark.parametrize("until", [0, 1])
 def test_runs_without_records(until: int) -> None:
     for one in (Network(), Network().add("g", "gen", period=2, value=5)):

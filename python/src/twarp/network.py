@@ -201,6 +201,17 @@ class Network:
             raise ProgramFailed(None, words)
         return Size(*map(int, told.groups()))
 
+    def dot(self) -> str:
+        """The network in the language of Graphviz: components as boxes, coupled models as frames, couplings
+        from port to port. `graphviz.Source` of it is a picture in a notebook.
+
+        Raises `NetworkError` where it is refused.
+
+        >>> Network().add("t", "tally").dot().splitlines()[0]
+        'digraph network {'
+        """
+        return answer(["dot", "/dev/stdin"], self._bytes()).out.decode()
+
     def to_json(self) -> str:
         """The text of the network's file, in the least format that serves: tw-3 where it has machines,
         else tw-2 where it has coupled models, else tw-1. The same network gives the same text, in

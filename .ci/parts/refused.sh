@@ -90,7 +90,7 @@ machine-tally machine-tally-drawn draw
 straggler-of-three straggler-of-three-drawn draw
 machine-tally machine-tally-played play --seed 1 --steps 40"
     for case in $PWD/tests/program/{gen-tally,microstep-fault,mutual-confluent,straggler-of-three,nested,check-whole,demonstration} \
-        $PWD/tests/program/{figures-of-gen-tally,items-of-a-microstep-fault,a-seed,machine-tally,check-machine-misspelt} \
+        $PWD/tests/program/{figures-of-gen-tally,graph-of-gen-tally,items-of-a-microstep-fault,a-seed,machine-tally,check-machine-misspelt} \
         "$ours"/machine-tally-{told,played} "$ours"/{gen-tally,machine-tally,straggler-of-three}-drawn; do
         mapfile -t words <"$case/args"
         status=$(cat "$case/status" 2>/dev/null || echo 0)

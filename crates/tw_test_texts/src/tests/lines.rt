@@ -122,7 +122,7 @@ fn assert_answer(rt: &impl Abort, alloc: Global, line: &str, wanted: &str) {
 
 #[test]
 fn takes_the_lines_of_each_job(rt: HostRuntime) {
-    assert!(rt; TAKEN.lines().count() == 90);
+    assert!(rt; TAKEN.lines().count() == 98);
     let mut lines = TAKEN.lines();
     while let (Some(line), Some(wanted)) = (lines.next(), lines.next()) {
         assert_answer(&rt, rt.alloc(), line, wanted);

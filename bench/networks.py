@@ -79,7 +79,21 @@ def with_machines(draw):
     """An example of machines, with other numbers here and there, and an end tick."""
     files = sorted(it for it in EXAMPLES.glob("*.json") if '"tw-3"' in it.read_text())
     value = json.loads(draw.choice(files).read_text())
+    for machine in value["models"]:
+        if draw.random() < 0.5:
+            observed(draw, machine)
     return value, draw.choice([5, 20, 40])
+
+
+def observed(draw, machine):
+    """A machine that observes numbers besides."""
+    machine["observations"] = ["seen", "other_seen"]
+    machine["words"] = [*machine["words"], "seen", "other_seen"][-64:]
+    for member in ("internal", "external"):
+        program = machine.get(member, [])
+        program = program if isinstance(program, list) else [program]
+        name, number = draw.choice(machine["observations"]), draw.choice(["value", "now - 3", "-elapsed", "4611686018427387904 + left"])
+        machine[member] = [f"observe {name} {number}", *program]
 
 
 def network(seed):
@@ -113,7 +127,7 @@ def put(value, at, other):
     return value
 
 
-WORDS = ["draw ", "(", ")", "[", "]", "{", "}", " if ", " else ", " repeat ", " + ", " * ", " / ", " % ", " - ", ":=", ";", "t[0]", "0", "9" * 20, "\u00e9", "\\", "\"", "a", ".", "tw-2", "in", " "]
+WORDS = ["draw ", " observe a value ", "(", ")", "[", "]", "{", "}", " if ", " else ", " repeat ", " + ", " * ", " / ", " % ", " - ", ":=", ";", "t[0]", "0", "9" * 20, "\u00e9", "\\", "\"", "a", ".", "tw-2", "in", " "]
 
 
 def changed(draw, value):

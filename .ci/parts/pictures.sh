@@ -75,7 +75,23 @@ for words in "--only nobody" "--only $first,nobody" "--figure nothing"; do
     count "twarp draw $words" 2 "$ended" $?
 done
 
-# More records than a picture takes: it ends before them, and says so.
+drawn "" --figure "$first=dropped" --figure jobs --width 600
+drawn "" --courses --width 4000
+[[ $(grep -c 'class="span"' "$out") -gt 1 && $(grep -c 'class="o"' "$out") -eq 0 ]]
+count "twarp draw --courses has bands and no marks" 0 0 $?
+
+# The lanes stand in the order in which they are asked for.
+"$program" draw examples/a-row.json --until 5 --only t,g >"$out" 2>"$err"
+ended=$?
+[[ $(grep -oE '>(t|g)</text>|<title>(t|g)</title>' "$out" | head -n 1) == *t* ]]
+count "twarp draw --only t,g" 0 "$ended" $?
+
+# More records than a picture of marks takes: it has courses alone, or where marks are asked for it ends before them, and says so.
 network=examples/sixty-four-hops.json
 until=40000
 drawn ""
+! grep -q 'class="o"' "$out"
+count "twarp draw of a long run has no marks" 0 0 $?
+drawn "" --marks
+grep -q 'The picture ends after' "$out"
+count "twarp draw --marks ends before what has no room" 0 0 $?

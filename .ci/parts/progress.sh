@@ -60,7 +60,7 @@ heard() {
         END { exit bad || NR == 0 || falls > 1 }
     ' "$err"
 }
-for line in seq stats "stats --json" "table --items"; do
+for line in seq stats "stats --json" "table --items" "table --figures"; do
     read -r job more <<<"$line"
     # shellcheck disable=SC2086 # a line is words
     "$program" "$job" examples/sixty-four-hops.json --until 1000000 $more | sha256sum >"$room/sum"

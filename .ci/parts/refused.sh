@@ -89,7 +89,7 @@ if cc -shared -fPIC -O1 -o "$room/refuse.so" tests/refuse.c 2>"$err"; then
 machine-tally machine-tally-drawn draw
 straggler-of-three straggler-of-three-drawn draw
 machine-tally machine-tally-played play --seed 1 --steps 40"
-    for case in $PWD/tests/program/{gen-tally,microstep-fault,mutual-confluent,straggler-of-three,nested,check-whole,demonstration} \
+    for case in $PWD/tests/program/{gen-tally,microstep-fault,mutual-confluent,straggler-of-three,nested,check-whole,demonstration,numbers-of-gen-tally} \
         $PWD/tests/program/{figures-of-gen-tally,graph-of-gen-tally,items-of-a-microstep-fault,a-seed,machine-tally,check-machine-misspelt} \
         "$ours"/machine-tally-{told,played} "$ours"/{gen-tally,machine-tally,straggler-of-three}-drawn; do
         mapfile -t words <"$case/args"
@@ -113,7 +113,7 @@ machine-tally machine-tally-played play --seed 1 --steps 40"
     cp -r tests/program/figures-of-gen-tally "$ours/figures-as-json"
     cp tests/program/gen-tally/stats.json "$ours/figures-as-json/stdout"
     echo --json >>"$ours/figures-as-json/args"
-    for case in $PWD/tests/program/{demonstration,check-whole,graph-of-gen-tally,check-comma-forgotten,gen-tally,items-of-a-microstep-fault} \
+    for case in $PWD/tests/program/{demonstration,check-whole,graph-of-gen-tally,check-comma-forgotten,gen-tally,items-of-a-microstep-fault,changes-of-a-machine} \
         "$ours"/{figures-as-json,gen-tally-drawn} $PWD/tests/program/{all-of-tick-2-committed,a-seed}; do
         mapfile -t words <"$case/args"
         refuse_each_byte "${words[@]}"

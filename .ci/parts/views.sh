@@ -50,6 +50,23 @@ views_from() {
     view stats "$room/from" --json --from "$from"
 }
 
+# Counts and figures of every second component, and the table of the figures: of all from the start, of those from the middle on.
+views_of_some() {
+    local only from=$((until / 2))
+    python3 tests/views/expected.py "$network" "$1" "$until" --figures >"$room/some"
+    view table "$room/some" --figures
+    only=$(python3 -c 'import json, sys; print(",".join(it["name"] for it in json.load(sys.stdin)["components"][::-2]))' <"$2")
+    [ -n "$only" ] || return 0
+    python3 tests/views/expected.py "$network" "$1" "$until" --only "$only" >"$room/some"
+    view stats "$room/some" --only "$only"
+    python3 tests/views/expected.py "$network" "$1" "$until" --only "$only" --json --from "$from" >"$room/some"
+    view stats "$room/some" --only "$only" --json --from "$from"
+    python3 tests/views/expected.py "$network" "$1" "$until" --figures --from "$from" --only "$only" >"$room/some"
+    view table "$room/some" --figures --from "$from" --only "$only"
+    awk -v only=",$only," '/^fault: / || index(only, "," $2 ",")' "$1" | as_table items >"$room/some"
+    view table "$room/some" --items --only "$only"
+}
+
 # All views of a network of which there is a trace, and counts and figures where these files are there.
 views() {
     grep '^fault: ' "$1" >"$room/fault"
@@ -60,6 +77,7 @@ views() {
         view stats "$3" --json
     fi
     [ ! -e "$2" ] || views_from "$1"
+    [ ! -e "$2" ] || views_of_some "$1" "$3"
     awk -F. -v from="$((until / 2))" '/^fault: / || $1 + 0 >= from' "$1" | as_table items >"$room/table"
     view table "$room/table" --items --from "$((until / 2))"
     for rows in records items words; do
@@ -94,7 +112,7 @@ while read -r network until _ expected; do
 done <examples/runs.txt
 
 # A file that is not there, one that is no JSON, and a script that is not there.
-for line in stats table "table --items" draw "draw --seed 1 --steps 9" "draw --script examples/straggler.txt"; do
+for line in stats "stats --only a" table "table --items" "table --figures" draw "draw --seed 1 --steps 9" "draw --script examples/straggler.txt"; do
     read -r job more <<<"$line"
     # shellcheck disable=SC2086 # a line is words
     "$program" "$job" nowhere.json --until 5 $more >"$out" 2>"$err"

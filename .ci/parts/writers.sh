@@ -2,7 +2,7 @@
 
 if [ -c /dev/full ]; then
     for line in demo "check examples/gen-tally.json" "seq examples/gen-tally.json --until 5" "run examples/gen-tally.json --until 5" \
-        "stats examples/gen-tally.json --until 5" "table examples/gen-tally.json --until 5" "draw examples/gen-tally.json --until 5" \
+        "stats examples/gen-tally.json --until 5" "table examples/gen-tally.json --until 5" "table examples/gen-tally.json --until 5 --figures" "draw examples/gen-tally.json --until 5" \
         "draw examples/a-row.json --until 10 --script examples/straggler.txt" \
         "play examples/a-row.json --until 10 --script examples/straggler.txt" "play examples/a-row.json --until 10 --seed 1 --steps 9" \
         --help --version "seq --help"; do

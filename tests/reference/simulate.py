@@ -161,6 +161,8 @@ class Machine:
             self.queues[name] = [[] for _ in range(number(it[0]))] if many else []
         self.tables = {name: part[it] if isinstance(it, str) else it for name, it in machine.get("tables", {}).items()}
         self.parameters = {it: part[it] for it in machine.get("parameters", []) if not isinstance(part[it], list)}
+        self.observations = {name: [0, 0, 0] for name in machine.get("observations", [])}
+        self.names = {*machine.get("parameters", []), *self.registers, *self.queues, *self.tables, *self.observations}
         self.x = mixed(number(machine.get("random", 0)) & MASK)
         self.time = 0
         self.left = None
@@ -353,6 +355,11 @@ class Machine:
             at = self.expr() if token == "remove" else 0
             if 0 <= at < len(queue):
                 del queue[at]
+        elif token == "observe" and token not in self.names:
+            self.take()
+            seen = self.observations[self.take()]
+            value = self.expr()
+            seen[:] = [signed(seen[0] + 1), signed(seen[1] + value), signed(seen[2] + value * value)]
         elif token == "repeat":
             self.take()
             self.repeat()
@@ -445,6 +452,8 @@ class Machine:
                 numbers += self.queue()[0]
             elif isinstance(self.registers.get(bare), list):
                 numbers += self.registers[bare]
+            elif bare in self.observations:
+                numbers += self.observations[bare]
             else:
                 self.begin(entry)
                 numbers.append(self.expr())

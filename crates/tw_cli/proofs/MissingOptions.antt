@@ -4,11 +4,16 @@ use Rattle.std.specs.Prelude.{Option, Some, None, find, is_some, option_and_then
 use Rattle.clap.specs.Values.{read_as}
 use Rattle.clap.specs.Walk.{row_text}
 use Rattle.clap.specs.Words.{Row, Text, first_of}
-use Rattle.tw_cli.specs.Options.{HasNumber, IsDriverIn, IsFromIn, IsPictureIn, IsStartIn, IsUndriven, IsWorkersIn}
+use Rattle.tw_cli.specs.Options.{HasNumber, IsDriverIn, IsFromIn, IsPictureIn, IsReplicationIn, IsRowsIn, IsStartIn, IsTabledIn, IsUndriven, IsViewIn, IsWidthIn, IsWorkersIn}
 use Rattle.tw_cli.specs.declared.driving.Driver.{Driver}
 use Rattle.tw_cli.specs.declared.driving.Driver.TheVariants.{Script, Seed}
 use Rattle.tw_cli.specs.declared.seeing.Picture.{Picture}
 use Rattle.tw_cli.specs.declared.seeing.Picture.TheVariants as of
+use Rattle.tw_figures.specs.declared.seeing.Rows.{Rows}
+use Rattle.tw_figures.specs.declared.seeing.Rows.TheVariants.{Records}
+use Rattle.tw_figures.specs.declared.seeing.Tabled.{Tabled}
+use Rattle.tw_figures.specs.declared.seeing.Tabled.TheVariants.{OfRun, OfFigures}
+use Rattle.tw_figures.specs.declared.seeing.View.{View}
 use Rattle.tw_cli.specs.declared.setting.Workers.{Workers}
 use Rattle.tw_cli.specs.declared.setting.Workers.TheVariants.{Auto, Count}
 
@@ -49,6 +54,22 @@ pub no_from : (rows : List Row) → is_some (first_of (codes "from") rows) ≡ t
 no_from rows stands missing n (inl left_out) = let bad : is_some {T = Text} None ≡ true = sym (ap is_some left_out.0) ∙ stands in cc
 no_from rows stands missing n (inr has) = missing n has
 
-pub no_seen : (rows : List Row) → IsUndriven rows → ((n : ℕ) → ¬ (IsFromIn rows n)) → (p : Picture) → ¬ (IsPictureIn rows p)
-no_seen rows undriven missing (of.Run view) is = missing view.from is.1.0
+pub no_replication : (rows : List Row) → is_some (first_of (codes "seed-all") rows) ≡ true
+    → ((n : ℕ) → ¬ (HasNumber (codes "seed-all") 0 18446744073709551615 rows n)) → (n : ℕ) → ¬ (IsReplicationIn rows n)
+no_replication rows stands missing n (inl left_out) = let bad : is_some {T = Text} None ≡ true = sym (ap is_some left_out.0) ∙ stands in cc
+no_replication rows stands missing n (inr has) = missing n has
+
+pub no_width : (rows : List Row) → is_some (first_of (codes "width") rows) ≡ true
+    → ((n : ℕ) → ¬ (HasNumber (codes "width") 600 4000 rows n)) → (n : ℕ) → ¬ (IsWidthIn rows n)
+no_width rows stands missing n (inl left_out) = let bad : is_some {T = Text} None ≡ true = sym (ap is_some left_out.0) ∙ stands in cc
+no_width rows stands missing n (inr has) = missing n has
+
+-- with no driver a picture is of what is seen of a run
+pub no_seen : (rows : List Row) → IsUndriven rows → ((v : View) → ¬ (IsViewIn rows v)) → (p : Picture) → ¬ (IsPictureIn rows p)
+no_seen rows undriven missing (of.Run view) is = missing view is.1
 no_seen rows undriven missing (of.Warp cancel driver) is = no_driver rows undriven driver is.2
+
+-- where no kind of line stands, there is no table
+pub no_tabled : (rows : List Row) → ((r : Rows) → ¬ (IsRowsIn rows r)) → (t : Tabled) → ¬ (IsTabledIn rows t)
+no_tabled rows missing (OfRun r) is = missing r is.1
+no_tabled rows missing OfFigures is = missing Records is.1

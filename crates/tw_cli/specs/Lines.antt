@@ -6,7 +6,7 @@
 --     IsReason words e      why there is no job
 use Rattle.std.specs.Prelude.{◌≡◌, ◌≢◌, ◌⊎◌, [], ◌∷◌, ℕ, List, Option, Some, None, Result, Ok, codes, false, true}
 use Rattle.clap.specs.Words.{AddsSubcommand, App, IsAmong, Kinds, Row, Rule, Text, app_of, fault_of, first_of, kind_of, new_app, new_rule, rule_of, subcommand_of, with_rule, with_subcommand}
-use Rattle.clap.specs.declared.builder.action.ArgAction.TheVariants.{SetTrue}
+use Rattle.clap.specs.declared.builder.action.ArgAction.TheVariants.{Append, SetTrue}
 use Rattle.clap.specs.declared.builder.arg.Arg.{Arg}
 use Rattle.clap.specs.declared.builder.command.Command.{Command}
 use Rattle.clap.specs.declared.builder.command.Command.TheViews.{out-Command}
@@ -15,9 +15,10 @@ use Rattle.clap.specs.declared.error.kind.ErrorKind.{ErrorKind}
 use Rattle.clap.specs.declared.error.kind.ErrorKind.TheVariants as kind
 use Rattle.tw_vtime.specs.declared.refusal.Refusal.{Refusal}
 use Rattle.tw_vtime.specs.declared.refusal.Refusal.TheVariants as refusal
-use Rattle.tw_cli.specs.Options.{HasFlag, HasNumber, IsCancelIn, IsDriverIn, IsFromIn, IsPictureIn, IsRowsIn, IsSettingIn, IsStartIn}
+use Rattle.tw_cli.specs.Options.{HasFlag, HasNumber, IsCancelIn, IsDriverIn, IsFromIn, IsOnlyIn, IsPictureIn, IsSettingIn, IsSettingsIn, IsStartIn, IsTabledIn}
 use Rattle.tw_cli.specs.declared.jobs.Job.{Job}
 use Rattle.tw_cli.specs.declared.jobs.Job.TheVariants.{Demo, Check, Dot, Simulate}
+use Rattle.tw_cli.specs.declared.jobs.NetSource.{NetSource}
 use Rattle.tw_cli.specs.declared.jobs.Task.{Task}
 use Rattle.tw_cli.specs.declared.jobs.Task.TheVariants.{Seq, Stats, Table, Draw, Run, Play}
 use Rattle.tw_cli.specs.declared.jobs.NoJob.{NoJob}
@@ -53,6 +54,10 @@ text_rule id = record (new_rule id) { long = Some id; value_names = 1 }
 abbrev pub preset_text_rule : Text → Text → Rule
 preset_text_rule id left_out = record (text_rule id) { defaults = left_out ∷ [] }
 
+-- an option that takes a text, and may stand there many times
+abbrev pub texts_rule : Text → Rule
+texts_rule id = record (text_rule id) { action = Some Append }
+
 -- an option that takes no value: it is `true` where it stands on the line, and `false` where it is left out
 abbrev pub flag_rule : Text → Rule
 flag_rule id = record (new_rule id) { long = Some id; action = Some SetTrue }
@@ -67,9 +72,13 @@ from_rule = number_rule (codes "from") 0 1099511627774
 abbrev pub demo_app : App
 demo_app = new_app (codes "demo")
 
+-- a subcommand with other numbers for its network file: of parameters, and of seeds
+abbrev pub numbered_app : App → App
+numbered_app app = with_rule (with_rule app (texts_rule (codes "set"))) (number_rule (codes "seed-all") 0 18446744073709551615)
+
 -- a subcommand that takes a network file alone
 abbrev pub file_app : Text → App
-file_app name = with_rule (new_app name) net_rule
+file_app name = numbered_app (with_rule (new_app name) net_rule)
 
 abbrev pub check_app : App
 check_app = file_app (codes "check")
@@ -79,7 +88,7 @@ dot_app = file_app (codes "dot")
 
 -- a subcommand over a network, up to an end tick
 abbrev pub network_app : Text → App
-network_app name = with_rule (with_rule (new_app name) net_rule) until_rule
+network_app name = numbered_app (with_rule (with_rule (new_app name) net_rule) until_rule)
 
 -- one that may tell how far it is
 abbrev pub told_app : Text → App
@@ -89,10 +98,14 @@ abbrev pub seq_app : App
 seq_app = told_app (codes "seq")
 
 abbrev pub stats_app : App
-stats_app = with_rule (with_rule (told_app (codes "stats")) from_rule) (flag_rule (codes "json"))
+stats_app = with_rule (with_rule (with_rule (told_app (codes "stats")) from_rule) (text_rule (codes "only"))) (flag_rule (codes "json"))
+
+-- `table` and what part of a run it shows
+abbrev pub part_app : App
+part_app = with_rule (with_rule (told_app (codes "table")) from_rule) (text_rule (codes "only"))
 
 abbrev pub table_app : App
-table_app = with_rule (with_rule (with_rule (told_app (codes "table")) from_rule) (flag_rule (codes "items"))) (flag_rule (codes "words"))
+table_app = with_rule (with_rule (with_rule part_app (flag_rule (codes "items"))) (flag_rule (codes "words"))) (flag_rule (codes "figures"))
 
 -- `run` and what its workers are set to: 2 workers, bursts of 64 steps and a window of all ticks where it is left out,
 -- and no word of how far it is
@@ -120,11 +133,17 @@ abbrev pub play_app : App
 play_app = cancelled_app (network_app (codes "play"))
 
 -- `draw` and what is seen of a run, before what may drive it
-abbrev pub seen_app : App
-seen_app = with_rule (with_rule (with_rule (network_app (codes "draw"))
+abbrev pub shown_app : App
+shown_app = with_rule (with_rule (with_rule (network_app (codes "draw"))
     from_rule)
     (text_rule (codes "only")))
-    (text_rule (codes "figure"))
+    (texts_rule (codes "figure"))
+
+abbrev pub seen_app : App
+seen_app = with_rule (with_rule (with_rule shown_app
+    (number_rule (codes "width") 600 4000))
+    (flag_rule (codes "marks")))
+    (flag_rule (codes "courses"))
 
 abbrev pub draw_app : App
 draw_app = cancelled_app seen_app
@@ -153,8 +172,8 @@ IsJoined old made new = (sub : Command) × (made ≡ Ok sub) × AddsSubcommand o
 -- the name of the subcommand of a task
 abbrev pub task_name : Task → Text
 task_name (Seq progress) = codes "seq"
-task_name (Stats from json progress) = codes "stats"
-task_name (Table from lines progress) = codes "table"
+task_name (Stats from only json progress) = codes "stats"
+task_name (Table from only of progress) = codes "table"
 task_name (Draw picture) = codes "draw"
 task_name (Run cancel setting) = codes "run"
 task_name (Play cancel driver) = codes "play"
@@ -162,8 +181,8 @@ task_name (Play cancel driver) = codes "play"
 -- its options say what it is to do
 abbrev pub IsTaskIn : List Row → Task → Type 0
 IsTaskIn rows (Seq progress) = HasFlag (codes "progress") rows progress
-IsTaskIn rows (Stats from json progress) = IsStartIn rows from × HasFlag (codes "json") rows json × HasFlag (codes "progress") rows progress
-IsTaskIn rows (Table from lines progress) = IsFromIn rows from × IsRowsIn rows lines × HasFlag (codes "progress") rows progress
+IsTaskIn rows (Stats from only json progress) = IsStartIn rows from × IsOnlyIn rows only × HasFlag (codes "json") rows json × HasFlag (codes "progress") rows progress
+IsTaskIn rows (Table from only of progress) = IsFromIn rows from × IsOnlyIn rows only × IsTabledIn rows of × HasFlag (codes "progress") rows progress
 IsTaskIn rows (Draw picture) = IsPictureIn rows picture
 IsTaskIn rows (Run cancel setting) = IsCancelIn rows cancel × IsSettingIn rows setting
 IsTaskIn rows (Play cancel driver) = IsCancelIn rows cancel × IsDriverIn rows driver
@@ -171,24 +190,45 @@ IsTaskIn rows (Play cancel driver) = IsCancelIn rows cancel × IsDriverIn rows d
 abbrev pub IsTaskOf : Text → List Row → Task → Type 0
 IsTaskOf name rows task = (name ≡ task_name task) × IsTaskIn rows task
 
--- a network file, an end tick, and a task
-abbrev pub IsSimulationOf : Text → List Row → Text → ℕ → Task → Type 0
-IsSimulationOf name rows net until task =
-    (first_of (codes "net") rows ≡ Some net) × HasNumber (codes "until") 0 1099511627774 rows until × IsTaskOf name rows task
+-- a network file, and what is changed in it
+abbrev pub IsNetIn : List Row → NetSource → Type 0
+IsNetIn rows net = (first_of (codes "net") rows ≡ Some net.path.now) × IsSettingsIn rows net.settings
+
+-- an end tick, and a task
+abbrev pub IsTimedTask : Text → List Row → ℕ → Task → Type 0
+IsTimedTask name rows until task = HasNumber (codes "until") 0 1099511627774 rows until × IsTaskOf name rows task
+
+-- of a network file
+abbrev pub IsSimulationOf : Text → List Row → NetSource → ℕ → Task → Type 0
+IsSimulationOf name rows net until task = IsNetIn rows net × IsTimedTask name rows until task
 
 -- the job of a subcommand's name and its options
 abbrev pub IsJobOf : Text → List Row → Job → Type 0
 IsJobOf name rows Demo = name ≡ codes "demo"
-IsJobOf name rows (Check net) = (name ≡ codes "check") × (first_of (codes "net") rows ≡ Some net.now)
-IsJobOf name rows (Dot net) = (name ≡ codes "dot") × (first_of (codes "net") rows ≡ Some net.now)
-IsJobOf name rows (Simulate net until task) = IsSimulationOf name rows net.now until task
+IsJobOf name rows (Check net) = (name ≡ codes "check") × IsNetIn rows net
+IsJobOf name rows (Dot net) = (name ≡ codes "dot") × IsNetIn rows net
+IsJobOf name rows (Simulate net until task) = IsSimulationOf name rows net until task
 
 -- of no subcommand there is none
 abbrev pub IsJob : Option (Text × List Row) → Job → Type 0
 IsJob None j = ⊥
 IsJob (Some p) j = IsJobOf p.0 p.1 j
 
+-- the network file of a job
+abbrev pub net_of : Job → Option NetSource
+net_of Demo = None
+net_of (Check net) = Some net
+net_of (Dot net) = Some net
+net_of (Simulate net until task) = Some net
+
 -- ---- no job
+
+-- memory was wanting, or the line is refused, for this
+abbrev pub FailsFor : Type 0 → NoJob → Type 0
+FailsFor Why (Help error) = ⊥
+FailsFor Why (Version error) = ⊥
+FailsFor Why BadLine = Why
+FailsFor Why OutOfMemory = Unit {0}
 
 -- the parse may answer an error of another kind than help and the version
 abbrev pub HasFault : Kinds → Type 0

@@ -1,17 +1,26 @@
 -- What the options of a subcommand say, over the rows that clap's parse finds.
 --     HasNumber id least most rows n      the number of an option, in its range
---     IsStartIn, IsCancelIn, IsDriverIn, IsSettingIn, IsRowsIn, IsPictureIn      what several of them say together
-use Rattle.std.specs.Prelude.{◌≡◌, ◌≢◌, ◌≤◌, ◌⊎◌, ℕ, Bool, List, Option, None, Some, codes, false, true, option_map}
+--     texts_of id rows      the texts of an option that may stand there many times
+--     IsSettingsIn rows s      what is changed in the network's file
+--     IsStartIn, IsCancelIn, IsDriverIn, IsSettingIn, IsRowsIn, IsTabledIn, IsOnlyIn, IsViewIn, IsPictureIn      what several of them say together
+use Rattle.std.specs.Prelude.{◌≡◌, ◌≢◌, ◌≤◌, ◌⊎◌, ℕ, Bool, List, [], Option, None, Some, codes, false, true, map, option_map, unwrap_or}
+use Rattle.std.specs.Borrow.{Bor}
 use Rattle.std.specs.Str.Parse.{IsNumeral, digits_value, without_leading_plus}
-use Rattle.clap.specs.Words.{Row, Text, first_of, one_of}
+use Rattle.clap.specs.Words.{Row, Text, all_of, first_of, one_of}
 use Rattle.tw_actions.specs.declared.cancel.Cancel.{Cancel}
 use Rattle.tw_actions.specs.declared.cancel.Cancel.TheVariants.{Aggressive, Lazy}
+use Rattle.tw_file_settings.specs.Texts.{AreAssignments}
+use Rattle.tw_file_settings.specs.declared.settings.Settings.{Settings}
 use Rattle.tw_cli.specs.declared.driving.Driver.{Driver}
 use Rattle.tw_cli.specs.declared.driving.Driver.TheVariants.{Script, Seed}
 use Rattle.tw_cli.specs.declared.seeing.Picture.{Picture}
 use Rattle.tw_cli.specs.declared.seeing.Picture.TheVariants as of
 use Rattle.tw_figures.specs.declared.seeing.Rows.{Rows}
 use Rattle.tw_figures.specs.declared.seeing.Rows.TheVariants.{Records, Items, Words}
+use Rattle.tw_figures.specs.declared.seeing.Tabled.{Tabled}
+use Rattle.tw_figures.specs.declared.seeing.Tabled.TheVariants.{OfRun, OfFigures}
+use Rattle.tw_figures.specs.declared.seeing.Detail.{Detail}
+use Rattle.tw_figures.specs.declared.seeing.Detail.TheVariants.{Fitting, Marks, Courses}
 use Rattle.tw_figures.specs.declared.seeing.View.{View}
 use Rattle.tw_cli.specs.declared.setting.RunOptions.{RunOptions}
 use Rattle.tw_cli.specs.declared.setting.Workers.{Workers}
@@ -22,6 +31,19 @@ abbrev pub HasNumber : Text → ℕ → ℕ → List Row → ℕ → Type 0
 HasNumber id least most rows n =
     (text : Text) × (one_of id rows ≡ Some text) × IsNumeral 10 (without_leading_plus text)
     × (digits_value 10 (without_leading_plus text) ≡ n) × (least ≤ n) × (n ≤ most)
+
+-- in their order; none where it is left out
+abbrev pub texts_of : Text → List Row → List Text
+texts_of id rows = unwrap_or (all_of id rows) []
+
+-- the number of the replication: 0 where it is left out
+abbrev pub IsReplicationIn : List Row → ℕ → Type 0
+IsReplicationIn rows n =
+    ((first_of (codes "seed-all") rows ≡ None) × (n ≡ 0)) ⊎ HasNumber (codes "seed-all") 0 18446744073709551615 rows n
+
+-- what is changed in the network's file: each text of the option is an assignment, and no two set the same
+abbrev pub IsSettingsIn : List Row → Settings → Type 0
+IsSettingsIn rows s = AreAssignments (texts_of (codes "set") rows) s.assignments.items × IsReplicationIn rows s.replication
 
 -- whether a flag is on: its text is `true`
 abbrev pub HasFlag : Text → List Row → Bool → Type 0
@@ -55,11 +77,20 @@ IsDriverIn rows (Seed seed steps) =
     (first_of (codes "script") rows ≡ None)
     × HasNumber (codes "seed") 0 18446744073709551615 rows seed × HasNumber (codes "steps") 0 1000000 rows steps
 
--- what a line of a table is of: at most one of two flags is on
+-- what a line of a table of records is of: at most one of two flags is on
 abbrev pub IsRowsIn : List Row → Rows → Type 0
 IsRowsIn rows Records = HasFlag (codes "items") rows false × HasFlag (codes "words") rows false
 IsRowsIn rows Items = HasFlag (codes "items") rows true × HasFlag (codes "words") rows false
 IsRowsIn rows Words = HasFlag (codes "items") rows false × HasFlag (codes "words") rows true
+
+-- what a table is of: at most one of three flags is on
+abbrev pub IsTabledIn : List Row → Tabled → Type 0
+IsTabledIn rows (OfRun r) = HasFlag (codes "figures") rows false × IsRowsIn rows r
+IsTabledIn rows OfFigures = HasFlag (codes "figures") rows true × IsRowsIn rows Records
+
+-- the names of the components that are shown, where the option stands
+abbrev pub IsOnlyIn : List Row → Option (Bor (List ℕ)) → Type 0
+IsOnlyIn rows only = option_map (λ s. s.now) only ≡ first_of (codes "only") rows
 
 -- from a tick on, where the option stands
 abbrev pub IsStartIn : List Row → Option ℕ → Type 0
@@ -70,16 +101,30 @@ IsStartIn rows (Some from) = HasNumber (codes "from") 0 1099511627774 rows from
 abbrev pub IsFromIn : List Row → ℕ → Type 0
 IsFromIn rows from = ((first_of (codes "from") rows ≡ None) × (from ≡ 0)) ⊎ HasNumber (codes "from") 0 1099511627774 rows from
 
+-- how wide a picture is: 1,280 points where no option stands
+abbrev pub IsWidthIn : List Row → ℕ → Type 0
+IsWidthIn rows n = ((first_of (codes "width") rows ≡ None) × (n ≡ 1280)) ⊎ HasNumber (codes "width") 600 4000 rows n
+
+-- what a picture is made of: at most one of two flags is on
+abbrev pub IsDetailIn : List Row → Detail → Type 0
+IsDetailIn rows Fitting = HasFlag (codes "marks") rows false × HasFlag (codes "courses") rows false
+IsDetailIn rows Marks = HasFlag (codes "marks") rows true × HasFlag (codes "courses") rows false
+IsDetailIn rows Courses = HasFlag (codes "marks") rows false × HasFlag (codes "courses") rows true
+
 -- what is seen of a run
 abbrev pub IsViewIn : List Row → View → Type 0
 IsViewIn rows v =
     IsFromIn rows v.from
     × (option_map (λ s. s.now) v.only ≡ first_of (codes "only") rows)
-    × (option_map (λ s. s.now) v.figure ≡ first_of (codes "figure") rows)
+    × (map (λ s. s.now) v.figures.items ≡ texts_of (codes "figure") rows)
+    × IsWidthIn rows v.width
+    × IsDetailIn rows v.detail
 
 -- no option stands that says what is seen
 abbrev pub IsUnseen : List Row → Type 0
-IsUnseen rows = (first_of (codes "from") rows ≡ None) × (first_of (codes "only") rows ≡ None) × (first_of (codes "figure") rows ≡ None)
+IsUnseen rows =
+    (first_of (codes "from") rows ≡ None) × (first_of (codes "only") rows ≡ None) × (first_of (codes "figure") rows ≡ None)
+    × (first_of (codes "width") rows ≡ None) × HasFlag (codes "marks") rows false × HasFlag (codes "courses") rows false
 
 -- no option stands that says what drives an executive, or how it cancels
 abbrev pub IsUndriven : List Row → Type 0

@@ -1,38 +1,39 @@
 //! From the words of a line to a job.
 
-ghost use Rattle.std.specs.Prelude.{◌≡◌, ◌≢◌, [], Some, codes, IfOk, IfErr, IfSome, IfNone, map, string_bytes};
-ghost use Rattle.clap.specs.Words.{first_of, rows_of, found_of, fault_of, kind_of, subcommand_of, subcommand_rows_of};
-ghost use Rattle.tw_cli.specs.Lines.{twarp_app, IsJob, IsJobOf, IsReason, IsMadeOf, IsSimulationOf, IsTaskOf};
+ghost use Rattle.std.specs.Prelude.{◌≡◌, [], codes, IfOk, IfErr, IfSome, IfNone, map, string_bytes};
+ghost use Rattle.clap.specs.Words.{rows_of, found_of, fault_of, kind_of, subcommand_of, subcommand_rows_of};
+ghost use Rattle.tw_cli.specs.Lines.{twarp_app, FailsFor, IsJob, IsJobOf, IsReason, IsMadeOf, IsNetIn, IsSimulationOf, IsTaskOf, IsTimedTask};
 
 use crate::commands::command;
 use crate::driving::{cancel_in, driver_in};
 use crate::jobs::{Job, NoJob, Task};
-use crate::seeing::{from_in, picture_in, rows_in, start_in};
+use crate::numbers::net_in;
+use crate::seeing::{from_in, picture_in, start_in, tabled_in};
 use crate::setting::setting_in;
 use crate::values::{flag_in, number_in, text_in};
 use clap::error::ErrorKind;
 use clap::{ArgMatches, Error};
-use std::alloc::Global;
+use std::alloc::{AllocError, Global};
 use tw_vtime::MAX_TICK;
 
-/// The job of `check` and its options; none where no path of a file stands there.
-fn check_in<'a>(options: &ArgMatches<'a>) -> Option<Job<'a>>
-    ensures some { IfSome result (IsJobOf (codes "check") (rows_of (found_of options.now))) }
-    ensures none { let rows = rows_of (found_of options.now) in
-        IfNone result ((net : _) → first_of (codes "net") rows ≢ Some net) }
+/// The job of `check` and its options; none where they do not say which file is checked, and what is changed in it.
+fn check_in<'a>(alloc: Global, options: &ArgMatches<'a>) -> Result<Job<'a>, NoJob>
+    ensures ok { IfOk result (IsJobOf (codes "check") (rows_of (found_of options.now))) }
+    ensures err { let rows = rows_of (found_of options.now) in
+        IfErr result (FailsFor ((net : _) → ¬ (IsNetIn rows net))) }
 {
-    let net = text_in(options, "net")?;
-    Some(Job::Check { net })
+    let net = net_in(alloc, options)?;
+    Ok(Job::Check { net })
 }
 
-/// The job of `dot` and its options; none where no path of a file stands there.
-fn dot_in<'a>(options: &ArgMatches<'a>) -> Option<Job<'a>>
-    ensures some { IfSome result (IsJobOf (codes "dot") (rows_of (found_of options.now))) }
-    ensures none { let rows = rows_of (found_of options.now) in
-        IfNone result ((net : _) → first_of (codes "net") rows ≢ Some net) }
+/// The job of `dot` and its options; none where they do not say of which file, and what is changed in it.
+fn dot_in<'a>(alloc: Global, options: &ArgMatches<'a>) -> Result<Job<'a>, NoJob>
+    ensures ok { IfOk result (IsJobOf (codes "dot") (rows_of (found_of options.now))) }
+    ensures err { let rows = rows_of (found_of options.now) in
+        IfErr result (FailsFor ((net : _) → ¬ (IsNetIn rows net))) }
 {
-    let net = text_in(options, "net")?;
-    Some(Job::Dot { net })
+    let net = net_in(alloc, options)?;
+    Ok(Job::Dot { net })
 }
 
 /// The task of `stats` and its options; none where they do not say from when on it counts.
@@ -42,39 +43,46 @@ fn stats_in<'a>(options: &ArgMatches<'a>) -> Option<Task<'a>>
         IfNone result ((t : _) → ¬ (IsTaskOf (codes "stats") rows t)) }
 {
     let from = start_in(options)?;
+    let only = text_in(options, "only");
     let json = flag_in(options, "json");
     let progress = flag_in(options, "progress");
     Some(Task::Stats {
         from,
+        only,
         json,
         progress,
     })
 }
 
-/// The task of `table` and its options; none where they do not say what a line is of, or from when on there are any.
+/// The task of `table` and its options; none where they do not say what it is of, or from when on there are lines.
 fn table_in<'a>(options: &ArgMatches<'a>) -> Option<Task<'a>>
     ensures some { IfSome result (IsTaskOf (codes "table") (rows_of (found_of options.now))) }
     ensures none { let rows = rows_of (found_of options.now) in
         IfNone result ((t : _) → ¬ (IsTaskOf (codes "table") rows t)) }
 {
     let from = from_in(options)?;
-    let rows = rows_in(options)?;
+    let only = text_in(options, "only");
+    let of = tabled_in(options)?;
     let progress = flag_in(options, "progress");
     Some(Task::Table {
         from,
-        rows,
+        only,
+        of,
         progress,
     })
 }
 
 /// The task of `draw` and its options; none where they do not say what the picture is of.
-fn draw_in<'a>(options: &ArgMatches<'a>) -> Option<Task<'a>>
-    ensures some { IfSome result (IsTaskOf (codes "draw") (rows_of (found_of options.now))) }
+fn draw_in<'a>(alloc: Global, options: &ArgMatches<'a>) -> Result<Option<Task<'a>>, AllocError>
+    ensures some { let rows = rows_of (found_of options.now) in
+        IfOk result (λ o. IfSome o (IsTaskOf (codes "draw") rows)) }
     ensures none { let rows = rows_of (found_of options.now) in
-        IfNone result ((t : _) → ¬ (IsTaskOf (codes "draw") rows t)) }
+        IfOk result (λ o. IfNone o ((t : _) → ¬ (IsTaskOf (codes "draw") rows t))) }
 {
-    let picture = picture_in(options)?;
-    Some(Task::Draw { picture })
+    match picture_in(alloc, options)? {
+        Some(picture) => Ok(Some(Task::Draw { picture })),
+        None => Ok(None),
+    }
 }
 
 /// The task of `run` and its options; none where they do not say how steps are cancelled, or what the workers are set to.
@@ -100,57 +108,87 @@ fn play_in<'a>(options: &ArgMatches<'a>) -> Option<Task<'a>>
 }
 
 /// The task of a subcommand, by its name, and its options.
-fn task_named<'a>(name: &str, options: &ArgMatches<'a>) -> Option<Task<'a>>
-    ensures some { IfSome result (IsTaskOf name.now (rows_of (found_of options.now))) }
+fn task_named<'a>(
+    alloc: Global,
+    name: &str,
+    options: &ArgMatches<'a>,
+) -> Result<Option<Task<'a>>, AllocError>
+    ensures some { let rows = rows_of (found_of options.now) in
+        IfOk result (λ o. IfSome o (IsTaskOf name.now rows)) }
     ensures none { let rows = rows_of (found_of options.now) in
-        IfNone result ((t : _) → ¬ (IsTaskOf name.now rows t)) }
+        IfOk result (λ o. IfNone o ((t : _) → ¬ (IsTaskOf name.now rows t))) }
 {
     match name {
-        "seq" => Some(Task::Seq {
+        "seq" => Ok(Some(Task::Seq {
             progress: flag_in(options, "progress"),
-        }),
-        "stats" => stats_in(options),
-        "table" => table_in(options),
-        "draw" => draw_in(options),
-        "run" => run_in(options),
-        "play" => play_in(options),
-        _ => None,
+        })),
+        "stats" => Ok(stats_in(options)),
+        "table" => Ok(table_in(options)),
+        "draw" => draw_in(alloc, options),
+        "run" => Ok(run_in(options)),
+        "play" => Ok(play_in(options)),
+        _ => Ok(None),
+    }
+}
+
+/// The end tick and the task of a subcommand that simulates a network, by its name, and its options.
+fn timed_task<'a>(
+    alloc: Global,
+    name: &str,
+    options: &ArgMatches<'a>,
+) -> Result<Option<(u64, Task<'a>)>, AllocError>
+    ensures some { let rows = rows_of (found_of options.now) in
+        IfOk result (λ o. IfSome o (λ p. IsTimedTask name.now rows p.0 p.1)) }
+    ensures none { let rows = rows_of (found_of options.now) in
+        IfOk result (λ o. IfNone o ((n : _) (t : _) → ¬ (IsTimedTask name.now rows n t))) }
+{
+    let Some(until) = number_in(options, "until", 0, MAX_TICK) else {
+        return Ok(None);
+    };
+    match task_named(alloc, name, options)? {
+        Some(task) => Ok(Some((until, task))),
+        None => Ok(None),
     }
 }
 
 /// The job of a subcommand that simulates a network, by its name, and its options.
-fn simulation_in<'a>(name: &str, options: &ArgMatches<'a>) -> Option<Job<'a>>
-    ensures some { IfSome result (IsJobOf name.now (rows_of (found_of options.now))) }
-    ensures none { let rows = rows_of (found_of options.now) in
-        IfNone result ((net : _) (n : _) (t : _) → ¬ (IsSimulationOf name.now rows net n t)) }
+fn simulation_in<'a>(alloc: Global, name: &str, options: &ArgMatches<'a>) -> Result<Job<'a>, NoJob>
+    ensures ok { IfOk result (IsJobOf name.now (rows_of (found_of options.now))) }
+    ensures err { let rows = rows_of (found_of options.now) in
+        IfErr result (FailsFor ((net : _) (n : _) (t : _)
+        → ¬ (IsSimulationOf name.now rows net n t))) }
 {
-    let net = text_in(options, "net")?;
-    let until = number_in(options, "until", 0, MAX_TICK)?;
-    let task = task_named(name, options)?;
-    Some(Job::Simulate { net, until, task })
+    let Some((until, task)) = timed_task(alloc, name, options)? else {
+        return Err(NoJob::BadLine);
+    };
+    let net = net_in(alloc, options)?;
+    Ok(Job::Simulate { net, until, task })
 }
 
 /// The job of a subcommand, by its name, and its options.
-fn job_named<'a>(name: &str, options: &ArgMatches<'a>) -> Option<Job<'a>>
-    ensures some { IfSome result (IsJobOf name.now (rows_of (found_of options.now))) }
-    ensures none { let rows = rows_of (found_of options.now) in
-        IfNone result ((j : _) → ¬ (IsJobOf name.now rows j)) }
+fn job_named<'a>(alloc: Global, name: &str, options: &ArgMatches<'a>) -> Result<Job<'a>, NoJob>
+    ensures ok { IfOk result (IsJobOf name.now (rows_of (found_of options.now))) }
+    ensures err { let rows = rows_of (found_of options.now) in
+        IfErr result (FailsFor ((j : _) → ¬ (IsJobOf name.now rows j))) }
 {
     match name {
-        "demo" => Some(Job::Demo),
-        "check" => check_in(options),
-        "dot" => dot_in(options),
-        _ => simulation_in(name, options),
+        "demo" => Ok(Job::Demo),
+        "check" => check_in(alloc, options),
+        "dot" => dot_in(alloc, options),
+        _ => simulation_in(alloc, name, options),
     }
 }
 
 /// The job of a command line that has been read.
-fn job_of<'a>(matches: &ArgMatches<'a>) -> Option<Job<'a>>
-    ensures some { IfSome result (IsJob (subcommand_rows_of matches.now)) }
-    ensures none { IfNone result ((j : _) → ¬ (IsJob (subcommand_rows_of matches.now) j)) }
+fn job_of<'a>(alloc: Global, matches: &ArgMatches<'a>) -> Result<Job<'a>, NoJob>
+    ensures ok { IfOk result (IsJob (subcommand_rows_of matches.now)) }
+    ensures err { let found = subcommand_rows_of matches.now in
+        IfErr result (FailsFor ((j : _) → ¬ (IsJob found j))) }
 {
-    let (name, options) = matches.subcommand()?;
-    job_named(name, options)
+    match matches.subcommand() {
+        Some((name, options)) => job_named(alloc, name, options),
+        None => Err(NoJob::BadLine),
+    }
 }
 
 /// What an error of the parse means.
@@ -169,7 +207,7 @@ fn no_job(error: Error) -> NoJob
 ///
 /// The jobs are `demo`; `check NET`; `dot NET`; `seq NET --until T`; `stats NET --until T` with `--json` or without, and with `--from T0` (0 to
 /// 1,099,511,627,774 ticks) or without; `table NET --until T`
-/// with `--items` or `--words` or neither, and with `--from T0` or without; `run NET --until T` with `--workers N` (1 to 64) or `--workers auto`, `--burst K` (1 to
+/// with `--items`, `--words` or `--figures` or none of them, and with `--from T0` or without, both with `--only NAMES` or without; `run NET --until T` with `--workers N` (1 to 64) or `--workers auto`, `--burst K` (1 to
 /// 256 steps) and `--window W` (0 to 1,099,511,627,774 ticks), which are 2, 64 and 1,099,511,627,774 where they are left out;
 /// `play NET --until T` with what drives it, either `--script FILE` alone or both `--seed S` and `--steps N`; and
 /// `draw NET --until T`, either with what drives an executive, as `play`, or with what is seen of a run: `--from T0` (0 to
@@ -191,10 +229,7 @@ pub fn job<'a>(alloc: Global, words: &'a [String]) -> Result<Job<'a>, NoJob>
     ensures err { IfErr result (IsReason (map string_bytes words.entry.now)) }
 {
     match command(alloc)?.try_get_matches_from(words) {
-        Ok(matches) => match job_of(&matches) {
-            Some(job) => Ok(job),
-            None => Err(NoJob::BadLine),
-        },
+        Ok(matches) => job_of(alloc, &matches),
         Err(error) => Err(no_job(error)),
     }
 }

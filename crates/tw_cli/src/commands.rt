@@ -2,7 +2,7 @@
 
 ghost use Rattle.std.specs.Prelude.{◌≡◌, IfOk, codes};
 ghost use Rattle.clap.specs.Words.{App, app_of};
-ghost use Rattle.tw_cli.specs.Lines.{flag_rule, from_rule, net_rule, number_rule, text_rule, until_rule, alone_app, cancelled_app, check_app, demo_app, dot_app, draw_app, driven_app, file_app, first_app, network_app, play_app, preset_rule, preset_text_rule, run_app, seen_app, seq_app, set_app, stats_app, table_app, told_app, twarp_app, IsArg, IsCommand, IsJoined};
+ghost use Rattle.tw_cli.specs.Lines.{flag_rule, from_rule, net_rule, number_rule, numbered_app, text_rule, texts_rule, until_rule, alone_app, cancelled_app, check_app, demo_app, dot_app, draw_app, driven_app, file_app, first_app, network_app, part_app, play_app, preset_rule, preset_text_rule, run_app, seen_app, seq_app, set_app, shown_app, stats_app, table_app, told_app, twarp_app, IsArg, IsCommand, IsJoined};
 
 use crate::driving::MAX_STEPS;
 use crate::help::{
@@ -77,6 +77,32 @@ fn until<'a>(alloc: Global) -> Arg<'a>
     )
 }
 
+fn set<'a>(alloc: Global) -> Arg<'a>
+    ensures { IsArg (texts_rule (codes "set")) result }
+{
+    text(alloc, "set", "COMPONENT.PARAMETER=VALUE")
+        .action(ArgAction::Append)
+        .help(
+            "Use this number for a parameter of a component, in place of that of the file. May stand many times",
+        )
+}
+
+fn seed_all<'a>(alloc: Global) -> Arg<'a>
+    ensures { IsArg (number_rule (codes "seed-all") 0 18446744073709551615) result }
+{
+    number(alloc, "seed-all", "S", 0, u64::MAX).help(
+        "Replication S, 0 to 18446744073709551615: replace each seed by the S-th number that SplitMix64 makes of it. 0 keeps the seeds",
+    )
+}
+
+/// A subcommand with other numbers for its network file.
+fn numbered_command<'a>(command: Command<'a>, alloc: Global) -> Result<Command<'a>, AllocError>
+    ensures { (app : App) → IsCommand app command.entry
+        → IfOk result (IsCommand (numbered_app app)) }
+{
+    command.arg(set(alloc))?.arg(seed_all(alloc))
+}
+
 fn demo_command<'a>(alloc: Global) -> Command<'a>
     ensures { IsCommand demo_app result }
 {
@@ -96,10 +122,11 @@ fn file_command<'a>(
 ) -> Result<Command<'a>, AllocError>
     ensures { IfOk result (IsCommand (file_app name.entry.now)) }
 {
-    Command::new(alloc, name)
+    let bare = Command::new(alloc, name)
         .about(about)
         .after_help(end)
-        .arg(net(alloc))
+        .arg(net(alloc))?;
+    numbered_command(bare, alloc)
 }
 
 fn check_command<'a>(alloc: Global) -> Result<Command<'a>, AllocError>
@@ -133,11 +160,12 @@ fn network_command<'a>(
 ) -> Result<Command<'a>, AllocError>
     ensures { IfOk result (IsCommand (network_app name.entry.now)) }
 {
-    Command::new(alloc, name)
+    let bare = Command::new(alloc, name)
         .about(about)
         .after_help(end)
         .arg(net(alloc))?
-        .arg(until(alloc))
+        .arg(until(alloc))?;
+    numbered_command(bare, alloc)
 }
 
 fn far<'a>(alloc: Global) -> Arg<'a>
@@ -177,6 +205,13 @@ fn json<'a>(alloc: Global) -> Arg<'a>
     flag(alloc, "json").help("Print one line of JSON")
 }
 
+/// The components that are shown.
+fn only<'a>(alloc: Global, help: &'a str) -> Arg<'a>
+    ensures { IsArg (text_rule (codes "only")) result }
+{
+    text(alloc, "only", "NAMES").help(help)
+}
+
 /// The tick from which on a run is told or seen.
 fn from<'a>(alloc: Global, help: &'a str) -> Arg<'a>
     ensures { IsArg from_rule result }
@@ -197,25 +232,40 @@ fn stats_command<'a>(alloc: Global) -> Result<Command<'a>, AllocError>
         alloc,
         "Count from tick T0 on, 0 to 1099511627774. Without it the whole run counts",
     ))?
+    .arg(only(
+        alloc,
+        "Names of the components to print, separated by commas. Default: all",
+    ))?
     .arg(json(alloc))
 }
 
 fn items<'a>(alloc: Global) -> Arg<'a>
     ensures { IsArg (flag_rule (codes "items")) result }
 {
-    flag(alloc, "items").help("Print one line for each item of a record. Not with --words")
+    flag(alloc, "items").help(
+        "Print one line for each item of a record. Not with --words or --figures",
+    )
 }
 
 fn words<'a>(alloc: Global) -> Arg<'a>
     ensures { IsArg (flag_rule (codes "words")) result }
 {
     flag(alloc, "words").help(
-        "Print one line for each word of the state after a transition. Not with --items",
+        "Print one line for each word of the state after a transition. Not with --items or --figures",
     )
 }
 
-fn table_command<'a>(alloc: Global) -> Result<Command<'a>, AllocError>
-    ensures { IfOk result (IsCommand table_app) }
+fn figures<'a>(alloc: Global) -> Arg<'a>
+    ensures { IsArg (flag_rule (codes "figures")) result }
+{
+    flag(alloc, "figures").help(
+        "Print all figures at the first tick, then one line for each figure that changed. Not with --items or --words",
+    )
+}
+
+/// `table` with what part of a run it shows.
+fn part_command<'a>(alloc: Global) -> Result<Command<'a>, AllocError>
+    ensures { IfOk result (IsCommand part_app) }
 {
     told_command(
         alloc,
@@ -227,8 +277,19 @@ fn table_command<'a>(alloc: Global) -> Result<Command<'a>, AllocError>
         alloc,
         "First tick of the table, 0 to 1099511627774. Default: 0",
     ))?
-    .arg(items(alloc))?
-    .arg(words(alloc))
+    .arg(only(
+        alloc,
+        "Names of the components to print, separated by commas. Default: all",
+    ))
+}
+
+fn table_command<'a>(alloc: Global) -> Result<Command<'a>, AllocError>
+    ensures { IfOk result (IsCommand table_app) }
+{
+    part_command(alloc)?
+        .arg(items(alloc))?
+        .arg(words(alloc))?
+        .arg(figures(alloc))
 }
 
 fn workers<'a>(alloc: Global) -> Arg<'a>
@@ -349,25 +410,41 @@ fn play_command<'a>(alloc: Global) -> Result<Command<'a>, AllocError>
     cancelled_command(bare, alloc)
 }
 
-fn only<'a>(alloc: Global) -> Arg<'a>
-    ensures { IsArg (text_rule (codes "only")) result }
-{
-    text(alloc, "only", "NAMES").help(
-        "Names of the components to draw, separated by commas. Default: all",
-    )
-}
-
 fn figure<'a>(alloc: Global) -> Arg<'a>
-    ensures { IsArg (text_rule (codes "figure")) result }
+    ensures { IsArg (texts_rule (codes "figure")) result }
 {
-    text(alloc, "figure", "NAME").help(
-        "Name of the figure to draw, as stats prints it. Default: the last figure of each model; of a tally, its sum",
+    text(alloc, "figure", "NAME").action(ArgAction::Append).help(
+        "Name of a figure to draw, as stats prints it, or COMPONENT=NAME for that of one component. May stand many times: a lane shows the first that its component has. Default: the last figure of each model; of a tally, its sum",
     )
 }
 
-/// `draw` with what is seen of a run.
-fn seen_command<'a>(alloc: Global) -> Result<Command<'a>, AllocError>
-    ensures { IfOk result (IsCommand seen_app) }
+fn width<'a>(alloc: Global) -> Arg<'a>
+    ensures { IsArg (number_rule (codes "width") 600 4000) result }
+{
+    number(alloc, "width", "POINTS", 600, 4000).help(
+        "Width of the picture in points, 600 to 4000. Default: 1280",
+    )
+}
+
+fn marks<'a>(alloc: Global) -> Arg<'a>
+    ensures { IsArg (flag_rule (codes "marks")) result }
+{
+    flag(alloc, "marks").help(
+        "Draw a mark for each record, and end the picture after 20000 of them. Default: marks if the whole run has room, else --courses",
+    )
+}
+
+fn courses<'a>(alloc: Global) -> Arg<'a>
+    ensures { IsArg (flag_rule (codes "courses")) result }
+{
+    flag(alloc, "courses").help(
+        "Draw figures alone, of a run of any length: the mean as a line, from the least to the greatest value as a band",
+    )
+}
+
+/// `draw` with the part of a run that is shown.
+fn shown_command<'a>(alloc: Global) -> Result<Command<'a>, AllocError>
+    ensures { IfOk result (IsCommand shown_app) }
 {
     network_command(
         alloc,
@@ -379,8 +456,21 @@ fn seen_command<'a>(alloc: Global) -> Result<Command<'a>, AllocError>
         alloc,
         "First tick of the picture, 0 to 1099511627774. Default: 0",
     ))?
-    .arg(only(alloc))?
+    .arg(only(
+        alloc,
+        "Names of the components to draw, separated by commas. Default: all",
+    ))?
     .arg(figure(alloc))
+}
+
+/// `draw` with what is seen of a run.
+fn seen_command<'a>(alloc: Global) -> Result<Command<'a>, AllocError>
+    ensures { IfOk result (IsCommand seen_app) }
+{
+    shown_command(alloc)?
+        .arg(width(alloc))?
+        .arg(marks(alloc))?
+        .arg(courses(alloc))
 }
 
 fn draw_command<'a>(alloc: Global) -> Result<Command<'a>, AllocError>

@@ -1,7 +1,7 @@
 //! What the program can be asked to do.
 
-ghost use Rattle.std.specs.Prelude.{◌≡◌};
-ghost use Rattle.tw_cli.specs.Lines.{refusal_of, refused_for_memory};
+ghost use Rattle.std.specs.Prelude.{◌≡◌, option_map};
+ghost use Rattle.tw_cli.specs.Lines.{net_of, refusal_of, refused_for_memory};
 
 use crate::driving::Driver;
 use crate::seeing::Picture;
@@ -9,8 +9,18 @@ use crate::setting::RunOptions;
 use std::alloc::AllocError;
 use thiserror::Error;
 use tw_actions::Cancel;
-use tw_figures::Rows;
+use tw_figures::Tabled;
+use tw_file_settings::Settings;
 use tw_vtime::Refusal;
+
+/// A network's file, and what the line changes in it.
+#[derive(Debug, Drop)]
+pub struct NetSource<'a> {
+    /// The path of the file.
+    pub path: &'a str,
+    /// The numbers that parameters and seeds get in place of those of the file.
+    pub settings: Settings<'a>,
+}
 
 /// What the program is asked to do.
 #[derive(Debug, Drop)]
@@ -19,18 +29,18 @@ pub enum Job<'a> {
     Demo,
     /// Read a network file and say what it has, or its first fault, where it stands and why; simulate nothing.
     Check {
-        /// The path of the network file.
-        net: &'a str,
+        /// The network file.
+        net: NetSource<'a>,
     },
     /// Read a network file and write the network as Graphviz reads it; simulate nothing.
     Dot {
-        /// The path of the network file.
-        net: &'a str,
+        /// The network file.
+        net: NetSource<'a>,
     },
     /// Simulate a network.
     Simulate {
-        /// The path of the network file.
-        net: &'a str,
+        /// The network file.
+        net: NetSource<'a>,
         /// The end tick, 0 to 1,099,511,627,774: only steps before it are made.
         until: u64,
         /// How, and what is written of it.
@@ -50,17 +60,21 @@ pub enum Task<'a> {
     Stats {
         /// The tick from which on they are counted, 0 to 1,099,511,627,774; of the whole run where there is none.
         from: Option<u64>,
+        /// The names of the components that are shown, parted by commas; all of them where there is none.
+        only: Option<&'a str>,
         /// Whether they are written as a line of JSON, in place of tables.
         json: bool,
         /// Whether a line on standard error tells once a second how far the run is.
         progress: bool,
     },
-    /// The same way; write its records as comma-separated values.
+    /// The same way; write its records, or how its figures changed, as comma-separated values.
     Table {
-        /// The tick from which on it has records, 0 to 1,099,511,627,774; 0 where none was asked for.
+        /// The tick from which on it has these, 0 to 1,099,511,627,774; 0 where none was asked for.
         from: u64,
-        /// What a line is of.
-        rows: Rows,
+        /// The names of the components that are shown, parted by commas; all of them where there is none.
+        only: Option<&'a str>,
+        /// What it is of.
+        of: Tabled,
         /// Whether a line on standard error tells once a second how far the run is.
         progress: bool,
     },
@@ -83,6 +97,18 @@ pub enum Task<'a> {
         /// What drives it.
         driver: Driver<'a>,
     },
+}
+
+impl<'a> Job<'a> {
+    /// The network file of a job; none of `demo`.
+    pub fn net(&self) -> Option<&NetSource<'a>>
+        ensures { option_map (λ net. net.now) result ≡ net_of self.now }
+    {
+        match self {
+            Job::Demo => None,
+            Job::Check { net } | Job::Dot { net } | Job::Simulate { net, .. } => Some(net),
+        }
+    }
 }
 
 /// Why a command line gave no job.

@@ -14,6 +14,7 @@
 //! | `values` | the text, the number or the flag of one option; each number in its range, or none |
 //! | `driving` | what drives an executive ([`Driver`]), and how it cancels |
 //! | `setting` | what workers are set to ([`RunOptions`], [`Workers`]) |
+//! | `numbers` | the network file, and other numbers for it ([`NetSource`]) |
 //! | `explaining` | words for a line that is refused ([`line_words`]) |
 //! | `seeing` | what is seen of a run: the lines of a table, and a picture ([`Picture`]) |
 #![tactic(auto)]
@@ -24,6 +25,7 @@ mod driving;
 mod explaining;
 mod help;
 mod jobs;
+mod numbers;
 mod seeing;
 mod setting;
 mod values;
@@ -31,6 +33,6 @@ mod values;
 pub use command_line::job;
 pub use driving::Driver;
 pub use explaining::line_words;
-pub use jobs::{Job, NoJob, Task};
+pub use jobs::{Job, NetSource, NoJob, Task};
 pub use seeing::Picture;
 pub use setting::{RunOptions, Workers};

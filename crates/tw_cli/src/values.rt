@@ -1,7 +1,7 @@
 //! The text, the number or the flag of one option.
 
-ghost use Rattle.std.specs.Prelude.{◌≡◌, IfSome, IfNone, is_some, option_map};
-ghost use Rattle.clap.specs.Words.{rows_of, found_of, first_of};
+ghost use Rattle.std.specs.Prelude.{◌≡◌, IfSome, IfNone, is_some, map, option_map};
+ghost use Rattle.clap.specs.Words.{all_of, rows_of, found_of, first_of};
 ghost use Rattle.tw_cli.specs.Options.{HasFlag, HasNumber};
 
 use clap::ArgMatches;
@@ -24,6 +24,14 @@ pub fn text_in<'a>(options: &ArgMatches<'a>, id: &str) -> Option<&'a str>
     ensures { option_map (λ s. s.now) result ≡ first_of id.now (rows_of (found_of options.now)) }
 {
     options.get_str(id)
+}
+
+/// The texts of an option that may stand there many times, in their order, or none where it is left out.
+pub(crate) fn texts_in<'s, 'a>(options: &'s ArgMatches<'a>, id: &str) -> Option<&'s [&'a str]>
+    ensures { option_map (λ s. map (λ t. t.now) s.now) result
+        ≡ all_of id.now (rows_of (found_of options.now)) }
+{
+    options.get_strs(id)
 }
 
 /// Whether an option stands on the line.

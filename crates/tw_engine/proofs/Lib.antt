@@ -1,4 +1,4 @@
-pub mod Shown
+pub mod Showing
 pub mod Driven
 pub mod Checked
 pub mod Viewed

@@ -3,7 +3,7 @@ use Rattle.std.proofs.Common.{◌≡◌, ◌<◌, ◌+◌, ℕ, suc, List, [], �
 use Rattle.std.specs.Global.{Global}
 use Rattle.serde_json.specs.Data.{Data, Items}
 use Rattle.std.specs.Option.{option_map_or}
-use Rattle.std.specs.Prelude.{◌≢◌, ◌⊎◌, Bool, Option, Result, Ok, Err, String, codes}
+use Rattle.std.specs.Prelude.{◌≢◌, ◌⊎◌, Bool, Option, Some, Result, Ok, Err, String, codes}
 use Rattle.std.specs.Result.{result_ok}
 use Rattle.std.specs.Io.KnownBytes.{Appends, Keeps}
 use Rattle.tw_any_model.specs.AnyModel.{any_meaning}
@@ -11,8 +11,9 @@ use Rattle.tw_any_model.specs.declared.any_model.AnyModel.{AnyModel}
 use Rattle.tw_engine.proofs.Driven.{keeps_all}
 use Rattle.tw_engine.specs.Ends.{Fault, failed_of}
 use Rattle.tw_engine.specs.Runs.{HasNoRun, name_in, run_fault}
-use Rattle.tw_engine.specs.Views.{IsLineOf, IsSummedOf, IsTabulatedOf, file_labels, run_table}
+use Rattle.tw_engine.specs.Views.{HasNoneShown, IsFiguresTabulatedOf, IsLineOf, IsSummedOf, IsTabulatedOf, Summed, Tabulated, file_labels, run_table}
 use Rattle.tw_engine.specs.declared.failed.Failed.{Failed}
+use Rattle.tw_figures.specs.Shown.{shown_of}
 use Rattle.tw_figures.specs.declared.seeing.Rows.{Rows}
 use Rattle.tw_figure_names.specs.Said.{atoms_of, labels_from, labels_said, machines_said}
 use Rattle.tw_file_members.specs.Members.{items_in}
@@ -48,42 +49,72 @@ labels_of_bytes bytes file n is = sym (ap (λ (r : Result Data FileRefused). opt
 
 -- ---- counts and figures
 
-module _ (n : Contents AnyModel) (labels : List Label) (from : Option ℕ) (until : ℕ) (json : Bool) where
+module _ (n : Contents AnyModel) (labels : List Label) (s : Summed) where
   -- they are of the run
-  pub summed_up : (report : Report) (line : Option (String Global)) (old new : Option (List ℕ))
-      → IsReport (network_of any_meaning n) from until labels report → IsLineOf n report.fault line
-      → Appends old new (report_bytes json (name_in n.names) labels report) → IsSummedOf n labels from until json (Ok line) old new
-  summed_up report line old new is of written = (
+  pub summed_up : (shown : List Bool) (report : Report) (line : Option (String Global)) (old new : Option (List ℕ)) → shown_of n.names s.only ≡ Some shown
+      → IsReport (network_of any_meaning n) s.from s.until labels report → IsLineOf n report.fault line
+      → Appends old new (report_bytes s.json (name_in n.names) labels shown report) → IsSummedOf n labels s (Ok line) old new
+  summed_up shown report line old new are is of written = (
     subst (λ (f : Option Fault). IsLineOf n f line) is.fault of,
-    record { report = report; is = is; written = written },
+    record { shown = shown; are = are; report = report; is = is; written = written },
   )
+
+  -- there is nothing to show
+  pub none_summed : (why : Failed) (old : Option (List ℕ)) → HasNoneShown n s.only why → IsSummedOf n labels s (Err why) old old
+  none_summed why old (inl want) = subst (λ w. IsSummedOf n labels s (Err w) old old) (sym want) (refl, keeps_all old)
+  none_summed why old (inr none) = subst (λ w. IsSummedOf n labels s (Err w) old old) (sym none.0) (inr (refl, none.1), keeps_all old)
 
   -- a run that is refused
   pub not_reported : (why : SeqRefused) (old : Option (List ℕ))
-      → (why ≡ run.BadTick → max_tick < until) → IsSummedOf n labels from until json (Err (failed_of (seq_refusal why))) old old
+      → (why ≡ run.BadTick → max_tick < s.until) → IsSummedOf n labels s (Err (failed_of (seq_refusal why))) old old
   not_reported run.OutOfMemory old late = (refl, keeps_all old)
-  not_reported run.BadTick old late = ((refl, late refl), keeps_all old)
+  not_reported run.BadTick old late = (inl (refl, late refl), keeps_all old)
 
   -- writing that is refused
   pub not_summed : (why : NotWritten) (old new : Option (List ℕ))
-      → (why ≢ writing.WriteFailed → Keeps old new) → IsSummedOf n labels from until json (Err (failed_of (not_written_refusal why))) old new
+      → (why ≢ writing.WriteFailed → Keeps old new) → IsSummedOf n labels s (Err (failed_of (not_written_refusal why))) old new
   not_summed writing.OutOfMemory old new keeps = (refl, keeps (λ e. cc))
   not_summed writing.WriteFailed old new keeps = tt
 
 -- ---- the table
 
-pub tabulated : (n : Contents AnyModel) (from until : ℕ) (rows : Rows) (fault : Option Fault) (line : Option (String Global)) (old new : Option (List ℕ))
-    → fault ≡ run_fault n until → IsLineOf n fault line → Appends old new (run_table n from until rows) → IsTabulatedOf n from until rows (Ok line) old new
-tabulated n from until rows fault line old new is of written = (subst (λ (f : Option Fault). IsLineOf n f line) is of, written)
+module _ (n : Contents AnyModel) (rows : Rows) (t : Tabulated) where
+  pub tabulated : (shown : List Bool) (fault : Option Fault) (line : Option (String Global)) (old new : Option (List ℕ)) → shown_of n.names t.only ≡ Some shown
+      → fault ≡ run_fault n t.until → IsLineOf n fault line → Appends old new (run_table n rows shown t.from t.until) → IsTabulatedOf n rows t (Ok line) old new
+  tabulated shown fault line old new are is of written =
+      (subst (λ (f : Option Fault). IsLineOf n f line) is of, record { shown = shown; are = are; written = written })
 
--- a run that is refused, before anything is written
-pub not_tabulated : (n : Contents AnyModel) (from until : ℕ) (rows : Rows) (why : Failed) (old : Option (List ℕ))
-    → HasNoRun until why → IsTabulatedOf n from until rows (Err why) old old
-not_tabulated n from until rows why old (inl want) = subst (λ w. IsTabulatedOf n from until rows (Err w) old old) (sym want) (refl, inl (keeps_all old))
-not_tabulated n from until rows why old (inr late) = subst (λ w. IsTabulatedOf n from until rows (Err w) old old) (sym late.0) ((refl, late.1), keeps_all old)
+  -- there is nothing to show
+  pub none_tabulated : (why : Failed) (old : Option (List ℕ)) → HasNoneShown n t.only why → IsTabulatedOf n rows t (Err why) old old
+  none_tabulated why old (inl want) = subst (λ w. IsTabulatedOf n rows t (Err w) old old) (sym want) (refl, inl (keeps_all old))
+  none_tabulated why old (inr none) = subst (λ w. IsTabulatedOf n rows t (Err w) old old) (sym none.0) (inr (refl, none.1), keeps_all old)
 
--- a table that is not written to its end
-pub table_short : (n : Contents AnyModel) (from until : ℕ) (rows : Rows) (why : NotWritten) (old new : Option (List ℕ))
-    → (why ≡ writing.OutOfMemory → AppendsBeginning old new (run_table n from until rows)) → IsTabulatedOf n from until rows (Err (failed_of (not_written_refusal why))) old new
-table_short n from until rows writing.OutOfMemory old new begun = (refl, inr (begun refl))
-table_short n from until rows writing.WriteFailed old new begun = tt
+  -- a run that is refused, before anything is written
+  pub not_tabulated : (why : Failed) (old : Option (List ℕ)) → HasNoRun t.until why → IsTabulatedOf n rows t (Err why) old old
+  not_tabulated why old (inl want) = subst (λ w. IsTabulatedOf n rows t (Err w) old old) (sym want) (refl, inl (keeps_all old))
+  not_tabulated why old (inr late) = subst (λ w. IsTabulatedOf n rows t (Err w) old old) (sym late.0) (inl (refl, late.1), keeps_all old)
+
+  -- a table that is not written to its end
+  pub table_short : (shown : List Bool) (why : NotWritten) (old new : Option (List ℕ)) → shown_of n.names t.only ≡ Some shown
+      → (why ≡ writing.OutOfMemory → AppendsBeginning old new (run_table n rows shown t.from t.until)) → IsTabulatedOf n rows t (Err (failed_of (not_written_refusal why))) old new
+  table_short shown writing.OutOfMemory old new are begun = (refl, inr (record { shown = shown; are = are; written = begun refl }))
+  table_short shown writing.WriteFailed old new are begun = tt
+
+-- ---- the table of the figures
+
+module _ (n : Contents AnyModel) (t : Tabulated) where
+  pub figured : (shown : List Bool) (fault : Option Fault) (line : Option (String Global)) (old new : Option (List ℕ)) → shown_of n.names t.only ≡ Some shown
+      → fault ≡ run_fault n t.until → IsLineOf n fault line → IsFiguresTabulatedOf n t (Ok line) old new
+  figured shown fault line old new are is of = (subst (λ (f : Option Fault). IsLineOf n f line) is of, (shown, are))
+
+  pub none_figured : (why : Failed) (old : Option (List ℕ)) → HasNoneShown n t.only why → IsFiguresTabulatedOf n t (Err why) old old
+  none_figured why old (inl want) = subst (λ w. IsFiguresTabulatedOf n t (Err w) old old) (sym want) refl
+  none_figured why old (inr none) = subst (λ w. IsFiguresTabulatedOf n t (Err w) old old) (sym none.0) (inr (refl, none.1), keeps_all old)
+
+  pub not_figured : (why : Failed) (old : Option (List ℕ)) → HasNoRun t.until why → IsFiguresTabulatedOf n t (Err why) old old
+  not_figured why old (inl want) = subst (λ w. IsFiguresTabulatedOf n t (Err w) old old) (sym want) refl
+  not_figured why old (inr late) = subst (λ w. IsFiguresTabulatedOf n t (Err w) old old) (sym late.0) (inl (refl, late.1), keeps_all old)
+
+  pub figures_short : (why : NotWritten) (old new : Option (List ℕ)) → IsFiguresTabulatedOf n t (Err (failed_of (not_written_refusal why))) old new
+  figures_short writing.OutOfMemory old new = refl
+  figures_short writing.WriteFailed old new = tt

@@ -2,7 +2,7 @@
 --     IsDone job exit bytes script old new      with the bytes of its network file, and those of its script where they are known
 --     ReadsScript job bytes      its script is read
 --     TakesThreads job      workers in threads do it
-use Rattle.std.specs.Prelude.{◌≡◌, ◌⊎◌, ℕ, List, Option, IfSome, Result, ⊤}
+use Rattle.std.specs.Prelude.{◌≡◌, ◌⊎◌, ℕ, List, Option, IfSome, Result, option_map, ⊤}
 use Rattle.std.specs.Io.KnownBytes.{Keeps}
 use Rattle.tw_engine.specs.Checks.{IsCheck}
 use Rattle.tw_engine.specs.Drawings.{IsGraphed, IsViewDrawn, IsWarpDrawn}
@@ -45,8 +45,10 @@ Ends {A} exit_for exit Is = (end : Result A Failed) × (exit ≡ exit_for end) �
 -- a network is simulated up to an end tick
 abbrev pub IsTaskDone : Task → ℕ → Exit → List ℕ → Option (List ℕ) → Option (List ℕ) → Option (List ℕ) → Type 0
 IsTaskDone (Seq progress) until exit bytes script old new = Ends exit_of_run exit (λ end. IsRun bytes until end old new)
-IsTaskDone (Stats from json progress) until exit bytes script old new = Ends exit_of_view exit (λ end. IsSummed bytes from until json end old new)
-IsTaskDone (Table from rows progress) until exit bytes script old new = Ends exit_of_view exit (λ end. IsTabulated bytes from until rows end old new)
+IsTaskDone (Stats from only json progress) until exit bytes script old new =
+    Ends exit_of_view exit (λ end. IsSummed bytes (record { only = option_map (λ o. o.now) only; from = from; until = until; json = json }) end old new)
+IsTaskDone (Table from only tabled progress) until exit bytes script old new =
+    Ends exit_of_view exit (λ end. IsTabulated bytes (record { only = option_map (λ o. o.now) only; from = from; until = until; of = tabled }) end old new)
 IsTaskDone (Draw picture) until exit bytes script old new = Ends exit_of_view exit (λ end. IsDrawn picture until end bytes script old new)
 IsTaskDone (Run cancel setting) until exit bytes script old new = Ends exit_of_run exit (λ end. IsRunByWorkers bytes cancel until end old new)
 IsTaskDone (Play cancel driver) until exit bytes script old new = Ends exit_of_rest exit (λ end. IsPlay driver until cancel end bytes script old new)
@@ -73,8 +75,8 @@ PictureReads (of.Warp way driver) bytes = DriverReads driver bytes
 
 abbrev pub TaskReads : Task → List ℕ → Type 0
 TaskReads (Seq progress) bytes = ⊥
-TaskReads (Stats from json progress) bytes = ⊥
-TaskReads (Table from rows progress) bytes = ⊥
+TaskReads (Stats from only json progress) bytes = ⊥
+TaskReads (Table from only tabled progress) bytes = ⊥
 TaskReads (Draw picture) bytes = PictureReads picture bytes
 TaskReads (Run cancel setting) bytes = ⊥
 TaskReads (Play cancel driver) bytes = DriverReads driver bytes
@@ -89,8 +91,8 @@ ReadsScript (Simulate net until task) bytes = TaskReads task bytes
 
 abbrev pub IsByWorkers : Task → Type 0
 IsByWorkers (Seq progress) = ⊥
-IsByWorkers (Stats from json progress) = ⊥
-IsByWorkers (Table from rows progress) = ⊥
+IsByWorkers (Stats from only json progress) = ⊥
+IsByWorkers (Table from only tabled progress) = ⊥
 IsByWorkers (Draw picture) = ⊥
 IsByWorkers (Run cancel setting) = ⊤
 IsByWorkers (Play cancel driver) = ⊥

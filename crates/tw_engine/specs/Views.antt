@@ -1,25 +1,30 @@
 -- What the engine writes where figures or a table of a run are asked for, and how that ends.
 --     IsLineOf n fault line      a line says the fault that a run ends in, and there is none where there is no fault
 --     file_labels bytes n      what the models of the network of a file are called, and their figures
---     IsSummed bytes from until json end old new      counts and figures of the run of the network that a file's bytes mean, from a tick on where one was asked for
---     IsTabulated bytes from until rows end old new      its table, from a tick on
+--     IsSummed bytes summed end old new      counts, figures and observations of the run of the network that a file's bytes mean, of the components that are shown
+--     IsTabulated bytes tabulated end old new      its table, of its records or of its figures
 use Rattle.std.specs.Global.{Global}
 use Rattle.std.specs.Option.{option_map_or}
-use Rattle.std.specs.Prelude.{◌≡◌, ◌⊎◌, ℕ, [], Bool, List, Option, None, Some, Ok, Err, String, string_bytes}
+use Rattle.std.specs.Prelude.{◌≡◌, ◌⊎◌, ℕ, [], Bool, List, Option, None, Some, Ok, Err, String, option_map, string_bytes}
 use Rattle.std.specs.Result.{result_ok}
 use Rattle.std.specs.Io.KnownBytes.{Appends, Keeps}
 use Rattle.tw_any_model.specs.AnyModel.{any_meaning}
 use Rattle.tw_any_model.specs.declared.any_model.AnyModel.{AnyModel}
 use Rattle.tw_engine.specs.Ends.{Fails, Fault, ViewEnd}
 use Rattle.tw_engine.specs.Runs.{HasNoNetwork, IsLate, Means, fault_text, name_in, run_fault}
+use Rattle.tw_engine.specs.declared.failed.Failed.{Failed}
 use Rattle.tw_engine.specs.declared.failed.Failed.TheVariants.{Bad, Want, NoWrite}
+use Rattle.tw_engine.specs.declared.job_stats.Summary.{Summary}
+use Rattle.tw_engine.specs.declared.job_table.Tabulation.{Tabulation}
 use Rattle.tw_figure_names.specs.Said.{labels_said}
-use Rattle.tw_figures.specs.Figures.{from_on}
 use Rattle.tw_figures.specs.Labelled.{Label}
+use Rattle.tw_figures.specs.Shown.{shown_of}
 use Rattle.tw_figures.specs.declared.seeing.Rows.{Rows}
+use Rattle.tw_figures.specs.declared.seeing.Tabled.{Tabled}
+use Rattle.tw_figures.specs.declared.seeing.Tabled.TheVariants.{OfRun, OfFigures}
 use Rattle.tw_file_network.specs.Meaning.{json_of}
 use Rattle.tw_network.specs.Contents.{Contents, network_of}
-use Rattle.tw_record_lines.specs.Tables.{table_text}
+use Rattle.tw_record_lines.specs.Tables.{listed, table_text}
 use Rattle.tw_stats.specs.Reports.{IsReport}
 use Rattle.tw_stats.specs.Written.{report_bytes}
 use Rattle.tw_stats.specs.declared.report.Report.{Report}
@@ -40,34 +45,91 @@ IsLineOf n fault (Some line) = ((met : Fault) × (fault ≡ Some met)) × (strin
 unfoldable pub file_labels : List ℕ → Contents AnyModel → List Label
 file_labels bytes n = option_map_or (λ file. labels_said file n.models) (result_ok (json_of bytes)) []
 
--- the report of a network's sequential run is written, with these names and figures of its components' models
-pub record IsReported (n : Contents AnyModel) (labels : List Label) (from : Option ℕ) (until : ℕ) (json : Bool) (old new : Option (List ℕ)) : Type 0 where
+-- which components are shown, from which tick on, up to which end tick, and whether as JSON
+pub record Summed : Type 0 where
+  pub only : Option (List ℕ)
+  pub from : Option ℕ
+  pub until : ℕ
+  pub json : Bool
+
+abbrev pub summary_of : Summary → Summed
+summary_of s = record { only = option_map (λ o. o.now) s.only; from = s.from; until = s.until; json = s.json }
+
+-- why there is nothing to show: memory was wanting, or no component has one of the names
+abbrev pub HasNoneShown : Contents AnyModel → Option (List ℕ) → Failed → Type 0
+HasNoneShown n only why = (why ≡ Want refusal.OutOfMemory) ⊎ ((why ≡ Bad refusal.NoSuch None) × (shown_of n.names only ≡ None))
+
+-- the end tick is too late, or no component has one of the names
+abbrev pub IsUnseen : Contents AnyModel → Option (List ℕ) → ℕ → Failed → Type 0
+IsUnseen n only until why = IsLate until why ⊎ ((why ≡ Bad refusal.NoSuch None) × (shown_of n.names only ≡ None))
+
+-- the report of a network's sequential run is written, with these names and figures of its components' models, of those that are shown
+pub record IsReported (n : Contents AnyModel) (labels : List Label) (s : Summed) (old new : Option (List ℕ)) : Type 0 where
+  pub shown : List Bool
+  pub are : shown_of n.names s.only ≡ Some shown
   pub report : Report
-  pub is : IsReport (network_of any_meaning n) from until labels report
-  pub written : Appends old new (report_bytes json (name_in n.names) labels report)
+  pub is : IsReport (network_of any_meaning n) s.from s.until labels report
+  pub written : Appends old new (report_bytes s.json (name_in n.names) labels shown report)
 
 -- where memory is wanting nothing is written
-abbrev pub IsSummedOf : Contents AnyModel → List Label → Option ℕ → ℕ → Bool → ViewEnd → Option (List ℕ) → Option (List ℕ) → Type 0
-IsSummedOf n labels from until json (Ok line) old new = IsLineOf n (run_fault n until) line × IsReported n labels from until json old new
-IsSummedOf n labels from until json (Err (Bad why line)) old new = IsLate until (Bad why line) × Keeps old new
-IsSummedOf n labels from until json (Err (Want why)) old new = (why ≡ refusal.OutOfMemory) × Keeps old new
-IsSummedOf n labels from until json (Err NoWrite) old new = Unit {0}
+abbrev pub IsSummedOf : Contents AnyModel → List Label → Summed → ViewEnd → Option (List ℕ) → Option (List ℕ) → Type 0
+IsSummedOf n labels s (Ok line) old new = IsLineOf n (run_fault n s.until) line × IsReported n labels s old new
+IsSummedOf n labels s (Err (Bad why line)) old new = IsUnseen n s.only s.until (Bad why line) × Keeps old new
+IsSummedOf n labels s (Err (Want why)) old new = (why ≡ refusal.OutOfMemory) × Keeps old new
+IsSummedOf n labels s (Err NoWrite) old new = Unit {0}
 
-abbrev pub IsSummed : List ℕ → Option ℕ → ℕ → Bool → ViewEnd → Option (List ℕ) → Option (List ℕ) → Type 0
-IsSummed bytes from until json end old new =
-    (Fails end (HasNoNetwork bytes) × Keeps old new) ⊎ Means bytes (λ n. IsSummedOf n (file_labels bytes n) from until json end old new)
+abbrev pub IsSummed : List ℕ → Summed → ViewEnd → Option (List ℕ) → Option (List ℕ) → Type 0
+IsSummed bytes s end old new = (Fails end (HasNoNetwork bytes) × Keeps old new) ⊎ Means bytes (λ n. IsSummedOf n (file_labels bytes n) s end old new)
 
 -- ---- the table
 
--- the table of the records of a network's sequential run, from a tick on
-abbrev pub run_table : Contents AnyModel → ℕ → ℕ → Rows → List ℕ
-run_table n from until rows = table_text rows (name_in n.names) (from_on from (sequential (network_of any_meaning n) until).records)
+-- which components are shown, from which tick on, up to which end tick, and what it is of
+pub record Tabulated : Type 0 where
+  pub only : Option (List ℕ)
+  pub from : ℕ
+  pub until : ℕ
+  pub of : Tabled
 
-abbrev pub IsTabulatedOf : Contents AnyModel → ℕ → ℕ → Rows → ViewEnd → Option (List ℕ) → Option (List ℕ) → Type 0
-IsTabulatedOf n from until rows (Ok line) old new = IsLineOf n (run_fault n until) line × Appends old new (run_table n from until rows)
-IsTabulatedOf n from until rows (Err (Bad why line)) old new = IsLate until (Bad why line) × Keeps old new
-IsTabulatedOf n from until rows (Err (Want why)) old new = (why ≡ refusal.OutOfMemory) × (Keeps old new ⊎ AppendsBeginning old new (run_table n from until rows))
-IsTabulatedOf n from until rows (Err NoWrite) old new = Unit {0}
+abbrev pub tabulation_of : Tabulation → Tabulated
+tabulation_of t = record { only = option_map (λ o. o.now) t.only; from = t.from; until = t.until; of = t.of }
 
-abbrev pub IsTabulated : List ℕ → ℕ → ℕ → Rows → ViewEnd → Option (List ℕ) → Option (List ℕ) → Type 0
-IsTabulated bytes from until rows end old new = (Fails end (HasNoNetwork bytes) × Keeps old new) ⊎ Means bytes (λ n. IsTabulatedOf n from until rows end old new)
+-- the table of the records of a network's sequential run, of the components that are shown and from a tick on
+abbrev pub run_table : Contents AnyModel → Rows → List Bool → ℕ → ℕ → List ℕ
+run_table n rows shown from until = table_text rows (name_in n.names) (listed shown from (sequential (network_of any_meaning n) until).records)
+
+-- no name is of no component
+abbrev pub IsSeen : Contents AnyModel → Option (List ℕ) → Type 0
+IsSeen n only = (shown : List Bool) × (shown_of n.names only ≡ Some shown)
+
+-- the table of the components that are shown is written
+pub record IsTableOf (n : Contents AnyModel) (rows : Rows) (t : Tabulated) (old new : Option (List ℕ)) : Type 0 where
+  pub shown : List Bool
+  pub are : shown_of n.names t.only ≡ Some shown
+  pub written : Appends old new (run_table n rows shown t.from t.until)
+
+-- or a beginning of it
+pub record IsTableBegun (n : Contents AnyModel) (rows : Rows) (t : Tabulated) (old new : Option (List ℕ)) : Type 0 where
+  pub shown : List Bool
+  pub are : shown_of n.names t.only ≡ Some shown
+  pub written : AppendsBeginning old new (run_table n rows shown t.from t.until)
+
+abbrev pub IsTabulatedOf : Contents AnyModel → Rows → Tabulated → ViewEnd → Option (List ℕ) → Option (List ℕ) → Type 0
+IsTabulatedOf n rows t (Ok line) old new = IsLineOf n (run_fault n t.until) line × IsTableOf n rows t old new
+IsTabulatedOf n rows t (Err (Bad why line)) old new = IsUnseen n t.only t.until (Bad why line) × Keeps old new
+IsTabulatedOf n rows t (Err (Want why)) old new = (why ≡ refusal.OutOfMemory) × (Keeps old new ⊎ IsTableBegun n rows t old new)
+IsTabulatedOf n rows t (Err NoWrite) old new = Unit {0}
+
+-- that of the figures: which lines it has, tests show
+abbrev pub IsFiguresTabulatedOf : Contents AnyModel → Tabulated → ViewEnd → Option (List ℕ) → Option (List ℕ) → Type 0
+IsFiguresTabulatedOf n t (Ok line) old new = IsLineOf n (run_fault n t.until) line × IsSeen n t.only
+IsFiguresTabulatedOf n t (Err (Bad why line)) old new = IsUnseen n t.only t.until (Bad why line) × Keeps old new
+IsFiguresTabulatedOf n t (Err (Want why)) old new = why ≡ refusal.OutOfMemory
+IsFiguresTabulatedOf n t (Err NoWrite) old new = Unit {0}
+
+-- by what it is of
+abbrev pub IsTabledOf : Contents AnyModel → Tabled → Tabulated → ViewEnd → Option (List ℕ) → Option (List ℕ) → Type 0
+IsTabledOf n (OfRun rows) t end old new = IsTabulatedOf n rows t end old new
+IsTabledOf n OfFigures t end old new = IsFiguresTabulatedOf n t end old new
+
+abbrev pub IsTabulated : List ℕ → Tabulated → ViewEnd → Option (List ℕ) → Option (List ℕ) → Type 0
+IsTabulated bytes t end old new = (Fails end (HasNoNetwork bytes) × Keeps old new) ⊎ Means bytes (λ n. IsTabledOf n t.of t end old new)

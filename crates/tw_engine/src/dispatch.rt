@@ -23,16 +23,17 @@ use tw_cli::{Job, Task};
 
 /// Does a job that takes no threads, and so returns; `demo` and `run` it leaves to [`engine`], and answers none.
 ///
-/// The bytes are those of the network's file, from its beginning to its end: [`read_all`](crate::read_all) has them of a reader, or
-/// says why it has not.
+/// The bytes are those of the network's file, from its beginning to its end, with the numbers that the job's line sets:
+/// [`read_all`](crate::read_all) has them of a reader, or says why it has not, and [`file_with`](tw_file_settings::file_with) sets the
+/// numbers.
 ///
 /// | Job | Reads | Writes |
 /// |---|---|---|
 /// | `check` | the network | what the network has, or the place and the reason of the file's first fault; it simulates nothing |
 /// | `dot` | the network | the network as Graphviz reads it; it simulates nothing |
 /// | `seq` | the network | the trace of its sequential run, and the line of its fault if there is one |
-/// | `stats` | the network | counts and figures of that run, from a tick on where one was asked for |
-/// | `table` | the network | its records from a tick on as comma-separated values |
+/// | `stats` | the network | counts, figures and observations of that run, from a tick on where one was asked for |
+/// | `table` | the network | its records, or the changes of its figures, from a tick on as comma-separated values |
 /// | `draw` | the network, and then the script, if one drives an executive | a picture of that run, or of a run of Time Warp |
 /// | `play` | the network, and then the script, if one drives it | the answer to each command as it comes, and then the trace up to the least commit line |
 ///
@@ -44,7 +45,7 @@ use tw_cli::{Job, Task};
 /// |---|---|---|---|
 /// | [`Exit::Done`], [`Exit::Fault`] | 0, 3 | | the whole text; of `check` its line |
 /// | [`Exit::Limited`] | 3 | of `stats`, `table` and `draw`: a component met a limit | what is told of the run before it |
-/// | [`Exit::Bad`] | 2 | 19: the script cannot be read; 5 to 11, 17, 18, 20, 21: the network's file is refused; 10: the end tick is above the greatest one; 15: of `draw`, no component or no figure has the name; 9, 22: the script has too many lines, or one that says nothing | nothing; of `check` a line of words |
+/// | [`Exit::Bad`] | 2 | 19: the script cannot be read; 5 to 11, 17, 18, 20, 21: the network's file is refused; 10: the end tick is above the greatest one; 15: of `stats`, `table` and `draw`, no component has the name; of `draw`, no figure has it; 9, 22: the script has too many lines, or one that says nothing | nothing; of `check` a line of words |
 /// | [`Exit::Want`] | 4 | 4: a growth of memory was refused | a beginning of the text; of `play` only answers, and the line `refused 4 OutOfMemory` after them where a command was refused; of `stats` and `dot` nothing |
 /// | [`Exit::NoWrite`] | 5 | 24: the writer failed | only the writer knows |
 pub fn alone<R: Clock + Eprint, S: Read, W: Write>(
@@ -73,35 +74,39 @@ pub fn alone<R: Clock + Eprint, S: Read, W: Write>(
             }
             Task::Stats {
                 from,
+                only,
                 json,
                 progress,
             } => {
                 let mut teller = Teller::new(rt, *until, *progress);
                 let summary = Summary {
+                    only: *only,
                     from: *from,
                     until: *until,
                     json: *json,
                 };
-                let ended = stats(alloc, bytes, summary, &mut teller, out);
+                let ended = stats(alloc, bytes, &summary, &mut teller, out);
                 Some(Exit::of_view(ended))
             }
             Task::Table {
                 from,
-                rows,
+                only,
+                of,
                 progress,
             } => {
                 let mut teller = Teller::new(rt, *until, *progress);
                 let tabulation = Tabulation {
+                    only: *only,
                     from: *from,
                     until: *until,
-                    rows: *rows,
+                    of: *of,
                 };
-                let ended = table(alloc, bytes, tabulation, &mut teller, out);
+                let ended = table(alloc, bytes, &tabulation, &mut teller, out);
                 Some(Exit::of_view(ended))
             }
             Task::Draw { picture } => {
                 let drawing = Drawing {
-                    title: title_of(net),
+                    title: title_of(net.path),
                     until: *until,
                     picture,
                 };

@@ -116,7 +116,7 @@ fn draw_network<W: Write>(
     let subject = Subject {
         title,
         until: run.until,
-        view: *view,
+        view,
     };
     match draw_run(alloc, run.network, &names, labels.as_slice(), &subject, out) {
         Ok(fault) => Ok(fault_line(alloc, run.network, fault)?),

@@ -13,12 +13,12 @@
 //! | `job_check` | [`check`]: what a network has, or where its file is at fault |
 //! | `job_dot` | [`dot`]: the network as Graphviz reads it |
 //! | `job_seq` | [`seq`]: the trace of the sequential run; `job_run` makes a run in order by it too |
-//! | `job_stats` | [`stats`]: counts and figures of that run, from a tick on where one was asked for |
-//! | `job_table` | [`table`]: its records, from a tick on, as comma-separated values |
+//! | `job_stats` | [`stats`]: counts, figures and observations of that run, from a tick on where one was asked for |
+//! | `job_table` | [`table`]: its records, or how its figures changed, from a tick on, as comma-separated values |
 //! | `job_draw` | [`draw`]: a [`Drawing`] of that run, or of a run of Time Warp |
 //! | `job_run` | the trace, made by workers; `choosing` says how many there are, where that is left to the program |
 //! | `job_play` | [`play`]: an executive that is driven by hand, from its [`Start`] on |
-//! | `reading`, `faults`, `names` | what jobs share: [`read_all`] and the network of a file, the line of a run's fault, the names of components |
+//! | `reading`, `faults`, `names`, `shown` | what jobs share: [`read_all`] and the network of a file, the line of a run's fault, the names of components, which of them are shown |
 //! | `telling` | who tells on standard error how far a run is |
 //! | `failed`, `exit` | [`Failed`]: why a job came to no end; [`Exit`]: how the program ends, with its status and the line for standard error |
 //!
@@ -41,6 +41,7 @@ mod job_stats;
 mod job_table;
 mod names;
 mod reading;
+mod shown;
 mod telling;
 
 pub use dispatch::{alone, engine};

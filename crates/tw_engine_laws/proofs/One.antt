@@ -2,21 +2,20 @@
 use Rattle.std.proofs.Common.{◌≡◌, ◌∙◌, ◌++◌, ℕ, List, ap, ap₂, length, map, sym}
 use Rattle.std.proofs.lemmas.List.Sorted.{length_permutation}
 use Rattle.std.specs.Fmt.{decimal}
-use Rattle.std.specs.Prelude.{codes}
+use Rattle.std.specs.Prelude.{Bool, codes}
 use Rattle.tw_any_model.specs.AnyModel.{any_meaning}
 use Rattle.tw_any_model.specs.declared.any_model.AnyModel.{AnyModel}
 use Rattle.tw_any_model.specs.declared.any_model.AnyState.{AnyState}
 use Rattle.tw_engine.specs.Checks.{check_text}
 use Rattle.tw_engine.specs.Runs.{fault_text, name_in, run_fault, run_text}
 use Rattle.tw_engine.specs.Views.{run_table}
-use Rattle.tw_figures.specs.Figures.{from_on}
 use Rattle.tw_figures.specs.declared.seeing.Rows.{Rows}
 use Rattle.tw_file_network.specs.OneMeaning.{MeansOne}
 use Rattle.tw_file_network.specs.TreeMeaning.{IsMeaning}
 use Rattle.tw_laws.specs.Couplings.{AreAlike, CouplingsLaw}
 use Rattle.tw_network.specs.Contents.{Contents, message_of, network_of}
 use Rattle.tw_network.specs.FlatTrees.{IsSameNetwork}
-use Rattle.tw_record_lines.specs.Tables.{table_text}
+use Rattle.tw_record_lines.specs.Tables.{listed, table_text}
 use Rattle.tw_texts.specs.Texts.{trace_text}
 use Rattle.tw_theory.specs.Simulator.{Run, sequential}
 
@@ -55,8 +54,8 @@ one_fault n m one until = ap (λ (r : Run AnyState). r.fault) (one.run until)
 pub one_line : (n m : Contents AnyModel) → AreOne n m → (until : ℕ) → fault_text n.names (run_fault n until) ≡ fault_text m.names (run_fault m until)
 one_line n m one until = ap₂ (λ names (r : Run AnyState). fault_text names r.fault) (sym one.same.names) (one.run until)
 
-pub one_table : (n m : Contents AnyModel) → AreOne n m → (from until : ℕ) (rows : Rows) → run_table n from until rows ≡ run_table m from until rows
-one_table n m one from until rows = ap₂ (λ names (r : Run AnyState). table_text rows (name_in names) (from_on from r.records)) (sym one.same.names) (one.run until)
+pub one_table : (n m : Contents AnyModel) → AreOne n m → (rows : Rows) (shown : List Bool) (from until : ℕ) → run_table n rows shown from until ≡ run_table m rows shown from until
+one_table n m one rows shown from until = ap₂ (λ names (r : Run AnyState). table_text rows (name_in names) (listed shown from r.records)) (sym one.same.names) (one.run until)
 
 -- what a network has, by the counts
 abbrev counts_text : ℕ → ℕ → ℕ → List ℕ

@@ -1,25 +1,27 @@
 -- Two reports of one run, with the same names of components and the same labels, are the same bytes.
-use Rattle.std.proofs.Common.{◌≡◌, ◌∙◌, ◌<◌, ◌+◌, ◌-◌, ◌++◌, ℕ, zero, suc, ℤ, pos, ◌≤ℤ◌, List, [], ◌∷◌, Bool, true, false, Option, Some, ap, ap₂, arith, get_or, le_antisymm, length, map, refl, subst, sym}
+use Rattle.std.proofs.Common.{◌≡◌, ◌∙◌, ◌<◌, ◌+◌, ◌-◌, ◌++◌, ℕ, zero, suc, ℤ, pos, ◌≤ℤ◌, List, [], ◌∷◌, Bool, true, false, Option, Some, None, ap, ap₂, arith, get_or, inl, inr, le_antisymm, length, map, refl, subst, sym}
 use Rattle.std.proofs.lemmas.Int.{ints}
 use Rattle.std.proofs.lemmas.Option.{slice_get-get_or, slice_get_within}
 use Rattle.std.specs.Fmt.{decimal}
 use Rattle.std.specs.List.{AllByRecursion as Each, AllZip, Contains, zip}
-use Rattle.std.specs.Prelude.{codes, flat_map, slice_get, slice_index_or}
+use Rattle.std.specs.Prelude.{◌⊎◌, ◌<ℤ◌, codes, flat_map, slice_get, slice_index_or, unsigned_abs}
 use Rattle.tw_figures.specs.Figures.{IsGreatest, IsLeast, from_on, transitions, values_from}
-use Rattle.tw_figures.specs.Gathered.{IsAboveMicrosteps}
+use Rattle.tw_figures.specs.Gathered.{IsAboveMicrosteps, start_words}
+use Rattle.tw_figures.specs.Deviations.{IsDeviation, IsMeanOfValues, spread, spread_limit}
 use Rattle.tw_figures.specs.Labelled.{Label}
+use Rattle.tw_figures.specs.Observed.{IsObserved}
+use Rattle.tw_figures.specs.declared.observed.Observed.{Observed}
 use Rattle.tw_figures.specs.Shares.{IsMean, IsShare, IsThousandths}
 use Rattle.tw_figures.specs.Told.{IsTold}
-use Rattle.tw_figures.specs.declared.counts.Counts.{Counts}
 use Rattle.tw_figures.specs.declared.figure.Measure.{Measure}
 use Rattle.tw_figures.specs.declared.told.Told.{Told}
 use Rattle.tw_msgs.specs.declared.record.Record.{Record}
-use Rattle.tw_stats.specs.Gathering.{run_ticks, start_words}
+use Rattle.tw_stats.specs.Gathering.{run_ticks}
 use Rattle.tw_stats.specs.Grids.{grid_text}
 use Rattle.tw_stats.specs.Json.{report_json}
 use Rattle.tw_stats.specs.Reports.{AreTold, IsReport, IsToldOf, first_tick}
-use Rattle.tw_stats.specs.Rows.{Row, row_of, rows_from, rows_of}
-use Rattle.tw_stats.specs.Texts.{counts_head, counts_line, figure_lines, figures_head, from_text}
+use Rattle.tw_stats.specs.Rows.{Row, row_of, rows_from, rows_of, shown_rows}
+use Rattle.tw_stats.specs.Texts.{counts_head, counts_line, figure_lines, figures_head, from_text, observation_lines, observations_text}
 use Rattle.tw_stats.specs.Written.{report_bytes, rows_bytes}
 use Rattle.tw_stats.specs.declared.report.Part.{Part}
 use Rattle.tw_stats.specs.declared.report.Report.{Report}
@@ -80,6 +82,38 @@ told_one from measure start moves ticks a b h h' =
       sums = record { sum = sum k; busy = count k };
     }
 
+-- ---- an observation
+
+one_mean_of_values : (count sum : ℤ) (a b : Option ℤ) → IsMeanOfValues count sum a → IsMeanOfValues count sum b → a ≡ b
+one_mean_of_values count sum None None h h' = refl
+one_mean_of_values count sum None (Some n) h h' = absurd (let some = h'.0 in omega (arith, ints, h, some))
+one_mean_of_values count sum (Some m) None h h' = absurd (let some = h.0 in omega (arith, ints, h', some))
+one_mean_of_values count sum (Some m) (Some n) h h' = ap Some (one_quotient sum (unsigned_abs count) m n h.1 h'.1)
+
+-- there is none for one of three reasons
+no_reason : (count all : ℤ) → (count ≤ℤ pos 0) ⊎ (all <ℤ pos 0) ⊎ (pos spread_limit ≤ℤ all) → pos 0 <ℤ count → pos 0 ≤ℤ all → all <ℤ pos spread_limit → ⊥
+no_reason count all (inl few) some low high = omega (arith, ints, few, some)
+no_reason count all (inr (inl under)) some low high = omega (arith, ints, under, low)
+no_reason count all (inr (inr over)) some low high = omega (arith, ints, over, high)
+
+one_deviation : (count sum squares : ℤ) (a b : Option ℕ) → IsDeviation count sum squares a → IsDeviation count sum squares b → a ≡ b
+one_deviation count sum squares None None h h' = refl
+one_deviation count sum squares None (Some n) h h' = absurd (no_reason count (spread count sum squares) h h'.0 h'.1 h'.2)
+one_deviation count sum squares (Some m) None h h' = absurd (no_reason count (spread count sum squares) h' h.0 h.1 h.2)
+one_deviation count sum squares (Some m) (Some n) h h' = ap Some (le_antisymm (h'.3.greatest m h.3.within) (h.3.greatest n h'.3.within))
+
+observed_one : (from place : ℕ) (start : List ℤ) (moves : List Record) (a b : Observed) → IsObserved from place start moves a → IsObserved from place start moves b → a ≡ b
+observed_one from place start moves a b h h' =
+    let count : a.count ≡ b.count = h.count ∙ sym h'.count in
+    let sum : a.sum ≡ b.sum = h.sum ∙ sym h'.sum in
+    let squares : a.squares ≡ b.squares = h.squares ∙ sym h'.squares in
+    let mean : a.mean ≡ b.mean =
+    one_mean_of_values b.count b.sum a.mean b.mean (subst (λ c. IsMeanOfValues c b.sum a.mean) count (subst (λ s. IsMeanOfValues a.count s a.mean) sum h.mean)) h'.mean in
+    let deviation : a.deviation ≡ b.deviation =
+    one_deviation b.count b.sum b.squares a.deviation b.deviation
+    (subst (λ c. IsDeviation c b.sum b.squares a.deviation) count (subst (λ s. IsDeviation a.count s b.squares a.deviation) sum (subst (λ q. IsDeviation a.count a.sum q a.deviation) squares h.deviation))) h'.deviation in
+    λ k. record { count = count k; sum = sum k; squares = squares k; mean = mean k; deviation = deviation k }
+
 -- ---- components
 
 one_list : {X Y : Type 0} (P : X → Y → Type 0) → ((x : X) (a b : Y) → P x a → P x b → a ≡ b) → (xs : List X) (ys zs : List Y) → AllZip P xs ys → AllZip P xs zs → ys ≡ zs
@@ -92,18 +126,26 @@ one_list P one (x ∷ xs) (y ∷ ys) (z ∷ zs) h h' = ap₂ (λ v vs. v ∷ vs)
 
 -- two parts that say the same
 abbrev AreOne : Part → Part → Type 0
-AreOne p q = (p.counts ≡ q.counts) × (p.figures.items ≡ q.figures.items)
+AreOne p q = (p.counts ≡ q.counts) × (p.figures.items ≡ q.figures.items) × (p.observations.items ≡ q.observations.items)
 
 part_one : (from : ℕ) (label : Label) (start : List ℤ) (records : List Record) (ticks : ℕ) (p q : Part) → IsToldOf from label start records ticks p → IsToldOf from label start records ticks q → AreOne p q
 part_one from label start records ticks p q h h' = (
   h.counts ∙ sym h'.counts,
   one_list (λ (figure : List ℕ × Measure) told. IsTold from figure.1 start (transitions records) ticks told)
       (λ figure a b x y. told_one from figure.1 start (transitions records) ticks a b x y) label.figures p.figures.items q.figures.items h.figures h'.figures,
+  one_list (λ (observation : List ℕ × ℕ) observed. IsObserved from observation.1 start (transitions records) observed)
+      (λ observation a b x y. observed_one from observation.1 start (transitions records) a b x y) label.observations p.observations.items q.observations.items h.observations h'.observations,
 )
 
 row_one : (name : List ℕ) (label : Label) (p q : Part) → AreOne p q → row_of name label p ≡ row_of name label q
 row_one name label p q one =
-    ap₂ (λ (counts : Counts) (figures : List Told). record { name = name; model = label.model; counts = counts; figures = zip (map (λ f. f.0) label.figures) figures }) one.0 one.1
+    λ i. record {
+      name = name;
+      model = label.model;
+      counts = one.0 i;
+      figures = zip (map (λ f. f.0) label.figures) (one.1 i);
+      observations = zip (map (λ o. o.0) label.observations) (one.2 i);
+    }
 
 rows_one : (name_of : ℕ → List ℕ) (component : ℕ) (labels : List Label) (ps qs : List Part) → length ps ≡ length labels → length qs ≡ length labels
     → ((c : ℕ) (label : Label) (p q : Part) → slice_get labels c ≡ Some label → slice_get ps c ≡ Some p → slice_get qs c ≡ Some q → AreOne p q)
@@ -148,7 +190,9 @@ first_with from until components records microsteps =
     ++ codes "\n")
 
 abbrev text_with : List Row → List ℕ → List ℕ
-text_with rows first = first ++ codes "\n" ++ grid_text 2 (counts_head ∷ map counts_line rows) ++ codes "\n" ++ grid_text 2 (figures_head ∷ flat_map figure_lines rows)
+text_with rows first =
+    first ++ codes "\n" ++ grid_text 2 (counts_head ∷ map counts_line rows) ++ codes "\n" ++ grid_text 2 (figures_head ∷ flat_map figure_lines rows)
+    ++ observations_text (flat_map observation_lines rows)
 
 module _ (name_of : ℕ → List ℕ) (rows rows' : List Row) (r s : Report) (same : rows ≡ rows') (from : r.from ≡ s.from) (until : r.until ≡ s.until) (ticks : r.ticks ≡ s.ticks)
     (records : r.records ≡ s.records) (microsteps : r.microsteps ≡ s.microsteps) (fault : r.fault ≡ s.fault) (parts : length r.parts.items ≡ length s.parts.items) where
@@ -159,9 +203,9 @@ module _ (name_of : ℕ → List ℕ) (rows rows' : List Row) (r s : Report) (sa
 
 module _ {S : Type 0} (net net' : Network S) (from : Option ℕ) (until : ℕ) (starts : start_words net ≡ start_words net') (run : sequential net until ≡ sequential net' until) where
   -- of two networks that have one run
-  pub one_report : (json : Bool) (name_of : ℕ → List ℕ) (labels : List Label) (r s : Report) → length (start_words net) ≡ length labels
-      → IsReport net from until labels r → IsReport net' from until labels s → report_bytes json name_of labels r ≡ report_bytes json name_of labels s
-  one_report json name_of labels r s many h h' =
+  pub one_report : (json : Bool) (name_of : ℕ → List ℕ) (labels : List Label) (shown : List Bool) (r s : Report) → length (start_words net) ≡ length labels
+      → IsReport net from until labels r → IsReport net' from until labels s → report_bytes json name_of labels shown r ≡ report_bytes json name_of labels shown s
+  one_report json name_of labels shown r s many h h' =
       let faults : (sequential net until).fault ≡ (sequential net' until).fault = ap (λ x. x.fault) run in
       let records : (sequential net until).records ≡ (sequential net' until).records = ap (λ x. x.records) run in
       let first = first_tick from in
@@ -171,8 +215,8 @@ module _ {S : Type 0} (net net' : Network S) (from : Option ℕ) (until : ℕ) (
       subst (λ t. AreTold first labels (start_words net) (sequential net until).records t s.parts.items) (sym ticks)
       (subst (λ ss. AreTold first labels ss (sequential net until).records s.ticks s.parts.items) (sym starts)
       (subst (λ rs. AreTold first labels (start_words net') rs s.ticks s.parts.items) (sym records) h'.parts)) in
-      bytes_one name_of (rows_of name_of labels r.parts.items) (rows_of name_of labels s.parts.items) r s
-      (parts_one first name_of labels (start_words net) (sequential net until).records r.ticks r.parts.items s.parts.items many h.parts told)
+      bytes_one name_of (shown_rows (rows_of name_of labels r.parts.items) shown) (shown_rows (rows_of name_of labels s.parts.items) shown) r s
+      (ap (λ rows. shown_rows rows shown) (parts_one first name_of labels (start_words net) (sequential net until).records r.ticks r.parts.items s.parts.items many h.parts told))
       (h.begin ∙ sym h'.begin) (h.end ∙ sym h'.end) ticks (h.records ∙ ap length counted ∙ sym h'.records)
       (one_count (from_on first (sequential net until).records) r.microsteps s.microsteps h.microsteps (subst (λ rs. IsAboveMicrosteps s.microsteps rs) (sym counted) h'.microsteps))
       (h.fault ∙ faults ∙ sym h'.fault) (h.parts.size ∙ sym told.size) json

@@ -18,7 +18,7 @@ use Rattle.tw_file_network.specs.Meaning.{json_of}
 use Rattle.tw_file_network.specs.TreeMeaning.{IsMeaning, IsMeaningOfJson}
 use Rattle.tw_file_network.specs.declared.refused.FileRefused.{FileRefused}
 use Rattle.tw_network.specs.Contents.{Contents, network_of}
-use Rattle.tw_stats.specs.Gathering.{start_words}
+use Rattle.tw_figures.specs.Gathered.{start_words}
 use Rattle.tw_stats.specs.Reports.{IsReport}
 use Rattle.tw_stats.specs.Written.{report_bytes}
 use Rattle.tw_stats.specs.declared.report.Report.{Report}
@@ -40,12 +40,12 @@ one_labels : (bytes : List ℕ) (n m : Contents AnyModel) → AreOne n m → fil
 unfolding file_labels
 one_labels bytes n m one = ap (λ models. option_map_or (λ d. labels_said d models) (result_ok (json_of bytes)) []) (sym one.same.models)
 
-pub one_summary : (bytes : List ℕ) (n m : Contents AnyModel) → IsMeaning bytes n → AreOne n m → (from : Option ℕ) (until : ℕ) (json : Bool) (r s : Report)
+pub one_summary : (bytes : List ℕ) (n m : Contents AnyModel) → IsMeaning bytes n → AreOne n m → (from : Option ℕ) (until : ℕ) (json : Bool) (shown : List Bool) (r s : Report)
     → IsReport (network_of any_meaning n) from until (file_labels bytes n) r → IsReport (network_of any_meaning m) from until (file_labels bytes m) s
-    → report_bytes json (name_in n.names) (file_labels bytes n) r ≡ report_bytes json (name_in m.names) (file_labels bytes m) s
-one_summary bytes n m of_n one from until json r s is is' =
+    → report_bytes json (name_in n.names) (file_labels bytes n) shown r ≡ report_bytes json (name_in m.names) (file_labels bytes m) shown s
+one_summary bytes n m of_n one from until json shown r s is is' =
     let labels = one_labels bytes n m one in
     let starts : start_words (network_of any_meaning n) ≡ start_words (network_of any_meaning m) = ap (λ models. map (λ x. x.words x.start) (map any_meaning models)) (sym one.same.models) in
-    one_report (network_of any_meaning n) (network_of any_meaning m) from until starts (one.run until) json (name_in n.names) (file_labels bytes n) r s
+    one_report (network_of any_meaning n) (network_of any_meaning m) from until starts (one.run until) json (name_in n.names) (file_labels bytes n) shown r s
     (starts_many n ∙ sym (many bytes n of_n)) is (subst (λ ls. IsReport (network_of any_meaning m) from until ls s) (sym labels) is')
-    ∙ ap₂ (λ names ls. report_bytes json (name_in names) ls s) (sym one.same.names) labels
+    ∙ ap₂ (λ names ls. report_bytes json (name_in names) ls shown s) (sym one.same.names) labels

@@ -1,7 +1,7 @@
 -- Two ends of one job on the same bytes.
 use Rattle.std.proofs.Common.{◌≡◌, ◌∙◌, ◌⊎◌, ◌++◌, ℕ, List, ap, append_assoc, inl, inr, refl, subst, sym}
 use Rattle.std.specs.Global.{Global}
-use Rattle.std.specs.Prelude.{Bool, Option, Some, None, Result, Ok, Err, String}
+use Rattle.std.specs.Prelude.{Bool, Option, Some, None, Result, Ok, Err, String, option_map}
 use Rattle.std.specs.Io.KnownBytes.{Appends}
 use Rattle.tw_any_model.specs.AnyModel.{any_meaning}
 use Rattle.tw_any_model.specs.declared.any_model.AnyModel.{AnyModel}
@@ -12,13 +12,17 @@ use Rattle.tw_cli.specs.declared.jobs.Job.{Job}
 use Rattle.tw_cli.specs.declared.jobs.Job.TheVariants.{Demo, Check, Dot, Simulate}
 use Rattle.tw_cli.specs.declared.jobs.Task.{Task}
 use Rattle.tw_cli.specs.declared.jobs.Task.TheVariants.{Seq, Stats, Table, Draw, Run, Play}
+use Rattle.tw_figures.specs.Shown.{shown_of}
+use Rattle.tw_figures.specs.declared.seeing.Tabled.TheVariants.{OfRun, OfFigures}
+use Rattle.tw_stats.specs.Written.{report_bytes}
+use Rattle.std.proofs.lemmas.Option.{same_Some}
 use Rattle.tw_engine.specs.Checks.{IsCheck, check_text}
 use Rattle.tw_engine.specs.Ends.{Fault, PlainEnd, RunEnd, ViewEnd}
 use Rattle.tw_engine.specs.Exits.{exit_of, exit_of_rest, exit_of_run, exit_of_view, line_of, status_of}
 use Rattle.tw_engine.specs.Jobs.{Ends, IsDone, IsPlay, IsScriptedBy}
 use Rattle.tw_engine.specs.Plays.{IsScripted, IsSeeded, committed_text, first}
-use Rattle.tw_engine.specs.Runs.{IsDemo, IsRun, IsRunByWorkers, demo_network, run_fault, run_text}
-use Rattle.tw_engine.specs.Views.{IsLineOf, IsSummed, IsTabulated, run_table}
+use Rattle.tw_engine.specs.Runs.{IsDemo, IsRun, IsRunByWorkers, demo_network, name_in, run_fault, run_text}
+use Rattle.tw_engine.specs.Views.{IsLineOf, IsSummed, IsTabulated, IsTabulatedOf, Summed, Tabulated, file_labels, run_table}
 use Rattle.tw_engine.specs.declared.exit.Exit.{Exit}
 use Rattle.tw_engine.specs.declared.failed.Failed.{Failed}
 use Rattle.tw_engine.specs.declared.failed.Failed.TheVariants as failed
@@ -121,23 +125,38 @@ module _ (means : (bytes : List ℕ) → MeansOne bytes) (law : CouplingsLaw Any
   check_ends done done' is is' (n, of_n, out) (m, of_m, out') =
       whole_end exit exit' new new' is is' (one_out old new new' (check_text n) (check_text m) out out' (one_check n m (one n m of_n of_m)))
 
-  table_ends : (from until : ℕ) (rows : Rows) (line line' : Option (String Global)) → exit ≡ exit_of_view (Ok line) → exit' ≡ exit_of_view (Ok line')
-      → IsTabulated bytes from until rows (Ok line) (Some old) (Some new) → IsTabulated bytes from until rows (Ok line') (Some old) (Some new') → IsSameEnd exit exit' new new'
-  table_ends from until rows line line' is is' (inl refused) done' = absurd refused.0
-  table_ends from until rows line line' is is' (inr done) (inl refused) = absurd refused.0
-  table_ends from until rows line line' is is' (inr (n, of_n, done)) (inr (m, of_m, done')) =
-      let same = one n m of_n of_m in
-      view_end n m same until exit exit' old new new' line line' is is'
-      (one_out old new new' (run_table n from until rows) (run_table m from until rows) done.1 done'.1 (one_table n m same from until rows)) done.0 done'.0
+  -- what is shown is one
+  one_shown : (only : Option (List ℕ)) (n m : Contents AnyModel) → AreOne n m → (shown shown' : List Bool) → shown_of n.names only ≡ Some shown → shown_of m.names only ≡ Some shown' → shown ≡ shown'
+  one_shown only n m same shown shown' is is' = same_Some shown shown' (sym is ∙ ap (λ names. shown_of names only) (sym same.same.names) ∙ is')
 
-  stats_ends : (from : Option ℕ) (until : ℕ) (json : Bool) (line line' : Option (String Global)) → exit ≡ exit_of_view (Ok line) → exit' ≡ exit_of_view (Ok line')
-      → IsSummed bytes from until json (Ok line) (Some old) (Some new) → IsSummed bytes from until json (Ok line') (Some old) (Some new') → IsSameEnd exit exit' new new'
-  stats_ends from until json line line' is is' (inl refused) done' = absurd refused.0
-  stats_ends from until json line line' is is' (inr done) (inl refused) = absurd refused.0
-  stats_ends from until json line line' is is' (inr (n, of_n, done)) (inr (m, of_m, done')) =
+  table_ends : (t : Tabulated) (rows : Rows) → t.of ≡ OfRun rows → (line line' : Option (String Global)) → exit ≡ exit_of_view (Ok line) → exit' ≡ exit_of_view (Ok line')
+      → (n m : Contents AnyModel) → IsMeaning bytes n → IsMeaning bytes m → IsTabulatedOf n rows t (Ok line) (Some old) (Some new) → IsTabulatedOf m rows t (Ok line') (Some old) (Some new') → IsSameEnd exit exit' new new'
+  table_ends t rows of line line' is is' n m of_n of_m done done' =
       let same = one n m of_n of_m in
-      view_end n m same until exit exit' old new new' line line' is is'
-      (one_out old new new' _ _ done.1.written done'.1.written (one_summary bytes n m of_n same from until json done.1.report done'.1.report done.1.is done'.1.is)) done.0 done'.0
+      let shown = one_shown t.only n m same done.1.shown done'.1.shown done.1.are done'.1.are in
+      view_end n m same t.until exit exit' old new new' line line' is is'
+      (one_out old new new' (run_table n rows done.1.shown t.from t.until) (run_table m rows done'.1.shown t.from t.until) done.1.written done'.1.written
+      (one_table n m same rows done.1.shown t.from t.until ∙ ap (λ l. run_table m rows l t.from t.until) shown)) done.0 done'.0
+
+  tabulated_ends : (only : Option (List ℕ)) (from until : ℕ) (rows : Rows) (line line' : Option (String Global)) → exit ≡ exit_of_view (Ok line) → exit' ≡ exit_of_view (Ok line')
+      → IsTabulated bytes (record { only = only; from = from; until = until; of = OfRun rows }) (Ok line) (Some old) (Some new)
+      → IsTabulated bytes (record { only = only; from = from; until = until; of = OfRun rows }) (Ok line') (Some old) (Some new') → IsSameEnd exit exit' new new'
+  tabulated_ends only from until rows line line' is is' (inl refused) done' = absurd refused.0
+  tabulated_ends only from until rows line line' is is' (inr done) (inl refused) = absurd refused.0
+  tabulated_ends only from until rows line line' is is' (inr (n, of_n, done)) (inr (m, of_m, done')) =
+      table_ends (record { only = only; from = from; until = until; of = OfRun rows }) rows refl line line' is is' n m of_n of_m done done'
+
+  stats_ends : (s : Summed) (line line' : Option (String Global)) → exit ≡ exit_of_view (Ok line) → exit' ≡ exit_of_view (Ok line')
+      → IsSummed bytes s (Ok line) (Some old) (Some new) → IsSummed bytes s (Ok line') (Some old) (Some new') → IsSameEnd exit exit' new new'
+  stats_ends s line line' is is' (inl refused) done' = absurd refused.0
+  stats_ends s line line' is is' (inr done) (inl refused) = absurd refused.0
+  stats_ends s line line' is is' (inr (n, of_n, done)) (inr (m, of_m, done')) =
+      let same = one n m of_n of_m in
+      let shown = one_shown s.only n m same done.1.shown done'.1.shown done.1.are done'.1.are in
+      view_end n m same s.until exit exit' old new new' line line' is is'
+      (one_out old new new' _ _ done.1.written done'.1.written
+      (one_summary bytes n m of_n same s.from s.until s.json done.1.shown done.1.report done'.1.report done.1.is done'.1.is
+      ∙ ap (λ l. report_bytes s.json (name_in m.names) (file_labels bytes m) l done'.1.report) shown)) done.0 done'.0
 
 -- ---- plays
 
@@ -222,14 +241,18 @@ module _ (means : (bytes : List ℕ) → MeansOne bytes) (scripts : ScriptLaw) (
       let e = end_of exit_of_run run_fails (λ end. IsRun bytes until end (Some old) (Some new)) exit done whole in
       let f = end_of exit_of_run run_fails (λ end. IsRun bytes until end (Some old) (Some new')) exit' done' whole' in
       run_ends means law bytes exit exit' old new new' until e.0 f.0 e.1 f.1 e.2 f.2
-  one_text (Simulate net until (Stats from json progress)) bytes script old new new' exit exit' done done' whole whole' =
-      let e = end_of exit_of_view view_fails (λ end. IsSummed bytes from until json end (Some old) (Some new)) exit done whole in
-      let f = end_of exit_of_view view_fails (λ end. IsSummed bytes from until json end (Some old) (Some new')) exit' done' whole' in
-      stats_ends means law bytes exit exit' old new new' from until json e.0 f.0 e.1 f.1 e.2 f.2
-  one_text (Simulate net until (Table from rows progress)) bytes script old new new' exit exit' done done' whole whole' =
-      let e = end_of exit_of_view view_fails (λ end. IsTabulated bytes from until rows end (Some old) (Some new)) exit done whole in
-      let f = end_of exit_of_view view_fails (λ end. IsTabulated bytes from until rows end (Some old) (Some new')) exit' done' whole' in
-      table_ends means law bytes exit exit' old new new' from until rows e.0 f.0 e.1 f.1 e.2 f.2
+  one_text (Simulate net until (Stats from only json progress)) bytes script old new new' exit exit' done done' whole whole' =
+      let it : Summed = record { only = option_map (λ o. o.now) only; from = from; until = until; json = json } in
+      let e = end_of exit_of_view view_fails (λ end. IsSummed bytes it end (Some old) (Some new)) exit done whole in
+      let f = end_of exit_of_view view_fails (λ end. IsSummed bytes it end (Some old) (Some new')) exit' done' whole' in
+      stats_ends means law bytes exit exit' old new new' it e.0 f.0 e.1 f.1 e.2 f.2
+  one_text (Simulate net until (Table from only (OfRun rows) progress)) bytes script old new new' exit exit' done done' whole whole' =
+      let shown = option_map (λ o. o.now) only in
+      let it : Tabulated = record { only = shown; from = from; until = until; of = OfRun rows } in
+      let e = end_of exit_of_view view_fails (λ end. IsTabulated bytes it end (Some old) (Some new)) exit done whole in
+      let f = end_of exit_of_view view_fails (λ end. IsTabulated bytes it end (Some old) (Some new')) exit' done' whole' in
+      tabulated_ends means law bytes exit exit' old new new' shown from until rows e.0 f.0 e.1 f.1 e.2 f.2
+  one_text (Simulate net until (Table from only OfFigures progress)) bytes script old new new' exit exit' done done' whole whole' = tt
   one_text (Simulate net until (Draw picture)) bytes script old new new' exit exit' done done' whole whole' = tt
   one_text (Simulate net until (Run cancel setting)) bytes script old new new' exit exit' done done' whole whole' =
       let e = end_of exit_of_run run_fails (λ end. IsRunByWorkers bytes cancel until end (Some old) (Some new)) exit done whole in

@@ -1,32 +1,38 @@
-//! The names of a picture that nothing has.
+//! The names of what is to be shown that nothing has.
 
 use crate::nearest::Nearest;
 use serde_json::Value;
 use std::alloc::{AllocError, Global};
 use tw_any_model::AnyModel;
 use tw_figure_names::labels_in;
-use tw_figures::View;
 use tw_file_network::{json_of, network_of_value};
 use tw_network::Network;
 
-/// The words for a picture that is refused since no component has a name, or no component that is shown has the figure (15): a line for
-/// each such name, with up to three names that are nearest to it. None of a file that means no network.
+/// The words for a view that is refused since no component has one of the names of `only`, which are parted by commas, or no component
+/// that is shown has one of the figures (15): a line for each such name, with up to three names that are nearest to it. None of a file
+/// that means no network.
 ///
 /// Refused for want of memory (4).
-pub fn name_words(alloc: Global, bytes: &[u8], view: &View<'_>) -> Result<String, AllocError> {
+pub fn name_words(
+    alloc: Global,
+    bytes: &[u8],
+    only: Option<&str>,
+    figures: &[&str],
+) -> Result<String, AllocError> {
     let Ok(file) = json_of(alloc, bytes) else {
         return Ok(String::new(alloc));
     };
     let Ok(network) = network_of_value(alloc, &file) else {
         return Ok(String::new(alloc));
     };
-    let lines = component_lines(alloc, &network, view.only)?;
-    match view.figure {
-        Some(figure) if lines.is_empty() => {
-            figure_line(alloc, &file, &network, view.only, figure)
+    let mut lines = component_lines(alloc, &network, only)?;
+    if lines.is_empty() {
+        for figure in figures {
+            let line = figure_line(alloc, &file, &network, only, figure)?;
+            lines.push_str(line.as_str())?;
         }
-        _ => Ok(lines),
     }
+    Ok(lines)
 }
 
 /// A line for each name that no component has.
@@ -69,18 +75,39 @@ fn is_shown(name: &str, only: Option<&str>) -> bool {
     }
 }
 
+/// Whether a figure that is asked for is asked of a component: of each, or of the one of this name.
+fn is_asked(name: &str, of: Option<&str>) -> bool {
+    match of {
+        Some(of) => of == name,
+        None => true,
+    }
+}
+
+/// The component and the figure that a text asks for: behind the name of a component and `=` that of this component, else the whole.
+fn asked_in<'a>(network: &Network<AnyModel>, text: &'a str) -> (Option<&'a str>, &'a str) {
+    match text.split_once('=') {
+        Some((name, figure)) if is_component(network, name) => (Some(name), figure),
+        _ => (None, text),
+    }
+}
+
 /// The line for a figure that no component has that is shown; nothing where one has it.
 fn figure_line(
     alloc: Global,
     file: &Value,
     network: &Network<AnyModel>,
     only: Option<&str>,
-    wanted: &str,
+    text: &str,
 ) -> Result<String, AllocError> {
+    let (of, wanted) = asked_in(network, text);
     let labels = labels_in(alloc, file, network)?;
     let mut nearest = Nearest::new(alloc, wanted);
     for (component, label) in labels.as_slice().iter().enumerate() {
-        if component >= network.len() || !is_shown(network.name(component), only) {
+        if component >= network.len() {
+            continue;
+        }
+        let name = network.name(component);
+        if !is_shown(name, only) || !is_asked(name, of) {
             continue;
         }
         for figure in label.figures.as_slice() {

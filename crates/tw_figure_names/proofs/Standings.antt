@@ -1,5 +1,5 @@
 -- What a machine's entries show is the same whatever a component gives, and the same as the words of its program.
-use Rattle.std.proofs.Common.{◌≡◌, ◌∙◌, ◌++◌, ◌∷◌, [], ℕ, zero, suc, ℤ, List, Option, Some, None, ap, map, refl, slice_get, slice_index_or, sym}
+use Rattle.std.proofs.Common.{◌≡◌, ◌∙◌, ◌++◌, ◌∷◌, [], ℕ, zero, suc, ℤ, Bool, true, false, List, Option, Some, None, ap, map, refl, slice_get, slice_index_or, sym}
 use Rattle.std.proofs.lemmas.List.{map-append}
 use Rattle.tw_machine.specs.declared.language.Expr.{Expr}
 use Rattle.tw_machine.specs.declared.language.Word.{Word}
@@ -9,21 +9,28 @@ use Rattle.tw_machine_text.specs.Tree as t
 use Rattle.tw_machine_compiler.specs.Expressions.{expression}
 use Rattle.tw_machine_compiler.specs.Program.{shown_word, word_named, word_numbered}
 use Rattle.tw_machine_declaration.specs.Names.{given_number, lists_taken, own_standings, place_named, standing_at, standing_of, standings_of, taken, texts, things}
-use Rattle.tw_machine_declaration.specs.Seen.{Declares, Given, Name, Value, parameter, list_parameter, register, registers, queue, queues, table, list_table, whole, tree}
+use Rattle.tw_machine_declaration.specs.Seen.{Declares, Given, Name, Value, parameter, list_parameter, register, registers, queue, queues, table, list_table, observation, whole, tree}
 use Rattle.tw_machine_declaration.specs.declared.names.Standing.{Standing}
 use Rattle.tw_machine_declaration.specs.declared.names.Standing.TheVariants as s
 use Rattle.tw_figure_names.specs.Entries.{shown_by, shown_indexed, shown_plain}
 use Rattle.tw_figure_names.specs.declared.entries.Shown.{Shown}
-use Rattle.tw_figure_names.specs.declared.entries.Shown.TheVariants.{Number, Cells, Values}
+use Rattle.tw_figure_names.specs.declared.entries.Shown.TheVariants.{Number, Cells, Observed, Values}
 
 -- ---- words of a program
 
-abbrev pub shown_as : Word → Shown
-shown_as (w.Number e) = Number
-shown_as (w.Values q) = Values
-shown_as (w.Cells span) = Cells span.count
+-- whether it is a queue, and else how many numbers it shows
+abbrev pub extent : Shown → Bool × ℕ
+extent Number = (false, 1)
+extent (Cells n) = (false, n)
+extent Observed = (false, 3)
+extent Values = (true, 0)
 
-named : (at : Standing) (e : Expr) → shown_as (word_named at e) ≡ shown_plain at
+abbrev pub word_extent : Word → Bool × ℕ
+word_extent (w.Number e) = (false, 1)
+word_extent (w.Values q) = (true, 0)
+word_extent (w.Cells span) = (false, span.count)
+
+named : (at : Standing) (e : Expr) → word_extent (word_named at e) ≡ extent (shown_plain at)
 named s.Nothing e = refl
 named (s.Number n) e = refl
 named s.Unknown e = refl
@@ -32,8 +39,9 @@ named (s.Cells span) e = refl
 named (s.Queue k room) e = refl
 named (s.Queues span room) e = refl
 named (s.Table span) e = refl
+named (s.Observation k) e = refl
 
-numbered : (at : Standing) (i : ℕ) (e : Expr) → shown_as (word_numbered at i e) ≡ shown_indexed at
+numbered : (at : Standing) (i : ℕ) (e : Expr) → word_extent (word_numbered at i e) ≡ extent (shown_indexed at)
 numbered s.Nothing i e = refl
 numbered (s.Number n) i e = refl
 numbered s.Unknown i e = refl
@@ -42,12 +50,13 @@ numbered (s.Cells span) i e = refl
 numbered (s.Queue k room) i e = refl
 numbered (s.Queues span room) i e = refl
 numbered (s.Table span) i e = refl
+numbered (s.Observation k) i e = refl
 
-pub shown_as-shown_word : (ss : List Standing) (v : Value) → shown_as (shown_word ss v) ≡ shown_by ss v
-shown_as-shown_word ss (whole n) = refl
-shown_as-shown_word ss (tree (t.Name n)) = named (standing_at ss n) (expression ss (t.Name n))
-shown_as-shown_word ss (tree (t.Indexed n (t.Number i))) = numbered (standing_at ss n) i (expression ss (t.Indexed n (t.Number i)))
-shown_as-shown_word ss (tree e) = refl
+extent-shown_word : (ss : List Standing) (v : Value) → word_extent (shown_word ss v) ≡ extent (shown_by ss v)
+extent-shown_word ss (whole n) = refl
+extent-shown_word ss (tree (t.Name n)) = named (standing_at ss n) (expression ss (t.Name n))
+extent-shown_word ss (tree (t.Indexed n (t.Number i))) = numbered (standing_at ss n) i (expression ss (t.Indexed n (t.Number i)))
+extent-shown_word ss (tree e) = refl
 
 -- ---- whatever is given
 
@@ -68,6 +77,7 @@ same_standing g h at bt (queue c) = refl
 same_standing g h at bt (queues n c) = refl
 same_standing g h at bt (table ns) = refl
 same_standing g h at bt (list_table k) = refl
+same_standing g h at bt observation = refl
 
 same_own : (g h : Given) (at : _) (bt : _) (things : List Declares) → map kinds (own_standings g at things) ≡ map kinds (own_standings h bt things)
 same_own g h at bt [] = refl
@@ -101,6 +111,6 @@ same_by ss tt (tree (t.Name n)) same = ap (λ k. k.0) (same_at ss tt n same)
 same_by ss tt (tree (t.Indexed n (t.Number i))) same = ap (λ k. k.1) (same_at ss tt n same)
 same_by ss tt (tree e) same = refl
 
--- what a word of the program shows is what the entry shows with other numbers given
-pub same_shown : (g h : Given) (names : List Name) (v : Value) → shown_as (shown_word (standings_of g names) v) ≡ shown_by (standings_of h names) v
-same_shown g h names v = shown_as-shown_word (standings_of g names) v ∙ same_by (standings_of g names) (standings_of h names) v (same_standings g h names)
+-- a word of the program shows as many numbers as the entry with other numbers given
+pub same_extent : (g h : Given) (names : List Name) (v : Value) → word_extent (shown_word (standings_of g names) v) ≡ extent (shown_by (standings_of h names) v)
+same_extent g h names v = extent-shown_word (standings_of g names) v ∙ ap extent (same_by (standings_of g names) (standings_of h names) v (same_standings g h names))

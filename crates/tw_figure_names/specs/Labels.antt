@@ -1,6 +1,6 @@
--- What the built-in models are called, and their figures.
+-- What the built-in models are called, and their figures; they have no observations.
 --     figures_in m      its figures, each by its name and what it tells
---     built_in m      its name and its figures
+--     built_in m      its name and its figures; it has no observations
 use Rattle.std.specs.Prelude.{ℕ, List, [], ◌∷◌, codes}
 use Rattle.tw_figures.specs.Labelled.{Label}
 use Rattle.tw_figures.specs.declared.figure.Measure.{Measure}
@@ -17,4 +17,4 @@ figures_in (Queue q) = (codes "dropped", Word 0) ∷ (codes "jobs", Beyond 1) �
 figures_in (Hop h) = []
 
 abbrev pub built_in : Model → Label
-built_in m = record { model = kind_name m; figures = figures_in m }
+built_in m = record { model = kind_name m; figures = figures_in m; observations = [] }

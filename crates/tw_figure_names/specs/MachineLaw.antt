@@ -1,6 +1,7 @@
--- What the figures of a machine are of a state: what the entries of its `words` show of it.
---     HasCells s w      an array register that is shown has all its cells in a state
+-- What the figures and the observations of a machine are of a state: what the entries of its `words` show of it.
+--     HasCells s w      an array register or an observation that is shown has all its cells in a state
 --     MachineLaw      the figures of a machine are the values of the entries by whose texts they are called
+--     ObservationsLaw      the three words at an observation's place are those that its entry shows
 use Rattle.std.specs.Prelude.{◌≡◌, ◌≤◌, ◌+◌, ◌++◌, ℤ, List, length, map}
 use Rattle.std.specs.List.{AllByRecursion as Each, zip}
 use Rattle.serde_json.specs.Data.{Items}
@@ -15,8 +16,8 @@ use Rattle.tw_machine_compiler.specs.Program.{program_of}
 use Rattle.tw_machine_declaration.specs.Names.{standings_of}
 use Rattle.tw_machine_declaration.specs.Seen.{Declaration, Given}
 use Rattle.tw_machine_file.specs.Machines.{nothing_given}
-use Rattle.tw_figure_names.specs.Entries.{Entry, entries_of, figures_of, queue_texts}
-use Rattle.tw_figure_names.specs.EntriesLaw.{Showing, held, numbers_told, values_told}
+use Rattle.tw_figure_names.specs.Entries.{Entry, entries_of, figures_of, observations_of, queue_texts}
+use Rattle.tw_figure_names.specs.EntriesLaw.{Showing, held, numbers_told, observed_told, three, values_told}
 
 abbrev pub HasCells : State → Word → Type 0
 HasCells s (w.Number e) = Unit {0}
@@ -38,3 +39,9 @@ MachineLaw = (given : Given) (d : Declaration) (texts : Items) (s : State) → i
     let es = entries_of (standings_of nothing_given d.names) d.words texts in
     map (λ f. (f.0, value_of f.1 (machine_words p s))) (figures_of es)
     ≡ numbers_told (showings p s es) ++ values_told (held (showings p s es)) (queue_texts es)
+
+abbrev pub ObservationsLaw : Type 0
+ObservationsLaw = (given : Given) (d : Declaration) (texts : Items) (s : State) → items_len texts ≡ length d.words → Each (HasCells s) (program_of given d).words
+    → let p = program_of given d in
+    let es = entries_of (standings_of nothing_given d.names) d.words texts in
+    map (λ o. (o.0, three o.1 (machine_words p s))) (observations_of es) ≡ observed_told (showings p s es)

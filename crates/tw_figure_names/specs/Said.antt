@@ -2,7 +2,7 @@
 --     labels_said file models      of all components of these models, in order
 --     atoms_of file      the components of a file that are no coupled models, depth first: they have the numbers 0 and on
 --     machines_said file      the machines that a file declares
---     figures_named machines values name      the figures of the machine of a name, among machines that these values declare
+--     figures_named, observations_named machines values name      those of the machine of a name, among machines that these values declare
 use Rattle.std.specs.Prelude.{◌+◌, ◌++◌, ◌∷◌, [], ℕ, zero, suc, List, Option, Some, None, codes, is_some, option_and_then, slice_index_or, unwrap_or, if◌then◌else◌}
 use Rattle.std.specs.Option.{option_map_or}
 use Rattle.std.specs.Result.{result_ok}
@@ -18,7 +18,7 @@ use Rattle.tw_machine_file.specs.Machines.{machines_in, nothing_given}
 use Rattle.tw_machine_file.specs.Seen as file
 use Rattle.tw_file_members.specs.Members.{items_in, text_in}
 use Rattle.tw_file_members.specs.Named.{machine_named}
-use Rattle.tw_figure_names.specs.Entries.{entries_of, figures_of}
+use Rattle.tw_figure_names.specs.Entries.{Entry, entries_of, figures_of, observations_of}
 use Rattle.tw_figure_names.specs.Labels.{built_in}
 
 -- ---- components
@@ -54,17 +54,20 @@ abbrev pub words_named : Items → List ℕ → Items
 words_named values name = option_map_or (items_in (codes "words")) (value_named values name) no_items
 
 -- what each entry of `words` shows is the same whatever a component gives
-abbrev pub figures_said : file.Machine → Items → List (List ℕ × Measure)
-figures_said m words = figures_of (entries_of (standings_of nothing_given m.declaration.names) m.declaration.words words)
+abbrev pub entries_said : file.Machine → Items → List Entry
+entries_said m words = entries_of (standings_of nothing_given m.declaration.names) m.declaration.words words
 
 abbrev pub figures_named : List file.Machine → Items → List ℕ → List (List ℕ × Measure)
-figures_named machines values name = option_map_or (λ m. figures_said m (words_named values name)) (machine_named machines name) []
+figures_named machines values name = option_map_or (λ m. figures_of (entries_said m (words_named values name))) (machine_named machines name) []
+
+abbrev pub observations_named : List file.Machine → Items → List ℕ → List (List ℕ × ℕ)
+observations_named machines values name = option_map_or (λ m. observations_of (entries_said m (words_named values name))) (machine_named machines name) []
 
 -- ---- labels
 
 -- of a component that names this machine
 abbrev pub machine_label : List file.Machine → Items → List ℕ → Label
-machine_label machines values name = record { model = name; figures = figures_named machines values name }
+machine_label machines values name = record { model = name; figures = figures_named machines values name; observations = observations_named machines values name }
 
 -- of a component's model, where the file says this of the component
 abbrev pub label_said : List file.Machine → Items → AnyModel → Data → Label

@@ -27,6 +27,8 @@ pub(crate) enum Shown {
     Number,
     /// So many cells of an array register.
     Cells(u32),
+    /// The three numbers of an observation.
+    Observed,
     /// The values of a queue.
     Values,
 }
@@ -46,6 +48,7 @@ fn shown_plain(standing: Standing) -> Shown
 {
     match standing {
         Standing::Cells(span) => Shown::Cells(span.count),
+        Standing::Observation(_) => Shown::Observed,
         Standing::Queue(..) => Shown::Values,
         _ => Shown::Number,
     }

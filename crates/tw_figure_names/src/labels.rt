@@ -20,6 +20,7 @@ pub fn labels_of(alloc: Global, model: &Model) -> Result<Labels, AllocError>
     Ok(Labels {
         model: name,
         figures,
+        observations: Vec::new(alloc),
     })
 }
 

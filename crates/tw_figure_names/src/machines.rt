@@ -1,23 +1,24 @@
-//! The machines of a file, and the figures of one of them.
+//! The machines of a file, and the figures and observations of one of them.
 
 ghost use Rattle.std.specs.Prelude.{◌≡◌, IfOk, map, option_map};
 ghost use Rattle.serde_json.specs.View.{view, items_view};
 ghost use Rattle.tw_machine_declaration.specs.Seen.{value};
 ghost use Rattle.tw_machine_file.specs.Seen.{machine};
-ghost use Rattle.tw_figures.specs.Labelled.{figure};
+ghost use Rattle.tw_figure_names.specs.Entries.{figures_of, observations_of};
+ghost use Rattle.tw_figures.specs.Labelled.{figure, observation};
 ghost use Rattle.tw_figure_names.specs.Said.{
+  entries_said,
   figures_named,
-  figures_said,
   machines_said,
+  observations_named,
   value_named,
   words_named,
 };
 
 use crate::entries::entries_of;
-use crate::figures::figures_of;
+use crate::figures::{Told, told_of};
 use serde_json::Value;
 use std::alloc::{AllocError, Global};
-use tw_figures::Figure;
 use tw_file_members::{items_in, machine_named, text_in};
 use tw_machine_declaration::{Given, standings_of};
 use tw_machine_file::{FileMachine, MachineFault, machines_in};
@@ -59,14 +60,12 @@ fn words_named<'a>(values: &'a [Value], name: &str) -> &'a [Value]
     }
 }
 
-/// The figures of a machine, of which these values are the entries of `words`.
-fn figures_said(
-    alloc: Global,
-    said: &FileMachine,
-    words: &[Value],
-) -> Result<Vec<Figure>, AllocError>
-    ensures { IfOk result (λ figures. map figure figures.items
-        ≡ figures_said (machine said.now) (items_view words.now)) }
+/// The figures and observations of a machine, of which these values are the entries of `words`.
+fn told_by(alloc: Global, said: &FileMachine, words: &[Value]) -> Result<Told, AllocError>
+    ensures figures { IfOk result (λ told. map figure told.figures.items
+        ≡ figures_of (entries_said (machine said.now) (items_view words.now))) }
+    ensures observations { IfOk result (λ told. map observation told.observations.items
+        ≡ observations_of (entries_said (machine said.now) (items_view words.now))) }
 {
     let nothing = Given {
         numbers: Vec::new(alloc),
@@ -75,21 +74,26 @@ fn figures_said(
     let declaration = &said.declaration;
     let standings = standings_of(alloc, &nothing, &declaration.names)?;
     let entries = entries_of(alloc, &standings, &declaration.words, words)?;
-    figures_of(alloc, &entries)
+    told_of(alloc, &entries)
 }
 
-/// The figures of the machine of a name, among machines that these values declare.
-pub(crate) fn figures_named(
+/// The figures and observations of the machine of a name, among machines that these values declare.
+pub(crate) fn told_named(
     alloc: Global,
     machines: &[FileMachine],
     values: &[Value],
     name: &str,
-) -> Result<Vec<Figure>, AllocError>
-    ensures { IfOk result (λ figures. map figure figures.items
+) -> Result<Told, AllocError>
+    ensures figures { IfOk result (λ told. map figure told.figures.items
         ≡ figures_named (map machine machines.now) (items_view values.now) name.now) }
+    ensures observations { IfOk result (λ told. map observation told.observations.items
+        ≡ observations_named (map machine machines.now) (items_view values.now) name.now) }
 {
     match machine_named(machines, name) {
-        Some(machine) => figures_said(alloc, machine, words_named(values, name)),
-        None => Ok(Vec::new(alloc)),
+        Some(machine) => told_by(alloc, machine, words_named(values, name)),
+        None => Ok(Told {
+            figures: Vec::new(alloc),
+            observations: Vec::new(alloc),
+        }),
     }
 }

@@ -1,4 +1,4 @@
-//! What the models of a whole network are called, and their figures.
+//! What the models of a whole network are called, their figures and their observations.
 
 ghost use Rattle.std.specs.Prelude.{◌≡◌, IfOk, map, slice_index_or};
 ghost use Rattle.serde_json.specs.Data.{null};
@@ -9,7 +9,7 @@ ghost use Rattle.tw_figure_names.specs.Said.{label_said, labels_said, machine_la
 
 use crate::atoms::atoms_of;
 use crate::labels::labels_of;
-use crate::machines::{figures_named, machines_of};
+use crate::machines::{machines_of, told_named};
 use serde_json::Value;
 use std::alloc::{AllocError, Global};
 use tw_any_model::AnyModel;
@@ -22,8 +22,10 @@ use tw_network::Network;
 /// [`labels_of`] gives. Those of a machine are read in the JSON value of the network's file: what the component says at
 /// `model`, and for each entry of the machine's `words` its text, each run of blanks as one; of an array register each
 /// cell, `name[0]` and on. This ends before the first entry that is a queue; from there on there is only one figure more,
-/// how many values all its queues in `words` have together, called by their texts, joined by ` + `. Where the
-/// file's machines are refused, or none has the name, there are no figures; in the file of that network this cannot be.
+/// how many values all its queues in `words` have together, called by their texts, joined by ` + `. An observation in
+/// `words` is no figure: those before the first queue stand beside the figures, each with the place of its first word.
+/// Where the file's machines are refused, or none has the name, there are no figures; in the file of that network this
+/// cannot be.
 ///
 /// Refused for want of memory (4).
 pub fn labels_in(
@@ -82,7 +84,7 @@ fn label_at(
     }
 }
 
-/// What a component is called that names this machine, and its figures.
+/// What a component is called that names this machine, its figures and its observations.
 fn label_of_machine(
     alloc: Global,
     machines: &[FileMachine],
@@ -92,8 +94,11 @@ fn label_of_machine(
     ensures { IfOk result (λ labels. label labels ≡ machine_label (map machine machines.now)
         (items_view values.now) name.now) }
 {
+    let model = String::from_str(alloc, name)?;
+    let told = told_named(alloc, machines, values, name)?;
     Ok(Labels {
-        model: String::from_str(alloc, name)?,
-        figures: figures_named(alloc, machines, values, name)?,
+        model,
+        figures: told.figures,
+        observations: told.observations,
     })
 }

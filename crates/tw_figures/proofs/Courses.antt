@@ -31,7 +31,7 @@ each_end P (y ∷ ys) x h = each_end P ys x h.1
 
 -- ---- the words at a tick
 
-words_end : (start : List ℤ) (moves : List Record) (r : Record) → words_after start (moves ++ r ∷ []) ≡ r.words
+pub words_end : (start : List ℤ) (moves : List Record) (r : Record) → words_after start (moves ++ r ∷ []) ≡ r.words
 words_end start moves r = ap (last_of start) (map-append (λ x. x.words) moves (r ∷ [])) ∙ last_end start (map (λ x. x.words) moves) r.words
 
 -- a transition of a later tick is not yet made
@@ -75,7 +75,7 @@ from_on_same t rs r l =
     ∙ append-nil (from_on t rs)
 
 -- where all are before it
-all_before : (t : ℕ) (rs : List Record) → Each (λ r. tick_of r.stamp < t) rs → before t rs ≡ rs
+pub all_before : (t : ℕ) (rs : List Record) → Each (λ r. tick_of r.stamp < t) rs → before t rs ≡ rs
 all_before t [] h = refl
 all_before t (r ∷ rs) h = cond-true (nat_lt (tick_of r.stamp) t) _ _ (lt-ltb (tick_of r.stamp) t h.0) ∙ ap (λ l. r ∷ l) (all_before t rs h.1)
 

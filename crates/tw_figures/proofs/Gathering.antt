@@ -18,10 +18,10 @@ use Rattle.tw_theory.proofs.Elements.{each-filter, each_weaker}
 
 -- ---- the records of a component
 
-own_more : (c : ℕ) (rs : List Record) (r : Record) → r.component ≡ c → of_component c (rs ++ r ∷ []) ≡ of_component c rs ++ r ∷ []
+pub own_more : (c : ℕ) (rs : List Record) (r : Record) → r.component ≡ c → of_component c (rs ++ r ∷ []) ≡ of_component c rs ++ r ∷ []
 own_more c rs r is = filter-append (λ x. x.component == c) rs (r ∷ []) ∙ ap (λ l. of_component c rs ++ l) (cond-true (r.component == c) (r ∷ []) [] (eq-eqb r.component c is))
 
-other_more : (c : ℕ) (rs : List Record) (r : Record) → r.component ≢ c → of_component c (rs ++ r ∷ []) ≡ of_component c rs
+pub other_more : (c : ℕ) (rs : List Record) (r : Record) → r.component ≢ c → of_component c (rs ++ r ∷ []) ≡ of_component c rs
 other_more c rs r is = filter-append (λ x. x.component == c) rs (r ∷ []) ∙ ap (λ l. of_component c rs ++ l) (cond-false (r.component == c) (r ∷ []) [] (ne_eqb r.component c is)) ∙ append-nil (of_component c rs)
 
 pub own_next : (c : ℕ) (rs : List Record) (r : Record) → IsNext rs r → IsNext (of_component c rs) r

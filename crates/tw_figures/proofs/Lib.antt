@@ -3,7 +3,9 @@ pub mod Courses
 pub mod Gathering
 pub mod Gone
 pub mod Members
+pub mod Roots
 pub mod Rounding
 pub mod SmallSums
 pub mod ToldOf
+pub mod Watching
 pub mod Zipping

@@ -10,8 +10,6 @@ use Rattle.tw_msgs.specs.declared.record_kind.RecordKind.TheVariants.{Out, Int, 
 use Rattle.tw_vtime.specs.Stamps.{tick_of}
 use Rattle.tw_theory.proofs.Elements.{each-filter}
 use Rattle.tw_figures.specs.Figures.{IsNext, is_transition, transitions}
-use Rattle.tw_figures.specs.declared.course.Course.{Course}
-use Rattle.tw_figures.specs.declared.figure.Figure.{Figure}
 
 -- a transition stands behind those before it, and an output among no transitions
 pub transition_more : (records : List Record) (r : Record) → is_transition r ≡ true → transitions (records ++ r ∷ []) ≡ transitions records ++ r ∷ []
@@ -27,19 +25,19 @@ no_output r is = ap (λ k. elim k [ Out ↦ false | Int ↦ true | Ext ↦ true 
 pub next_move : (records : List Record) (r : Record) → IsNext records r → IsNext (transitions records) r
 next_move records r next = each-filter (λ x. tick_of x.stamp ≤ tick_of r.stamp) is_transition records next
 
--- ---- one course more
+-- ---- one element more
 
-pub courses_more : (P : Course → Type 0) (courses : List Course) (course : Course) → All P courses → P course → All P (courses ++ course ∷ [])
-courses_more P courses course all one = All-append P courses (course ∷ []) all (All-cons P course [] one (All-nil P))
+pub all_more : {X : Type 0} (P : X → Type 0) (xs : List X) (x : X) → All P xs → P x → All P (xs ++ x ∷ [])
+all_more P xs x all one = All-append P xs (x ∷ []) all (All-cons P x [] one (All-nil P))
 
-pub measures_more : (courses : List Course) (figures : List Figure) (i : ℕ) (course : Course) (figure : Figure) → i < length figures → figure ≡ get_or figures i figure
-    → course.measure ≡ figure.measure → map (λ c. c.measure) courses ≡ map (λ f. f.measure) (take i figures)
-    → map (λ c. c.measure) (courses ++ course ∷ []) ≡ map (λ f. f.measure) (take (i + 1) figures)
-measures_more courses figures i course figure l is same so_far =
-    map-append (λ c. c.measure) courses (course ∷ [])
-    ∙ (λ k. so_far k ++ (same ∙ ap (λ f. f.measure) is) k ∷ [])
-    ∙ sym (map-append (λ f. f.measure) (take i figures) (get_or figures i figure ∷ []))
-    ∙ ap (map (λ f. f.measure)) (sym (take_more figures i figure l))
+-- the elements of two lists show the same, and so does one more of each
+pub shown_more : {X Y Z : Type 0} (f : X → Z) (g : Y → Z) (xs : List X) (ys : List Y) (i : ℕ) (x : X) (y : Y) → i < length ys → y ≡ get_or ys i y
+    → f x ≡ g y → map f xs ≡ map g (take i ys) → map f (xs ++ x ∷ []) ≡ map g (take (i + 1) ys)
+shown_more f g xs ys i x y l is same so_far =
+    map-append f xs (x ∷ [])
+    ∙ (λ k. so_far k ++ (same ∙ ap g is) k ∷ [])
+    ∙ sym (map-append g (take i ys) (get_or ys i y ∷ []))
+    ∙ ap (map g) (sym (take_more ys i y l))
 
 pub some_transition : (r : Record) → (r.kind ≡ Int) ⊎ ((r.kind ≡ Ext) ⊎ (r.kind ≡ Con)) → is_transition r ≡ true
 some_transition r (inl is) = ap (λ k. elim k [ Out ↦ false | Int ↦ true | Ext ↦ true | Con ↦ true ]) is

@@ -1,7 +1,11 @@
 pub mod Counts
+pub mod Deviations
+pub mod Examples
 pub mod Figures
 pub mod Fitting
 pub mod Gathered
 pub mod Labelled
+pub mod Observed
 pub mod Shares
+pub mod Shown
 pub mod Told

@@ -1,13 +1,13 @@
 //! What is gathered of a run.
 
-ghost use Rattle.std.specs.Prelude.{◌≡◌, ◌≢◌, ◌++◌, ◌∷◌, [], ℕ, ℤ, List, IfOk, OnOk, map};
+ghost use Rattle.std.specs.Prelude.{◌≡◌, ◌≢◌, ◌++◌, ◌∷◌, [], ℕ, ℤ, List, IfOk, OnOk};
 ghost use Rattle.tw_figures.specs.Figures.{IsNext, IsSteady, from_on};
-ghost use Rattle.tw_figures.specs.Gathered.{AreCounted, IsGathered, measures_of};
+ghost use Rattle.tw_figures.specs.Gathered.{AreCounted, IsGathered, followed_in, followed_of_all};
 ghost use Rattle.tw_msgs.specs.declared.record.Record.{Record as TheRecord};
 ghost use Rattle.tw_vtime.specs.Stamps.{never};
 
 use crate::counts::more;
-use crate::figure::Figure;
+use crate::labels::Labels;
 use crate::member::Member;
 use std::alloc::{AllocError, Global};
 use tw_msgs::{Record, Words};
@@ -30,7 +30,7 @@ impl Gatherer {
     /// No component yet, of a run of which is told from the tick `from` on. It takes no memory.
     pub fn new(alloc: Global, from: u64) -> Gatherer
         ensures gathered { IsGathered from [] [] result }
-        ensures measures { measures_of result.members.items ≡ [] }
+        ensures followed { followed_of_all result.members.items ≡ [] }
     {
         Gatherer {
             from,
@@ -40,21 +40,16 @@ impl Gatherer {
         }
     }
 
-    /// One component more, before any record: with these figures, and starting in a state of these words.
+    /// One component more, before any record: with these figures and observations, and starting in a state of these words.
     ///
     /// Refused for want of memory (4).
-    pub fn add(
-        &mut self,
-        alloc: Global,
-        figures: &[Figure],
-        words: &Words,
-    ) -> Result<(), AllocError>
+    pub fn add(&mut self, alloc: Global, labels: &Labels, words: &Words) -> Result<(), AllocError>
         ensures gathered { (from : ℕ) (starts : List (List ℤ)) → IsGathered from starts [] self.old
             → OnOk result (IsGathered from (starts ++ words.now ∷ []) [] self.new) }
-        ensures measures { OnOk result (measures_of self.new.members.items
-            ≡ measures_of self.old.members.items ++ map (λ f. f.measure) figures.now ∷ []) }
+        ensures followed { OnOk result (followed_of_all self.new.members.items
+            ≡ followed_of_all self.old.members.items ++ followed_in labels.now ∷ []) }
     {
-        let member = Member::new(alloc, self.from, figures, words)?;
+        let member = Member::new(alloc, self.from, labels, words)?;
         self.members.push(member)?;
         Ok(())
     }
@@ -67,7 +62,7 @@ impl Gatherer {
         ensures gathered { (from : ℕ) (starts : List (List ℤ)) (records : List TheRecord)
             → IsSteady (records ++ steps.now) → IsGathered from starts records self.old
             → OnOk result (IsGathered from starts (records ++ steps.now) self.new) }
-        ensures measures { measures_of self.new.members.items ≡ measures_of self.old.members.items }
+        ensures followed { followed_of_all self.new.members.items ≡ followed_of_all self.old.members.items }
     {
         for step in steps {
             self.take(step)?;
@@ -83,7 +78,7 @@ impl Gatherer {
         ensures gathered { (from : ℕ) (starts : List (List ℤ)) (records : List TheRecord)
             → IsNext records step.now → IsGathered from starts records self.old
             → OnOk result (IsGathered from starts (records ++ step.now ∷ []) self.new) }
-        ensures measures { measures_of self.new.members.items ≡ measures_of self.old.members.items }
+        ensures followed { followed_of_all self.new.members.items ≡ followed_of_all self.old.members.items }
     {
         self.count(step.stamp)?;
         if step.component < self.members.len() {

@@ -5,7 +5,7 @@ ghost use Rattle.std.specs.Option.{IsSome};
 ghost use Rattle.tw_figures.specs.Shares.{FitsMean, FitsThousandths, IsMean, IsShare, IsThousandths};
 
 /// A sum over so many ticks, divided by them, in thousandths: a half is rounded up, towards greater.
-fn thousandths(sum: i128, ticks: u64) -> Option<i128>
+pub(crate) fn thousandths(sum: i128, ticks: u64) -> Option<i128>
     requires { 0 < ticks }
     ensures is { IfSome result (IsThousandths sum ticks) }
     ensures fits { IsSome result ↔ FitsThousandths sum ticks }

@@ -5,12 +5,23 @@ use Rattle.tw_machine.specs.declared.program.BadProgram.TheVariants.{TooManyCell
 use Rattle.tw_machine.specs.Undoing.{needs}
 use Rattle.tw_machine.specs.Program.{ProgramText}
 
--- the most cells of registers, and where counting them ends
+-- the most cells of the registers that a machine declares
 abbrev pub max_cells : ℕ
 max_cells = 64
 
+-- the most cells of a program, those too that its user does not see; and where counting them ends
+abbrev pub max_program_cells : ℕ
+max_program_cells = 256
+
 abbrev pub cells_end : ℕ
-cells_end = 65
+cells_end = 257
+
+-- the most observations that a machine declares, and the cells of each: how many, their sum, the sum of their squares
+abbrev pub max_observations : ℕ
+max_observations = 16
+
+abbrev pub observation_cells : ℕ
+observation_cells = 3
 
 -- the most queues, of which an array counts each, and where counting them ends
 abbrev pub max_queues : ℕ
@@ -69,7 +80,7 @@ file_numbers_end = 1048577
 
 abbrev pub fault_of : ProgramText → Option BadProgram
 fault_of p =
-    if nat_lt max_cells (length p.cells) then Some TooManyCells
+    if nat_lt max_program_cells (length p.cells) then Some TooManyCells
     else if nat_lt max_queues (length p.rooms) then Some TooManyQueues
     else if nat_lt max_rooms (sum p.rooms) then Some TooMuchRoom
     else if nat_lt max_numbers (length p.numbers) then Some TooManyNumbers

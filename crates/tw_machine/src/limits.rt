@@ -1,10 +1,18 @@
 //! The limits of a machine, and of the machines of a file. Counting ends one past a limit, where a constant says so. The
 //! limits of a text are those of tw_machine_text.
 
-/// The most cells of registers, and where counting them ends.
+/// The most cells of the registers that a machine declares.
 pub const MAX_CELLS: usize = 64;
 
-pub const CELLS_END: usize = MAX_CELLS + 1;
+/// The most cells of a program, those too that its user does not see; and where counting them ends.
+pub const MAX_PROGRAM_CELLS: usize = 256;
+
+pub const CELLS_END: usize = MAX_PROGRAM_CELLS + 1;
+
+/// The most observations that a machine declares, and the cells of each: how many, their sum, the sum of their squares.
+pub const MAX_OBSERVATIONS: usize = 16;
+
+pub const OBSERVATION_CELLS: usize = 3;
 
 /// The most queues, of which an array counts each, and where counting them ends.
 pub const MAX_QUEUES: usize = 16;

@@ -1,8 +1,8 @@
 -- A machine within its limits is within those of any program: two numbers are logged at the most for each computation, 524,288 for 262,144 of them.
 use Rattle.std.proofs.Common.{◌≡◌, ℕ, ℤ, ◌+◌, ◌*◌, ◌≤◌, max, sum, length, Bool, true, false, List, Option, Some, None, refl, arith}
 use Rattle.std.proofs.Math.Nat.{mul-le-mul}
-use Rattle.std.specs.Prelude.{nat_lt, sum_by, if◌then◌else◌}
-use Rattle.std.proofs.lemmas.Bool.{ltb-false, le-ltb}
+use Rattle.std.specs.Prelude.{nat_le, nat_lt, not, ◌&&◌, sum_by, if◌then◌else◌}
+use Rattle.std.proofs.lemmas.Bool.{leb-true, ltb-false, le-ltb}
 use Rattle.tw_machine.specs.declared.language.Expr.{Expr}
 use Rattle.tw_machine.specs.declared.language.Target.{Target}
 use Rattle.tw_machine.specs.declared.language.Statement.{Statement}
@@ -14,7 +14,7 @@ use Rattle.tw_machine.specs.Limits.{fault_of}
 use Rattle.tw_machine_text.specs.declared.words.SourceChange.{SourceChange}
 use Rattle.tw_machine_text.specs.declared.words.SourceChange.TheVariants.{Set, Add, Subtract, Xor}
 use Rattle.tw_machine_text.specs.declared.words.Verb.{Verb}
-use Rattle.tw_machine_text.specs.declared.words.Verb.TheVariants.{Push, Insert, Remove, Put}
+use Rattle.tw_machine_text.specs.declared.words.Verb.TheVariants.{Push, Insert, Remove, Put, Observe}
 use Rattle.tw_machine_text.specs.declared.words.Operator.TheVariants.{Comma}
 use Rattle.tw_machine_text.specs.Tree.{Tree, Number, Name, Known, Indexed, Call, RandomBelow, Group, Negate, Not, Binary, SourceStatement, Assign, Act, Pop, Draw, Wait, Passivate, If, IfElse, Repeat, Block, Empty, Then, Arms, One, More}
 use Rattle.tw_machine_declaration.specs.Seen.{Declaration}
@@ -27,7 +27,7 @@ use Rattle.tw_machine_compiler.specs.declared.limits.BadMachine.TheVariants.{Too
 use Rattle.tw_machine.specs.Seen.{branch}
 use Rattle.tw_machine_compiler.specs.Expressions.{expression, queue}
 use Rattle.tw_machine_compiler.specs.Statements.{cell, assigned, put, acted, turns, statement, block, chosen}
-use Rattle.tw_machine_compiler.specs.Limits.{limit}
+use Rattle.tw_machine_compiler.specs.Limits.{register_cells, has_few_cells, limit}
 
 work-some : (ss : List Standing) (e : Tree) → 1 ≤ work ss e
 work-some ss (Number n) = omega arith
@@ -57,6 +57,7 @@ acted-needs ss Push q e = omega arith
 acted-needs ss Insert q e = omega arith
 acted-needs ss Remove q e = omega arith
 acted-needs ss Put q e = omega (arith, put-needs ss q e)
+acted-needs ss Observe q e = omega arith
 
 tests-some : (ss : List Standing) (arms : Arms) → 1 ≤ tests_work ss arms
 tests-some ss (One test b) = work-some ss test
@@ -126,13 +127,23 @@ few_logged m n i e f g h k = le-ltb 1048575 (max m n) (omega (arith, f, g, ltb-f
 within : (a b c d e : Bool) → a ≡ false → b ≡ false → c ≡ false → d ≡ false → e ≡ false → (if a then Some any.TooManyCells else if b then Some any.TooManyQueues else if c then Some any.TooMuchRoom else if d then Some any.TooManyNumbers else if e then Some any.TooMuchLogged else None) ≡ None
 within a b c d e f g h i j = rw (f, g, h, i, j) refl
 
+not_more : (n : ℕ) (b : Bool) → nat_le n 256 ≡ b → not (true && b) ≡ false → n ≤ 256
+not_more n true e h = leb-true n 256 e
+not_more n false e h = absurd (cc h)
+
+-- a program whose registers have few cells has few cells
+few_cells : (few : Bool) (n : ℕ) → not (few && nat_le n 256) ≡ false → nat_lt 256 n ≡ false
+few_cells true n h = le-ltb 256 n (not_more n (nat_le n 256) refl h)
+few_cells false n h = absurd (cc h)
+
 pub within_any : (ss : List Standing) (d : Declaration) (p : ProgramText) → p.internal ≡ block ss d.internal → p.external ≡ block ss d.external → limit ss d p ≡ None → fault_of p ≡ None
 within_any ss d p e f h =
     let outputs = sum_by (output_work ss) d.outputs in
     let words = sum_by (word_work ss) d.words in
     let rest : Option BadMachine = if nat_lt 262144 outputs then Some TooManyComputations else if nat_lt 262144 words then Some TooManyComputations else None in
-    let q = passed (nat_lt 64 (length p.cells)) (nat_lt 16 (length p.rooms)) (nat_lt 4096 (sum p.rooms)) (nat_lt 65536 (length p.numbers)) (nat_lt 4096 (all_nodes d)) (nat_lt 262144 (block_work ss d.internal)) (nat_lt 262144 (block_work ss d.external)) rest h in
+    let q = passed (not (has_few_cells d.names p)) (nat_lt 16 (length p.rooms)) (nat_lt 4096 (sum p.rooms)) (nat_lt 65536 (length p.numbers)) (nat_lt 4096 (all_nodes d)) (nat_lt 262144 (block_work ss d.internal)) (nat_lt 262144 (block_work ss d.external)) rest h in
     let internal : needs p.internal ≤ 2 * block_work ss d.internal = rw e (block-needs ss d.internal) in
     let external : needs p.external ≤ 2 * block_work ss d.external = rw f (block-needs ss d.external) in
     let logged = few_logged (needs p.internal) (needs p.external) (block_work ss d.internal) (block_work ss d.external) internal external q.internal q.external in
-    within (nat_lt 64 (length p.cells)) (nat_lt 16 (length p.rooms)) (nat_lt 4096 (sum p.rooms)) (nat_lt 65536 (length p.numbers)) (nat_lt 1048575 (max (needs p.internal) (needs p.external))) q.cells q.queues q.room q.numbers logged
+    let cells = few_cells (nat_le (register_cells d.names) 64) (length p.cells) q.cells in
+    within (nat_lt 256 (length p.cells)) (nat_lt 16 (length p.rooms)) (nat_lt 4096 (sum p.rooms)) (nat_lt 65536 (length p.numbers)) (nat_lt 1048575 (max (needs p.internal) (needs p.external))) cells q.queues q.room q.numbers logged

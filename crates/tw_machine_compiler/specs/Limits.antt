@@ -1,11 +1,11 @@
 -- What is wrong with a machine as it is declared, with the numbers that are given: its members in order, then its limits. The first counts.
 use Rattle.std.specs.Prelude.{ℕ, ℤ, pos, negsuc, Bool, true, false, not, ◌&&◌, List, [], ◌∷◌, length, sum, sum_by, Option, Some, None, nat_lt, nat_le, if◌then◌else◌, option_and_then, slice_get}
 use Rattle.tw_vtime.specs.Stamps.{max_tick}
-use Rattle.tw_machine.specs.Limits.{max_cells, max_computations, max_numbers, max_outputs, max_queues, max_room, max_rooms, max_words}
+use Rattle.tw_machine.specs.Limits.{max_cells, max_computations, max_numbers, max_outputs, max_program_cells, max_queues, max_room, max_rooms, max_words}
 use Rattle.tw_machine.specs.Program.{ProgramText}
 use Rattle.tw_machine_text.specs.Limits.{max_nodes, max_turns}
 use Rattle.tw_machine_text.specs.Tree.{SourceStatement, If, IfElse, Repeat, Block, Empty, Then, Arms, One, More}
-use Rattle.tw_machine_declaration.specs.Seen.{Declaration, Given, Declares, registers, queue, queues, table, list_table}
+use Rattle.tw_machine_declaration.specs.Seen.{Declaration, Given, Name, Declares, register, registers, queue, queues, table, list_table}
 use Rattle.tw_machine_compiler.specs.declared.limits.BadMachine.{BadMachine}
 use Rattle.tw_machine_compiler.specs.declared.limits.BadMachine.TheVariants as bad
 use Rattle.tw_machine_declaration.specs.declared.names.Standing.{Standing}
@@ -88,10 +88,23 @@ members_fault given d ss =
     else if twice (rows ss d.words) then Some bad.WordTwice
     else None
 
+-- how many cells the registers among these names have; those of observations do not count
+abbrev pub own_cells : Declares → ℕ
+own_cells (register c) = 1
+own_cells (registers cs) = length cs
+own_cells _ = 0
+
+abbrev pub register_cells : List Name → ℕ
+register_cells names = sum_by (λ n. own_cells n.1) names
+
+-- the registers have no more cells than they may have, nor has the program
+abbrev pub has_few_cells : List Name → ProgramText → Bool
+has_few_cells names p = nat_le (register_cells names) max_cells && nat_le (length p.cells) max_program_cells
+
 -- the first limit that is passed: of cells, queues and numbers, of nodes, of computations of each kind by itself
 abbrev pub limit : List Standing → Declaration → ProgramText → Option BadMachine
 limit ss d p =
-    if nat_lt max_cells (length p.cells) then Some bad.TooManyCells
+    if not (has_few_cells d.names p) then Some bad.TooManyCells
     else if nat_lt max_queues (length p.rooms) then Some bad.TooManyQueues
     else if nat_lt max_rooms (sum p.rooms) then Some bad.TooMuchRoom
     else if nat_lt max_numbers (length p.numbers) then Some bad.TooManyNumbers

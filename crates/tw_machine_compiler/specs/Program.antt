@@ -14,7 +14,7 @@ use Rattle.tw_machine_declaration.specs.Seen.{Declaration, Given, Value, whole, 
 use Rattle.tw_machine_declaration.specs.Seen as plain
 use Rattle.tw_machine_declaration.specs.declared.names.Standing.{Standing}
 use Rattle.tw_machine_declaration.specs.declared.names.Standing.TheVariants as s
-use Rattle.tw_machine_declaration.specs.Names.{constant, start_of, cells, rooms, given_numbers, numbers, things, standing_at, standings_of}
+use Rattle.tw_machine_declaration.specs.Names.{constant, start_of, cells, rooms, given_numbers, numbers, things, observation_span, standing_at, standings_of}
 use Rattle.tw_machine_compiler.specs.Expressions.{number, expression, queue}
 use Rattle.tw_machine_compiler.specs.Statements.{block}
 
@@ -33,10 +33,11 @@ output ss o =
       value = value ss o.sent;
     }
 
--- a queue, an array register, or else an expression
+-- a queue, an array register, an observation, or else an expression
 abbrev pub word_named : Standing → Expr → Word
 word_named (s.Queue k room) e = word.Values k
 word_named (s.Cells span) e = word.Cells span
+word_named (s.Observation k) e = word.Cells (observation_span k)
 word_named _ e = word.Number e
 
 -- one of an array of queues by its number, or else an expression

@@ -1,4 +1,4 @@
--- Which words are rows of values, a queue's or an array register's, and whether one stands there twice.
+-- Which words are rows of values, a queue's, an array register's or an observation's, and whether one stands there twice.
 use Rattle.std.specs.Prelude.{ℕ, ◌-◌, min, Bool, false, ◌&&◌, ◌||◌, ◌==◌, List, [], ◌∷◌, Option, Some, None, filter_map, if◌then◌else◌}
 use Rattle.tw_machine.specs.declared.language.Span.{Span}
 use Rattle.tw_machine_text.specs.Tree.{Tree, Number, Name, Indexed}
@@ -15,13 +15,14 @@ which span i = if span.count == 0 then i else min i (span.count - 1)
 abbrev pub row_named : ℕ → Standing → Option Row
 row_named n (s.Queue k room) = Some (record { name = n; index = 0 })
 row_named n (s.Cells span) = Some (record { name = n; index = 0 })
+row_named n (s.Observation k) = Some (record { name = n; index = 0 })
 row_named n _ = None
 
 abbrev pub row_numbered : ℕ → ℕ → Standing → Option Row
 row_numbered n i (s.Queues span room) = Some (record { name = n; index = which span i })
 row_numbered n i _ = None
 
--- a queue, one of an array of queues by its number, or an array register; an expression is none
+-- a queue, one of an array of queues by its number, an array register or an observation; an expression is none
 abbrev pub row_of : List Standing → Tree → Option Row
 row_of ss (Name n) = row_named n (standing_at ss n)
 row_of ss (Indexed n (Number i)) = row_numbered n i (standing_at ss n)

@@ -13,12 +13,12 @@ use Rattle.tw_machine_text.specs.Limits.{max_turns}
 use Rattle.tw_machine_text.specs.declared.words.SourceChange.{SourceChange}
 use Rattle.tw_machine_text.specs.declared.words.SourceChange.TheVariants.{Set, Add, Subtract, Xor}
 use Rattle.tw_machine_text.specs.declared.words.Verb.{Verb}
-use Rattle.tw_machine_text.specs.declared.words.Verb.TheVariants.{Push, Insert, Remove, Put}
+use Rattle.tw_machine_text.specs.declared.words.Verb.TheVariants.{Push, Insert, Remove, Put, Observe}
 use Rattle.tw_machine_text.specs.declared.words.Operator.TheVariants.{Comma}
 use Rattle.tw_machine_text.specs.Tree.{Tree, Name, Indexed, Binary, SourceStatement, Assign, Act, Pop, Draw, Wait, Passivate, If, IfElse, Repeat, Block, Empty, Then, Arms, One, More}
 use Rattle.tw_machine_declaration.specs.declared.names.Standing.{Standing}
 use Rattle.tw_machine_declaration.specs.declared.names.Standing.TheVariants as s
-use Rattle.tw_machine_declaration.specs.Names.{standing_at}
+use Rattle.tw_machine_declaration.specs.Names.{observation_span, standing_at}
 use Rattle.tw_machine_declaration.specs.Turns.{written_turns}
 use Rattle.tw_machine.specs.Seen.{both, branch, repeated}
 use Rattle.tw_machine_compiler.specs.Expressions.{no_target, expression, queue}
@@ -28,9 +28,10 @@ abbrev pub cell_named : Standing → Target
 cell_named (s.Cell k) = Single k
 cell_named _ = no_target
 
--- a cell of an array register
+-- a cell of an array register, or of an observation
 abbrev pub cell_indexed : Standing → Expr → Target
 cell_indexed (s.Cells span) index = Among span index
+cell_indexed (s.Observation k) index = Among (observation_span k) index
 cell_indexed _ index = no_target
 
 -- the register that a statement changes
@@ -50,11 +51,13 @@ abbrev pub put : List Standing → Target → Tree → Statement
 put ss q (Binary Comma place e) = m.Put q (Given (expression ss place)) (expression ss e)
 put ss q _ = m.Skip
 
+-- what is done to a queue; no `observe` stands in what is read
 abbrev pub acted : List Standing → Verb → Target → Tree → Statement
 acted ss Push q e = m.Put q End (expression ss e)
 acted ss Insert q e = m.Put q Sorted (expression ss e)
 acted ss Remove q e = m.Take q (Chosen (expression ss e))
 acted ss Put q e = put ss q e
+acted ss Observe q e = m.Skip
 
 -- how often it is repeated: other numbers than 0 to 64 are refused
 abbrev pub turns : Option ℤ → ℕ

@@ -4,7 +4,7 @@
 //! - `expressions`, `statements`, `members`: trees into the machine's own language, where names are places.
 //! - `making`: expressions and statements of that language, made of parts.
 //! - `starts`: the cells of registers, the rooms of queues and the numbers of tables at the start.
-//! - `rows`: no queue and no array register stands twice among the words.
+//! - `rows`: no queue, no array register and no observation stands twice among the words.
 //! - `limits`: [`BadMachine`], and the first limit that a machine passes.
 //! - [`examples`]: machines by hand.
 //!

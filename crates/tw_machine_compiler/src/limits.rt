@@ -1,7 +1,7 @@
 //! What is wrong with a machine as it is declared, the first of it.
-ghost use Rattle.std.specs.Prelude.{◌≡◌, ◌≤◌, length, map, sum, option_and_then};
+ghost use Rattle.std.specs.Prelude.{◌≡◌, ◌≤◌, length, map, min, sum, option_and_then};
 ghost use Rattle.tw_vtime.specs.Stamps.{max_tick};
-ghost use Rattle.tw_machine.specs.Limits.{max_queues};
+ghost use Rattle.tw_machine.specs.Limits.{cells_end, max_queues};
 ghost use Rattle.tw_machine.specs.Program.{text_of};
 ghost use Rattle.tw_machine_text.specs.Views.{told, body, chain};
 ghost use Rattle.tw_machine_declaration.specs.Seen as plain;
@@ -19,6 +19,9 @@ ghost use Rattle.tw_machine_compiler.specs.Limits.{
   turns_fit_statement,
   turns_fit_arms,
   members_fault,
+  own_cells,
+  register_cells,
+  has_few_cells,
   limit,
 };
 ghost use Rattle.tw_machine_compiler.specs.declared.limits.BadMachine.TheVariants.{OutOfMemory};
@@ -27,8 +30,8 @@ use crate::rows::twice;
 use std::alloc::AllocError;
 use thiserror::Error;
 use tw_machine::limits::{
-    MAX_CELLS, MAX_COMPUTATIONS, MAX_NUMBERS, MAX_OUTPUTS, MAX_QUEUES, MAX_ROOM, MAX_ROOMS,
-    MAX_WORDS,
+    CELLS_END, MAX_CELLS, MAX_COMPUTATIONS, MAX_NUMBERS, MAX_OUTPUTS, MAX_PROGRAM_CELLS,
+    MAX_QUEUES, MAX_ROOM, MAX_ROOMS, MAX_WORDS,
 };
 use tw_machine::program::Parts;
 use tw_machine_declaration::{
@@ -59,8 +62,9 @@ pub enum BadMachine {
     OutputCount,
     #[error("there are 1 to 64 words")]
     WordCount,
-    #[error("no queue and no array register stands twice among the words")]
+    #[error("no queue, array register or observation stands twice among the words")]
     WordTwice,
+    /// Or all cells are more than 256, those of observations too: no machine of a file has so many observations.
     #[error("the registers have more than 64 cells")]
     TooManyCells,
     #[error("there are more than 16 queues")]
@@ -289,6 +293,37 @@ pub(crate) fn members_fault(
     None
 }
 
+/// How many cells a register has, at most 257.
+fn own_cells(thing: &Thing) -> usize
+    ensures value { result ≡ min (own_cells (plain.thing thing.now)) cells_end }
+    ensures small { result ≤ cells_end }
+{
+    match thing {
+        Thing::Register(_) => 1,
+        Thing::RegisterArray(starts) => starts.len().min(CELLS_END),
+        _ => 0,
+    }
+}
+
+/// How many cells the registers among these names have, at most 257.
+fn register_cells(names: &[Named]) -> usize
+    ensures value { result ≡ min (register_cells (map plain.name names.now)) cells_end }
+    ensures small { result ≤ cells_end }
+{
+    let mut total = 0;
+    for named in names {
+        total = (total + own_cells(&named.thing)).min(CELLS_END);
+    }
+    total
+}
+
+/// Whether the registers have no more cells than they may have, and the program no more than any.
+fn has_few_cells(names: &[Named], parts: &Parts) -> bool
+    ensures { result ≡ has_few_cells (map plain.name names.now) (text_of parts.now) }
+{
+    register_cells(names) <= MAX_CELLS && parts.cells.len() <= MAX_PROGRAM_CELLS
+}
+
 /// The first limit that is passed.
 pub(crate) fn limit(
     standings: &[Standing],
@@ -297,7 +332,7 @@ pub(crate) fn limit(
 ) -> Option<BadMachine>
     ensures { result ≡ limit standings.now (plain.declaration declaration.now) (text_of parts.now) }
 {
-    if parts.cells.len() > MAX_CELLS {
+    if !has_few_cells(declaration.names.as_slice(), parts) {
         return Some(BadMachine::TooManyCells);
     }
     if parts.rooms.len() > MAX_QUEUES {

@@ -22,7 +22,7 @@ use crate::expressions::{expression, number, queue};
 use std::alloc::{AllocError, Global};
 use tw_machine::language::{Expr, Leaf, Output, Span, Target, Word};
 use tw_machine_declaration::{
-    Constant, Given, OutputText, Standing, Value, constant, standing_at, start_of,
+    Constant, Given, OutputText, Standing, Value, constant, observation_span, standing_at, start_of,
 };
 use tw_machine_text::SourceExpr;
 
@@ -78,13 +78,14 @@ fn output(alloc: Global, standings: &[Standing], text: &OutputText) -> Result<Ou
     })
 }
 
-/// A queue or an array register by its name, or else an expression.
+/// A queue, an array register or an observation by its name, or else an expression.
 fn word_named(standing: Standing, shown: Expr) -> Word
     ensures { seen_word result ≡ word_named standing (seen shown) }
 {
     match standing {
         Standing::Queue(place, _) => Word::Values(place),
         Standing::Cells(span) => Word::Cells(span),
+        Standing::Observation(first) => Word::Cells(observation_span(first)),
         _ => Word::Number(shown),
     }
 }

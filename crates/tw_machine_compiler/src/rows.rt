@@ -1,4 +1,4 @@
-//! The rows among the words of a machine: no queue and no array register stands there twice.
+//! The rows among the words of a machine: no queue, no array register and no observation stands there twice.
 ghost use Rattle.std.specs.Prelude.{◌≡◌, map};
 ghost use Rattle.tw_machine_text.specs.Views.{tree};
 ghost use Rattle.tw_machine_declaration.specs.Seen as plain;
@@ -17,7 +17,7 @@ use tw_machine::language::Span;
 use tw_machine_declaration::{Standing, Value, standing_at};
 use tw_machine_text::SourceExpr;
 
-/// A queue or an array register that is shown: its name, and which it is of an array of queues.
+/// A queue, an array register or an observation that is shown: its name, and which it is of an array of queues.
 #[derive(Clone, Copy, PartialEq, Eq)]
 pub(crate) struct Row {
     pub name: usize,
@@ -40,7 +40,9 @@ fn row_named(name: usize, standing: Standing) -> Option<Row>
     ensures { result ≡ row_named name standing }
 {
     match standing {
-        Standing::Queue(_, _) | Standing::Cells(_) => Some(Row { name, index: 0 }),
+        Standing::Queue(_, _) | Standing::Cells(_) | Standing::Observation(_) => {
+            Some(Row { name, index: 0 })
+        }
         _ => None,
     }
 }

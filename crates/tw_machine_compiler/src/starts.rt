@@ -11,6 +11,7 @@ ghost use Rattle.tw_machine_declaration.specs.Names.{
 };
 
 use std::alloc::{AllocError, Global};
+use tw_machine::limits::OBSERVATION_CELLS;
 use tw_machine_declaration::{Constant, Given, Named, Thing, count_of, room_of, start_of};
 
 /// Appends what the cells of an array register have at the start.
@@ -43,6 +44,7 @@ fn push_cells(given: &Given, thing: &Thing, out: &mut Vec<i64>) -> Result<(), Al
     match thing {
         Thing::Register(start) => out.push(start_of(given, *start))?,
         Thing::RegisterArray(starts) => push_starts(given, starts, out)?,
+        Thing::Observation => out.extend_from_slice(&[0; OBSERVATION_CELLS])?,
         _ => {}
     }
     Ok(())

@@ -20,7 +20,7 @@ use crate::expressions::{expression, queue};
 use crate::making::{branch, repeated};
 use std::alloc::{AllocError, Global};
 use tw_machine::language::{Change, Expr, Position, Statement, Target, Which};
-use tw_machine_declaration::{Standing, standing_at, written_turns};
+use tw_machine_declaration::{Standing, observation_span, standing_at, written_turns};
 use tw_machine_text::{
     Arms, Block, MAX_TURNS, Operator, SourceChange, SourceExpr, SourceStatement, Verb,
 };
@@ -35,12 +35,13 @@ fn cell_named(standing: Standing) -> Target
     }
 }
 
-/// A cell of an array register.
+/// A cell of an array register, or of an observation.
 fn cell_indexed(standing: Standing, index: Expr) -> Target
     ensures { seen_target result ≡ cell_indexed standing (seen index) }
 {
     match standing {
         Standing::Cells(span) => Target::Indexed(span, index),
+        Standing::Observation(first) => Target::Indexed(observation_span(first), index),
         _ => Target::Single(u32::MAX),
     }
 }
@@ -91,7 +92,7 @@ fn put(
     }
 }
 
-/// Something is done to a queue.
+/// Something is done to a queue. No `observe` stands in what is read.
 fn acted(
     alloc: Global,
     standings: &[Standing],
@@ -116,6 +117,7 @@ fn acted(
             Ok(Statement::Take(queue, Which::Chosen(place)))
         }
         Verb::Put => put(alloc, standings, queue, operands),
+        Verb::Observe => Ok(Statement::Skip),
     }
 }
 

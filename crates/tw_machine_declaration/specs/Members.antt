@@ -1,5 +1,6 @@
 -- What the members of a machine cost: nodes, and computations.
 use Rattle.std.specs.Prelude.{ℕ, ◌+◌, ◌*◌, List, sum_by, Option, Some, None}
+use Rattle.tw_machine.specs.Limits.{observation_cells}
 use Rattle.tw_machine_text.specs.Tree.{Tree, Number, Name, Indexed, nodes, nodes_block}
 use Rattle.tw_machine_declaration.specs.Seen.{Declaration, Output, Value, whole, tree}
 use Rattle.tw_machine_declaration.specs.declared.names.Standing.{Standing}
@@ -51,10 +52,11 @@ sendings ss None = 1
 abbrev pub output_work : List Standing → Output → ℕ
 output_work ss o = sendings ss o.each * once_work ss o
 
--- a queue that is shown counts its room more, an array register its cells
+-- a queue that is shown counts its room more, an array register and an observation their cells
 abbrev pub shown_over : Standing → ℕ
 shown_over (s.Queue k room) = room
 shown_over (s.Cells span) = span.count
+shown_over (s.Observation k) = observation_cells
 shown_over _ = 0
 
 abbrev pub word_over : List Standing → Tree → ℕ

@@ -1,11 +1,12 @@
 -- What each name of a machine stands for, once the numbers of a component are put in.
 use Rattle.std.specs.Prelude.{ℕ, ◌+◌, ℤ, pos, min, List, [], ◌∷◌, ◌++◌, map, length, take, sum_by, flat_map, Option, Some, None, slice_get, slice_index_or, unwrap_or, replicate, if◌then◌else◌}
-use Rattle.tw_machine.specs.Limits.{cells_end, max_queues, max_room, numbers_end, queues_end}
+use Rattle.tw_machine.specs.Limits.{cells_end, max_queues, max_room, numbers_end, observation_cells, queues_end}
 use Rattle.tw_machine.specs.Values.{natural}
+use Rattle.tw_machine.specs.declared.language.Span.{Span}
 use Rattle.tw_machine_text.specs.Letters.{functions, same_text}
 use Rattle.tw_machine_declaration.specs.declared.declaration.Constant.{Constant}
 use Rattle.tw_machine_declaration.specs.declared.declaration.Constant.TheVariants as c
-use Rattle.tw_machine_declaration.specs.Seen.{Given, Name, Declares, parameter, list_parameter, register, registers, queue, queues, table, list_table}
+use Rattle.tw_machine_declaration.specs.Seen.{Given, Name, Declares, parameter, list_parameter, register, registers, queue, queues, table, list_table, observation}
 use Rattle.tw_machine_declaration.specs.declared.names.Places.{Places}
 use Rattle.tw_machine_declaration.specs.declared.names.Standing.{Standing}
 use Rattle.tw_machine_declaration.specs.declared.names.Standing.TheVariants as s
@@ -31,10 +32,11 @@ count_of given c = min (natural (start_of given c)) max_queues
 abbrev pub list_given : Given → ℕ → List ℤ
 list_given given k = slice_index_or given.lists k []
 
--- what the cells of a register have at the start
+-- what the cells of a register have at the start; those of an observation are how many, their sum, the sum of their squares
 abbrev pub cells : Given → Declares → List ℤ
 cells given (register c) = start_of given c ∷ []
 cells given (registers cs) = map (start_of given) cs
+cells given observation = pos 0 ∷ pos 0 ∷ pos 0 ∷ []
 cells given _ = []
 
 -- the rooms of the queues that a name declares
@@ -88,6 +90,11 @@ standing_of given at (queue c) = s.Queue at.queues (room_of given c)
 standing_of given at (queues n c) = s.Queues (record { first = at.queues; count = count_of given n }) (room_of given c)
 standing_of given at (table ns) = s.Table (record { first = at.numbers; count = min (length ns) numbers_end })
 standing_of given at (list_table k) = s.Table (record { first = list_place given k; count = min (length (list_given given k)) numbers_end })
+standing_of given at observation = s.Observation at.cells
+
+-- the cells of an observation, of which the first is at place k
+abbrev pub observation_span : ℕ → Span
+observation_span k = record { first = k; count = observation_cells }
 
 -- what the names that are declared stand for
 abbrev pub own_standings : Given → Places → List Declares → List Standing

@@ -22,6 +22,7 @@ pub data Declares : Type 0 where
   queues : (count room : Constant) → Declares
   table : (numbers : List ℤ) → Declares
   list_table : (place : ℕ) → Declares
+  observation : Declares
 
 abbrev pub thing : Thing → Declares
 thing (t.Parameter k) = parameter k
@@ -32,6 +33,7 @@ thing (t.Queue c) = queue c
 thing (t.QueueArray n c) = queues n c
 thing (t.Table ns) = table ns.items
 thing (t.ListTable k) = list_table k
+thing t.Observation = observation
 
 -- a name, and what is declared by it
 abbrev pub Name : Type 0

@@ -4,7 +4,7 @@ use Rattle.tw_machine.specs.declared.language.Measure.TheVariants.{Sum}
 use Rattle.tw_machine.specs.Values.{natural}
 use Rattle.tw_machine_text.specs.Limits.{max_turns}
 use Rattle.tw_machine_text.specs.declared.words.Verb.{Verb}
-use Rattle.tw_machine_text.specs.declared.words.Verb.TheVariants.{Push, Insert, Remove, Put}
+use Rattle.tw_machine_text.specs.declared.words.Verb.TheVariants.{Push, Insert, Remove, Put, Observe}
 use Rattle.tw_machine_text.specs.declared.words.Operator.TheVariants.{Comma}
 use Rattle.tw_machine_text.specs.Tree.{Tree, Number, Name, Known, Indexed, Call, RandomBelow, Group, Negate, Not, Binary, SourceStatement, Assign, Act, Pop, Draw, Wait, Passivate, If, IfElse, Repeat, Block, Empty, Then, Arms, One, More}
 use Rattle.tw_machine_declaration.specs.declared.functions.Function.{Function}
@@ -48,12 +48,13 @@ work ss (Not e) = 1 + work ss e
 work ss (Binary Comma a b) = work ss a + work ss b
 work ss (Binary op a b) = 1 + (work ss a + work ss b)
 
--- `insert`, `remove` and `put` move values
+-- `insert`, `remove` and `put` move values; no `observe` stands in what is read
 abbrev pub moved : Verb → ℕ → ℕ
 moved Push room = 0
 moved Insert room = room
 moved Remove room = room
 moved Put room = room
+moved Observe room = 0
 
 -- how many turns are counted: one where a parameter says it of which nothing is given
 abbrev pub counted_turns : Option ℤ → ℕ

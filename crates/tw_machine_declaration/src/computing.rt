@@ -18,7 +18,7 @@ ghost use Rattle.tw_machine_declaration.specs.Members.{
 use crate::declaration::{OutputText, Value};
 use crate::names::{Standing, standing_at};
 use crate::work::{queue_room, room_at, work};
-use tw_machine::limits::COMPUTATIONS_END;
+use tw_machine::limits::{COMPUTATIONS_END, OBSERVATION_CELLS};
 use tw_machine_text::SourceExpr;
 
 /// The computations of an expression in a member, at most 262,145.
@@ -111,6 +111,7 @@ fn shown_over(standing: Standing) -> usize
     match standing {
         Standing::Queue(_, room) => room as usize,
         Standing::Cells(span) => span.count as usize,
+        Standing::Observation(_) => OBSERVATION_CELLS,
         _ => 0,
     }
 }

@@ -29,6 +29,8 @@ pub enum Thing {
     Table(Vec<i64>),
     /// A table of the numbers of a list, at this place among the parameters that are lists.
     ListTable(usize),
+    /// An observation: three cells that its user does not see, 0 at the start.
+    Observation,
 }
 
 /// A name that a machine declares, and what is declared by it.
@@ -69,7 +71,7 @@ pub struct Declaration {
     pub internal: Block,
     pub external: Block,
     pub outputs: Vec<OutputText>,
-    /// Expressions, queues and array registers.
+    /// Expressions, queues, array registers and observations.
     pub words: Vec<Value>,
 }
 

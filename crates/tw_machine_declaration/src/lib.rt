@@ -26,7 +26,8 @@ pub use computing::{outputs_work, words_work};
 pub use declaration::{Constant, Declaration, Given, Named, OutputText, Thing, Value};
 pub use functions::{Function, Joining, function_of};
 pub use names::{
-    Standing, constant, count_of, list_given, room_of, standing_at, standings_of, start_of,
+    Standing, constant, count_of, list_given, observation_span, room_of, standing_at, standings_of,
+    start_of,
 };
 pub use nodes::all_nodes;
 pub use turns::written_turns;

@@ -24,13 +24,16 @@ ghost use Rattle.tw_machine_declaration.specs.Names.{
   texts,
   standings_of,
   standing_at,
+  observation_span,
 };
 ghost use Rattle.tw_machine_declaration.specs.declared.names.Standing.TheVariants.{Nothing};
 
 use crate::declaration::{Constant, Given, Named, Thing};
 use std::alloc::{AllocError, Global};
 use tw_machine::language::Span;
-use tw_machine::limits::{CELLS_END, MAX_QUEUES, MAX_ROOM, NUMBERS_END, QUEUES_END};
+use tw_machine::limits::{
+    CELLS_END, MAX_QUEUES, MAX_ROOM, NUMBERS_END, OBSERVATION_CELLS, QUEUES_END,
+};
 use tw_machine_text::{FUNCTIONS, same_text};
 
 /// What a name stands for.
@@ -52,6 +55,8 @@ pub enum Standing {
     Queues(Span, u16),
     /// Numbers of the tables.
     Table(Span),
+    /// The three cells of an observation, from this place on.
+    Observation(u32),
 }
 
 /// How many cells, queues and numbers of tables are taken by the names before.
@@ -105,6 +110,16 @@ pub fn list_given(given: &Given, place: usize) -> &[i64]
     }
 }
 
+/// The cells of an observation, of which the first is at this place.
+pub fn observation_span(first: u32) -> Span
+    ensures { result ≡ observation_span first }
+{
+    Span {
+        first,
+        count: OBSERVATION_CELLS as u32,
+    }
+}
+
 /// What the name of this number stands for.
 pub fn standing_at(standings: &[Standing], name: usize) -> Standing
     ensures { result ≡ standing_at standings.now name }
@@ -112,7 +127,7 @@ pub fn standing_at(standings: &[Standing], name: usize) -> Standing
     standings.get(name).copied().unwrap_or(Standing::Nothing)
 }
 
-/// How many cells a name takes, at most 65.
+/// How many cells a name takes, at most 257.
 fn cell_count(given: &Given, thing: &Thing) -> u32
     ensures value { result
         ≡ min (length (cells (plain.given given.now) (plain.thing thing.now))) cells_end }
@@ -122,6 +137,7 @@ fn cell_count(given: &Given, thing: &Thing) -> u32
     match thing {
         Thing::Register(_) => 1,
         Thing::RegisterArray(starts) => starts.len().min(CELLS_END) as u32,
+        Thing::Observation => OBSERVATION_CELLS as u32,
         _ => 0,
     }
 }
@@ -248,6 +264,7 @@ fn standing_of(given: &Given, at: Places, thing: &Thing) -> Standing
             first: list_place(given, *place),
             count: list_count(given, *place),
         }),
+        Thing::Observation => Standing::Observation(at.cells),
     }
 }
 

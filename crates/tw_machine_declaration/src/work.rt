@@ -91,7 +91,7 @@ fn moved(verb: Verb, room: usize) -> usize
     ensures small { result ≤ room }
 {
     match verb {
-        Verb::Push => 0,
+        Verb::Push | Verb::Observe => 0,
         Verb::Insert | Verb::Remove | Verb::Put => room,
     }
 }

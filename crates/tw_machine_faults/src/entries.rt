@@ -1,9 +1,11 @@
-//! What is wrong with the parameters, registers, queues and tables of a machine.
+//! What is wrong with the parameters, registers, queues, tables and observations of a machine.
 
-use crate::names::{bad_name, bad_parameter, is_list, is_parameter, parameters_of};
+use crate::names::{
+    bad_name, bad_parameter, is_list, is_parameter, observations_of, parameters_of,
+};
 use serde_json::Value;
 use std::alloc::{AllocError, Global};
-use tw_machine::limits::{MAX_CELLS, MAX_NUMBERS, MAX_QUEUES, MAX_ROOM};
+use tw_machine::limits::{MAX_CELLS, MAX_NUMBERS, MAX_OBSERVATIONS, MAX_QUEUES, MAX_ROOM};
 use tw_machine_text_faults::{Nearest, described, quoted};
 
 /// What a whole number with a sign is.
@@ -32,6 +34,34 @@ pub(crate) fn parameters_fault(
         }
         if first_text(names, text) < i {
             return Ok(Some(format!(in alloc; "parameters[{i}]: {found} stood before")?));
+        }
+    }
+    Ok(None)
+}
+
+/// The first fault of the observations.
+pub(crate) fn observations_fault(
+    alloc: Global,
+    machine: &Value,
+) -> Result<Option<String>, AllocError> {
+    let names = observations_of(machine);
+    let count = names.len();
+    if count > MAX_OBSERVATIONS {
+        let line = format!(in alloc;
+            "observations has {count} entries, at most {MAX_OBSERVATIONS}"
+        )?;
+        return Ok(Some(line));
+    }
+    for (i, name) in names.iter().enumerate() {
+        let found = described(alloc, name)?;
+        let Some(text) = name.as_str() else {
+            return Ok(Some(format!(in alloc; "observations[{i}] is {found}, not a text")?));
+        };
+        if let Some(reason) = name_fault(alloc, machine, "observations", text)? {
+            return Ok(Some(format!(in alloc; "observations[{i}]: {reason}")?));
+        }
+        if first_text(names, text) < i {
+            return Ok(Some(format!(in alloc; "observations[{i}]: {found} stood before")?));
         }
     }
     Ok(None)

@@ -1,6 +1,8 @@
 //! The machines of a file: the first fault of `models`.
 
-use crate::entries::{not_constant, out_of_range, parameters_fault, section_fault};
+use crate::entries::{
+    not_constant, observations_fault, out_of_range, parameters_fault, section_fault,
+};
 use crate::limits::{limit_fault, own_numbers};
 use crate::members::{entry_fault, member_text, word_again};
 use crate::names::{declared_in, is_list, parameter_names};
@@ -18,12 +20,13 @@ use tw_models::is_kind_name;
 use tw_vtime::MAX_TICK;
 
 /// The members of a machine.
-const MEMBERS: [&str; 12] = [
+const MEMBERS: [&str; 13] = [
     "name",
     "parameters",
     "registers",
     "queues",
     "tables",
+    "observations",
     "random",
     "first",
     "longest",
@@ -206,6 +209,10 @@ fn wrong(
         Part::Registers => section_fault(alloc, model, "registers")?,
         Part::Queues => section_fault(alloc, model, "queues")?,
         Part::Tables => section_fault(alloc, model, "tables")?,
+        Part::Observations => match other_type(alloc, model, "observations", "a list")? {
+            Some(line) => Some(line),
+            None => observations_fault(alloc, model)?,
+        },
         Part::Random => constant_fault(alloc, model, "random", None)?,
         Part::First => constant_fault(alloc, model, "first", None)?,
         Part::Longest => constant_fault(alloc, model, "longest", Some(MAX_TICK as i64))?,

@@ -2,6 +2,7 @@
 
 use serde_json::Value;
 use std::alloc::{AllocError, Global};
+use tw_file_members::items_in;
 use tw_machine_text::{Declared, Kind, MAX_NAME, is_reserved};
 use tw_machine_text_faults::quoted;
 
@@ -45,6 +46,11 @@ pub(crate) fn declared_in(alloc: Global, machine: &Value) -> Result<Vec<Declared
         Kind::Table,
         Kind::Table,
     )?;
+    for name in observations_of(machine) {
+        if let Some(name) = name.as_str() {
+            add(alloc, &mut declared, name, Kind::Observation)?;
+        }
+    }
     Ok(declared)
 }
 
@@ -79,10 +85,12 @@ fn add(
 
 /// The parameters of a machine, as they are written.
 pub(crate) fn parameters_of<'a>(machine: &'a Value) -> &'a [Value] {
-    match machine.get("parameters").and_then(Value::as_array) {
-        Some(items) => items.as_slice(),
-        None => &[],
-    }
+    items_in(machine, "parameters")
+}
+
+/// The observations of a machine, as they are written.
+pub(crate) fn observations_of<'a>(machine: &'a Value) -> &'a [Value] {
+    items_in(machine, "observations")
 }
 
 /// The names of a machine's parameters, in order.

@@ -7,16 +7,17 @@ use Rattle.tw_machine_text.specs.declared.kinds.Kind.{Kind}
 use Rattle.tw_machine_text.specs.declared.kinds.Member.{Member}
 use Rattle.tw_machine_text.specs.declared.words.Word.{Word}
 use Rattle.tw_machine_text.specs.declared.words.Word.TheVariants.{Wait}
+use Rattle.tw_machine_text.specs.Desugared.{desugared_block, limited}
 use Rattle.tw_machine_text.specs.Kinds.{bound_block, bound_as, waited}
 use Rattle.tw_machine_text.specs.Machine.{program_of, weigh}
 use Rattle.tw_machine_text.specs.Text.{words_of, Reads, ReadsTree}
 use Rattle.tw_machine_text.specs.Tree.{Block, Tree, Empty, Then, Means}
 use Rattle.tw_machine_text.specs.Tree as t
-use Rattle.tw_machine_text.proofs.Readings.{read_words, read_tree, tree_means}
-use Rattle.tw_machine_text.proofs.Scanned.{words_again}
+use Rattle.tw_machine_text.proofs.Readings.{within, read_tree, tree_means}
+use Rattle.tw_machine_text.proofs.Scanned.{words_again, words_sound}
 use Rattle.tw_machine_text.proofs.Statements.{again_means}
 use Rattle.tw_machine_text.proofs.Told.{sound, light}
-use Rattle.tw_machine_file.specs.Said.{spelled_program, bound_program, bound_tree, program_said, tree_said}
+use Rattle.tw_machine_file.specs.Said.{spelled_program, bound_program, core_program, bound_tree, program_said, tree_said}
 
 -- ---- options
 
@@ -50,18 +51,29 @@ means_spelled many ws p h = rw (le-leb (weigh false ws) many (light 64 many ws p
 pub program_reads : (names : List (List ℕ)) (kinds : List Kind) (text : List ℕ) (p : Block) → program_said names kinds text ≡ Some p → Reads 64 4096 names kinds text p
 unfolding program_said
 program_reads names kinds text p h =
-    let bound = from_some (bound_program kinds) (option_and_then (spelled_program 4096) (words_of names text)) p h in
-    let through = let_through (bound_block kinds bound.0) bound.0 p bound.2 in
+    let core = from_some core_program (option_and_then (bound_program kinds) (option_and_then (spelled_program 4096) (words_of names text))) p h in
+    let bound = from_some (bound_program kinds) (option_and_then (spelled_program 4096) (words_of names text)) core.0 core.1 in
+    let through = let_through (bound_block kinds bound.0) bound.0 core.0 bound.2 in
     let spelled = from_some (spelled_program 4096) (words_of names text) bound.0 bound.1 in
-    subst (λ (q : Block). Reads 64 4096 names kinds text q) through.1
-    (read_words names kinds text 64 4096 spelled.0 bound.0 spelled.1 (spelled_means 4096 spelled.0 bound.0 spelled.2) through.0)
+    let limits = within 64 4096 (desugared_block core.0) p core.2 in
+    record {
+      words = spelled.0;
+      has = words_sound names text spelled.0 spelled.1;
+      written = core.0;
+      means = subst (Means 64 4096 spelled.0) through.1 (spelled_means 4096 spelled.0 bound.0 spelled.2);
+      bound = subst (λ (q : Block). bound_block kinds q ≡ true) through.1 through.0;
+      comes = limits.0;
+      limits = limits.1;
+    }
 
 pub reads_program : (names : List (List ℕ)) (kinds : List Kind) (text : List ℕ) (p : Block) → Reads 64 4096 names kinds text p → program_said names kinds text ≡ Some p
 unfolding program_said
 reads_program names kinds text p h =
-    ap (λ (o : Option (List Word)). option_and_then (bound_program kinds) (option_and_then (spelled_program 4096) o)) (words_again names h.words text h.has)
-    ∙ ap (option_and_then (bound_program kinds)) (means_spelled 4096 h.words p h.means)
-    ∙ ap (λ (b : Bool). if b then Some p else None) h.bound
+    ap (λ (o : Option (List Word)). option_and_then core_program (option_and_then (bound_program kinds) (option_and_then (spelled_program 4096) o))) (words_again names h.words text h.has)
+    ∙ ap (λ (o : Option Block). option_and_then core_program (option_and_then (bound_program kinds) o)) (means_spelled 4096 h.words h.written h.means)
+    ∙ ap (λ (b : Bool). option_and_then core_program (if b then Some h.written else None)) h.bound
+    ∙ ap (limited 64 4096) h.comes
+    ∙ ap (λ (b : Bool). if b then Some p else None) h.limits
 
 -- ---- expressions
 

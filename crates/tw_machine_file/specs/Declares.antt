@@ -1,16 +1,16 @@
--- What a machine declares: its parameters, and the members `registers`, `queues` and `tables`, whose members are names.
-use Rattle.std.specs.Prelude.{◌++◌, ◌∷◌, [], ◌==◌, ◌||◌, ℕ, List, Bool, true, false, Option, Some, None, Result, Ok, Err, codes, length, map, option_and_then, option_map, if◌then◌else◌}
+-- What a machine declares: its parameters, the members `registers`, `queues` and `tables`, whose members are names, and its observations.
+use Rattle.std.specs.Prelude.{◌++◌, ◌∷◌, [], ◌==◌, ◌||◌, ℕ, List, Bool, true, false, Option, Some, None, Result, Ok, Err, codes, length, map, nat_le, option_and_then, option_map, if◌then◌else◌}
 use Rattle.std.specs.Option.{option_map_or}
 use Rattle.serde_json.specs.Data.{Data, Items, no_items, item, Members, no_members, member}
 use Rattle.serde_json.specs.Find.{get, as_array, as_object, as_str, at}
 use Rattle.serde_json.specs.Events.{items_len}
-use Rattle.tw_machine.specs.Limits.{max_cells, max_numbers, max_queues, max_room}
+use Rattle.tw_machine.specs.Limits.{max_cells, max_numbers, max_observations, max_queues, max_room}
 use Rattle.tw_machine_text.specs.Letters.{same_text}
 use Rattle.tw_machine_text.specs.Text.{position}
-use Rattle.tw_machine_declaration.specs.Seen.{Declares, Name, parameter, list_parameter, register, registers, queue, queues, table, list_table}
+use Rattle.tw_machine_declaration.specs.Seen.{Declares, Name, parameter, list_parameter, register, registers, queue, queues, table, list_table, observation}
 use Rattle.tw_machine_declaration.specs.declared.declaration.Constant.{Constant}
 use Rattle.tw_machine_file.specs.Constants.{constant, constants, count, wholes}
-use Rattle.tw_machine_file.specs.Fault.{Fault, wrong, once, made, expected}
+use Rattle.tw_machine_file.specs.Fault.{Fault, wrong, once, made, expected, provided}
 use Rattle.tw_machine_file.specs.Names.{is_among, is_name, is_own_name}
 use Rattle.tw_machine_file.specs.Seen.{Scope}
 use Rattle.tw_machine_file.specs.Values.{is_long}
@@ -118,12 +118,34 @@ abbrev pub parameters_in : Option Data → Option Data → Result Scope Fault
 parameters_in tables None = Ok nothing_declared
 parameters_in tables (Some d) = once (expected part.Parameters why.Shape (as_array d)) (parameters_of tables nothing_declared)
 
+-- ---- observations
+
+abbrev pub observation_named : Scope → List ℕ → Result Scope Fault
+observation_named s name = made (λ name. with_name s (name, observation)) (new_name part.Observations (is_name name) s.names name)
+
+abbrev pub observation_of : Scope → Data → Result Scope Fault
+observation_of s d = once (expected part.Observations why.Shape (as_str d)) (observation_named s)
+
+abbrev pub observations_of : Scope → Items → Result Scope Fault
+observations_of s no_items = Ok s
+observations_of s (item d ds) = once (observation_of s d) (λ next. observations_of next ds)
+
+-- an array of at most 16 names
+abbrev pub few_observations : Data → Result Items Fault
+few_observations d = once (expected part.Observations why.Shape (as_array d)) (λ items. provided (nat_le (items_len items) max_observations) (wrong part.Observations why.Count) items)
+
+-- the member `observations`, if there is one
+abbrev pub observations_in : Scope → Option Data → Result Scope Fault
+observations_in s None = Ok s
+observations_in s (Some d) = once (few_observations d) (observations_of s)
+
 -- ---- all names
 
--- parameters, registers, queues and tables, in this order
+-- parameters, registers, queues, tables and observations, in this order
 abbrev pub scope_of : Data → Result Scope Fault
 scope_of d =
     once (parameters_in (get (codes "tables") d) (get (codes "parameters") d)) (λ s.
     once (declared_in section.Registers s (get (codes "registers") d)) (λ s.
     once (declared_in section.Queues s (get (codes "queues") d)) (λ s.
-    declared_in section.Tables s (get (codes "tables") d))))
+    once (declared_in section.Tables s (get (codes "tables") d)) (λ s.
+    observations_in s (get (codes "observations") d)))))

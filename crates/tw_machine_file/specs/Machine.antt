@@ -32,7 +32,7 @@ name_of before d = once (expected part.Name why.Missing d) (λ d. once (expected
 
 abbrev pub machine_members : List (List ℕ)
 machine_members =
-    codes "name" ∷ codes "parameters" ∷ codes "registers" ∷ codes "queues" ∷ codes "tables" ∷ codes "random" ∷ codes "first" ∷ codes "longest" ∷ codes "internal"
+    codes "name" ∷ codes "parameters" ∷ codes "registers" ∷ codes "queues" ∷ codes "tables" ∷ codes "observations" ∷ codes "random" ∷ codes "first" ∷ codes "longest" ∷ codes "internal"
     ∷ codes "external" ∷ codes "output" ∷ codes "words" ∷ []
 
 -- an object with a name, and with no member that no machine has

@@ -5,6 +5,7 @@ use Rattle.tw_machine_text.specs.declared.kinds.Kind.{Kind}
 use Rattle.tw_machine_text.specs.declared.kinds.Member.{Member}
 use Rattle.tw_machine_text.specs.declared.words.Word.{Word}
 use Rattle.tw_machine_text.specs.declared.words.Word.TheVariants.{Wait}
+use Rattle.tw_machine_text.specs.Desugared.{desugared_block, limited}
 use Rattle.tw_machine_text.specs.Kinds.{bound_block, bound_as, waited}
 use Rattle.tw_machine_text.specs.Machine.{program_of, weigh}
 use Rattle.tw_machine_text.specs.Text.{words_of, Reads, ReadsTree}
@@ -21,9 +22,14 @@ bound_program kinds p = if bound_block kinds p then Some p else None
 abbrev pub bound_tree : Member → List Kind → Tree → Option Tree
 bound_tree member kinds e = if bound_as member kinds e then Some e else None
 
+-- which comes to this in the core of the language
+abbrev pub core_program : Block → Option Block
+core_program p = limited max_levels max_nodes (desugared_block p)
+
 -- the program of a text, by the names that are declared and what each name stands for
 unfoldable pub program_said : List (List ℕ) → List Kind → List ℕ → Option Block
-program_said names kinds text = option_and_then (bound_program kinds) (option_and_then (spelled_program max_nodes) (words_of names text))
+program_said names kinds text =
+    option_and_then core_program (option_and_then (bound_program kinds) (option_and_then (spelled_program max_nodes) (words_of names text)))
 
 -- the expression of a text, which is that of the program that waits for it
 unfoldable pub tree_said : Member → List (List ℕ) → List Kind → List ℕ → Option Tree

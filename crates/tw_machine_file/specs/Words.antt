@@ -25,12 +25,12 @@ is_same_tree (Name a) (Name b) = a == b
 is_same_tree (Indexed a i) (Indexed b j) = a == b && is_same_number i j
 is_same_tree _ _ = false
 
--- whether a queue or an array register is that of another word
+-- whether a queue, an array register or an observation is that of another word
 abbrev pub is_again : List Kind → Value → Value → Bool
 is_again kinds (tree a) (tree b) = is_shown kinds a && is_same_tree a b
 is_again kinds _ _ = false
 
--- a word that shows no queue and no array register again
+-- a word that shows no queue, no array register and no observation again
 abbrev pub word_of : Language → ℕ → List Value → Data → Result Value Fault
 word_of l i before d =
     once (value_in l (part.Word i) member.Shown d) (λ v. provided (not (list_any (is_again l.kinds v) before)) (wrong (part.Word i) why.Twice) v)

@@ -1,21 +1,21 @@
-//! What a machine declares: parameters, registers, queues and tables.
+//! What a machine declares: parameters, registers, queues, tables and observations.
 ghost use Rattle.std.specs.Prelude.{◌≡◌, [], IfOk, map, option_and_then};
 ghost use Rattle.serde_json.specs.Find.{as_array, as_str, at};
 ghost use Rattle.serde_json.specs.View.{view, items_view, members_view};
 ghost use Rattle.tw_machine_text.specs.Text.{position};
 ghost use Rattle.tw_machine_declaration.specs.Seen.{name, thing};
 ghost use Rattle.tw_machine_file.specs.Answers.{Gives, FailsBy, data_of, names_in};
-ghost use Rattle.tw_machine_file.specs.Declares.{declare, declare_all, declared_in, is_list, is_text, names_list, new_name, nothing_declared, parameter_named, parameter_of, parameters_in, parameters_of, part_of, queue_by, queue_part, register_by, scope_of, table_by, texts, thing_of, with_parameter};
+ghost use Rattle.tw_machine_file.specs.Declares.{declare, declare_all, declared_in, is_list, is_text, names_list, new_name, nothing_declared, few_observations, observation_named, observation_of, observations_in, observations_of, parameter_named, parameter_of, parameters_in, parameters_of, part_of, queue_by, queue_part, register_by, scope_of, table_by, texts, thing_of, with_parameter};
 ghost use Rattle.tw_machine_file.specs.Names.{is_among};
 ghost use Rattle.tw_machine_file.specs.Seen.{scope};
 
 use crate::constants::{constant, constants, count, wholes};
 use crate::fault::{MachineFault, Part, Why};
 use crate::names::{is_name, is_own_name, place_in};
-use crate::values::{has_items, is_long, items_of};
+use crate::values::{are_few, has_items, is_long, items_of};
 use serde_json::{Map, Value};
 use std::alloc::{AllocError, Global};
-use tw_machine::limits::{MAX_CELLS, MAX_NUMBERS, MAX_QUEUES, MAX_ROOM};
+use tw_machine::limits::{MAX_CELLS, MAX_NUMBERS, MAX_OBSERVATIONS, MAX_QUEUES, MAX_ROOM};
 use tw_machine_compiler::{Constant, Named, Thing};
 use tw_machine_text::same_text;
 
@@ -350,7 +350,73 @@ fn parameters_in(
     parameters_of(alloc, tables, values)
 }
 
-/// All names of a machine, in this order: its parameters, registers, queues and tables.
+/// One observation more.
+fn observation_named(alloc: Global, so_far: Scope, text: &str) -> Result<Scope, MachineFault>
+    ensures ok { Gives result scope (observation_named (scope so_far) text.now) }
+    ensures err { FailsBy result (observation_named (scope so_far) text.now) }
+{
+    let mut so_far = so_far;
+    let may = is_name(text.as_bytes());
+    new_name(Part::Observations, may, so_far.names.as_slice(), text)?;
+    let name = String::from_str(alloc, text)?;
+    so_far.names.push(Named {
+        name,
+        thing: Thing::Observation,
+    })?;
+    Ok(so_far)
+}
+
+fn observation_of(alloc: Global, so_far: Scope, value: &Value) -> Result<Scope, MachineFault>
+    ensures ok { Gives result scope (observation_of (scope so_far) (view value.now)) }
+    ensures err { FailsBy result (observation_of (scope so_far) (view value.now)) }
+{
+    match value.as_str() {
+        Some(text) => observation_named(alloc, so_far, text),
+        None => Err(MachineFault::Wrong(Part::Observations, Why::Shape)),
+    }
+}
+
+fn observations_of(alloc: Global, so_far: Scope, values: &[Value]) -> Result<Scope, MachineFault>
+    ensures ok { Gives result scope (observations_of (scope so_far) (items_view values.now)) }
+    ensures err { FailsBy result (observations_of (scope so_far) (items_view values.now)) }
+{
+    let mut all = so_far;
+    for value in values {
+        all = observation_of(alloc, all, value)?;
+    }
+    Ok(all)
+}
+
+/// An array of at most 16.
+fn few_observations(value: &Value) -> Result<&[Value], MachineFault>
+    ensures ok { Gives result (λ vs. items_view vs.now) (few_observations (view value.now)) }
+    ensures err { FailsBy result (few_observations (view value.now)) }
+{
+    let Some(values) = items_of(value) else {
+        return Err(MachineFault::Wrong(Part::Observations, Why::Shape));
+    };
+    if !are_few(MAX_OBSERVATIONS, values) {
+        return Err(MachineFault::Wrong(Part::Observations, Why::Count));
+    }
+    Ok(values)
+}
+
+fn observations_in(
+    alloc: Global,
+    so_far: Scope,
+    member: Option<&Value>,
+) -> Result<Scope, MachineFault>
+    ensures ok { Gives result scope (observations_in (scope so_far) (data_of member.entry)) }
+    ensures err { FailsBy result (observations_in (scope so_far) (data_of member.entry)) }
+{
+    let Some(value) = member else {
+        return Ok(so_far);
+    };
+    let values = few_observations(value)?;
+    observations_of(alloc, so_far, values)
+}
+
+/// All names of a machine, in this order: its parameters, registers, queues, tables and observations.
 pub(crate) fn scope_of(alloc: Global, value: &Value) -> Result<Scope, MachineFault>
     ensures ok { Gives result scope (scope_of (view value.now)) }
     ensures err { FailsBy result (scope_of (view value.now)) }
@@ -359,5 +425,6 @@ pub(crate) fn scope_of(alloc: Global, value: &Value) -> Result<Scope, MachineFau
     let all = parameters_in(alloc, tables, value.get("parameters"))?;
     let all = declared_in(alloc, Section::Registers, all, value.get("registers"))?;
     let all = declared_in(alloc, Section::Queues, all, value.get("queues"))?;
-    declared_in(alloc, Section::Tables, all, tables)
+    let all = declared_in(alloc, Section::Tables, all, tables)?;
+    observations_in(alloc, all, value.get("observations"))
 }

@@ -18,6 +18,7 @@ pub enum Part {
     Registers,
     Queues,
     Tables,
+    Observations,
     Random,
     First,
     Longest,
@@ -58,7 +59,7 @@ pub enum Why {
     Shape,
     /// A name that may not be one.
     Name,
-    /// A name, a queue or an array register that has come before.
+    /// A name, a queue, an array register or an observation that has come before.
     Twice,
     /// Neither a whole number of 64 bits with a sign nor the name of a parameter that is a number; of a table, the name
     /// of no parameter.

@@ -59,12 +59,13 @@ pub(crate) struct Texts {
 }
 
 /// The members of a machine.
-const MEMBERS: [&[u8]; 12] = [
+const MEMBERS: [&[u8]; 13] = [
     b"name",
     b"parameters",
     b"registers",
     b"queues",
     b"tables",
+    b"observations",
     b"random",
     b"first",
     b"longest",
@@ -200,8 +201,8 @@ fn texts_in(alloc: Global, all: &Scope, value: &Value) -> Result<Texts, MachineF
 /// The machine that an object of `models` declares, behind machines of these names.
 ///
 /// The first fault in the order of its members is answered ([`MachineFault`], refusal 21): the value is no object; its
-/// name, which none before has; a member that no machine has; then parameters, registers, queues, tables, random,
-/// first, longest, internal, external, output (of an entry its members, then port, value, when, each) and words. In
+/// name, which none before has; a member that no machine has; then parameters, registers, queues, tables, observations,
+/// random, first, longest, internal, external, output (of an entry its members, then port, value, when, each) and words. In
 /// registers, queues and tables the order is that of the value's names, and of each its name comes before what it
 /// declares. Want of memory (4) may come at any point instead. After any of them nothing is left. What hangs on the
 /// numbers of a component, and the limits of the whole machine, is not looked at; a text has at most 4,096 nodes and 64

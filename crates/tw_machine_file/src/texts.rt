@@ -42,6 +42,7 @@ fn kind_of(declared: &Thing) -> Kind
         Thing::QueueArray(..) => Kind::QueueArray,
         Thing::Table(_) => Kind::Table,
         Thing::ListTable(_) => Kind::Table,
+        Thing::Observation => Kind::Observation,
     }
 }
 

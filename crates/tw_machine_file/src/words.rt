@@ -55,7 +55,7 @@ fn is_same_tree(a: &SourceExpr, b: &SourceExpr) -> bool
     }
 }
 
-/// Whether a queue or an array register is that of another word.
+/// Whether a queue, an array register or an observation is that of another word.
 fn is_again(kinds: &[Kind], a: &Said, b: &Said) -> bool
     ensures { result ≡ is_again kinds.now (value a.now) (value b.now) }
 {

@@ -1,13 +1,18 @@
 -- What is read of a text.
-use Rattle.std.proofs.Common.{◌≡◌, ℕ, Bool, true, false, List, [], ◌∷◌, ◌+◌, ◌≤◌, Some, None, Option, refl, sym, ◌∙◌, subst, ap, arith}
+use Rattle.std.proofs.Common.{◌≡◌, ℕ, Bool, true, false, cond, List, [], ◌∷◌, ◌+◌, ◌≤◌, Some, None, Option, Result, Ok, Err, refl, sym, ◌∙◌, subst, ap, arith}
+use Rattle.std.specs.Prelude.{IfOk}
 use Rattle.std.proofs.lemmas.Option.{same_Some}
 use Rattle.tw_machine_text.specs.declared.words.Word.{Word}
 use Rattle.tw_machine_text.specs.declared.words.Word.TheVariants as word
 use Rattle.tw_machine_text.specs.declared.kinds.Kind.{Kind}
 use Rattle.tw_machine_text.specs.declared.kinds.Member.{Member}
 use Rattle.tw_machine_text.specs.Kinds.{bound_block, bound_as, waited}
+use Rattle.tw_machine_text.specs.Desugared.{desugared_block, is_within, limited}
 use Rattle.tw_machine_text.specs.Tree.{Tree, Block, Empty, Then, Wait, Means, spelled, IsAlone, deep, nodes}
 use Rattle.tw_machine_text.specs.Text.{HasWords, Reads, ReadsTree, words_of, Lexed}
+use Rattle.tw_machine_text.specs.declared.refused.Refused.{Refused}
+use Rattle.tw_machine_text.specs.declared.tree.Block as rust
+use Rattle.tw_machine_text.specs.Views.{body, Tells}
 use Rattle.tw_machine_text.proofs.Scanned.{words_sound, words_again}
 use Rattle.tw_machine_text.proofs.Statements.{one_program}
 
@@ -17,17 +22,36 @@ one_words names text v w h k = same_Some v w (sym (words_again names v text h) �
 
 pub one_text : (names : List (List ℕ)) (kinds : List Kind) (text : List ℕ) (m n i j : ℕ) (a b : Block) → Reads m i names kinds text a → Reads n j names kinds text b → a ≡ b
 one_text names kinds text m n i j a b h k =
-    one_program k.words m n i j a b
-    (subst (λ (ws : List Word). Means m i ws a) (one_words names text h.words k.words h.has k.has) h.means)
-    k.means
+    sym h.comes
+    ∙ ap desugared_block (one_program k.words m n i j h.written k.written
+    (subst (λ (ws : List Word). Means m i ws h.written) (one_words names text h.words k.words h.has k.has) h.means)
+    k.means)
+    ∙ k.comes
 
 -- a text that is read has the words that the machine finds
-pub means_words : (names : List (List ℕ)) (kinds : List Kind) (text : List ℕ) (most many : ℕ) (ws : List Word) (program : Block) → words_of names text ≡ Some ws → Reads most many names kinds text program → Means most many ws program
+means_words : (names : List (List ℕ)) (kinds : List Kind) (text : List ℕ) (most many : ℕ) (ws : List Word) (program : Block) → words_of names text ≡ Some ws → (h : Reads most many names kinds text program) → Means most many ws h.written
 means_words names kinds text most many ws program e h =
-    subst (λ (vs : List Word). Means most many vs program) (one_words names text h.words ws h.has (words_sound names text ws e)) h.means
+    subst (λ (vs : List Word). Means most many vs h.written) (one_words names text h.words ws h.has (words_sound names text ws e)) h.means
 
-pub read_words : (names : List (List ℕ)) (kinds : List Kind) (text : List ℕ) (most many : ℕ) (ws : List Word) (program : Block) → words_of names text ≡ Some ws → Means most many ws program → bound_block kinds program ≡ true → Reads most many names kinds text program
-read_words names kinds text most many ws program e h b = record { words = ws; has = words_sound names text ws e; means = h; bound = b }
+within_if : (b : Bool) (most many : ℕ) (p program : Block) → is_within most many p ≡ b → cond b (Some p) None ≡ Some program → (p ≡ program) × (is_within most many program ≡ true)
+within_if true most many p program e h = (same_Some p program h, subst (λ (q : Block). is_within most many q ≡ true) (same_Some p program h) e)
+within_if false most many p program e h = absurd (cc)
+
+-- what is desugared is within the limits
+pub within : (most many : ℕ) (p program : Block) → limited most many p ≡ Some program → (p ≡ program) × (is_within most many program ≡ true)
+within most many p program h = within_if (is_within most many p) most many p program refl h
+
+-- what is read of a written program is what the text says
+pub read_words : (names : List (List ℕ)) (kinds : List Kind) (text : List ℕ) (most many : ℕ) (ws : List Word) (written : Block) (r : Result rust.Block Refused) → words_of names text ≡ Some ws → Means most many ws written → bound_block kinds written ≡ true → Tells body r (limited most many (desugared_block written)) → IfOk r (λ program. Reads most many names kinds text (body program))
+read_words names kinds text most many ws written (Ok program) e h b l =
+    let p = within most many (desugared_block written) (body program) l in
+    record { words = ws; has = words_sound names text ws e; written = written; means = h; bound = b; comes = p.0; limits = p.1 }
+read_words names kinds text most many ws written (Err fault) e h b l = tt
+
+-- and all that the text says is read
+pub read_only : (names : List (List ℕ)) (kinds : List Kind) (text : List ℕ) (most many : ℕ) (program written : Block) (r : Result rust.Block Refused) → (h : Reads most many names kinds text program) → h.written ≡ written → Tells body r (limited most many (desugared_block written)) → Tells body r (Some program)
+read_only names kinds text most many program written r h e l =
+    subst (Tells body r) (ap (λ (w : Block). limited most many (desugared_block w)) (sym e) ∙ ap (limited most many) h.comes ∙ ap (λ z. cond z (Some program) None) h.limits) l
 
 pub none_some_words : {A : Type 0} {x : A} {o : Option A} → o ≡ None → o ≡ Some x → ⊥
 none_some_words e f = cc
@@ -36,7 +60,7 @@ pub no_words : (names : List (List ℕ)) (kinds : List Kind) (text : List ℕ) (
 no_words names kinds text most many program e h = none_some_words e (words_again names h.words text h.has)
 
 -- a text that is read has all its words
-pub complete_words : (names : List (List ℕ)) (kinds : List Kind) (text : List ℕ) (most many : ℕ) (complete : Bool) (ws : List Word) (program : Block) → Lexed complete ws (words_of names text) → Reads most many names kinds text program → (complete ≡ true) × Means most many ws program
+pub complete_words : (names : List (List ℕ)) (kinds : List Kind) (text : List ℕ) (most many : ℕ) (complete : Bool) (ws : List Word) (program : Block) → Lexed complete ws (words_of names text) → (h : Reads most many names kinds text program) → (complete ≡ true) × Means most many ws h.written
 complete_words names kinds text most many true ws program e h = (refl, means_words names kinds text most many ws program e h)
 complete_words names kinds text most many false ws program e h = absurd (no_words names kinds text most many program e h)
 
@@ -44,11 +68,17 @@ pub all_words : (names : List (List ℕ)) (text : List ℕ) (complete : Bool) (w
 all_words names text true ws t e = e
 all_words names text false ws t e = absurd (cc)
 
--- a text that is a program has all its words, and each name of what its words are stands where it may
-pub stands : (names : List (List ℕ)) (kinds : List Kind) (text : List ℕ) (most many : ℕ) (complete : Bool) (ws : List Word) (program found : Block) → Lexed complete ws (words_of names text) → (Means most many ws program → ◌≡◌ {A = Option Block} (Some program) (Some found)) → Reads most many names kinds text program → (complete ≡ true) × (bound_block kinds found ≡ true)
-stands names kinds text most many complete ws program found e only h =
+-- a text that is a program has all its words, these are what is written, and each name of it stands where it may
+pub record Stands (complete : Bool) (kinds : List Kind) (written found : Block) : Type 0 where
+  pub whole : complete ≡ true
+  pub same : written ≡ found
+  pub bound : bound_block kinds found ≡ true
+
+pub stands : (names : List (List ℕ)) (kinds : List Kind) (text : List ℕ) (most many : ℕ) (complete : Bool) (ws : List Word) (program found : Block) → Lexed complete ws (words_of names text) → (h : Reads most many names kinds text program) → (Means most many ws h.written → ◌≡◌ {A = Option Block} (Some h.written) (Some found)) → Stands complete kinds h.written found
+stands names kinds text most many complete ws program found e h only =
     let k = complete_words names kinds text most many complete ws program e h in
-    (k.0, subst (λ (b : Block). bound_block kinds b ≡ true) (same_Some program found (only k.1)) h.bound)
+    let same = same_Some h.written found (only k.1) in
+    record { whole = k.0; same = same; bound = subst (λ (b : Block). bound_block kinds b ≡ true) same h.bound }
 
 pub not_both : (b : Bool) → b ≡ true → b ≡ false → ⊥
 not_both b t f = cc

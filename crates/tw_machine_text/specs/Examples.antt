@@ -1,12 +1,13 @@
--- Worked examples of how tightly operators bind, a to d being the names 10 to 13.
-use Rattle.std.specs.Prelude.{List, [], ◌∷◌, true, false}
-use Rattle.tw_machine_text.specs.declared.words.Operator.TheVariants.{Comma, Or, And, Equal, Less, Minus, Times}
+-- Worked examples of how tightly operators bind, and of what is desugared, a to d being the names 10 to 13.
+use Rattle.std.specs.Prelude.{◌≡◌, List, [], ◌∷◌, true, false}
+use Rattle.tw_machine_text.specs.declared.words.Operator.TheVariants.{Comma, Or, And, Equal, Less, Plus, Minus, Times}
 use Rattle.tw_machine_text.specs.declared.words.Word.{Word}
 use Rattle.tw_machine_text.specs.declared.words.Word.TheVariants as word
-use Rattle.tw_machine_text.specs.declared.words.SourceChange.TheVariants.{Set}
-use Rattle.tw_machine_text.specs.declared.words.Verb.TheVariants.{Push, Put}
+use Rattle.tw_machine_text.specs.declared.words.SourceChange.TheVariants.{Set, Add}
+use Rattle.tw_machine_text.specs.declared.words.Verb.TheVariants.{Push, Put, Observe}
 use Rattle.tw_machine_text.specs.Limits.{max_levels, max_nodes}
-use Rattle.tw_machine_text.specs.Tree.{Tree, Number, Name, Negate, Not, Binary, Block, Empty, Then, Assign, Act, Wait, Draw, IfElse, One, More, Means}
+use Rattle.tw_machine_text.specs.Desugared.{desugared_block}
+use Rattle.tw_machine_text.specs.Tree.{Tree, Number, Name, Indexed, Group, Negate, Not, Binary, Block, Empty, Then, Assign, Act, Wait, Draw, IfElse, One, More, Means}
 
 abbrev pub a : Tree
 a = Name 10
@@ -51,6 +52,18 @@ abbrev pub chains : Type 0
 chains = Means max_levels max_nodes
     (word.If ∷ word.Name 10 ∷ word.OpenBrace ∷ word.Draw ∷ word.Semicolon ∷ word.CloseBrace ∷ word.Else ∷ word.If ∷ word.Name 11 ∷ word.OpenBrace ∷ word.CloseBrace ∷ word.Else ∷ word.OpenBrace ∷ word.Name 12 ∷ word.Becomes Set ∷ word.Number 1 ∷ word.CloseBrace ∷ [])
     (Then Empty (IfElse (More (One a (Then Empty Draw true)) b Empty) (Then Empty (Assign c Set (Number 1)) false)) false)
+
+-- observe a b + 1 is written so, and comes to a[0] += 1  a[1] += b + 1  a[2] += (b + 1) * (b + 1)
+abbrev pub a_sum : Tree
+a_sum = Binary Plus b (Number 1)
+
+abbrev pub observing : Type 0
+observing = Means max_levels max_nodes (word.Begins Observe ∷ word.Name 10 ∷ word.Name 11 ∷ word.Sign Plus ∷ word.Number 1 ∷ []) (Then Empty (Act Observe a a_sum) false)
+
+abbrev pub observed : Type 0
+observed =
+    desugared_block (Then Empty (Act Observe a a_sum) false)
+    ≡ Then (Then (Then Empty (Assign (Indexed 10 (Number 0)) Add (Number 1)) false) (Assign (Indexed 10 (Number 1)) Add a_sum) false) (Assign (Indexed 10 (Number 2)) Add (Binary Times (Group a_sum) (Group a_sum))) false
 
 -- a < b < c means nothing
 abbrev pub no_chain : Type 0

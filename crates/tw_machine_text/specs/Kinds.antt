@@ -4,7 +4,9 @@ use Rattle.tw_machine_text.specs.declared.words.Operator.TheVariants.{Comma}
 use Rattle.tw_machine_text.specs.declared.kinds.Kind.{Kind}
 use Rattle.tw_machine_text.specs.declared.kinds.Member.{Member}
 use Rattle.tw_machine_text.specs.declared.kinds.Member.TheVariants.{Value, Each, Shown}
-use Rattle.tw_machine_text.specs.declared.kinds.Kind.TheVariants.{Nothing, Register, RegisterArray, Queue, QueueArray, Table, Parameter}
+use Rattle.tw_machine_text.specs.declared.kinds.Kind.TheVariants.{Nothing, Register, RegisterArray, Queue, QueueArray, Table, Parameter, Observation}
+use Rattle.tw_machine_text.specs.declared.words.Verb.{Verb}
+use Rattle.tw_machine_text.specs.declared.words.Verb.TheVariants as verb
 use Rattle.tw_machine_text.specs.Letters.{same_text, functions}
 use Rattle.tw_machine_text.specs.Limits.{max_turns}
 use Rattle.tw_machine_text.specs.Tree.{Tree, Number, Name, Known, Indexed, Call, RandomBelow, Group, Negate, Not, Binary, SourceStatement, Assign, Act, Pop, Draw, Wait, Passivate, If, IfElse, Repeat, Block, Empty, Then, Arms, One, More}
@@ -52,6 +54,10 @@ abbrev pub is_parameter : Kind → Bool
 is_parameter Parameter = true
 is_parameter _ = false
 
+abbrev pub is_observation : Kind → Bool
+is_observation Observation = true
+is_observation _ = false
+
 abbrev mutual
   -- an expression, or arguments of which none is a queue
   pub bound : List Kind → Tree → Bool
@@ -85,10 +91,20 @@ bound_count kinds (Number n) = nat_le n max_turns
 bound_count kinds (Name n) = is_parameter (stands_for kinds n)
 bound_count kinds _ = false
 
+-- an observation
+abbrev pub bound_observation : List Kind → Tree → Bool
+bound_observation kinds (Name n) = is_observation (stands_for kinds n)
+bound_observation kinds _ = false
+
+-- what a verb is said of: an observation, or a queue
+abbrev pub bound_object : List Kind → Verb → Tree → Bool
+bound_object kinds verb.Observe q = bound_observation kinds q
+bound_object kinds v q = bound_queue kinds q
+
 abbrev mutual
   pub bound_statement : List Kind → SourceStatement → Bool
   bound_statement kinds (Assign p c e) = bound_place kinds p && bound kinds e
-  bound_statement kinds (Act v q e) = bound_queue kinds q && bound kinds e
+  bound_statement kinds (Act v q e) = bound_object kinds v q && bound kinds e
   bound_statement kinds (Pop q) = bound_queue kinds q
   bound_statement kinds Draw = true
   bound_statement kinds (Wait e) = bound kinds e
@@ -105,9 +121,9 @@ abbrev mutual
   bound_arms kinds (One t b) = bound kinds t && bound_block kinds b
   bound_arms kinds (More a t b) = bound_arms kinds a && bound kinds t && bound_block kinds b
 
--- what stands in words beside expressions: a queue, one of an array by its number, an array register
+-- what stands in words beside expressions: a queue, one of an array by its number, an array register, an observation
 abbrev pub is_shown : List Kind → Tree → Bool
-is_shown kinds (Name n) = is_queue (stands_for kinds n) || is_register_array (stands_for kinds n)
+is_shown kinds (Name n) = is_queue (stands_for kinds n) || is_register_array (stands_for kinds n) || is_observation (stands_for kinds n)
 is_shown kinds (Indexed n (Number i)) = is_queue_array (stands_for kinds n)
 is_shown kinds _ = false
 

@@ -12,6 +12,10 @@ nodes_end = 4097
 abbrev pub max_levels : ℕ
 max_levels = 64
 
+-- where counting them ends
+abbrev pub levels_end : ℕ
+levels_end = 65
+
 -- how often a block may be repeated
 abbrev pub max_turns : ℕ
 max_turns = 64

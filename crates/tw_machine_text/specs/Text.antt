@@ -4,13 +4,14 @@ use Rattle.std.specs.Option.{option_map}
 use Rattle.tw_machine_text.specs.declared.words.Operator.TheVariants.{Comma, Or, And, Equal, NotEqual, Less, LessEqual, Greater, GreaterEqual, Plus, Minus, Times, Divide, Modulo}
 use Rattle.tw_machine_text.specs.declared.words.Builtin.TheVariants.{Random, Port, Value, Elapsed, Left, Now, Turn}
 use Rattle.tw_machine_text.specs.declared.words.SourceChange.TheVariants.{Set, Add, Subtract, Xor}
-use Rattle.tw_machine_text.specs.declared.words.Verb.TheVariants.{Push, Insert, Remove, Put}
+use Rattle.tw_machine_text.specs.declared.words.Verb.TheVariants.{Push, Insert, Remove, Put, Observe}
 use Rattle.tw_machine_text.specs.declared.words.Word.{Word}
 use Rattle.tw_machine_text.specs.declared.words.Word.TheVariants as word
 use Rattle.tw_machine_text.specs.declared.kinds.Kind.{Kind}
 use Rattle.tw_machine_text.specs.declared.kinds.Member.{Member}
 use Rattle.tw_machine_text.specs.Letters.{same_text, functions}
 use Rattle.tw_machine_text.specs.Tree.{Tree, Block, Means, spelled, IsAlone, deep, nodes}
+use Rattle.tw_machine_text.specs.Desugared.{desugared_block, is_within}
 use Rattle.tw_machine_text.specs.Kinds.{bound_block, bound_as}
 
 abbrev pub is_digit : ℕ → Bool
@@ -44,6 +45,10 @@ reserved =
 abbrev pub is_reserved : List ℕ → Bool
 is_reserved text = is_some (lookup reserved text)
 
+-- the words that begin a statement in a machine that has no such name
+abbrev pub contextual : List (List ℕ × Word)
+contextual = (codes "observe", word.Begins Observe) ∷ []
+
 abbrev pub signs : List (List ℕ × Word)
 signs =
     (codes "(", word.Open) ∷ (codes ")", word.Close) ∷ (codes "[", word.OpenBracket) ∷ (codes "]", word.CloseBracket) ∷ (codes "{", word.OpenBrace) ∷ (codes "}", word.CloseBrace)
@@ -64,9 +69,11 @@ abbrev pub number : List ℕ → Option ℕ
 number (c ∷ d ∷ cs) = if c == 48 then None else digits 0 (c ∷ d ∷ cs)
 number cs = digits 0 cs
 
-abbrev pub or_name : Option Word → Option ℕ → Option Word
-or_name (Some w) n = Some w
-or_name None n = option_map word.Name n
+-- a word of the language that no name may be, else a name, else a word that names hide
+abbrev pub or_name : Option Word → Option ℕ → Option Word → Option Word
+or_name (Some w) n hidden = Some w
+or_name None (Some n) hidden = Some (word.Name n)
+or_name None None hidden = hidden
 
 abbrev pub first_some : Option ℕ → Option ℕ → Option ℕ
 first_some (Some n) o = Some n
@@ -81,7 +88,7 @@ abbrev pub word_of : List (List ℕ) → List ℕ → Option Word
 word_of names [] = None
 word_of names (c ∷ cs) =
     if is_digit c then option_map word.Number (number (c ∷ cs))
-    else if is_word c then or_name (lookup reserved (c ∷ cs)) (name_of names (c ∷ cs))
+    else if is_word c then or_name (lookup reserved (c ∷ cs)) (name_of names (c ∷ cs)) (lookup contextual (c ∷ cs))
     else lookup signs (c ∷ cs)
 
 -- whether a byte makes this longer: a run goes on with letters, digits and _, and a sign with what makes a sign of two
@@ -123,12 +130,15 @@ abbrev pub HasWords : List (List ℕ) → Bool → List Word → List ℕ → Ty
 HasWords names commented [] text = AreBlank true commented text
 HasWords names commented (w ∷ ws) text = (rest : List ℕ) × Front names commented text w rest × HasWords names false ws rest
 
--- the text is this program, where the names stand for these
+-- The text is this program, where the names stand for these: what is written comes to it, in the core of the language.
 pub record Reads (most many : ℕ) (names : List (List ℕ)) (kinds : List Kind) (text : List ℕ) (program : Block) : Type 0 where
   pub words : List Word
   pub has : HasWords names false words text
-  pub means : Means most many words program
-  pub bound : bound_block kinds program ≡ true
+  pub written : Block
+  pub means : Means most many words written
+  pub bound : bound_block kinds written ≡ true
+  pub comes : desugared_block written ≡ program
+  pub limits : is_within most many program ≡ true
 
 -- the text of a member is this expression, queue or array register
 pub record ReadsTree (most many : ℕ) (member : Member) (names : List (List ℕ)) (kinds : List Kind) (text : List ℕ) (e : Tree) : Type 0 where

@@ -6,7 +6,7 @@ use Rattle.tw_machine_text.specs.declared.words.Builtin.{Builtin}
 use Rattle.tw_machine_text.specs.declared.words.Builtin.TheVariants.{Random}
 use Rattle.tw_machine_text.specs.declared.words.SourceChange.{SourceChange}
 use Rattle.tw_machine_text.specs.declared.words.Verb.{Verb}
-use Rattle.tw_machine_text.specs.declared.words.Verb.TheVariants.{Push, Insert, Remove, Put}
+use Rattle.tw_machine_text.specs.declared.words.Verb.TheVariants.{Push, Insert, Remove, Put, Observe}
 use Rattle.tw_machine_text.specs.declared.words.Word.{Word}
 use Rattle.tw_machine_text.specs.declared.words.Word.TheVariants as word
 
@@ -191,6 +191,7 @@ wanted Push = 1
 wanted Insert = 1
 wanted Remove = 1
 wanted Put = 2
+wanted Observe = 1
 
 abbrev mutual
   pub IsStatement : SourceStatement → Type 0

@@ -5,6 +5,8 @@ ghost use Rattle.tw_machine_text.specs.Kinds.{
   bound_queue,
   bound_place,
   bound_count,
+  bound_observation,
+  bound_object,
   bound_statement,
   bound_block,
   bound_arms,
@@ -16,7 +18,7 @@ ghost use Rattle.tw_machine_text.specs.Views.{tree, told, body, chain};
 use crate::kinds::{Kind, Member, stands_for};
 use crate::limits::MAX_TURNS;
 use crate::tree::{Arms, Block, SourceExpr, SourceStatement};
-use crate::words::Operator;
+use crate::words::{Operator, Verb};
 
 /// An expression, or arguments of which none is a queue.
 #[cycle(expressions)]
@@ -78,6 +80,25 @@ fn bound_count(kinds: &[Kind], e: &SourceExpr) -> bool
     }
 }
 
+fn bound_observation(kinds: &[Kind], e: &SourceExpr) -> bool
+    ensures { result ≡ bound_observation kinds.now (tree e.now) }
+{
+    match e {
+        SourceExpr::Name(name) => stands_for(kinds, *name).is_observation(),
+        _ => false,
+    }
+}
+
+/// What a verb is said of: an observation, or a queue.
+fn bound_object(kinds: &[Kind], verb: Verb, e: &SourceExpr) -> bool
+    ensures { result ≡ bound_object kinds.now verb (tree e.now) }
+{
+    match verb {
+        Verb::Observe => bound_observation(kinds, e),
+        _ => bound_queue(kinds, e),
+    }
+}
+
 #[cycle(statements)]
 fn bound_statement(kinds: &[Kind], s: &SourceStatement) -> bool
     ensures { result ≡ bound_statement kinds.now (told s.now) }
@@ -85,7 +106,9 @@ fn bound_statement(kinds: &[Kind], s: &SourceStatement) -> bool
     match s {
         SourceStatement::Draw | SourceStatement::Passivate => true,
         SourceStatement::Assign(place, _, e) => bound_place(kinds, place) && bound(kinds, e),
-        SourceStatement::Act(_, queue, e) => bound_queue(kinds, queue) && bound(kinds, e),
+        SourceStatement::Act(verb, object, e) => {
+            bound_object(kinds, *verb, object) && bound(kinds, e)
+        }
         SourceStatement::Pop(queue) => bound_queue(kinds, queue),
         SourceStatement::Wait(e) => bound(kinds, e),
         SourceStatement::If(arms) => bound_arms(kinds, arms),
@@ -120,14 +143,15 @@ fn bound_arms(kinds: &[Kind], a: &Arms) -> bool
     }
 }
 
-/// Whether it stands in words as what it is: a queue, one of an array by its number, or an array register.
+/// Whether it stands in words as what it is: a queue, one of an array by its number, an array register, or an
+/// observation.
 pub fn is_shown(kinds: &[Kind], e: &SourceExpr) -> bool
     ensures { result ≡ is_shown kinds.now (tree e.now) }
 {
     match e {
         SourceExpr::Name(name) => {
             let kind = stands_for(kinds, *name);
-            kind.is_queue() || kind.is_register_array()
+            kind.is_queue() || kind.is_register_array() || kind.is_observation()
         }
         SourceExpr::Indexed(name, index) => {
             matches!(**index, SourceExpr::Number(_)) && stands_for(kinds, *name).is_queue_array()

@@ -1,67 +1,80 @@
-//! How many nodes a program has.
-ghost use Rattle.std.specs.Prelude.{◌≡◌, ◌≤◌};
-ghost use Rattle.tw_machine_text.specs.Limits.{max_nodes};
+//! How many nodes a program has. Counts end at 4,097, one past what is allowed.
+ghost use Rattle.std.specs.Prelude.{◌≡◌, ◌≤◌, min};
+ghost use Rattle.tw_machine_text.specs.Limits.{nodes_end};
 ghost use Rattle.tw_machine_text.specs.Tree.{nodes, nodes_statement, nodes_block, nodes_arms};
 ghost use Rattle.tw_machine_text.specs.Views.{tree, told, body, chain};
 
+use crate::limits::NODES_END;
 use crate::tree::{Arms, Block, SourceExpr, SourceStatement};
 use crate::words::Operator;
 
-/// The nodes of an expression: its names, numbers, operators and functions. A comma between arguments is none.
-#[cycle(expression_nodes)]
-pub(crate) fn nodes(e: &SourceExpr) -> usize
-    requires { nodes (tree e.now) ≤ max_nodes }
-    ensures { result ≡ nodes (tree e.now) }
+/// The nodes of an expression, at most 4,097: its names, numbers, operators and functions. A comma between arguments is
+/// none.
+pub fn nodes(written: &SourceExpr) -> usize
+    ensures value { result ≡ min (nodes (tree written.now)) nodes_end }
+    ensures small { result ≤ nodes_end }
 {
-    match e {
+    match written {
         SourceExpr::Number(_) | SourceExpr::Name(_) | SourceExpr::Known(_) => 1,
         SourceExpr::Indexed(_, below)
         | SourceExpr::Call(_, below)
         | SourceExpr::RandomBelow(below)
         | SourceExpr::Negate(below)
-        | SourceExpr::Not(below) => 1 + nodes(below),
-        SourceExpr::Group(below) => nodes(below),
-        SourceExpr::Binary(Operator::Comma, a, b) => nodes(a) + nodes(b),
-        SourceExpr::Binary(_, a, b) => 1 + (nodes(a) + nodes(b)),
+        | SourceExpr::Not(below) => (1 + nodes(below)).min(NODES_END),
+        SourceExpr::Group(inner) => nodes(inner),
+        SourceExpr::Binary(Operator::Comma, a, b) => (nodes(a) + nodes(b)).min(NODES_END),
+        SourceExpr::Binary(_, a, b) => (1 + (nodes(a) + nodes(b))).min(NODES_END),
     }
 }
 
-#[cycle(statement_nodes)]
-fn nodes_statement(s: &SourceStatement) -> usize
-    requires { nodes_statement (told s.now) ≤ max_nodes }
-    ensures { result ≡ nodes_statement (told s.now) }
+/// The nodes of a statement, at most 4,097.
+#[cycle(nodes_of)]
+fn nodes_statement(said: &SourceStatement) -> usize
+    ensures value { result ≡ min (nodes_statement (told said.now)) nodes_end }
+    ensures small { result ≤ nodes_end }
 {
-    match s {
+    match said {
         SourceStatement::Draw | SourceStatement::Passivate => 1,
-        SourceStatement::Assign(place, _, e) => 1 + (nodes(place) + nodes(e)),
-        SourceStatement::Act(_, queue, e) => 1 + (nodes(queue) + nodes(e)),
-        SourceStatement::Pop(queue) => 1 + nodes(queue),
-        SourceStatement::Wait(e) => 1 + nodes(e),
+        SourceStatement::Assign(place, _, by) => (1 + (nodes(place) + nodes(by))).min(NODES_END),
+        SourceStatement::Act(_, queue, operands) => (1 + (nodes(queue) + nodes(operands))).min(
+            NODES_END,
+        ),
+        SourceStatement::Pop(queue) => (1 + nodes(queue)).min(NODES_END),
+        SourceStatement::Wait(ticks) => (1 + nodes(ticks)).min(NODES_END),
         SourceStatement::If(arms) => nodes_arms(arms),
-        SourceStatement::IfElse(arms, last) => nodes_arms(arms) + nodes_block(last),
-        SourceStatement::Repeat(count, each) => 1 + (nodes(count) + nodes_block(each)),
+        SourceStatement::IfElse(arms, last) => (nodes_arms(arms) + nodes_block(last)).min(
+            NODES_END,
+        ),
+        SourceStatement::Repeat(count, each) => (1 + (nodes(count) + nodes_block(each))).min(
+            NODES_END,
+        ),
     }
 }
 
-/// The nodes of the statements of a block.
-#[cycle(statement_nodes)]
-pub(crate) fn nodes_block(b: &Block) -> usize
-    requires { nodes_block (body b.now) ≤ max_nodes }
-    ensures { result ≡ nodes_block (body b.now) }
+/// The nodes of a program, at most 4,097.
+#[cycle(nodes_of)]
+pub fn nodes_block(program: &Block) -> usize
+    ensures value { result ≡ min (nodes_block (body program.now)) nodes_end }
+    ensures small { result ≤ nodes_end }
 {
-    match b {
+    match program {
         Block::Empty => 0,
-        Block::Then(before, last, _) => nodes_block(before) + nodes_statement(last),
+        Block::Then(before, last, _) => (nodes_block(before) + nodes_statement(last)).min(
+            NODES_END,
+        ),
     }
 }
 
-#[cycle(statement_nodes)]
-fn nodes_arms(a: &Arms) -> usize
-    requires { nodes_arms (chain a.now) ≤ max_nodes }
-    ensures { result ≡ nodes_arms (chain a.now) }
+/// The nodes of the arms of an `if`, at most 4,097.
+#[cycle(nodes_of)]
+fn nodes_arms(arms: &Arms) -> usize
+    ensures value { result ≡ min (nodes_arms (chain arms.now)) nodes_end }
+    ensures small { result ≤ nodes_end }
 {
-    match a {
-        Arms::One(test, b) => 1 + (nodes(test) + nodes_block(b)),
-        Arms::More(before, test, b) => nodes_arms(before) + (nodes(test) + nodes_block(b)),
+    match arms {
+        Arms::One(test, then) => (1 + (nodes(test) + nodes_block(then))).min(NODES_END),
+        Arms::More(before, test, then) => {
+            (nodes_arms(before) + (nodes(test) + nodes_block(then))).min(NODES_END)
+        }
     }
 }

@@ -9,6 +9,7 @@ ghost use Rattle.tw_machine_text.specs.Text.{
   position,
   reserved,
   is_reserved,
+  contextual,
   signs,
   is_sign,
   digits,
@@ -58,6 +59,9 @@ pub const RESERVED: [(&str, Word); 21] = [
     ("remove", Word::Begins(Verb::Remove)),
     ("pop", Word::Pop),
 ];
+
+/// The words that begin a statement in a machine that has no such name, each with what it is.
+pub const CONTEXTUAL: [(&str, Word); 1] = [("observe", Word::Begins(Verb::Observe))];
 
 /// The signs, each with what it is.
 const SIGNS: [(&str, Word); 23] = [
@@ -193,6 +197,13 @@ pub fn is_reserved(text: &[u8]) -> bool
     reserved(text).is_some()
 }
 
+/// The word that a text is where the machine has no such name.
+fn contextual(text: &[u8]) -> Option<Word>
+    ensures { result ≡ lookup contextual text.now }
+{
+    lookup(&CONTEXTUAL, text)
+}
+
 /// The sign that a text is.
 fn sign(text: &[u8]) -> Option<Word>
     ensures { result ≡ lookup signs text.now }
@@ -217,7 +228,10 @@ pub(crate) fn word_of(declared: &[Declared], text: &[u8]) -> Option<Word>
     } else if is_word(first) {
         match reserved(text) {
             Some(word) => Some(word),
-            None => name_of(declared, text).map(Word::Name),
+            None => match name_of(declared, text) {
+                Some(name) => Some(Word::Name(name)),
+                None => contextual(text),
+            },
         }
     } else {
         sign(text)

@@ -1,4 +1,4 @@
-//! How tightly operators bind, by examples that the check computes.
+//! How tightly operators bind, and what is desugared, by examples that the check computes.
 ghost use Rattle.tw_machine_text.specs.Examples.{
   not_equal,
   two_less,
@@ -6,6 +6,8 @@ ghost use Rattle.tw_machine_text.specs.Examples.{
   and_or,
   behind_queues,
   chains,
+  observing,
+  observed,
   no_chain,
 };
 
@@ -17,5 +19,7 @@ pub fn binding()
     ensures and_or { and_or }
     ensures behind_queues { behind_queues }
     ensures chains { chains }
+    ensures observing { observing }
+    ensures observed { observed }
     ensures no_chain { no_chain }
 {}

@@ -8,6 +8,7 @@ ghost use Rattle.tw_machine_text.specs.Kinds.{
   is_register_array,
   is_queue,
   is_queue_array,
+  is_observation,
   is_parameter,
   kind_named,
   kinds_of,
@@ -33,6 +34,7 @@ pub enum Kind {
     Parameter,
     /// A parameter that is a list.
     ListParameter,
+    Observation,
 }
 
 /// A name that a machine declares, and what it is the name of.
@@ -49,7 +51,7 @@ pub enum Member {
     Value,
     /// A queue.
     Each,
-    /// An expression, a queue, one of an array by its number, or an array register.
+    /// An expression, a queue, one of an array by its number, an array register, or an observation.
     Shown,
 }
 
@@ -147,6 +149,12 @@ impl Kind {
         ensures { result ≡ is_queue_array self }
     {
         matches!(self, Kind::QueueArray)
+    }
+
+    pub fn is_observation(self) -> bool
+        ensures { result ≡ is_observation self }
+    {
+        matches!(self, Kind::Observation)
     }
 
     pub fn is_parameter(self) -> bool

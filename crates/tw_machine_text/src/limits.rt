@@ -8,6 +8,9 @@ pub const NODES_END: usize = MAX_NODES + 1;
 /// How deep blocks, parentheses, brackets, `not` and signs may stand in one another.
 pub const MAX_LEVELS: usize = 64;
 
+/// Where counting them ends.
+pub(crate) const LEVELS_END: usize = MAX_LEVELS + 1;
+
 /// How often a block may be repeated.
 pub const MAX_TURNS: u64 = 64;
 

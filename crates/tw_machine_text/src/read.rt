@@ -11,6 +11,7 @@ ghost use Rattle.tw_machine_text.specs.Views.{body, told, tree, Tells, IsWrong};
 ghost use Rattle.tw_machine_text.specs.declared.words.Word.TheVariants.{Wait};
 
 use crate::binding::{bound_as, bound_block};
+use crate::desugaring::desugared;
 use crate::kinds::{Declared, Kind, Member};
 use crate::lexing::{Words, lex};
 use crate::parsing::parse;
@@ -28,6 +29,7 @@ pub fn read(
     text: &[u8],
     many: usize,
 ) -> Result<Block, Refused>
+    requires { many ≤ max_nodes }
     // What is read is what the text means.
     ensures found { IfOk result
         (λ program. Reads max_levels many (names_of declared.now) kinds.now text.now (body program)) }
@@ -41,11 +43,12 @@ pub fn read(
     };
     let mut first = None;
     match parse(alloc, None, kinds, &words.words, many, &mut first) {
-        Ok(program) => {
-            if words.complete && bound_block(kinds, &program) {
-                Ok(program)
+        Ok(written) => {
+            let place = words.place(first.unwrap_or(words.words.len()));
+            if words.complete && bound_block(kinds, &written) {
+                desugared(alloc, &written, many, place)
             } else {
-                Err(Refused::Wrong(words.place(first.unwrap_or(words.words.len()))))
+                Err(Refused::Wrong(place))
             }
         }
         Err(Refused::OutOfMemory) => Err(Refused::OutOfMemory),

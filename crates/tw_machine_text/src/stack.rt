@@ -37,12 +37,13 @@ pub(crate) enum Role {
     Value,
     Place,
     Queue,
+    Observation,
     /// The first argument of a function of a queue.
     First,
     Count,
     /// A queue alone.
     Each,
-    /// An expression, a queue or an array register, alone.
+    /// An expression, a queue, an array register or an observation, alone.
     Shown,
     /// The number of a queue in an array of them, alone.
     Numbered,
@@ -177,11 +178,28 @@ impl Stack {
                 }
             }
             Some(Frame::InPlace(_)) => Role::Place,
+            Some(Frame::InQueue(_, Verb::Observe)) => Role::Observation,
             Some(Frame::InQueue(..) | Frame::InPop(_)) => Role::Queue,
             Some(Frame::InCall(name)) => { if *name < 3 { Role::Value } else { Role::First } }
             Some(Frame::InCount(_)) => Role::Count,
             _ => Role::Value,
         }
+    }
+
+    /// Whether it is too deep for an `observe`, which is one level deeper once it is desugared.
+    pub fn is_past_observing(&self) -> bool {
+        if self.deep < MAX_LEVELS {
+            return false;
+        }
+        for frame in self.frames.iter().rev() {
+            match frame {
+                Frame::InQueue(_, Verb::Observe) | Frame::InItem(_, Verb::Observe, _) => {
+                    return true;
+                }
+                _ => {}
+            }
+        }
+        false
     }
 
     /// Whether one argument more may come.

@@ -28,7 +28,7 @@ pub enum SourceExpr {
 pub enum SourceStatement {
     /// A place, how it is changed, and by what.
     Assign(SourceExpr, SourceChange, SourceExpr),
-    /// What is done to a queue; `put` has a place, a comma and a value.
+    /// What is done to a queue, or counted of an observation; `put` has a place, a comma and a value.
     Act(Verb, SourceExpr, SourceExpr),
     Pop(SourceExpr),
     Draw,

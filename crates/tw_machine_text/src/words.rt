@@ -43,13 +43,15 @@ pub enum SourceChange {
     Xor,
 }
 
-/// What begins a statement on a queue and a number.
+/// What begins a statement on a queue and a number, or on an observation and a number.
 #[derive(Clone, Copy, Debug, PartialEq, Eq)]
 pub enum Verb {
     Push,
     Insert,
     Remove,
     Put,
+    /// Counts a number. It stands in what is written alone: what is read has the three statements that it means.
+    Observe,
 }
 
 /// A word. A name is its number in the list of names: first the functions', then those that the machine declares.
@@ -120,12 +122,12 @@ impl Operator {
 }
 
 impl Verb {
-    /// How many operands, parted by commas, follow the queue.
+    /// How many operands, parted by commas, follow the queue or the observation.
     pub fn wanted(self) -> usize
         ensures { result ≡ wanted self }
     {
         match self {
-            Verb::Push | Verb::Insert | Verb::Remove => 1,
+            Verb::Push | Verb::Insert | Verb::Remove | Verb::Observe => 1,
             Verb::Put => 2,
         }
     }

@@ -44,7 +44,9 @@ pub(crate) enum Last {
     Operand,
     /// A queue has to come.
     NoQueue,
-    /// The queue of a statement or a function has come.
+    /// An observation has to come.
+    NoObservation,
+    /// The queue of a statement or a function has come, or the observation of a statement.
     Queue,
     /// A name that has an index.
     Array(Role),
@@ -69,6 +71,7 @@ pub(crate) enum Head {
     /// `put`, before its comma.
     Put,
     Pop,
+    Observe,
 }
 
 /// How far a text has been read.
@@ -111,7 +114,8 @@ impl Reading {
 
     /// Reads a word that can stand here.
     pub(crate) fn read(&mut self, declared: &[Declared], word: &str) -> Result<(), AllocError> {
-        if is_node(word) {
+        let is_node = is_node(word);
+        if is_node {
             self.nodes = self.nodes.saturating_add(1);
         }
         let called = self.called;
@@ -125,6 +129,9 @@ impl Reading {
             "," => self.separate(),
             _ if is_name(word) => self.read_letters(declared, word),
             _ => self.read_sign(word),
+        }
+        if is_node && self.head == Head::Observe {
+            self.nodes = self.nodes.saturating_add(more_nodes(self.last));
         }
         Ok(())
     }
@@ -210,6 +217,9 @@ impl Reading {
             "repeat" => self.begin_statement(Head::Turns, Last::Repeat),
             "else" => self.last = Last::Else,
             "push" | "insert" | "remove" => self.begin_statement(Head::Plain, Last::NoQueue),
+            "observe" if kind_of(declared, word).is_none() => {
+                self.begin_statement(Head::Observe, Last::NoObservation);
+            }
             "put" => self.begin_statement(Head::Put, Last::NoQueue),
             "pop" => self.begin_statement(Head::Pop, Last::NoQueue),
             "and" | "or" => self.last = Last::Operator,
@@ -242,6 +252,7 @@ impl Reading {
                     self.end_queue();
                 }
             }
+            Last::NoObservation => self.last = Last::Queue,
             Last::Operator | Last::Queue => {
                 self.called = arguments(word);
                 self.last = self.after_operand(kind);
@@ -261,17 +272,23 @@ impl Reading {
     fn after_operand(&self, kind: Option<Kind>) -> Last {
         match (kind, self.called) {
             (None, Some(called)) => Last::Function(called),
-            (Some(Kind::RegisterArray), _) if self.is_shown() => Last::Operand,
+            (Some(Kind::RegisterArray | Kind::Observation), _) if self.is_shown() => Last::Operand,
             (Some(Kind::RegisterArray | Kind::Table), _) => Last::Array(Role::Operand),
             (Some(Kind::QueueArray), _) => Last::Array(Role::Shown),
             _ => Last::Operand,
         }
     }
 
-    /// Whether a queue or an array register can stand here as what it is.
+    /// Whether a queue, an array register or an observation can stand here as what it is.
     pub(crate) fn is_shown(&self) -> bool {
         self.member == Some(Member::Shown) && self.nodes <= 1 && self.open.is_empty()
     }
+}
+
+/// How many nodes a word of an `observe` makes beside one: it stands for three statements, in which the observation comes
+/// three times, with the numbers 0, 1 and 2, and 1, and the expression three times, with an operator.
+fn more_nodes(last: Last) -> usize {
+    if last == Last::NoObservation { 7 } else { 2 }
 }
 
 /// What is declared by a name.

@@ -6,8 +6,8 @@ use crate::spelling::{Spelled, words_of};
 use crate::words::quoted;
 use std::alloc::{AllocError, Global};
 use tw_machine_text::{
-    Declared, FUNCTIONS, Kind, MAX_LEVELS, MAX_NODES, Member, Place, RESERVED, Word, is_reserved,
-    is_sign,
+    CONTEXTUAL, Declared, FUNCTIONS, Kind, MAX_LEVELS, MAX_NODES, Member, Place, RESERVED, Word,
+    is_reserved, is_sign,
 };
 
 /// The greatest number that a text may have.
@@ -123,7 +123,12 @@ fn is_too_great(digits: &str) -> bool {
 /// The limit of a text that a word passes, which could stand here.
 fn limit(reading: &Reading, word: &str) -> Option<&'static str> {
     let opens = matches!(word, "(" | "[" | "{" | "not" | "-");
-    if opens && reading.depth() >= MAX_LEVELS {
+    let is_too_deep = if reading.head == Head::Observe {
+        opens && reading.depth() >= MAX_LEVELS - 1
+    } else {
+        (opens || is_contextual(word)) && reading.depth() >= MAX_LEVELS
+    };
+    if is_too_deep {
         return Some(
             "more than 64 levels of blocks, parentheses, brackets and signs in one another",
         );
@@ -136,7 +141,20 @@ fn limit(reading: &Reading, word: &str) -> Option<&'static str> {
 
 /// Whether a name is declared, or one of the language.
 fn is_known(declared: &[Declared], word: &str) -> bool {
-    kind_of(declared, word).is_some() || is_reserved(word.as_bytes()) || FUNCTIONS.contains(&word)
+    kind_of(declared, word).is_some()
+        || is_reserved(word.as_bytes())
+        || is_contextual(word)
+        || FUNCTIONS.contains(&word)
+}
+
+/// Whether it begins a statement in a machine that has no such name.
+fn is_contextual(word: &str) -> bool {
+    for (text, _) in &CONTEXTUAL {
+        if *text == word {
+            return true;
+        }
+    }
+    false
 }
 
 /// The line for a name that nothing has.
@@ -155,6 +173,7 @@ fn unknown(
             "statement begins with"
         }
         Last::NoQueue => "queue is named",
+        Last::NoObservation => "observation is named",
         Last::Repeat => "parameter is named",
         Last::Operator | Last::Queue if next == "(" => "function is named",
         Last::Operator | Last::Queue => "register, parameter or table is named",
@@ -173,7 +192,7 @@ fn can_begin_statement(reading: &Reading) -> bool {
     };
     let is_behind_operand = reading.last == Last::Operand
         && reading.member.is_none()
-        && reading.head == Head::Plain
+        && (reading.head == Head::Plain || reading.head == Head::Observe)
         && !is_inside;
     reading.last == Last::Statement || is_behind_operand
 }
@@ -208,6 +227,11 @@ fn look_at_words<'b>(
             nearest.look(alloc, text)?;
         }
     }
+    if !numbers {
+        for (text, _) in &CONTEXTUAL {
+            nearest.look(alloc, text)?;
+        }
+    }
     Ok(())
 }
 
@@ -215,6 +239,7 @@ fn look_at_words<'b>(
 fn may_stand(last: Last, kind: Kind) -> bool {
     match last {
         Last::NoQueue => matches!(kind, Kind::Queue | Kind::QueueArray),
+        Last::NoObservation => kind == Kind::Observation,
         Last::Repeat => kind == Kind::Parameter,
         Last::Operator | Last::Queue => matches!(
             kind,
@@ -279,6 +304,7 @@ fn kind_words(kind: Kind) -> &'static str {
         Kind::Table => ", a table",
         Kind::Parameter => ", a parameter",
         Kind::ListParameter => ", a list",
+        Kind::Observation => ", an observation",
     }
 }
 
@@ -292,6 +318,7 @@ fn wanted(reading: &Reading) -> &'static str {
         Last::Operator | Last::Queue => "an expression",
         Last::Operand => behind_operand(reading),
         Last::NoQueue => "a queue",
+        Last::NoObservation => "an observation",
         Last::Array(Role::Shown) => "[ and a number",
         Last::Array(_) => "[ and an index",
         Last::Function(_) => "( and arguments",

@@ -1,1 +1,2 @@
+pub mod FigureRows
 pub mod Tables

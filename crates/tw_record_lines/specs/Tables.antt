@@ -2,14 +2,17 @@
 --     cells_text name at kind      tick, microstep, component and kind
 --     record_row, item_row, word_row      the line of a record, of an item of one, of a word of one
 --     row_text rows name r      the lines of a record
+--     listed shown from records      the records of the components that are shown, from a tick on
 --     head_text rows      the first line
 --     table_text rows name_of rs      the whole table
-use Rattle.std.specs.Prelude.{◌==◌, ◌++◌, ◌+◌, ◌∷◌, [], ℕ, ℤ, List, codes, flat_map, if◌then◌else◌}
+use Rattle.std.specs.Prelude.{◌==◌, ◌++◌, ◌+◌, ◌∷◌, [], ℕ, ℤ, List, Bool, codes, flat_map, if◌then◌else◌}
 use Rattle.std.specs.Fmt.{decimal, signed_decimal}
 use Rattle.tw_msgs.specs.declared.record.Record.{Record}
 use Rattle.tw_msgs.specs.declared.record_kind.RecordKind.{RecordKind}
 use Rattle.tw_texts.specs.Texts.{bag_text, kind_text, words_text}
 use Rattle.tw_vtime.specs.Stamps.{never, tick_of, micro_of}
+use Rattle.tw_figures.specs.Figures.{from_on}
+use Rattle.tw_figures.specs.Shown.{of_shown}
 use Rattle.tw_figures.specs.declared.seeing.Rows.{Rows}
 use Rattle.tw_figures.specs.declared.seeing.Rows.TheVariants.{Records, Items, Words}
 
@@ -45,6 +48,9 @@ abbrev pub row_text : Rows → List ℕ → Record → List ℕ
 row_text Records name r = record_row name r.stamp r.kind r.bag r.words
 row_text Items name r = items_rows name r.stamp r.kind r.bag
 row_text Words name r = word_rows name r.stamp r.kind 0 r.words
+
+abbrev pub listed : List Bool → ℕ → List Record → List Record
+listed shown from records = of_shown shown (from_on from records)
 
 abbrev pub head_text : Rows → List ℕ
 head_text Records = codes "tick,microstep,component,kind,items,words\n"

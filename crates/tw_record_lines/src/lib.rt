@@ -5,16 +5,22 @@
 //!
 //! - [`write_lines`] (`trace`): the trace; its lines are gathered by `trace_lines`.
 //! - [`write_table`] (`table`): a [`Table`], whose lines are gathered by `table_lines` and made by `rows`.
+//! - [`write_figures`] (`figure_table`): a [`FigureTable`], whose lines are gathered by `figure_lines` and made by `figure_rows`.
 //!
 //! The contracts give the exact bytes.
 #![tactic(auto)]
 
+mod figure_lines;
+mod figure_rows;
+mod figure_table;
 mod rows;
 mod table;
 mod table_lines;
 mod trace;
 mod trace_lines;
 
+pub use figure_lines::FigureTable;
+pub use figure_table::write_figures;
 pub use table::write_table;
 pub use table_lines::Table;
 pub use trace::write_lines;

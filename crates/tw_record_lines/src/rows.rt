@@ -2,7 +2,7 @@
 
 ghost use Rattle.std.specs.Prelude.{◌≡◌, ◌++◌, OnOk, codes, string_bytes};
 ghost use Rattle.tw_texts.specs.Texts.{words_text};
-ghost use Rattle.tw_record_lines.specs.Tables.{cells_text, head_text, item_row, items_text, items_rows, record_row, word_row, word_rows};
+ghost use Rattle.tw_record_lines.specs.Tables.{cells_text, head_text, item_row, items_text, items_rows, record_row, time_cells, word_row, word_rows};
 
 use std::alloc::AllocError;
 use tw_figures::Rows;
@@ -21,18 +21,24 @@ pub(crate) fn head(rows: Rows) -> &'static str
     }
 }
 
+/// The time of a line.
+pub(crate) fn add_time(text: &mut String, at: Stamp) -> Result<(), AllocError>
+    ensures { OnOk result (string_bytes text.new ≡ string_bytes text.old ++ time_cells at) }
+{
+    if at.is_end() {
+        return text.push_str("end,end");
+    }
+    let tick = at.tick();
+    let micro = at.micro();
+    write!(text, "{tick},{micro}")
+}
+
 /// The time of a line, its component and what that did.
 fn add_cells(text: &mut String, name: &str, at: Stamp, kind: RecordKind) -> Result<(), AllocError>
     ensures { OnOk result
         (string_bytes text.new ≡ string_bytes text.old ++ cells_text name.now at kind) }
 {
-    if at.is_end() {
-        text.push_str("end,end")?;
-    } else {
-        let tick = at.tick();
-        let micro = at.micro();
-        write!(text, "{tick},{micro}")?;
-    }
+    add_time(text, at)?;
     text.push_str(",")?;
     text.push_str(name)?;
     text.push_str(",")?;

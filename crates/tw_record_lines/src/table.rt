@@ -2,9 +2,8 @@
 
 ghost use Rattle.std.specs.Prelude.{◌≡◌, ◌≤◌, ◌++◌, [], OnOk, IfErr, string_bytes};
 ghost use Rattle.std.specs.Io.KnownBytes.{Appends};
-ghost use Rattle.tw_figures.specs.Figures.{from_on};
 ghost use Rattle.tw_network.specs.Contents.{network_of};
-ghost use Rattle.tw_record_lines.specs.Tables.{table_text};
+ghost use Rattle.tw_record_lines.specs.Tables.{listed, table_text};
 ghost use Rattle.tw_texts.specs.Traces.{AppendsBeginning};
 ghost use Rattle.tw_theory.specs.Simulator.{sequential};
 ghost use Rattle.tw_vtime.specs.Stamps.{max_tick};
@@ -19,8 +18,8 @@ use tw_network::Network;
 use tw_rounds::{Advanced, begin};
 use tw_texts::{Names, NotWritten, write_out, write_portion};
 
-/// Simulates a network up to the end tick `until`, and writes this table of its records from the table's first tick on: after
-/// each round, in portions of about 65,536 bytes. It keeps the lines of one round and one portion. After each round the listener
+/// Simulates a network up to the end tick `until`, and writes this table of the records of those components that it shows, from
+/// its first tick on: after each round, in portions of about 65,536 bytes. It keeps the lines of one round and one portion. After each round the listener
 /// hears how far the run is.
 ///
 /// Refused by [`NotWritten::OutOfMemory`] (4), and the writer then has got a beginning of the table; by
@@ -36,11 +35,11 @@ pub fn write_table<M: Atomic, N: Names, L: Listener, W: Write>(
     requires { until ≤ max_tick }
     ensures ok { let run = sequential (network_of M.meaning network.now) until in
         OnOk result (Appends (W.contents out.old) (W.contents out.new) (table_text table.now.rows
-        (N.name_of table.now.names.now) (from_on table.now.from run.records))) }
+        (N.name_of table.now.names.now) (listed table.now.shown.now table.now.from run.records))) }
     ensures err { let run = sequential (network_of M.meaning network.now) until in
         IfErr result (λ e. e ≡ NotWritten.OutOfMemory
         → AppendsBeginning (W.contents out.old) (W.contents out.new) (table_text table.now.rows
-        (N.name_of table.now.names.now) (from_on table.now.from run.records))) }
+        (N.name_of table.now.names.now) (listed table.now.shown.now table.now.from run.records))) }
 {
     let Ok(mut simulation) = begin(alloc, network, until) else {
         return Err(NotWritten::OutOfMemory);

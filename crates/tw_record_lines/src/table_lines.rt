@@ -1,26 +1,27 @@
 //! The lines of a table that are gathered until they are written.
 
 ghost use Rattle.std.specs.Prelude.{◌≡◌, ◌++◌, ◌∷◌, [], string_bytes};
-ghost use Rattle.tw_figures.specs.Figures.{from_on};
-ghost use Rattle.tw_record_lines.specs.Tables.{rows_text};
+ghost use Rattle.tw_record_lines.specs.Tables.{listed, rows_text};
 ghost use Rattle.tw_vtime.specs.Stamps.{tick_of};
 
 use crate::rows::{add_each_item, add_each_word, add_record};
 use std::alloc::AllocError;
-use tw_figures::Rows;
+use tw_figures::{Rows, is_shown};
 use tw_listen::{Counting, Reached};
 use tw_msgs::{Bag, RecordKind};
 use tw_rounds::Receiver;
 use tw_texts::Names;
 use tw_vtime::Stamp;
 
-/// A table: what its lines are of, the names of the components, and from which tick on it has records.
+/// A table: what its lines are of, the names of the components, which of them are shown, and from which tick on it has records.
 #[derive(Drop)]
 pub struct Table<'a, N: Names> {
     /// What a line is of.
     pub rows: Rows,
     /// The names.
     pub names: &'a N,
+    /// Whether each component is shown, in their order.
+    pub shown: &'a [bool],
     /// The tick from which on it has records.
     pub from: u64,
 }
@@ -30,6 +31,7 @@ pub struct Table<'a, N: Names> {
 pub struct TableLines<'a, N: Names> {
     names: &'a N,
     rows: Rows,
+    shown: &'a [bool],
     from: u64,
     pub(crate) lines: String,
     reached: Reached,
@@ -40,12 +42,14 @@ impl<'a, N: Names> TableLines<'a, N> {
     pub(crate) fn new(table: &Table<'a, N>, lines: String) -> TableLines<'a, N>
         ensures names { result.names.now ≡ table.now.names.now }
         ensures rows { result.rows ≡ table.now.rows }
+        ensures shown { result.shown.now ≡ table.now.shown.now }
         ensures from { result.from ≡ table.now.from }
         ensures lines { result.lines ≡ lines }
     {
         TableLines {
             names: table.names,
             rows: table.rows,
+            shown: table.shown,
             from: table.from,
             lines,
             reached: Reached::nothing(),
@@ -53,12 +57,12 @@ impl<'a, N: Names> TableLines<'a, N> {
     }
 }
 
-/// Adds the lines of each record that is not before the table's first tick.
+/// Adds the lines of each record of a component that is shown and that is not before the table's first tick.
 impl<N: Names> Receiver for TableLines<'_, N> {
     ghost takes = { λ old r new. (new.names.now ≡ old.names.now) × (new.rows ≡ old.rows)
-        × (new.from ≡ old.from)
+        × (new.shown.now ≡ old.shown.now) × (new.from ≡ old.from)
         × (string_bytes new.lines ≡ string_bytes old.lines
-        ++ rows_text old.rows (N.name_of old.names.now) (from_on old.from (r ∷ []))) };
+        ++ rows_text old.rows (N.name_of old.names.now) (listed old.shown.now old.from (r ∷ []))) };
 
     fn take(
         &mut self,
@@ -69,7 +73,7 @@ impl<N: Names> Receiver for TableLines<'_, N> {
         words: &[i128],
     ) -> Result<(), AllocError> {
         self.reached.add(stamp);
-        if tick(stamp) < self.from {
+        if tick(stamp) < self.from || !is_shown(self.shown, component) {
             return Ok(());
         }
         let name = self.names.name(component);
@@ -83,7 +87,7 @@ impl<N: Names> Receiver for TableLines<'_, N> {
 }
 
 /// The tick of a stamp. Of the end it is behind those of all others.
-fn tick(stamp: Stamp) -> u64
+pub(crate) fn tick(stamp: Stamp) -> u64
     ensures { result ≡ tick_of stamp }
 {
     stamp.pack() / 16_777_216

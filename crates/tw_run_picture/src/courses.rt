@@ -82,13 +82,38 @@ fn push_names(
     top: Points,
 ) -> Result<(), AllocError> {
     let middle = top + stave.layout.band.share(1, 2);
-    let spot = Spot::new(Points::whole(16), middle + Points::whole(5));
-    push_cut_name(svg, spot, "n", lane.name.as_str(), NAME)?;
-    let spot = Spot::new(Points::whole(16), middle + Points::whole(17));
-    push_cut_name(svg, spot, "s z", course.name.as_str(), FIGURE)
+    push_names_of(svg, middle, lane.name.as_str(), Some(course.name.as_str()))
 }
 
-/// The numbers of a scale: its ends, or of a figure that never changes its value and 0.
+/// The name of a component and that of its figure, if there is one, about the middle of a lane.
+pub(crate) fn push_names_of(
+    svg: &mut Svg,
+    middle: Points,
+    name: &str,
+    figure: Option<&str>,
+) -> Result<(), AllocError> {
+    let left = Points::whole(16);
+    let Some(figure) = figure else {
+        return push_cut_name(
+            svg,
+            Spot::new(left, middle + Points::whole(5)),
+            "m s",
+            name,
+            NAME,
+        );
+    };
+    push_cut_name(
+        svg,
+        Spot::new(left, middle + Points::whole(5)),
+        "n",
+        name,
+        NAME,
+    )?;
+    let spot = Spot::new(left, middle + Points::whole(17));
+    push_cut_name(svg, spot, "s z", figure, FIGURE)
+}
+
+/// The numbers of a scale in a stave.
 fn push_scale(
     svg: &mut Svg,
     stave: &Stave<'_>,
@@ -96,32 +121,56 @@ fn push_scale(
     scale: &Scale,
     top: Points,
 ) -> Result<(), AllocError> {
-    let (first, second) = if course.least < course.greatest {
+    let right = stave.layout.gutter - Points::whole(6);
+    let extremes = (course.least, course.greatest);
+    push_scale_of(
+        svg,
+        Spot::new(right, top),
+        stave.layout.band,
+        extremes,
+        scale,
+    )
+}
+
+/// The numbers of a scale, left of a place, over the height of a band: its ends, or of a figure that never changes its value and 0.
+pub(crate) fn push_scale_of(
+    svg: &mut Svg,
+    place: Spot,
+    band: Points,
+    extremes: (i128, i128),
+    scale: &Scale,
+) -> Result<(), AllocError> {
+    let (least, greatest) = extremes;
+    let (first, second) = if least < greatest {
         (scale.bottom, scale.top)
     } else if scale.has_zero() {
-        (0, course.least)
+        (0, least)
     } else {
-        (course.least, course.least)
+        (least, least)
     };
-    push_value(svg, stave, first, scale, top)?;
+    push_value(svg, place, band, first, scale)?;
     if second == first {
         return Ok(());
     }
-    push_value(svg, stave, second, scale, top)
+    push_value(svg, place, band, second, scale)
 }
 
 fn push_value(
     svg: &mut Svg,
-    stave: &Stave<'_>,
+    place: Spot,
+    band: Points,
     value: i128,
     scale: &Scale,
-    top: Points,
 ) -> Result<(), AllocError> {
-    let down = top + scale.depth(value, stave.layout.band) + Points::whole(3);
-    let spot = Spot::new(stave.layout.gutter - Points::whole(6), down);
-    let words = value_text(stave.alloc, value)?;
-    let title = format!(in stave.alloc; "{value}")?;
-    svg.text(spot, "s z r", words.as_str(), Some(title.as_str()))
+    let down = place.y + scale.depth(value, band) + Points::whole(3);
+    let words = value_text(svg.allocator(), value)?;
+    let title = format!(in svg.allocator(); "{value}")?;
+    svg.text(
+        Spot::new(place.x, down),
+        "s z r",
+        words.as_str(),
+        Some(title.as_str()),
+    )
 }
 
 /// The step line of a course in a stave: from its last value before, by its changes in the rounds of the stave.

@@ -20,8 +20,9 @@ use tw_texts::Names;
 use tw_vtime::MAX_TICK;
 
 /// Writes a picture of a network's sequential run up to an end tick, as a view shows it, with the names and the figures of its
-/// components. At most 20,000 records and 20,000 arrows are kept and shown, in whole rounds; the picture and the run end before a
-/// round that would pass that. Answers the limit fault that ended the run, if it was reached.
+/// components. At most 20,000 records and 20,000 arrows are shown, in whole rounds. Of a run with more the picture has courses
+/// alone, in memory that does not grow with the run; where marks were asked for, the picture and the run end before the round that
+/// would pass that. Answers the limit fault that ended the run, if it was reached.
 ///
 /// Refused by [`DrawRefused::BadTick`] (10) exactly where the end tick is above 1,099,511,627,774; by [`DrawRefused::NoSuch`] (15) where
 /// no component has one of the names that are to be shown, or none that is shown has the figure; by [`DrawRefused::OutOfMemory`]
@@ -44,7 +45,7 @@ pub fn draw_run<M: Atomic, N: Names, W: Write>(
     if subject.until > MAX_TICK {
         return Err(DrawRefused::BadTick);
     }
-    let Some(lanes) = lanes_of(alloc, network, names, labels, &subject.view)? else {
+    let Some(lanes) = lanes_of(alloc, network, names, labels, subject.view)? else {
         return Err(DrawRefused::NoSuch);
     };
     let (picture, fault) = make_picture(alloc, network, names, lanes, subject)?;

@@ -5,7 +5,7 @@ ghost use Rattle.tw_network.specs.Contents.{network_of};
 ghost use Rattle.tw_rounds.specs.Parts.{IsSimulating};
 ghost use Rattle.tw_theory.specs.Simulator.{sequential};
 
-use crate::kept::Kept;
+use crate::watched::Watched;
 use std::alloc::{AllocError, Global};
 use tw_atomic::Atomic;
 use tw_network::Network;
@@ -17,7 +17,7 @@ pub(crate) fn follow<M: Atomic>(
     alloc: Global,
     network: &Network<M>,
     until: u64,
-    kept: &mut Kept,
+    watched: &mut Watched,
 ) -> Result<Option<Fault>, AllocError>
     ensures { let run = sequential (network_of M.meaning network.now) until in
         IfOk result (λ fault. (fault ≡ None) ⊎ (fault ≡ run.fault)) }
@@ -25,7 +25,7 @@ pub(crate) fn follow<M: Atomic>(
     let Ok(mut simulation) = begin(alloc, network, until) else {
         return Err(AllocError);
     };
-    make_rounds(alloc, network, &mut simulation, kept)
+    make_rounds(alloc, network, &mut simulation, watched)
 }
 
 /// Makes the rounds of a run that has begun.
@@ -33,7 +33,7 @@ fn make_rounds<M: Atomic>(
     alloc: Global,
     network: &Network<M>,
     simulation: &mut Simulation<M::State>,
-    kept: &mut Kept,
+    watched: &mut Watched,
 ) -> Result<Option<Fault>, AllocError>
     requires { IsSimulating M.valid M.meaning network.now [] simulation.old }
     ensures { let run = sequential (network_of M.meaning network.now) simulation.old.until in
@@ -46,13 +46,13 @@ fn make_rounds<M: Atomic>(
         match step {
             Advanced::Round => {
                 outputs.append(&mut transitions)?;
-                if kept.take(alloc, network, outputs.as_slice())? {
+                if watched.take(alloc, network, outputs.as_slice())? {
                     return Ok(None);
                 }
                 outputs.clear();
             }
             Advanced::End(fault) => {
-                if kept.take(alloc, network, outputs.as_slice())? {
+                if watched.take(alloc, network, outputs.as_slice())? {
                     return Ok(None);
                 }
                 return Ok(fault);

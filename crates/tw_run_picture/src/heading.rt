@@ -8,9 +8,11 @@ use std::alloc::{AllocError, Global};
 use tw_msgs::RecordKind;
 use tw_svg::{Front, Legend, Path, Points, Spot, Svg, cut, many, push_number};
 
-const READING: &str =
-    "Time runs to the right. About the line of a tick stand its outputs, on the left, and its transitions, on the \
-right.";
+/// What a reader has to know.
+const READING: [&str; 2] = [
+    "Time runs to the right. About the line of a tick stand its outputs, on the left,",
+    "and its transitions, on the right.",
+];
 
 /// What a heading says of a picture.
 #[derive(Clone, Copy)]
@@ -28,35 +30,53 @@ fn number(count: usize) -> u64 {
     u64::try_from(count).unwrap_or(u64::MAX)
 }
 
-/// The line of facts.
+/// The line of facts: so many lanes and records up to a tick, and the figures that were asked for.
+pub(crate) fn push_facts(
+    alloc: Global,
+    lanes: usize,
+    records: u64,
+    last: u64,
+    facts: &Facts<'_>,
+) -> Result<String, AllocError> {
+    let view = facts.subject.view;
+    let mut line = String::new(alloc);
+    if view.only.is_some() {
+        push_number(&mut line, number(lanes))?;
+        line.push_str(" of ")?;
+    }
+    line.push_str(many(alloc, number(facts.components), "component")?.as_str())?;
+    line.push_str(" \u{b7} ")?;
+    line.push_str(many(alloc, records, "record")?.as_str())?;
+    line.push_str(" \u{b7} ticks ")?;
+    push_number(&mut line, view.from)?;
+    line.push_str(" to ")?;
+    push_number(&mut line, last.max(view.from))?;
+    let mut before = if view.figures.len() == 1 {
+        " \u{b7} figure "
+    } else {
+        " \u{b7} figures "
+    };
+    for figure in view.figures.as_slice() {
+        line.push_str(before)?;
+        line.push_str(cut(alloc, figure, 60)?.as_str())?;
+        before = ", ";
+    }
+    Ok(line)
+}
+
+/// The line of facts of what is kept.
 fn line_of_facts(
     alloc: Global,
     kept: &Kept,
     layout: &Layout,
     facts: &Facts<'_>,
 ) -> Result<String, AllocError> {
-    let mut line = String::new(alloc);
-    if facts.subject.view.only.is_some() {
-        push_number(&mut line, number(kept.lanes.len()))?;
-        line.push_str(" of ")?;
-    }
-    line.push_str(many(alloc, number(facts.components), "component")?.as_str())?;
-    line.push_str(" \u{b7} ")?;
-    line.push_str(many(alloc, number(kept.marks), "record")?.as_str())?;
-    line.push_str(" \u{b7} ticks ")?;
-    push_number(&mut line, facts.subject.view.from)?;
-    line.push_str(" to ")?;
     let last = if kept.goes_on {
         layout.end
     } else {
         facts.subject.until
     };
-    push_number(&mut line, last.max(facts.subject.view.from))?;
-    if let Some(figure) = facts.subject.view.figure {
-        line.push_str(" \u{b7} figure ")?;
-        line.push_str(cut(alloc, figure, 60)?.as_str())?;
-    }
-    Ok(line)
+    push_facts(alloc, kept.lanes.len(), number(kept.marks), last, facts)
 }
 
 /// What is left out, a line each.
@@ -92,7 +112,7 @@ fn push_front(
     let front = Front {
         title: facts.subject.title,
         facts: line.as_str(),
-        reading: &[READING],
+        reading: &READING,
         faults: faults.as_slice(),
         missing: missing.as_slice(),
     };

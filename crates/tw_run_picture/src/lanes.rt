@@ -115,40 +115,140 @@ impl Lanes {
     pub fn len(&self) -> usize {
         self.items.len()
     }
+
+    /// The lane of each component, if it has one.
+    pub fn places_of_all(&self, alloc: Global) -> Result<Vec<Option<usize>>, AllocError> {
+        Vec::from_slice(alloc, self.places.as_slice())
+    }
 }
 
-/// Which components have one of the names, which are parted by commas; none where a name is of no component.
-fn choose<M: Atomic>(
+/// The components that have one of the names, which are parted by commas, in the order of the names, each once; all of them where
+/// there are no names. None where a name is of no component.
+fn chosen<M: Atomic>(
     alloc: Global,
     network: &Network<M>,
     only: Option<&str>,
-) -> Result<Option<Vec<bool>>, AllocError> {
+) -> Result<Option<Vec<usize>>, AllocError> {
+    let mut order = Vec::new(alloc);
     let Some(only) = only else {
-        return Ok(Some(vec![in alloc; true; network.len()]?));
+        for component in 0..network.len() {
+            order.push(component)?;
+        }
+        return Ok(Some(order));
     };
-    let mut shown = vec![in alloc; false; network.len()]?;
+    let mut taken = vec![in alloc; false; network.len()]?;
     for name in only.split(',') {
         let Some(component) = network.find(name) else {
             return Ok(None);
         };
-        if component < shown.len() {
-            shown[component] = true;
+        if component < taken.len() && !taken[component] {
+            taken[component] = true;
+            order.push(component)?;
         }
     }
-    Ok(Some(shown))
+    Ok(Some(order))
 }
 
-/// The figure that is shown of some: the one with the name, or the last one; of a tally, whose last is `last`, its `sum`.
-fn figure_of<'a>(labels: &'a Labels, wanted: Option<&str>) -> Option<&'a Figure> {
-    let name = match wanted {
-        Some(name) => name,
-        None if labels.model.as_str() == "tally" => "sum",
-        None => return labels.figures.last(),
-    };
+/// A figure that is asked for.
+#[derive(Clone, Copy)]
+struct Choice<'a> {
+    // Of which component; of each that has it where there is none.
+    component: Option<usize>,
+    name: &'a str,
+}
+
+impl<'a> Choice<'a> {
+    /// The figure that a text asks for: behind the name of a component and `=` that of this component, else that of the whole text.
+    fn of<M: Atomic>(network: &Network<M>, text: &'a str) -> Choice<'a> {
+        if let Some((before, name)) = text.split_once('=') {
+            if let Some(component) = network.find(before) {
+                return Choice {
+                    component: Some(component),
+                    name,
+                };
+            }
+        }
+        Choice {
+            component: None,
+            name: text,
+        }
+    }
+
+    /// Whether it is for a component.
+    fn is_for(&self, component: usize) -> bool {
+        match self.component {
+            Some(own) => own == component,
+            None => true,
+        }
+    }
+}
+
+/// The figures that are asked for, those of one component first.
+fn choices_in<'a, M: Atomic>(
+    alloc: Global,
+    network: &Network<M>,
+    figures: &[&'a str],
+) -> Result<Vec<Choice<'a>>, AllocError> {
+    let mut choices = Vec::new(alloc);
+    let mut others = Vec::new(alloc);
+    for text in figures {
+        let choice = Choice::of(network, text);
+        if choice.component.is_some() {
+            choices.push(choice)?;
+        } else {
+            others.push(choice)?;
+        }
+    }
+    choices.append(&mut others)?;
+    Ok(choices)
+}
+
+/// A figure by its name.
+fn figure_named<'a>(labels: &'a Labels, name: &str) -> Option<&'a Figure> {
     labels
         .figures
         .iter()
         .find(|figure| figure.name.as_str() == name)
+}
+
+/// The figure that is shown of a component: the first one asked for that it has; where none is asked for it, the last one, and of a
+/// tally, whose last is `last`, its `sum`.
+fn figure_of<'a>(
+    labels: &'a Labels,
+    component: usize,
+    choices: &[Choice<'_>],
+) -> Option<&'a Figure> {
+    let mut is_asked = false;
+    for choice in choices {
+        if choice.is_for(component) {
+            is_asked = true;
+            let found = figure_named(labels, choice.name);
+            if found.is_some() {
+                return found;
+            }
+        }
+    }
+    if is_asked {
+        return None;
+    }
+    if labels.model.as_str() == "tally" {
+        return figure_named(labels, "sum");
+    }
+    labels.figures.last()
+}
+
+/// Whether a component that is shown has the figure that is asked for.
+fn is_met(choice: &Choice<'_>, order: &[usize], labels: &[Labels]) -> bool {
+    for component in order {
+        if choice.is_for(*component) {
+            if let Some(label) = labels.get(*component) {
+                if figure_named(label, choice.name).is_some() {
+                    return true;
+                }
+            }
+        }
+    }
+    false
 }
 
 /// The words of the state in which a model starts.
@@ -163,10 +263,9 @@ fn start_words<M: Atomic>(alloc: Global, model: &M) -> Result<Words, AllocError>
 fn course_of<M: Atomic>(
     alloc: Global,
     model: &M,
-    labels: &Labels,
-    wanted: Option<&str>,
+    figure: Option<&Figure>,
 ) -> Result<Option<Course>, AllocError> {
-    let Some(figure) = figure_of(labels, wanted) else {
+    let Some(figure) = figure else {
         return Ok(None);
     };
     let words = start_words(alloc, model)?;
@@ -175,7 +274,7 @@ fn course_of<M: Atomic>(
     Ok(Some(Course::new(alloc, name, figure.measure, first)))
 }
 
-/// The lanes of the components that are shown; none where a name is of no component, or the figure of none that is shown.
+/// The lanes of the components that are shown; none where a name is of no component, or a figure of none that is shown.
 pub fn lanes_of<M: Atomic, N: Names>(
     alloc: Global,
     network: &Network<M>,
@@ -185,21 +284,25 @@ pub fn lanes_of<M: Atomic, N: Names>(
 ) -> Result<Option<Lanes>, AllocError>
     requires { length labels.now ≡ length network.now.models }
 {
-    let Some(shown) = choose(alloc, network, view.only)? else {
+    let Some(order) = chosen(alloc, network, view.only)? else {
         return Ok(None);
     };
+    let choices = choices_in(alloc, network, view.figures.as_slice())?;
+    for choice in choices.as_slice() {
+        if !is_met(choice, order.as_slice(), labels) {
+            return Ok(None);
+        }
+    }
     let mut lanes = Lanes {
         items: Vec::new(alloc),
         places: vec![in alloc; None; network.len()]?,
     };
-    for (component, label) in labels.iter().enumerate() {
-        if shown.get(component).copied().unwrap_or(false) {
-            let course = course_of(alloc, network.model(component), label, view.figure)?;
-            lanes.add(alloc, component, names.name(component), course)?;
+    for component in order.as_slice() {
+        if let Some(label) = labels.get(*component) {
+            let figure = figure_of(label, *component, choices.as_slice());
+            let course = course_of(alloc, network.model(*component), figure)?;
+            lanes.add(alloc, *component, names.name(*component), course)?;
         }
-    }
-    if view.figure.is_some() && !lanes.items.iter().any(|lane| lane.course.is_some()) {
-        return Ok(None);
     }
     Ok(Some(lanes))
 }

@@ -6,9 +6,6 @@ use crate::lanes::Lane;
 use std::alloc::{AllocError, Global};
 use tw_svg::{Axis, Points, Time, tick_text, width_of};
 
-/// The width of a full page.
-const PAGE: i64 = 1280;
-
 /// Where a lane stands in its stave.
 #[derive(Clone, Copy)]
 pub(crate) struct LanePlace {
@@ -98,7 +95,7 @@ fn lane_at(lane: &Lane, heights: &Heights, top: Points) -> (LanePlace, Points) {
 }
 
 /// The width of names and scales.
-fn gutter(lanes: &[Lane]) -> Points {
+pub(crate) fn gutter(lanes: &[Lane]) -> Points {
     let mut wide = Points::whole(44);
     for lane in lanes {
         let letters = i64::try_from(lane.name.len().min(18)).unwrap_or(18);
@@ -109,6 +106,11 @@ fn gutter(lanes: &[Lane]) -> Points {
         }
     }
     wide + Points::whole(66)
+}
+
+/// The width of a page: what was asked for, 600 to 4,000 points.
+pub(crate) fn page_of(width: u64) -> Points {
+    Points::whole(i64::try_from(width).unwrap_or(4000).clamp(600, 4000))
 }
 
 /// The times of the axis: those of the rounds, and that of a fault on a lane.
@@ -132,10 +134,11 @@ fn tight_gap(gaps: &mut Vec<u64>, usual: u64) -> u64 {
 }
 
 impl Layout {
-    /// Where all stands, of what is kept of a run that ends at a tick, with a fault on a lane or without one.
+    /// Where all stands on a page, of what is kept of a run that ends at a tick, with a fault on a lane or without one.
     pub fn new(
         alloc: Global,
         kept: &mut Kept,
+        page: Points,
         end: u64,
         fault: Option<Time>,
     ) -> Result<Layout, AllocError> {
@@ -159,7 +162,7 @@ impl Layout {
             width: Points::ZERO,
         };
         layout.place_lanes(kept.lanes.items.as_slice(), &heights)?;
-        layout.place_times(alloc, kept)?;
+        layout.place_times(alloc, kept, page)?;
         Ok(layout)
     }
 
@@ -176,10 +179,15 @@ impl Layout {
     }
 
     /// Places the times: on the axis, and the axis in staves.
-    fn place_times(&mut self, alloc: Global, kept: &mut Kept) -> Result<(), AllocError> {
+    fn place_times(
+        &mut self,
+        alloc: Global,
+        kept: &mut Kept,
+        page: Points,
+    ) -> Result<(), AllocError> {
         let last = width_of(tick_text(alloc, self.end)?.as_str(), 11);
         let margin = Points::whole(20).most(last.share(1, 2));
-        let room = Points::whole(PAGE - 30) - self.gutter - margin;
+        let room = page - Points::whole(30) - self.gutter - margin;
         let fit = Fit {
             room,
             pitch: Points::whole(if kept.lanes.len() <= 8 { 19 } else { 16 }),
@@ -194,7 +202,7 @@ impl Layout {
         self.place_labels(alloc, Points::whole(50).most(last + Points::whole(26)))?;
         self.break_staves(room)?;
         let wide = self.gutter + self.longest() + self.edge.times(2) + margin;
-        self.width = Points::whole(660).most(wide);
+        self.width = page.least(Points::whole(660)).most(wide);
         Ok(())
     }
 

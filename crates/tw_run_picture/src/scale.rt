@@ -1,6 +1,7 @@
 //! The scale of a figure.
 
 use crate::lanes::Course;
+use crate::tracks::{Column, Track};
 use tw_svg::Points;
 
 /// From which value to which a course is drawn.
@@ -13,10 +14,21 @@ pub(crate) struct Scale {
 }
 
 impl Scale {
-    /// The scale of a course: from 0, but not where that would take more than two thirds of the height.
+    /// The scale of a course.
     pub fn of(course: &Course) -> Scale {
-        let mut bottom = course.least;
-        let mut top = course.greatest;
+        Scale::between(course.least, course.greatest)
+    }
+
+    /// The scale of a course in columns.
+    pub fn of_track(track: &Track) -> Scale {
+        let (least, greatest) = track.extremes();
+        Scale::between(least, greatest)
+    }
+
+    /// The scale from a least to a greatest value: from 0, but not where that would take more than two thirds of the height.
+    fn between(least: i128, greatest: i128) -> Scale {
+        let mut bottom = least;
+        let mut top = greatest;
         let thrice = top.saturating_sub(bottom).saturating_mul(3);
         if bottom > 0 && (thrice >= top || bottom == top) {
             bottom = 0;
@@ -50,5 +62,24 @@ impl Scale {
             .checked_div(range)
             .unwrap_or(0);
         Points::of_tenths(i64::try_from(tenths).unwrap_or(0)).least(band)
+    }
+
+    /// How far below the top of a band of this height the mean of a column stands; none where no tick is counted.
+    pub fn depth_of_mean(&self, column: &Column, band: Points) -> Option<Points> {
+        if column.ticks == 0 {
+            return None;
+        }
+        let ticks = i128::from(column.ticks);
+        let range = self.top.saturating_sub(self.bottom).saturating_mul(ticks);
+        let tenths = self
+            .top
+            .saturating_mul(ticks)
+            .saturating_sub(column.sum)
+            .saturating_mul(i128::from(band.tenths()))
+            .saturating_add(range / 2)
+            .checked_div(range)
+            .unwrap_or(0);
+        let depth = Points::of_tenths(i64::try_from(tenths).unwrap_or(0));
+        Some(depth.least(band).most(Points::ZERO))
     }
 }

@@ -5,10 +5,10 @@ use crate::layout::Layout;
 use std::alloc::{AllocError, Global};
 use tw_svg::{Sheet, push_sheet};
 
-const LIGHT: &str = ".line{stroke:#4a6f94}.area{fill:#dfe8f1}.a{stroke:#1c1c1c}\
+const LIGHT: &str = ".line{stroke:#4a6f94}.area{fill:#dfe8f1}.span{fill:#bcd0e4}.a{stroke:#1c1c1c}\
 .o{fill:#d55e00}.i{fill:#0072b2}.e{fill:#009e73}.c{fill:#b4518e}";
 
-const DARK: &str = ".line{stroke:#9cc0e4}.area{fill:#24313f}.a{stroke:#ececec}\
+const DARK: &str = ".line{stroke:#9cc0e4}.area{fill:#24313f}.span{fill:#3a5674}.a{stroke:#ececec}\
 .o{fill:#f0883a}.i{fill:#56b4e9}.e{fill:#2fc99b}.c{fill:#e58fc2}";
 
 const FIXED: &str =
@@ -52,6 +52,18 @@ pub(crate) fn sheet_of(alloc: Global, kept: &Kept, layout: &Layout) -> Result<St
     let mut text = String::new(alloc);
     let sheet = Sheet {
         fixed: fixed.as_str(),
+        light: LIGHT,
+        dark: DARK,
+    };
+    push_sheet(&mut text, &sheet)?;
+    Ok(text)
+}
+
+/// The style sheet of a picture of courses alone.
+pub(crate) fn plain_sheet(alloc: Global) -> Result<String, AllocError> {
+    let mut text = String::new(alloc);
+    let sheet = Sheet {
+        fixed: FIXED,
         light: LIGHT,
         dark: DARK,
     };

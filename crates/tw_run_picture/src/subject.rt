@@ -9,6 +9,6 @@ pub struct Subject<'a> {
     pub title: &'a str,
     /// The end tick of the run.
     pub until: u64,
-    /// What part of the run is shown.
-    pub view: View<'a>,
+    /// What part of the run is shown, and how.
+    pub view: &'a View<'a>,
 }

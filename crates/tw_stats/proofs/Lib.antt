@@ -5,4 +5,5 @@ pub mod Reaching
 pub mod Starting
 pub mod Steady
 pub mod Telling
+pub mod Thirds
 pub mod Widths

@@ -9,20 +9,33 @@ use Rattle.tw_stats.specs.Strings.{behind_comma, member, object_text, with_comma
 pub named_object : (name : List ℕ) (members : List (List ℕ)) → codes "{\"name\":" ++ (name ++ (flat_map behind_comma members ++ codes "}")) ≡ object_text (member (codes "name") name ∷ members)
 named_object name members = simp append_assoc
 
-pub row_object : (name model figures : List ℕ) (counts : List (List ℕ))
-    → codes "{\"name\":" ++ (name ++ (codes ",\"model\":" ++ (model ++ (flat_map behind_comma counts ++ (codes ",\"figures\":[" ++ (figures ++ codes "]}"))))))
-    ≡ object_text (member (codes "name") name ∷ member (codes "model") model ∷ counts ++ member (codes "figures") (codes "[" ++ figures ++ codes "]") ∷ [])
-row_object name model figures counts =
+-- the two lists at the end of a component
+row_end : (figures observations : List ℕ)
+    → codes ",\"figures\":[" ++ (figures ++ (codes "],\"observations\":[" ++ (observations ++ codes "]}")))
+    ≡ flat_map behind_comma (member (codes "figures") (codes "[" ++ figures ++ codes "]") ∷ member (codes "observations") (codes "[" ++ observations ++ codes "]") ∷ []) ++ codes "}"
+row_end figures observations =
     let end = codes "}" in
-    let last = member (codes "figures") (codes "[" ++ figures ++ codes "]") in
+    let first = behind_comma (member (codes "figures") (codes "[" ++ figures ++ codes "]")) in
+    let second = behind_comma (member (codes "observations") (codes "[" ++ observations ++ codes "]")) in
+    let rest = codes ",\"observations\":[" ++ (observations ++ codes "]}") in
+    let told : rest ≡ (second ++ []) ++ end =
+    sym (ap (λ l. l ++ end) (append-nil second) ∙ ap (λ l. codes ",\"observations\":[" ++ l) (append_assoc observations (codes "]") end)) in
+    sym (ap (λ l. codes ",\"figures\":[" ++ l) (append_assoc figures (codes "]") rest))
+    ∙ ap (λ l. first ++ l) told
+    ∙ sym (append_assoc first (second ++ []) end)
+
+pub row_object : (name model figures observations : List ℕ) (counts : List (List ℕ))
+    → codes "{\"name\":" ++ (name ++ (codes ",\"model\":" ++ (model ++ (flat_map behind_comma counts ++ (codes ",\"figures\":[" ++ (figures ++ (codes "],\"observations\":[" ++ (observations ++ codes "]}"))))))))
+    ≡ object_text (member (codes "name") name ∷ member (codes "model") model ∷ counts ++ member (codes "figures") (codes "[" ++ figures ++ codes "]") ∷ member (codes "observations") (codes "[" ++ observations ++ codes "]") ∷ [])
+row_object name model figures observations counts =
+    let end = codes "}" in
+    let lists = member (codes "figures") (codes "[" ++ figures ++ codes "]") ∷ member (codes "observations") (codes "[" ++ observations ++ codes "]") ∷ [] in
     let told = flat_map behind_comma counts in
-    let figures_end : codes ",\"figures\":[" ++ (figures ++ codes "]}") ≡ (behind_comma last ++ []) ++ end =
-    sym (ap (λ l. l ++ end) (append-nil (behind_comma last)) ∙ ap (λ l. codes ",\"figures\":[" ++ l) (append_assoc figures (codes "]") end)) in
-    let counts_end : told ++ (codes ",\"figures\":[" ++ (figures ++ codes "]}")) ≡ flat_map behind_comma (counts ++ last ∷ []) ++ end =
-    ap (λ l. told ++ l) figures_end ∙ sym (append_assoc told (behind_comma last ++ []) end) ∙ ap (λ l. l ++ end) (sym (flat_map-append behind_comma counts (last ∷ []))) in
+    let counts_end : told ++ (codes ",\"figures\":[" ++ (figures ++ (codes "],\"observations\":[" ++ (observations ++ codes "]}")))) ≡ flat_map behind_comma (counts ++ lists) ++ end =
+    ap (λ l. told ++ l) (row_end figures observations) ∙ sym (append_assoc told (flat_map behind_comma lists) end) ∙ ap (λ l. l ++ end) (sym (flat_map-append behind_comma counts lists)) in
     ap (λ l. codes "{\"name\":" ++ (name ++ (codes ",\"model\":" ++ (model ++ l)))) counts_end
-    ∙ ap (λ l. codes "{\"name\":" ++ (name ++ l)) (sym (append_assoc (codes ",\"model\":" ++ model) (flat_map behind_comma (counts ++ last ∷ [])) end))
-    ∙ ap (λ l. codes "{\"name\":" ++ l) (sym (append_assoc name ((codes ",\"model\":" ++ model) ++ flat_map behind_comma (counts ++ last ∷ [])) end))
+    ∙ ap (λ l. codes "{\"name\":" ++ (name ++ l)) (sym (append_assoc (codes ",\"model\":" ++ model) (flat_map behind_comma (counts ++ lists)) end))
+    ∙ ap (λ l. codes "{\"name\":" ++ l) (sym (append_assoc name ((codes ",\"model\":" ++ model) ++ flat_map behind_comma (counts ++ lists)) end))
 
 pub fault_object : (name tick micro limit : List ℕ)
     → codes ",\"fault\":{\"component\":" ++ (name ++ (behind_comma tick ++ (behind_comma micro ++ (codes ",\"limit\":" ++ (limit ++ codes "}")))))

@@ -12,12 +12,12 @@ use Rattle.tw_theory.specs.Simulator.{Fault, Run, rounds, sequential}
 use Rattle.tw_theory.specs.Traces.{of_component}
 use Rattle.tw_vtime.specs.Stamps.{max_tick, never, stamp, tick_of}
 use Rattle.tw_figures.specs.Figures.{is_transition}
-use Rattle.tw_figures.specs.Gathered.{IsGathered}
+use Rattle.tw_figures.specs.Gathered.{IsGathered, start_words}
 use Rattle.tw_figures.specs.declared.course.Course.{Course}
 use Rattle.tw_figures.specs.declared.gatherer.Gatherer.{Gatherer}
 use Rattle.tw_figures.specs.declared.member.Member.{Member}
 use Rattle.tw_theory.proofs.Elements.{each-filter, each_weaker}
-use Rattle.tw_stats.specs.Gathering.{BeforeEnd, run_ticks, start_words}
+use Rattle.tw_stats.specs.Gathering.{BeforeEnd, run_ticks}
 
 -- a fault stands before the end of time, and behind all records
 pub record IsInTime (rs : List Record) (s : ℕ) : Type 0 where

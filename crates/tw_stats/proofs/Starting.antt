@@ -5,7 +5,7 @@ use Rattle.std.proofs.lemmas.List.{get_or-map, length-map, take_more}
 use Rattle.std.proofs.lemmas.Option.{get_or_from_slice_get, slice_get_within}
 use Rattle.tw_atomic.specs.Atomic.{Meaning}
 use Rattle.tw_network.specs.Contents.{Contents, network_of}
-use Rattle.tw_stats.specs.Gathering.{measures_in, start_words}
+use Rattle.tw_figures.specs.Gathered.{followed_in, followed_in_all, start_words}
 use Rattle.tw_figures.specs.declared.labels.Labels.{Labels}
 
 pub starts_more : {M S : Type 0} (meaning : M → Meaning S) (contents : Contents M) (c : ℕ) (model : M) → slice_get contents.models c ≡ Some model
@@ -22,11 +22,10 @@ starts_more {S = S} meaning contents c model at =
     ∙ ap words (get_or-map meaning contents.models c model (meaning model) within ∙ ap meaning here) in
     ap (λ w. take c all ++ w ∷ []) (sym is) ∙ sym (take_more all c one (omega (arith, size, within)))
 
-pub measures_more : (labels : List Labels) (c : ℕ) (label : Labels) → c < length labels → label ≡ get_or labels c label
-    → take c (measures_in labels) ++ map (λ f. f.measure) label.figures.items ∷ [] ≡ take (c + 1) (measures_in labels)
-measures_more labels c label within here =
-    let measures = λ (l : Labels). map (λ f. f.measure) l.figures.items in
-    let one = measures label in
-    let size = length-map labels measures in
-    let is : get_or (measures_in labels) c one ≡ one = get_or-map measures labels c label one within ∙ ap measures (sym here) in
-    ap (λ w. take c (measures_in labels) ++ w ∷ []) (sym is) ∙ sym (take_more (measures_in labels) c one (omega (arith, size, within)))
+pub followed_more : (labels : List Labels) (c : ℕ) (label : Labels) → c < length labels → label ≡ get_or labels c label
+    → take c (followed_in_all labels) ++ followed_in label ∷ [] ≡ take (c + 1) (followed_in_all labels)
+followed_more labels c label within here =
+    let one = followed_in label in
+    let size = length-map labels followed_in in
+    let is : get_or (followed_in_all labels) c one ≡ one = get_or-map followed_in labels c label one within ∙ ap followed_in (sym here) in
+    ap (λ w. take c (followed_in_all labels) ++ w ∷ []) (sym is) ∙ sym (take_more (followed_in_all labels) c one (omega (arith, size, within)))

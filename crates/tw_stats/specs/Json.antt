@@ -1,8 +1,10 @@
 -- A report as one line of JSON, without a blank.
---     figure_json, row_json, fault_json      a figure, a component, the fault that ended the run
+--     figure_json, observation_json, row_json, fault_json      a figure, an observation, a component, the fault that ended the run
 --     report_json name_of rows report      the whole line, of components with these rows
-use Rattle.std.specs.Prelude.{◌++◌, ◌∷◌, [], ℕ, List, Option, Some, None, codes, map}
+use Rattle.std.specs.Prelude.{◌++◌, ◌∷◌, [], ℕ, pos, List, Option, Some, None, codes, map, option_map}
 use Rattle.std.specs.Fmt.{decimal, signed_decimal}
+use Rattle.std.specs.Option.{option_map_or}
+use Rattle.tw_figures.specs.declared.observed.Observed.{Observed}
 use Rattle.tw_figures.specs.declared.counts.Counts.{Counts}
 use Rattle.tw_figures.specs.declared.told.Told.{Told}
 use Rattle.tw_theory.specs.Simulator.{Fault}
@@ -31,6 +33,18 @@ figure_json ticks figure =
     ∷ member (codes "busy_of") (array_text (decimal told.sums.busy ∷ decimal ticks ∷ []))
     ∷ [])
 
+-- null where there is no such number
+abbrev pub observation_json : List ℕ × Observed → List ℕ
+observation_json observation =
+    let told = observation.1 in
+    object_text (
+    member (codes "name") (quoted observation.0)
+    ∷ member (codes "count") (signed_decimal told.count)
+    ∷ member (codes "sum") (signed_decimal told.sum)
+    ∷ member (codes "mean") (option_map_or thousandths_text told.mean (codes "null"))
+    ∷ member (codes "sd") (option_map_or thousandths_text (option_map pos told.deviation) (codes "null"))
+    ∷ [])
+
 abbrev pub counts_members : Counts → List (List ℕ)
 counts_members counts =
     member (codes "outputs") (decimal counts.outputs)
@@ -47,6 +61,7 @@ row_json ticks row = object_text (
     ∷ member (codes "model") (quoted row.model)
     ∷ counts_members row.counts
     ++ member (codes "figures") (array_text (map (figure_json ticks) row.figures))
+    ∷ member (codes "observations") (array_text (map observation_json row.observations))
     ∷ [])
 
 -- at a time, by a limit, of the component of this name

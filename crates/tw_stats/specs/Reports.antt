@@ -1,5 +1,6 @@
 -- What is told of a run.
 --     TellsFigure from ticks course told, TellsPart from ticks member part      what is told of a course, and of what is gathered of a component, over so many ticks, of which `from` is the first
+--     TellsObservation watch observed      what is told of an observation from the tick on from which it counts
 --     IsToldOf from label start records ticks part      what is told of a component that starts in a state of these words and has these records
 --     AreTold from labels starts rs ticks parts      what is told of all components of a run with these records
 --     first_tick from      the tick from which on a report tells: the start of the run, where none was asked for
@@ -8,31 +9,39 @@ use Rattle.std.specs.Prelude.{◌≡◌, ◌-◌, ℕ, ℤ, List, Option, Some, 
 use Rattle.std.specs.List.{AllZip}
 use Rattle.tw_figures.specs.Counts.{counts_of}
 use Rattle.tw_figures.specs.Figures.{IsCourse, from_on, transitions}
-use Rattle.tw_figures.specs.Gathered.{IsAboveMicrosteps}
+use Rattle.tw_figures.specs.Gathered.{IsAboveMicrosteps, start_words}
 use Rattle.tw_figures.specs.Labelled.{Label}
+use Rattle.tw_figures.specs.Observed.{IsObserved, IsWatch}
 use Rattle.tw_figures.specs.Told.{IsTold}
 use Rattle.tw_figures.specs.declared.course.Course.{Course}
 use Rattle.tw_figures.specs.declared.member.Member.{Member}
+use Rattle.tw_figures.specs.declared.observed.Observed.{Observed}
 use Rattle.tw_figures.specs.declared.told.Told.{Told}
+use Rattle.tw_figures.specs.declared.watch.Watch.{Watch}
 use Rattle.tw_msgs.specs.declared.record.Record.{Record}
 use Rattle.tw_theory.specs.Network.{Network}
 use Rattle.tw_theory.specs.Simulator.{sequential}
 use Rattle.tw_theory.specs.Traces.{of_component}
-use Rattle.tw_stats.specs.Gathering.{run_ticks, start_words}
+use Rattle.tw_stats.specs.Gathering.{run_ticks}
 use Rattle.tw_stats.specs.declared.report.Part.{Part}
 use Rattle.tw_stats.specs.declared.report.Report.{Report}
 
 pub record TellsFigure (from ticks : ℕ) (course : Course) (told : Told) : Type 0 where
   pub tells : (start : List ℤ) (moves : List Record) → IsCourse from start moves course → IsTold from course.measure start moves ticks told
 
+pub record TellsObservation (watch : Watch) (observed : Observed) : Type 0 where
+  pub tells : (from : ℕ) (start : List ℤ) (moves : List Record) → IsWatch from start moves watch → IsObserved from watch.place start moves observed
+
 pub record TellsPart (from ticks : ℕ) (member : Member) (part : Part) : Type 0 where
   pub counts : part.counts ≡ member.counts
   pub figures : AllZip (TellsFigure from ticks) member.courses.items part.figures.items
+  pub observations : AllZip TellsObservation member.watches.items part.observations.items
 
 -- the records before the first tick do not count, but they made the state in which the component comes to it
 pub record IsToldOf (from : ℕ) (label : Label) (start : List ℤ) (records : List Record) (ticks : ℕ) (part : Part) : Type 0 where
   pub counts : part.counts ≡ counts_of (from_on from records)
   pub figures : AllZip (λ figure told. IsTold from figure.1 start (transitions records) ticks told) label.figures part.figures.items
+  pub observations : AllZip (λ observation observed. IsObserved from observation.1 start (transitions records) observed) label.observations part.observations.items
 
 pub record AreTold (from : ℕ) (labels : List Label) (starts : List (List ℤ)) (rs : List Record) (ticks : ℕ) (parts : List Part) : Type 0 where
   pub size : length parts ≡ length labels

@@ -1,18 +1,18 @@
-//! Counts and figures, gathered while a network is simulated.
+//! Counts, figures and observations, gathered while a network is simulated.
 
 ghost use Rattle.std.specs.Prelude.{◌≡◌, ◌≤◌, ◌<◌, ◌↔◌, ◌++◌, ◌∷◌, [], ℕ, ℤ, List, IfOk, IsErrOf, OnOk, length, map, max};
 ghost use Rattle.std.specs.List.{All};
-ghost use Rattle.tw_figures.specs.Gathered.{IsGathered, measures_of};
+ghost use Rattle.tw_figures.specs.Gathered.{IsGathered, followed_in, followed_in_all, followed_of_all, start_words};
 ghost use Rattle.tw_network.specs.Contents.{network_of};
 ghost use Rattle.tw_rounds.specs.Parts.{IsSimulating};
 ghost use Rattle.tw_rounds.specs.declared.refused.SeqRefused.TheVariants.{BadTick};
 ghost use Rattle.tw_theory.specs.Simulator.{sequential};
-ghost use Rattle.tw_stats.specs.Gathering.{BeforeEnd, measures_in, run_ticks, start_words};
+ghost use Rattle.tw_stats.specs.Gathering.{BeforeEnd, run_ticks};
 ghost use Rattle.tw_vtime.specs.Stamps.{max_tick};
 
 use std::alloc::{AllocError, Global};
 use tw_atomic::Atomic;
-use tw_figures::{Figure, Gatherer, Labels};
+use tw_figures::{Gatherer, Labels};
 use tw_listen::{Listener, Reached};
 use tw_msgs::{Record, Words};
 use tw_network::Network;
@@ -22,7 +22,7 @@ use tw_vtime::Stamp;
 /// What is gathered of a network's run.
 #[derive(Debug, Drop)]
 pub(crate) struct Gathering {
-    /// The counts and the courses of the figures of each component, from a tick on.
+    /// The counts of each component, the courses of its figures and its observations, from a tick on.
     pub(crate) gathered: Gatherer,
     /// The limit fault that ended the run.
     pub(crate) fault: Option<Fault>,
@@ -30,8 +30,8 @@ pub(crate) struct Gathering {
     pub(crate) ticks: u64,
 }
 
-/// Simulates a network up to the end tick `until` and gathers, from the tick `from` on, the counts of its components and the
-/// courses of their figures. After each round the listener hears how far the run is.
+/// Simulates a network up to the end tick `until` and gathers, from the tick `from` on, the counts of its components, the
+/// courses of their figures and their observations. After each round the listener hears how far the run is.
 ///
 /// Refused by [`SeqRefused::BadTick`] (10) exactly where `until` is above 1,099,511,627,774, and by
 /// [`SeqRefused::OutOfMemory`] (4) where a growth of memory was refused, or a count or a sum would pass the range of its
@@ -48,8 +48,8 @@ pub(crate) fn gather<M: Atomic, L: Listener>(
     ensures gathered { let net = network_of M.meaning network.now in
         IfOk result
         (λ g. IsGathered from (start_words net) (sequential net until).records g.gathered) }
-    ensures measures { IfOk result
-        (λ g. measures_of g.gathered.members.items ≡ measures_in labels.now) }
+    ensures followed { IfOk result
+        (λ g. followed_of_all g.gathered.members.items ≡ followed_in_all labels.now) }
     ensures fault { let run = sequential (network_of M.meaning network.now) until in
         IfOk result (λ g. g.fault ≡ run.fault) }
     ensures ticks { let run = sequential (network_of M.meaning network.now) until in
@@ -96,8 +96,8 @@ fn follow<M: Atomic, L: Listener>(
     ensures gathered { let run = sequential (network_of M.meaning network.now) simulation.until in
         (from : ℕ) (starts : List (List ℤ)) → IsGathered from starts [] gathered.old
         → OnOk result (IsGathered from starts run.records gathered.new) }
-    ensures measures { measures_of gathered.new.members.items
-        ≡ measures_of gathered.old.members.items }
+    ensures followed { followed_of_all gathered.new.members.items
+        ≡ followed_of_all gathered.old.members.items }
     ensures fault { let run = sequential (network_of M.meaning network.now) simulation.until in
         IfOk result (λ fault. fault ≡ run.fault) }
 {
@@ -156,12 +156,12 @@ fn start<M: Atomic>(
     requires { length labels.now ≡ length network.now.models }
     ensures gathered { let net = network_of M.meaning network.now in
         IfOk result (IsGathered from (start_words net) []) }
-    ensures measures { IfOk result (λ g. measures_of g.members.items ≡ measures_in labels.now) }
+    ensures followed { IfOk result (λ g. followed_of_all g.members.items ≡ followed_in_all labels.now) }
 {
     let mut gathered = Gatherer::new(alloc, from);
     for (component, label) in labels.iter().enumerate() {
         let model = network.model(component);
-        add(alloc, model, label.figures.as_slice(), &mut gathered)?;
+        add(alloc, model, label, &mut gathered)?;
     }
     Ok(gathered)
 }
@@ -170,17 +170,17 @@ fn start<M: Atomic>(
 fn add<M: Atomic>(
     alloc: Global,
     model: &M,
-    figures: &[Figure],
+    labels: &Labels,
     gathered: &mut Gatherer,
 ) -> Result<(), AllocError>
     ensures gathered { let means = M.meaning model.now in
         (from : ℕ) (starts : List (List ℤ)) → IsGathered from starts [] gathered.old
         → OnOk result (IsGathered from (starts ++ means.words means.start ∷ []) [] gathered.new) }
-    ensures measures { OnOk result (measures_of gathered.new.members.items
-        ≡ measures_of gathered.old.members.items ++ map (λ f. f.measure) figures.now ∷ []) }
+    ensures followed { OnOk result (followed_of_all gathered.new.members.items
+        ≡ followed_of_all gathered.old.members.items ++ followed_in labels.now ∷ []) }
 {
     let state = model.start(alloc)?;
     let mut words = Vec::new(alloc);
     model.words(alloc, &state, &mut words)?;
-    gathered.add(alloc, figures, &Words::from(words))
+    gathered.add(alloc, labels, &Words::from(words))
 }

@@ -2,9 +2,10 @@
 
 ghost use Rattle.std.specs.Prelude.{◌≡◌, ◌≢◌, ◌++◌, ◌∷◌, [], OnOk, codes, decimal, flat_map, map, nat_lt, string_bytes, if◌then◌else◌};
 ghost use Rattle.std.specs.Fmt.{signed_decimal};
+ghost use Rattle.std.specs.Option.{option_map_or};
 ghost use Rattle.tw_stats.specs.Gathering.{BeforeEnd};
 ghost use Rattle.tw_stats.specs.Decimals.{thousandths_text};
-ghost use Rattle.tw_stats.specs.Json.{counts_members, fault_json, fault_members, figure_json, report_json, row_json, time_members};
+ghost use Rattle.tw_stats.specs.Json.{counts_members, fault_json, fault_members, figure_json, observation_json, report_json, row_json, time_members};
 ghost use Rattle.tw_stats.specs.Rows as plain;
 ghost use Rattle.tw_stats.specs.Strings.{array_text, behind_comma, member, quoted, with_commas};
 ghost use Rattle.tw_texts.specs.Texts.{limit_text};
@@ -15,7 +16,7 @@ use crate::report::Report;
 use crate::rows::Row;
 use crate::strings::add_string;
 use std::alloc::AllocError;
-use tw_figures::{Counts, Told};
+use tw_figures::{Counts, Observed, Told};
 use tw_rounds::Fault;
 use tw_texts::Names;
 use tw_vtime::{Limit, Stamp};
@@ -78,6 +79,8 @@ fn add_row(text: &mut String, row: &Row<'_>, ticks: u64) -> Result<(), AllocErro
     add_counts(text, row.counts)?;
     text.push_str(",\"figures\":[")?;
     add_figures(text, row.figures.as_slice(), ticks)?;
+    text.push_str("],\"observations\":[")?;
+    add_observations(text, row.observations.as_slice())?;
     text.push_str("]}")?;
     Ok(())
 }
@@ -145,6 +148,33 @@ fn add_figure(text: &mut String, name: &str, told: Told, ticks: u64) -> Result<(
     Ok(())
 }
 
+/// The observations of a component, with commas between.
+fn add_observations(text: &mut String, observations: &[(&str, Observed)]) -> Result<(), AllocError>
+    ensures { OnOk result (string_bytes text.new ≡ string_bytes text.old
+        ++ with_commas (map observation_json (map plain.told_observation observations.now))) }
+{
+    for (place, (name, told)) in observations.iter().enumerate() {
+        add_comma(text, place)?;
+        add_observation(text, name, *told)?;
+    }
+    Ok(())
+}
+
+/// An observation.
+fn add_observation(text: &mut String, name: &str, told: Observed) -> Result<(), AllocError>
+    ensures { OnOk result (string_bytes text.new
+        ≡ string_bytes text.old ++ observation_json (name.now, told)) }
+{
+    text.push_str("{\"name\":")?;
+    add_string(text, name)?;
+    add_value(text, "count", i128::from(told.count))?;
+    add_value(text, "sum", i128::from(told.sum))?;
+    add_optional(text, "mean", told.mean)?;
+    add_optional(text, "sd", told.deviation.map(i128::from))?;
+    text.push_str("}")?;
+    Ok(())
+}
+
 /// The fault that ended the run, if there is one.
 fn add_end<N: Names>(text: &mut String, names: &N, fault: Option<Fault>) -> Result<(), AllocError>
     requires { BeforeEnd fault }
@@ -200,6 +230,18 @@ fn add_decimals(text: &mut String, name: &str, number: i128) -> Result<(), Alloc
     text.push_str("\":")?;
     add_thousandths(text, number)?;
     Ok(())
+}
+
+/// A number with three decimals, or null where there is none, under its name and behind a comma.
+fn add_optional(text: &mut String, name: &str, number: Option<i128>) -> Result<(), AllocError>
+    ensures { OnOk result
+        (string_bytes text.new ≡ string_bytes text.old
+        ++ behind_comma (member name.now (option_map_or thousandths_text number (codes "null")))) }
+{
+    match number {
+        Some(number) => add_decimals(text, name, number),
+        None => write!(text, ",\"{name}\":null"),
+    }
 }
 
 /// A sum and the ticks that it is over, under a name and behind a comma.

@@ -1,9 +1,9 @@
-//! Counts and figures of a network's sequential run, told as tables or as JSON.
+//! Counts, figures and observations of a network's sequential run, told as tables or as JSON.
 //!
 //! - [`report_of`] (`report`): simulates a network and tells them, as a [`Report`]: its contract says of which records each number is.
 //!   They are gathered round by round (`gathering`); no record is kept longer than its round, so that a longer run takes no more
 //!   memory.
-//! - [`write_report`] (`written`): writes a report, whose components stand beside their names (`rows`): as text (`text`), in aligned
+//! - [`write_report`] (`written`): writes a report, whose components stand beside their names (`rows`), or those that are shown: as text (`text`), in aligned
 //!   columns (`grid`), or as JSON (`json`), with its strings (`strings`). Means and shares stand with three decimals (`decimals`).
 //!
 //! The contracts give the exact bytes; [`examples`] has pieces of reports by hand.
@@ -21,4 +21,4 @@ mod text;
 mod written;
 
 pub use report::{Part, Report, report_of};
-pub use written::write_report;
+pub use written::{Layout, write_report};

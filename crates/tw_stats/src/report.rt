@@ -6,13 +6,13 @@ ghost use Rattle.tw_figures.specs.Labelled.{label};
 ghost use Rattle.tw_network.specs.Contents.{network_of};
 ghost use Rattle.tw_rounds.specs.declared.refused.SeqRefused.TheVariants.{BadTick};
 ghost use Rattle.tw_stats.specs.Gathering.{BeforeEnd};
-ghost use Rattle.tw_stats.specs.Reports.{IsReport, TellsFigure, TellsPart};
+ghost use Rattle.tw_stats.specs.Reports.{IsReport, TellsFigure, TellsObservation, TellsPart};
 ghost use Rattle.tw_vtime.specs.Stamps.{max_tick};
 
 use crate::gathering::{Gathering, gather};
 use std::alloc::{AllocError, Global};
 use tw_atomic::Atomic;
-use tw_figures::{Counts, Course, Labels, Member, Told};
+use tw_figures::{Counts, Course, Labels, Member, Observed, Told, Watch};
 use tw_listen::Listener;
 use tw_network::Network;
 use tw_rounds::{Fault, SeqRefused};
@@ -24,6 +24,8 @@ pub struct Part {
     pub counts: Counts,
     /// Its figures, in their order.
     pub figures: Vec<Told>,
+    /// Its observations, in their order.
+    pub observations: Vec<Observed>,
 }
 
 /// What is told of a run.
@@ -46,11 +48,11 @@ pub struct Report {
     pub fault: Option<Fault>,
 }
 
-/// Simulates a network up to the end tick `until` and tells the counts and the figures of its components: of the records of
-/// its sequential run, over its time, which is up to the end tick, or up to that of the fault that ended the run. With
-/// `from` it tells them from that tick on: the records before it do not count, and a figure comes to it with the value that
-/// they left. Where the run ends before it, no record counts, and each figure is over no time. After each round the listener
-/// hears how far the run is.
+/// Simulates a network up to the end tick `until` and tells the counts, the figures and the observations of its components: of the
+/// records of its sequential run, over its time, which is up to the end tick, or up to that of the fault that ended the run. With
+/// `from` it tells them from that tick on: the records before it do not count, a figure comes to it with the value that they left,
+/// and of an observation what was added up until then is taken away. Where the run ends before it, no record counts, each figure
+/// is over no time, and nothing was observed. After each round the listener hears how far the run is.
 ///
 /// Refused by [`SeqRefused::BadTick`] (10) exactly where `until` is above 1,099,511,627,774, and by
 /// [`SeqRefused::OutOfMemory`] (4) where a growth of memory was refused, or a count or a sum would pass the range of its
@@ -100,6 +102,7 @@ fn tell_all(alloc: Global, members: &[Member], from: u64, end: u64) -> Result<Ve
         parts.push(Part {
             counts: member.counts,
             figures: tell(alloc, member.courses.as_slice(), from, end)?,
+            observations: observe(alloc, member.watches.as_slice())?,
         })?;
     }
     Ok(parts)
@@ -120,4 +123,15 @@ fn tell(alloc: Global, courses: &[Course], from: u64, end: u64) -> Result<Vec<To
         figures.push(told)?;
     }
     Ok(figures)
+}
+
+/// What is told of observations. Refused for want of memory (4).
+fn observe(alloc: Global, watches: &[Watch]) -> Result<Vec<Observed>, AllocError>
+    ensures { IfOk result (λ observations. AllZip TellsObservation watches.now observations.items) }
+{
+    let mut observations = Vec::new(alloc);
+    for watch in watches {
+        observations.push(watch.observed())?;
+    }
+    Ok(observations)
 }

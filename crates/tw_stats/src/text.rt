@@ -1,18 +1,19 @@
-//! A report as text: what it is of, the counts of the components, and their figures.
+//! A report as text: what it is of, the counts of the components, their figures, and their observations where there are any.
 
 ghost use Rattle.std.specs.Prelude.{◌≡◌, ◌++◌, ◌∷◌, [], IfOk, OnOk, codes, decimal, flat_map, map, string_bytes};
 ghost use Rattle.std.specs.Fmt.{signed_decimal};
+ghost use Rattle.std.specs.Option.{option_map_or};
 ghost use Rattle.tw_stats.specs.Decimals.{thousandths_text};
 ghost use Rattle.tw_stats.specs.Grids.{grid_text, lines_of};
 ghost use Rattle.tw_stats.specs.Rows as plain;
-ghost use Rattle.tw_stats.specs.Texts.{counts_head, counts_line, figure_line, figure_lines, extent_text, figures_head, first_line, from_text, report_text};
+ghost use Rattle.tw_stats.specs.Texts.{counts_head, counts_line, figure_line, figure_lines, extent_text, figures_head, first_line, from_text, observation_line, observation_lines, observations_head, observations_text, report_text};
 
 use crate::decimals::add_thousandths;
 use crate::grid::add_grid;
 use crate::report::Report;
 use crate::rows::Row;
 use std::alloc::{AllocError, Global};
-use tw_figures::{Counts, Told};
+use tw_figures::{Counts, Observed, Told};
 
 /// Adds a report to a text. Where memory is wanting (refusal 4) a part of it may stand at the end.
 pub(crate) fn add_text(
@@ -31,6 +32,21 @@ pub(crate) fn add_text(
     text.push_str("\n")?;
     let figures = figures_lines(alloc, rows)?;
     add_grid(alloc, text, 2, figures.as_slice())?;
+    add_observations(alloc, text, rows)?;
+    Ok(())
+}
+
+/// The table of the observations, behind an empty line; nothing where there is none.
+fn add_observations(alloc: Global, text: &mut String, rows: &[Row<'_>]) -> Result<(), AllocError>
+    ensures { let said = flat_map observation_lines (map plain.row rows.now) in
+        OnOk result (string_bytes text.new ≡ string_bytes text.old ++ observations_text said) }
+{
+    let lines = observations_lines(alloc, rows)?;
+    if lines.len() == 1 {
+        return Ok(());
+    }
+    text.push_str("\n")?;
+    add_grid(alloc, text, 2, lines.as_slice())?;
     Ok(())
 }
 
@@ -129,6 +145,39 @@ fn add_figure_lines(
     Ok(())
 }
 
+/// The lines of the observations.
+fn observations_lines(alloc: Global, rows: &[Row<'_>]) -> Result<Vec<Vec<String>>, AllocError>
+    ensures { IfOk result (λ lines. lines_of lines.items
+        ≡ observations_head ∷ flat_map observation_lines (map plain.row rows.now)) }
+{
+    let mut lines = Vec::new(alloc);
+    lines.push(head(
+        alloc,
+        &["component", "observation", "count", "sum", "mean", "sd"],
+    )?)?;
+    for row in rows {
+        add_observation_lines(alloc, &mut lines, row.name, row.observations.as_slice())?;
+    }
+    Ok(lines)
+}
+
+/// The lines of a component's observations.
+fn add_observation_lines(
+    alloc: Global,
+    lines: &mut Vec<Vec<String>>,
+    name: &str,
+    observations: &[(&str, Observed)],
+) -> Result<(), AllocError>
+    ensures { OnOk result
+        (lines_of lines.new.items ≡ lines_of lines.old.items
+        ++ map (observation_line name.now) (map plain.told_observation observations.now)) }
+{
+    for (observation, told) in observations {
+        lines.push(observation_line(alloc, name, observation, *told)?)?;
+    }
+    Ok(())
+}
+
 /// A line of these cells.
 fn head(alloc: Global, cells: &[&str]) -> Result<Vec<String>, AllocError>
     ensures { IfOk result (λ line. map string_bytes line.items ≡ map (λ cell. cell.now) cells.now) }
@@ -185,6 +234,26 @@ fn figure_line(
     Ok(line)
 }
 
+/// The line of an observation of the component of this name.
+fn observation_line(
+    alloc: Global,
+    name: &str,
+    observation: &str,
+    told: Observed,
+) -> Result<Vec<String>, AllocError>
+    ensures { IfOk result (λ line. map string_bytes line.items
+        ≡ observation_line name.now (observation.now, told)) }
+{
+    let mut line = Vec::new(alloc);
+    add_cell(alloc, &mut line, name)?;
+    add_cell(alloc, &mut line, observation)?;
+    add_value(alloc, &mut line, i128::from(told.count))?;
+    add_value(alloc, &mut line, i128::from(told.sum))?;
+    add_optional(alloc, &mut line, told.mean)?;
+    add_optional(alloc, &mut line, told.deviation.map(i128::from))?;
+    Ok(line)
+}
+
 /// A cell more.
 fn add_cell(alloc: Global, line: &mut Vec<String>, text: &str) -> Result<(), AllocError>
     ensures { OnOk result
@@ -221,4 +290,19 @@ fn add_decimals(alloc: Global, line: &mut Vec<String>, number: i128) -> Result<(
     add_thousandths(&mut cell, number)?;
     line.push(cell)?;
     Ok(())
+}
+
+/// A cell more, with three decimals; a dash where there is no number.
+fn add_optional(
+    alloc: Global,
+    line: &mut Vec<String>,
+    number: Option<i128>,
+) -> Result<(), AllocError>
+    ensures { OnOk result (map string_bytes line.new.items
+        ≡ map string_bytes line.old.items ++ option_map_or thousandths_text number (codes "-") ∷ []) }
+{
+    match number {
+        Some(number) => add_decimals(alloc, line, number),
+        None => add_cell(alloc, line, "-"),
+    }
 }

@@ -105,7 +105,7 @@ impl Pen {
 }
 
 /// The least of 1, 2, 5, 10, 20, .. that is not below a number.
-fn round_step(least: u64) -> u64 {
+pub fn round_step(least: u64) -> u64 {
     let mut power = 1u64;
     for _ in 0..20 {
         for digit in [1, 2, 5] {

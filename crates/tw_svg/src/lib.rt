@@ -5,7 +5,7 @@
 //! - `svg`: [`Svg`], the text of a picture, element by element, with escaped words.
 //! - `sheet`: [`Sheet`], the style sheet.
 //! - `outline`: [`Path`], the outline of a shape. `shapes`: discs, corners, crosses and heads of arrows as such outlines.
-//! - `axis`: [`Axis`], virtual time along a line: ticks with several microsteps open, long silences are cut.
+//! - `axis`: [`Axis`], virtual time along a line: ticks with several microsteps open, long silences are cut; [`round_step`].
 //! - `unit`: [`Unit`], how many points a tick takes.
 //! - `front`: [`Front`], what stands above a picture: its title, facts, how to read it, and faults.
 //! - `legend`: [`Legend`], samples of what is in a picture, with words.
@@ -27,7 +27,7 @@ mod svg;
 mod unit;
 mod words;
 
-pub use axis::{Axis, GAP, Spread, Stop, Time};
+pub use axis::{Axis, GAP, Spread, Stop, Time, round_step};
 pub use front::Front;
 pub use legend::Legend;
 pub use outline::Path;

@@ -1,5 +1,7 @@
 //! Networks whose records were counted by hand, and what their pictures show.
 
+use tw_figures::Detail;
+
 /// A built-in model.
 #[derive(Clone, Copy)]
 pub enum Kind {
@@ -33,7 +35,8 @@ pub struct Scene {
     pub until: u64,
     pub from: u64,
     pub only: Option<&'static str>,
-    pub figure: Option<&'static str>,
+    pub figures: &'static [&'static str],
+    pub detail: Detail,
     pub wanted: Wanted,
     /// Words that stand in the picture.
     pub told: &'static str,
@@ -48,7 +51,8 @@ const NOTHING: Scene = Scene {
     until: 10,
     from: 0,
     only: None,
-    figure: None,
+    figures: &[],
+    detail: Detail::Fitting,
     wanted: Wanted::Picture([0; 5]),
     told: "0 components",
 };
@@ -87,8 +91,17 @@ const RELAYED: Scene = Scene {
     ..NOTHING
 };
 
+/// A generator of period 1 until 30,000: 29,999 outputs and as many transitions, more than a picture of marks takes.
+const LONG: Scene = Scene {
+    names: &["g"],
+    kinds: &[Kind::Gen(1)],
+    until: 30_000,
+    told: "<title>g: count, 0 to 29999</title>",
+    ..NOTHING
+};
+
 /// All scenes.
-pub static SCENES: [Scene; 11] = [
+pub static SCENES: [Scene; 22] = [
     NOTHING,
     COUNTED,
     RING,
@@ -112,7 +125,7 @@ pub static SCENES: [Scene; 11] = [
         ..COUNTED
     },
     Scene {
-        figure: Some("last"),
+        figures: &["last"],
         told: "t: last",
         ..COUNTED
     },
@@ -123,7 +136,7 @@ pub static SCENES: [Scene; 11] = [
     },
     Scene {
         only: Some("g"),
-        figure: Some("sum"),
+        figures: &["sum"],
         wanted: Wanted::NoSuch,
         ..COUNTED
     },
@@ -132,5 +145,65 @@ pub static SCENES: [Scene; 11] = [
         only: Some("u"),
         wanted: Wanted::BadTick,
         ..COUNTED
+    },
+    // a figure of one component; the others go on with their own
+    Scene {
+        figures: &["t=count"],
+        told: "t: count",
+        ..COUNTED
+    },
+    Scene {
+        figures: &["t=count"],
+        told: "g: count",
+        ..COUNTED
+    },
+    // the first figure that a component has
+    Scene {
+        figures: &["last", "count", "t=sum"],
+        told: "t: sum",
+        ..COUNTED
+    },
+    Scene {
+        figures: &["last", "g=sum"],
+        wanted: Wanted::NoSuch,
+        ..COUNTED
+    },
+    Scene {
+        only: Some("t"),
+        figures: &["g=count"],
+        wanted: Wanted::NoSuch,
+        ..COUNTED
+    },
+    // courses alone: the tally's sum is 0 until 2, 5 until 4, and then 10
+    Scene {
+        detail: Detail::Courses,
+        wanted: Wanted::Picture([0; 5]),
+        told: "<title>t: sum, 0 to 10</title>",
+        ..COUNTED
+    },
+    Scene {
+        detail: Detail::Courses,
+        from: 3,
+        wanted: Wanted::Picture([0; 5]),
+        told: "<title>t: sum, 5 to 10</title>",
+        ..COUNTED
+    },
+    Scene {
+        detail: Detail::Courses,
+        wanted: Wanted::Picture([0, 0, 0, 0, 1]),
+        told: "fault: microstep limit: b at 3.3",
+        ..RELAYED
+    },
+    Scene {
+        detail: Detail::Marks,
+        wanted: Wanted::Picture([10_000, 10_000, 0, 0, 0]),
+        told: "The picture ends after 20,000 records; the run goes on.",
+        ..LONG
+    },
+    LONG,
+    // 29,999 ticks in at most 2,260 columns, two to each of the 1,130 points beside the names
+    Scene {
+        told: "the mean of 16 ticks",
+        ..LONG
     },
 ];

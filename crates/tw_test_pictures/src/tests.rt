@@ -7,7 +7,7 @@ use std::alloc::Global;
 use std::process::Abort;
 use std::str::from_utf8;
 use tw_figure_names::labels_of;
-use tw_figures::{Labels, View};
+use tw_figures::{Detail, Labels, USUAL_WIDTH, View};
 use tw_models::Model;
 use tw_network::Network;
 use tw_run_picture::{DrawRefused, Subject, draw_run};
@@ -89,6 +89,24 @@ fn drawn(
     network: &Network<Model>,
     scene: &Scene,
 ) -> (Vec<u8>, Option<DrawRefused>) {
+    let view = View {
+        from: scene.from,
+        only: scene.only,
+        figures: Vec::from_slice(alloc, scene.figures).expect(rt, "memory"),
+        width: USUAL_WIDTH,
+        detail: scene.detail,
+    };
+    drawn_as(rt, alloc, network, scene, &view)
+}
+
+/// Draws a scene as a view shows it.
+fn drawn_as(
+    rt: &impl Abort,
+    alloc: Global,
+    network: &Network<Model>,
+    scene: &Scene,
+    view: &View<'_>,
+) -> (Vec<u8>, Option<DrawRefused>) {
     let labels = labels(rt, alloc, network);
     assert!(rt; labels.len() == network.len());
     let names = TwoNames {
@@ -98,11 +116,7 @@ fn drawn(
     let subject = Subject {
         title: TITLE,
         until: scene.until,
-        view: View {
-            from: scene.from,
-            only: scene.only,
-            figure: scene.figure,
-        },
+        view,
     };
     let mut out = Vec::new(alloc);
     let labels = labels.as_slice();
@@ -171,11 +185,10 @@ fn many(rt: &impl Abort, alloc: Global) -> Network<Model> {
         .expect(rt, "a network")
 }
 
-/// In 64 lanes 64 generators do something at ticks 2 and 4.
-#[test]
-fn draws_many_lanes(rt: HostRuntime) {
-    let network = many(&rt, rt.alloc());
-    let labels = labels(&rt, rt.alloc(), &network);
+/// The picture of 64 lanes until tick 5, as a view shows it.
+fn drawn_many(rt: &impl Abort, alloc: Global, view: &View<'_>) -> Vec<u8> {
+    let network = many(rt, alloc);
+    let labels = labels(rt, alloc, &network);
     assert!(rt; labels.len() == network.len());
     let names = TwoNames {
         first: "g",
@@ -184,15 +197,25 @@ fn draws_many_lanes(rt: HostRuntime) {
     let subject = Subject {
         title: TITLE,
         until: 5,
-        view: View {
-            from: 0,
-            only: None,
-            figure: None,
-        },
+        view,
     };
-    let mut out = Vec::new(rt.alloc());
+    let mut out = Vec::new(alloc);
     let labels = labels.as_slice();
-    let made = draw_run(rt.alloc(), &network, &names, labels, &subject, &mut out);
+    let made = draw_run(alloc, &network, &names, labels, &subject, &mut out);
     assert!(rt; made == Ok(None));
+    out
+}
+
+/// In 64 lanes 64 generators do something at ticks 2 and 4.
+#[test]
+fn draws_many_lanes(rt: HostRuntime) {
+    let view = View {
+        from: 0,
+        only: None,
+        figures: Vec::new(rt.alloc()),
+        width: USUAL_WIDTH,
+        detail: Detail::Fitting,
+    };
+    let out = drawn_many(&rt, rt.alloc(), &view);
     assert_picture(&rt, out.as_slice(), &[128, 128, 0, 0, 0], "64 components");
 }

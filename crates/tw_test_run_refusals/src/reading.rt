@@ -83,7 +83,7 @@ fn read_file(told: &mut Told, alloc: Global, file: &str) {
 
 /// Command lines, and what each asks for.
 static LINES: [&str; 3] = [
-    "twarp run n.json --until 5 --workers 2 --burst 16 --window 1000 --cancel lazy --progress",
+    "twarp run n.json --until 5 --workers 2 --burst 16 --window 1000 --cancel lazy --progress --set a.b=5 --set c.d=-6 --seed-all 3",
     "twarp seq n.json --until 0x5",
     "twarp run --help",
 ];

@@ -1,8 +1,10 @@
-//! Tests of counts, figures and tables of a run, on networks whose numbers were worked out by hand: `tests`; and of the names and
-//! figures of machines: `machines`.
+//! Tests of counts, figures and tables of a run, on networks whose numbers were worked out by hand: `tests`; of the
+//! components that are shown, of changes and of an observation: `views`; and of the names and figures of machines: `machines`.
 #![tactic(auto)]
 
 #[cfg(test)]
 mod machines;
 #[cfg(test)]
 mod tests;
+#[cfg(test)]
+mod views;

@@ -11,12 +11,12 @@ use tw_listen::{Nobody, outcome_telling};
 use tw_models::Model;
 use tw_network::Network;
 use tw_record_lines::{Table, write_table};
-use tw_stats::{report_of, write_report};
+use tw_stats::{Layout, report_of, write_report};
 use tw_texts::Names;
 
 /// The names of two components.
 #[derive(Drop)]
-struct TwoNames {
+pub(crate) struct TwoNames {
     first: &'static str,
     second: &'static str,
 }
@@ -34,8 +34,8 @@ impl Names for TwoNames {
 }
 
 /// A network of two components, and how far it runs.
-struct Scene {
-    names: TwoNames,
+pub(crate) struct Scene {
+    pub(crate) names: TwoNames,
     couplings: &'static [(usize, u8, usize, u8)],
     inputs: &'static [(u64, usize, u8, i64)],
     micro_limit: u64,
@@ -45,7 +45,7 @@ struct Scene {
 }
 
 /// A generator and its tally.
-static COUNTED: Scene = Scene {
+pub(crate) static COUNTED: Scene = Scene {
     names: TwoNames {
         first: "g",
         second: "t",
@@ -96,11 +96,11 @@ t          last        0         5     5  3.000  0.600
 ",
     json: "{\"until\":5,\"records\":6,\"microsteps\":1,\"components\":[\
 {\"name\":\"g\",\"model\":\"gen\",\"outputs\":2,\"sent\":2,\"received\":0,\"int\":2,\"ext\":0,\"con\":0,\"figures\":[\
-{\"name\":\"count\",\"least\":0,\"greatest\":2,\"last\":2,\"mean\":0.800,\"busy\":0.600,\"mean_of\":[4,5],\"busy_of\":[3,5]}]},\
+{\"name\":\"count\",\"least\":0,\"greatest\":2,\"last\":2,\"mean\":0.800,\"busy\":0.600,\"mean_of\":[4,5],\"busy_of\":[3,5]}],\"observations\":[]},\
 {\"name\":\"t\",\"model\":\"tally\",\"outputs\":0,\"sent\":0,\"received\":2,\"int\":0,\"ext\":2,\"con\":0,\"figures\":[\
 {\"name\":\"count\",\"least\":0,\"greatest\":2,\"last\":2,\"mean\":0.800,\"busy\":0.600,\"mean_of\":[4,5],\"busy_of\":[3,5]},\
 {\"name\":\"sum\",\"least\":0,\"greatest\":10,\"last\":10,\"mean\":4.000,\"busy\":0.600,\"mean_of\":[20,5],\"busy_of\":[3,5]},\
-{\"name\":\"last\",\"least\":0,\"greatest\":5,\"last\":5,\"mean\":3.000,\"busy\":0.600,\"mean_of\":[15,5],\"busy_of\":[3,5]}]}]}\n",
+{\"name\":\"last\",\"least\":0,\"greatest\":5,\"last\":5,\"mean\":3.000,\"busy\":0.600,\"mean_of\":[15,5],\"busy_of\":[3,5]}],\"observations\":[]}]}\n",
     records: "\
 tick,microstep,component,kind,items,words
 2,0,g,out,0=5,
@@ -149,10 +149,10 @@ b          held         0         1     0  0.000  0.000
     json: "{\"until\":10,\"records\":8,\"microsteps\":4,\"components\":[\
 {\"name\":\"a\",\"model\":\"relay\",\"outputs\":2,\"sent\":2,\"received\":2,\"int\":1,\"ext\":2,\"con\":0,\"figures\":[\
 {\"name\":\"dropped\",\"least\":0,\"greatest\":0,\"last\":0,\"mean\":0.000,\"busy\":0.000,\"mean_of\":[0,3],\"busy_of\":[0,3]},\
-{\"name\":\"held\",\"least\":0,\"greatest\":1,\"last\":1,\"mean\":0.000,\"busy\":0.000,\"mean_of\":[0,3],\"busy_of\":[0,3]}]},\
+{\"name\":\"held\",\"least\":0,\"greatest\":1,\"last\":1,\"mean\":0.000,\"busy\":0.000,\"mean_of\":[0,3],\"busy_of\":[0,3]}],\"observations\":[]},\
 {\"name\":\"b\",\"model\":\"relay\",\"outputs\":1,\"sent\":1,\"received\":1,\"int\":1,\"ext\":1,\"con\":0,\"figures\":[\
 {\"name\":\"dropped\",\"least\":0,\"greatest\":0,\"last\":0,\"mean\":0.000,\"busy\":0.000,\"mean_of\":[0,3],\"busy_of\":[0,3]},\
-{\"name\":\"held\",\"least\":0,\"greatest\":1,\"last\":0,\"mean\":0.000,\"busy\":0.000,\"mean_of\":[0,3],\"busy_of\":[0,3]}]}],\
+{\"name\":\"held\",\"least\":0,\"greatest\":1,\"last\":0,\"mean\":0.000,\"busy\":0.000,\"mean_of\":[0,3],\"busy_of\":[0,3]}],\"observations\":[]}],\
 \"fault\":{\"component\":\"b\",\"tick\":3,\"microstep\":3,\"limit\":\"microstep\"}}\n",
     records: "\
 tick,microstep,component,kind,items,words
@@ -221,11 +221,11 @@ t          last        5         5     5  5.000  1.000
         json: true,
         wanted: "{\"from\":2,\"until\":5,\"records\":6,\"microsteps\":1,\"components\":[\
 {\"name\":\"g\",\"model\":\"gen\",\"outputs\":2,\"sent\":2,\"received\":0,\"int\":2,\"ext\":0,\"con\":0,\"figures\":[\
-{\"name\":\"count\",\"least\":0,\"greatest\":2,\"last\":2,\"mean\":1.333,\"busy\":1.000,\"mean_of\":[4,3],\"busy_of\":[3,3]}]},\
+{\"name\":\"count\",\"least\":0,\"greatest\":2,\"last\":2,\"mean\":1.333,\"busy\":1.000,\"mean_of\":[4,3],\"busy_of\":[3,3]}],\"observations\":[]},\
 {\"name\":\"t\",\"model\":\"tally\",\"outputs\":0,\"sent\":0,\"received\":2,\"int\":0,\"ext\":2,\"con\":0,\"figures\":[\
 {\"name\":\"count\",\"least\":0,\"greatest\":2,\"last\":2,\"mean\":1.333,\"busy\":1.000,\"mean_of\":[4,3],\"busy_of\":[3,3]},\
 {\"name\":\"sum\",\"least\":0,\"greatest\":10,\"last\":10,\"mean\":6.667,\"busy\":1.000,\"mean_of\":[20,3],\"busy_of\":[3,3]},\
-{\"name\":\"last\",\"least\":0,\"greatest\":5,\"last\":5,\"mean\":5.000,\"busy\":1.000,\"mean_of\":[15,3],\"busy_of\":[3,3]}]}]}\n",
+{\"name\":\"last\",\"least\":0,\"greatest\":5,\"last\":5,\"mean\":5.000,\"busy\":1.000,\"mean_of\":[15,3],\"busy_of\":[3,3]}],\"observations\":[]}]}\n",
     },
     Telling {
         from: Some(0),
@@ -284,11 +284,11 @@ t          last        5         5     5   5.000  1.000
         json: true,
         wanted: "{\"from\":9,\"until\":5,\"records\":0,\"microsteps\":0,\"components\":[\
 {\"name\":\"g\",\"model\":\"gen\",\"outputs\":0,\"sent\":0,\"received\":0,\"int\":0,\"ext\":0,\"con\":0,\"figures\":[\
-{\"name\":\"count\",\"least\":2,\"greatest\":2,\"last\":2,\"mean\":2.000,\"busy\":1.000,\"mean_of\":[0,0],\"busy_of\":[0,0]}]},\
+{\"name\":\"count\",\"least\":2,\"greatest\":2,\"last\":2,\"mean\":2.000,\"busy\":1.000,\"mean_of\":[0,0],\"busy_of\":[0,0]}],\"observations\":[]},\
 {\"name\":\"t\",\"model\":\"tally\",\"outputs\":0,\"sent\":0,\"received\":0,\"int\":0,\"ext\":0,\"con\":0,\"figures\":[\
 {\"name\":\"count\",\"least\":2,\"greatest\":2,\"last\":2,\"mean\":2.000,\"busy\":1.000,\"mean_of\":[0,0],\"busy_of\":[0,0]},\
 {\"name\":\"sum\",\"least\":10,\"greatest\":10,\"last\":10,\"mean\":10.000,\"busy\":1.000,\"mean_of\":[0,0],\"busy_of\":[0,0]},\
-{\"name\":\"last\",\"least\":5,\"greatest\":5,\"last\":5,\"mean\":5.000,\"busy\":1.000,\"mean_of\":[0,0],\"busy_of\":[0,0]}]}]}\n",
+{\"name\":\"last\",\"least\":5,\"greatest\":5,\"last\":5,\"mean\":5.000,\"busy\":1.000,\"mean_of\":[0,0],\"busy_of\":[0,0]}],\"observations\":[]}]}\n",
     },
 ];
 
@@ -335,10 +335,10 @@ b          held         0         0     0  0.000  0.000
         wanted: "{\"from\":4,\"until\":10,\"records\":0,\"microsteps\":0,\"components\":[\
 {\"name\":\"a\",\"model\":\"relay\",\"outputs\":0,\"sent\":0,\"received\":0,\"int\":0,\"ext\":0,\"con\":0,\"figures\":[\
 {\"name\":\"dropped\",\"least\":0,\"greatest\":0,\"last\":0,\"mean\":0.000,\"busy\":0.000,\"mean_of\":[0,0],\"busy_of\":[0,0]},\
-{\"name\":\"held\",\"least\":1,\"greatest\":1,\"last\":1,\"mean\":1.000,\"busy\":1.000,\"mean_of\":[0,0],\"busy_of\":[0,0]}]},\
+{\"name\":\"held\",\"least\":1,\"greatest\":1,\"last\":1,\"mean\":1.000,\"busy\":1.000,\"mean_of\":[0,0],\"busy_of\":[0,0]}],\"observations\":[]},\
 {\"name\":\"b\",\"model\":\"relay\",\"outputs\":0,\"sent\":0,\"received\":0,\"int\":0,\"ext\":0,\"con\":0,\"figures\":[\
 {\"name\":\"dropped\",\"least\":0,\"greatest\":0,\"last\":0,\"mean\":0.000,\"busy\":0.000,\"mean_of\":[0,0],\"busy_of\":[0,0]},\
-{\"name\":\"held\",\"least\":0,\"greatest\":0,\"last\":0,\"mean\":0.000,\"busy\":0.000,\"mean_of\":[0,0],\"busy_of\":[0,0]}]}],\
+{\"name\":\"held\",\"least\":0,\"greatest\":0,\"last\":0,\"mean\":0.000,\"busy\":0.000,\"mean_of\":[0,0],\"busy_of\":[0,0]}],\"observations\":[]}],\
 \"fault\":{\"component\":\"b\",\"tick\":3,\"microstep\":3,\"limit\":\"microstep\"}}\n",
     },
 ];
@@ -382,7 +382,7 @@ tick,microstep,component,kind,place,number
 ];
 
 /// The network of a scene, with these models.
-fn network(
+pub(crate) fn network(
     rt: &impl Abort,
     alloc: Global,
     scene: &Scene,
@@ -402,7 +402,7 @@ fn network(
 }
 
 /// What the models of a network are called, and their figures.
-fn labels(rt: &impl Abort, alloc: Global, network: &Network<Model>) -> Vec<Labels> {
+pub(crate) fn labels(rt: &impl Abort, alloc: Global, network: &Network<Model>) -> Vec<Labels> {
     let mut labels = Vec::new(alloc);
     for component in 0..network.len() {
         let label = labels_of(alloc, network.model(component)).expect(rt, "memory");
@@ -428,7 +428,11 @@ fn assert_stats(
     assert!(rt; report.fault.map(|met| met.component) == scene.fault);
     let names = &scene.names;
     let mut out = Vec::new(alloc);
-    let written = write_report(alloc, &report, names, labels, telling.json, &mut out);
+    let layout = Layout {
+        json: telling.json,
+        shown: &[true, true],
+    };
+    let written = write_report(alloc, &report, names, labels, &layout, &mut out);
     assert!(rt; written.is_ok());
     assert!(rt; out.as_slice() == telling.wanted.as_bytes());
 }
@@ -470,6 +474,7 @@ fn assert_table(
     let lines = Table {
         rows: listing.rows,
         names: &scene.names,
+        shown: &[true, true],
         from: listing.from,
     };
     let written = write_table(alloc, network, scene.until, &lines, &mut Nobody, &mut out);

@@ -56,17 +56,20 @@ pub(crate) fn job_words(
         return Some(words);
     }
     match refusal {
-        Refusal::NoSuch => picture_words(rt, task, bytes),
+        Refusal::NoSuch => unknown_words(rt, task, bytes),
         _ => refused_script(rt, job, *refusal, *line),
     }
 }
 
-/// The words for a picture of names that nothing has.
-fn picture_words(rt: &HostRuntime, task: &Task<'_>, bytes: &[u8]) -> Option<String> {
+/// The words for names that nothing has, of what is to be shown.
+fn unknown_words(rt: &HostRuntime, task: &Task<'_>, bytes: &[u8]) -> Option<String> {
     match task {
         Task::Draw {
             picture: Picture::Run(view),
-        } => name_words(rt.alloc(), bytes, view).ok(),
+        } => name_words(rt.alloc(), bytes, view.only, view.figures.as_slice()).ok(),
+        Task::Stats { only, .. } | Task::Table { only, .. } => {
+            name_words(rt.alloc(), bytes, *only, &[]).ok()
+        }
         _ => None,
     }
 }

@@ -1,7 +1,7 @@
 //! The program: its words, its file and its standard streams.
 //!
-//! What it does is [`tw_cli::job`], [`tw_engine::alone`] and [`tw_engine::engine`]; here they only get the process's arguments, the
-//! bytes of the network's file, the script and the streams. `explaining` says in words what is wrong where a job is refused.
+//! What it does is [`tw_cli::job`], [`tw_file_settings::file_with`], [`tw_engine::alone`] and [`tw_engine::engine`]; here they only get the
+//! process's arguments, the bytes of the network's file, the script and the streams. `explaining` says in words what is wrong where a job is refused.
 #![tactic(auto)]
 
 mod explaining;
@@ -18,6 +18,8 @@ use std::time::Clock;
 use std::{env, io};
 use tw_cli::{Driver, Job, NoJob, Picture, Task, job, line_words};
 use tw_engine::{Exit, Failed, alone, engine, read_all};
+use tw_explain::setting_words;
+use tw_file_settings::{SettingRefused, file_with};
 use tw_vtime::Refusal;
 
 /// How the run of the program ends, and the words behind its line for standard error.
@@ -78,8 +80,8 @@ fn do_job<T: Threads + Wait + Clock + Eprint + Sync>(
     job: &Job<'_>,
     explained: bool,
 ) -> End {
-    let bytes = match network_bytes(rt, job) {
-        Ok(bytes) => bytes,
+    let file = match network_bytes(rt, job) {
+        Ok(file) => file,
         Err(failed) => {
             return End {
                 exit: Exit::from(failed),
@@ -87,7 +89,14 @@ fn do_job<T: Threads + Wait + Clock + Eprint + Sync>(
             };
         }
     };
-    let bytes = bytes.as_slice();
+    let set = match numbers_set(rt, job, file.as_slice()) {
+        Ok(set) => set,
+        Err(why) => return unset(rt, job, file.as_slice(), why, explained),
+    };
+    let bytes = match &set {
+        Some(bytes) => bytes.as_slice(),
+        None => file.as_slice(),
+    };
     let exit = exit_of_job(rt, threads, job, bytes);
     let words = if explained {
         job_words(rt, job, bytes, &exit)
@@ -95,6 +104,38 @@ fn do_job<T: Threads + Wait + Clock + Eprint + Sync>(
         None
     };
     End { exit, words }
+}
+
+/// The bytes of a job's network file with the numbers that its line sets; none where they are those of the file.
+///
+/// Refused where no component has such a parameter (23), or for want of memory (4).
+fn numbers_set(
+    rt: &HostRuntime,
+    job: &Job<'_>,
+    bytes: &[u8],
+) -> Result<Option<Vec<u8>>, SettingRefused> {
+    match job.net() {
+        Some(net) => file_with(rt.alloc(), bytes, &net.settings),
+        None => Ok(None),
+    }
+}
+
+/// How a job ends whose numbers cannot be set in the bytes of its network's file.
+fn unset(
+    rt: &HostRuntime,
+    job: &Job<'_>,
+    bytes: &[u8],
+    why: SettingRefused,
+    explained: bool,
+) -> End {
+    let words = match job.net() {
+        Some(net) if explained => setting_words(rt.alloc(), bytes, &net.settings).ok(),
+        _ => None,
+    };
+    End {
+        exit: Exit::from(Failed::from(Refusal::from(why))),
+        words,
+    }
 }
 
 /// How a job ends that is done on the bytes of its network's file.
@@ -119,10 +160,10 @@ fn exit_of_job<T: Threads + Wait + Clock + Eprint + Sync>(
 ///
 /// Refused where the file cannot be read (19), or for want of memory (4).
 fn network_bytes(rt: &HostRuntime, job: &Job<'_>) -> Result<Vec<u8>, Failed> {
-    match job {
-        Job::Demo => Ok(Vec::new(rt.alloc())),
-        Job::Check { net } | Job::Dot { net } | Job::Simulate { net, .. } => {
-            let mut file = Source::from(File::open(rt, *net));
+    match job.net() {
+        None => Ok(Vec::new(rt.alloc())),
+        Some(net) => {
+            let mut file = Source::from(File::open(rt, net.path));
             read_all(rt.alloc(), &mut file)
         }
     }
@@ -130,10 +171,8 @@ fn network_bytes(rt: &HostRuntime, job: &Job<'_>) -> Result<Vec<u8>, Failed> {
 
 /// The words for a network's file that cannot be read, where they are asked for.
 fn network_words(rt: &HostRuntime, job: &Job<'_>, explained: bool) -> Option<String> {
-    match job {
-        Job::Check { net } | Job::Dot { net } | Job::Simulate { net, .. } if explained => {
-            unread_words(rt, *net)
-        }
+    match job.net() {
+        Some(net) if explained => unread_words(rt, net.path),
         _ => None,
     }
 }

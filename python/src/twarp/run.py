@@ -2,7 +2,9 @@
 
 from __future__ import annotations
 
+import csv
 import html
+import io
 import json
 import re
 from collections.abc import Generator, Mapping, Sequence
@@ -78,6 +80,7 @@ class Stats:
             self.fault = LimitFault(met["component"], met["tick"], met["microstep"], met["limit"])
         self._components: _Frame = None
         self._figures: _Frame = None
+        self._observations: _Frame = None
 
     @property
     def components(self) -> pd.DataFrame:
@@ -121,6 +124,26 @@ class Stats:
             typed = {key: _column(columns[key], kind) for key, kind in _FIGURES.items()}
             self._figures = pd.DataFrame(typed, index=index)
         return self._figures
+
+    @property
+    def observations(self) -> pd.DataFrame:
+        """A row for each observation, by component and observation: its `count` and `sum`, and the `mean`
+        and standard deviation `sd` of what was observed, with three decimals; NaN where there is none.
+
+        >>> from twarp import Network, simulate
+        >>> stats = simulate(Network().add("g", "gen", period=2, value=5), until=5).stats()
+        >>> len(stats.observations)
+        0
+        """
+        if self._observations is None:
+            of = [(component["name"], seen) for component in self.raw["components"] for seen in component["observations"]]
+            names = [[name for name, _ in of], [seen["name"] for _, seen in of]]
+            index = pd.MultiIndex.from_arrays(names, names=["component", "observation"])
+            typed = {key: _column([seen[key] for _, seen in of], "int64") for key in ("count", "sum")}
+            for key in ("mean", "sd"):
+                typed[key] = _column([np.nan if seen[key] is None else seen[key] for _, seen in of], "float64")
+            self._observations = pd.DataFrame(typed, index=index)
+        return self._observations
 
     def __repr__(self) -> str:
         return f"Stats({self._told()})"
@@ -247,14 +270,15 @@ class Run:
             self._figured()
         return self._fault
 
-    def stats(self, start: Optional[int] = None) -> Stats:
-        """Counts and figures; see `Stats`. Those of the whole run are kept: asked again, nothing is simulated.
+    def stats(self, start: Optional[int] = None, only: Union[None, str, Sequence[str]] = None) -> Stats:
+        """Counts, figures and observations; see `Stats`. Those of the whole run are kept: asked again, nothing is simulated.
 
         With `start` they are of the time from that tick on, without a warm-up: records before it do not
-        count, and a figure comes to it with the value that they left.
+        count, and a figure comes to it with the value that they left. `only` are the names of the
+        components that are shown.
 
         Raises `LimitFault` (with the figures up to it as `partial`), `TypeError` where `start` is no whole
-        number, `RequestError` where it is no tick, and what `simulate` says.
+        number, `RequestError` where it is no tick (23) or a name is none (15), and what `simulate` says.
 
         >>> from twarp import Network, simulate
         >>> run = simulate(Network().add("g", "gen", period=2, value=5), until=5)
@@ -263,10 +287,11 @@ class Run:
         >>> run.stats(start=3).figures.loc[("g", "count"), "mean"]
         1.5
         """
-        if start is None:
+        if start is None and only is None:
             stats = self._figured()
         else:
-            stats = Stats(_figures(self._network, self.until, _whole(start, "start")))
+            since = None if start is None else _whole(start, "start")
+            stats = Stats(_figures(self._network, self.until, since, only))
             self._learn(stats.fault)
         self._met(stats.fault, stats)
         return stats
@@ -334,18 +359,16 @@ class Run:
         >>> simulate(network, until=9).course("q", "jobs").to_dict()
         {0: 0, 1: 1, 2: 2, 4: 1, 7: 0, 9: 0}
         """
-        place, start, counted = self._figure(component, figure)
-        ticks, values = [0], [start]
+        ticks, values = [0], [self._start(component, figure)]
+        changes = self._changes(component, figure)
 
         def take(chunk: _Frame) -> None:
             own = chunk[(chunk["component"] == component) & (chunk["kind"] != "out")]
-            own = own.drop_duplicates("tick", keep="last")
-            ticks.extend(own["tick"].tolist())
-            for words in own["words"]:
-                told = words.split()
-                values.append(len(told) - place if counted else int(told[place]))
+            for tick in own["tick"].drop_duplicates().tolist():
+                ticks.append(tick)
+                values.append(changes.get(tick, values[-1]))
 
-        fault = self._read([], {"items": "str", "words": "str"}, take, _ROWS)
+        fault = self._read([*_only(component)], {"items": "str", "words": "str"}, take, _ROWS)
         ticks.append(fault.tick if fault else self.until)
         values.append(values[-1])
         index = pd.Index(ticks, name="tick", dtype="int64")
@@ -397,8 +420,7 @@ class Run:
         '<svg'
         """
         words = ["draw", "/dev/stdin", "--until", str(self.until)]
-        if only is not None:
-            words += [f"--only={only if isinstance(only, str) else ','.join(only)}"]
+        words += _only(only)
         if start is not None:
             words += ["--from", str(_whole(start, "start"))]
         if figure is not None:
@@ -427,20 +449,25 @@ class Run:
         self._learn(self._stats.fault)
         return self._stats
 
-    def _figure(self, component: str, figure: str) -> tuple[int, int, bool]:
-        """Where in the words a figure stands, its value at the start, and whether it counts the words
-        from there on."""
+    def _start(self, component: str, figure: str) -> int:
+        """The value of a figure at the start."""
         raw = _figures(self._network, 0)
-        for at, (name, _, counts) in enumerate(self._models):
+        for at, (name, _, _) in enumerate(self._models):
             if name != component:
                 continue
             figures = raw["components"][at]["figures"]
-            for place, of in enumerate(figures):
+            for of in figures:
                 if of["name"] == figure:
-                    return place, of["last"], counts and place == len(figures) - 1
+                    return int(of["last"])
             there = ", ".join(of["name"] for of in figures) or "none"
             raise RequestError(15, "NoSuch", f"figure {figure!r} of {component!r}; there are {there}")
         raise RequestError(15, "NoSuch", f"component {component!r}")
+
+    def _changes(self, component: str, figure: str) -> dict[int, int]:
+        """The value of a figure after each tick in which it changed."""
+        words = ["table", "/dev/stdin", "--until", str(self.until), "--figures", *_only(component)]
+        rows = csv.reader(io.StringIO(answer(words, self._network).out.decode()))
+        return {int(row[0]): int(row[4]) for row in list(rows)[1:] if row[3] == figure}
 
     def _table(self, flags: list[str], last: dict[str, str]) -> _Frame:
         frames: list[_Frame] = []
@@ -458,9 +485,14 @@ class Run:
 _ROWS = 200_000
 
 
-def _figures(network: bytes, until: int, start: Optional[int] = None) -> Any:
+def _only(names: Union[None, str, Sequence[str]]) -> list[str]:
+    """The option that shows these components alone."""
+    return [] if names is None else [f"--only={names if isinstance(names, str) else ','.join(names)}"]
+
+
+def _figures(network: bytes, until: int, start: Optional[int] = None, only: Union[None, str, Sequence[str]] = None) -> Any:
     """The answer of `stats --json`."""
-    since = [] if start is None else [f"--from={start}"]
+    since = [*([] if start is None else [f"--from={start}"]), *_only(only)]
     given = answer(["stats", "/dev/stdin", "--until", str(until), *since, "--json"], network)
     try:
         raw = json.loads(given.out)

@@ -1,11 +1,16 @@
 //! Machines of JSON values, read and run.
 
 use super::helpers::{assert_run, read};
-use super::scenes::TALLY;
+use super::scenes::{DESK, TALLY};
 
 #[test]
 fn a_generator_and_a_tally_run(rt: HostRuntime) {
     assert_run(&rt, rt.alloc(), &TALLY);
+}
+
+#[test]
+fn a_desk_observes_delays(rt: HostRuntime) {
+    assert_run(&rt, rt.alloc(), &DESK);
 }
 
 #[test]

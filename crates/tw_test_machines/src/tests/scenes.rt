@@ -1,4 +1,4 @@
-//! A network of machines, with the lines of its run. More of them are cases of the built program.
+//! Networks of machines, with the lines of their runs. More of them are cases of the built program.
 
 use super::helpers::{Part, Scene};
 
@@ -35,4 +35,31 @@ pub(crate) static TALLY: Scene = Scene {
              4.0 g out 0=5\n\
              4.0 g int | 2\n\
              4.0 t ext 0=5 | 2 10 5\n",
+};
+
+/// A desk that observes how long each customer waits before it is served: the first not, the second 2 ticks, the third 1.
+pub(crate) static DESK: Scene = Scene {
+    machines: &[
+        r#"{"name": "desk",
+                "parameters": ["service"],
+                "queues": {"line": 8},
+                "observations": ["delay"],
+                "internal": ["pop line", "if length(line) > 0 { observe delay now - front(line)  wait service }"],
+                "external": ["if length(line) == 0 { observe delay 0  wait service }", "push line now"],
+                "words": ["length(line)", "delay", "now"]}"#,
+    ],
+    parts: &[Part("d", 0, r#"{"name": "d", "model": "desk", "service": 3}"#)],
+    couplings: &[],
+    inputs: &[(1, 0, 0, 0), (2, 0, 0, 0), (6, 0, 0, 0)],
+    until: 100,
+    lines: "\
+             1.0 d ext 0=0 | 1 1 0 0 1\n\
+             2.0 d ext 0=0 | 2 1 0 0 2\n\
+             4.0 d out -\n\
+             4.0 d int | 1 2 2 4 4\n\
+             6.0 d ext 0=0 | 2 2 2 4 6\n\
+             7.0 d out -\n\
+             7.0 d int | 1 3 3 5 7\n\
+             10.0 d out -\n\
+             10.0 d int | 0 3 3 5 10\n",
 };

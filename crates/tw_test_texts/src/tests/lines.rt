@@ -8,95 +8,105 @@ use tw_cli::job;
 const TAKEN: &str = r#"twarp demo
 Demo
 twarp check n.json
-Check { net: "n.json" }
+Check { net: NetSource { path: "n.json", settings: Settings { assignments: [], replication: 0 } } }
 twarp check -- -n.json
-Check { net: "-n.json" }
+Check { net: NetSource { path: "-n.json", settings: Settings { assignments: [], replication: 0 } } }
+twarp check --set a.b=-5 n.json --seed-all 7 --set left.saw.service=18446744073709551615
+Check { net: NetSource { path: "n.json", settings: Settings { assignments: [Assignment { target: "a.b", number: Number(-5) }, Assignment { target: "left.saw.service", number: Number(18446744073709551615) }], replication: 7 } } }
 twarp dot n.json
-Dot { net: "n.json" }
+Dot { net: NetSource { path: "n.json", settings: Settings { assignments: [], replication: 0 } } }
 twarp seq n.json --until 5
-Simulate { net: "n.json", until: 5, task: Seq { progress: false } }
+Simulate { net: NetSource { path: "n.json", settings: Settings { assignments: [], replication: 0 } }, until: 5, task: Seq { progress: false } }
 twarp seq n.json --until=5
-Simulate { net: "n.json", until: 5, task: Seq { progress: false } }
+Simulate { net: NetSource { path: "n.json", settings: Settings { assignments: [], replication: 0 } }, until: 5, task: Seq { progress: false } }
 twarp seq --until 5 n.json
-Simulate { net: "n.json", until: 5, task: Seq { progress: false } }
+Simulate { net: NetSource { path: "n.json", settings: Settings { assignments: [], replication: 0 } }, until: 5, task: Seq { progress: false } }
 twarp seq n.json --until 0
-Simulate { net: "n.json", until: 0, task: Seq { progress: false } }
+Simulate { net: NetSource { path: "n.json", settings: Settings { assignments: [], replication: 0 } }, until: 0, task: Seq { progress: false } }
 twarp seq n.json --until +5
-Simulate { net: "n.json", until: 5, task: Seq { progress: false } }
+Simulate { net: NetSource { path: "n.json", settings: Settings { assignments: [], replication: 0 } }, until: 5, task: Seq { progress: false } }
 twarp seq n.json --until 007
-Simulate { net: "n.json", until: 7, task: Seq { progress: false } }
+Simulate { net: NetSource { path: "n.json", settings: Settings { assignments: [], replication: 0 } }, until: 7, task: Seq { progress: false } }
 twarp seq --until 5 -- -n.json
-Simulate { net: "-n.json", until: 5, task: Seq { progress: false } }
+Simulate { net: NetSource { path: "-n.json", settings: Settings { assignments: [], replication: 0 } }, until: 5, task: Seq { progress: false } }
 twarp seq n.json --until 1099511627774
-Simulate { net: "n.json", until: 1099511627774, task: Seq { progress: false } }
+Simulate { net: NetSource { path: "n.json", settings: Settings { assignments: [], replication: 0 } }, until: 1099511627774, task: Seq { progress: false } }
 twarp seq --progress n.json --until 5
-Simulate { net: "n.json", until: 5, task: Seq { progress: true } }
+Simulate { net: NetSource { path: "n.json", settings: Settings { assignments: [], replication: 0 } }, until: 5, task: Seq { progress: true } }
 twarp stats n.json --until 5
-Simulate { net: "n.json", until: 5, task: Stats { from: None, json: false, progress: false } }
+Simulate { net: NetSource { path: "n.json", settings: Settings { assignments: [], replication: 0 } }, until: 5, task: Stats { from: None, only: None, json: false, progress: false } }
 twarp stats --json --until=5 --progress n.json
-Simulate { net: "n.json", until: 5, task: Stats { from: None, json: true, progress: true } }
+Simulate { net: NetSource { path: "n.json", settings: Settings { assignments: [], replication: 0 } }, until: 5, task: Stats { from: None, only: None, json: true, progress: true } }
 twarp stats n.json --from 0 --until 5
-Simulate { net: "n.json", until: 5, task: Stats { from: Some(0), json: false, progress: false } }
+Simulate { net: NetSource { path: "n.json", settings: Settings { assignments: [], replication: 0 } }, until: 5, task: Stats { from: Some(0), only: None, json: false, progress: false } }
 twarp stats n.json --from=1099511627774 --json --until 5
-Simulate { net: "n.json", until: 5, task: Stats { from: Some(1099511627774), json: true, progress: false } }
+Simulate { net: NetSource { path: "n.json", settings: Settings { assignments: [], replication: 0 } }, until: 5, task: Stats { from: Some(1099511627774), only: None, json: true, progress: false } }
+twarp stats n.json --only a,b --until 5
+Simulate { net: NetSource { path: "n.json", settings: Settings { assignments: [], replication: 0 } }, until: 5, task: Stats { from: None, only: Some("a,b"), json: false, progress: false } }
 twarp table n.json --until 5
-Simulate { net: "n.json", until: 5, task: Table { from: 0, rows: Records, progress: false } }
+Simulate { net: NetSource { path: "n.json", settings: Settings { assignments: [], replication: 0 } }, until: 5, task: Table { from: 0, only: None, of: OfRun(Records), progress: false } }
 twarp table n.json --until 5 --items
-Simulate { net: "n.json", until: 5, task: Table { from: 0, rows: Items, progress: false } }
+Simulate { net: NetSource { path: "n.json", settings: Settings { assignments: [], replication: 0 } }, until: 5, task: Table { from: 0, only: None, of: OfRun(Items), progress: false } }
 twarp table --words --progress --until 5 -- --items
-Simulate { net: "--items", until: 5, task: Table { from: 0, rows: Words, progress: true } }
+Simulate { net: NetSource { path: "--items", settings: Settings { assignments: [], replication: 0 } }, until: 5, task: Table { from: 0, only: None, of: OfRun(Words), progress: true } }
 twarp table n.json --from 7 --until 5 --words
-Simulate { net: "n.json", until: 5, task: Table { from: 7, rows: Words, progress: false } }
+Simulate { net: NetSource { path: "n.json", settings: Settings { assignments: [], replication: 0 } }, until: 5, task: Table { from: 7, only: None, of: OfRun(Words), progress: false } }
+twarp table n.json --until 5 --figures --only a
+Simulate { net: NetSource { path: "n.json", settings: Settings { assignments: [], replication: 0 } }, until: 5, task: Table { from: 0, only: Some("a"), of: OfFigures, progress: false } }
 twarp draw n.json --until 5
-Simulate { net: "n.json", until: 5, task: Draw { picture: Run(View { from: 0, only: None, figure: None }) } }
+Simulate { net: NetSource { path: "n.json", settings: Settings { assignments: [], replication: 0 } }, until: 5, task: Draw { picture: Run(View { from: 0, only: None, figures: [], width: 1280, detail: Fitting }) } }
 twarp draw n.json --until 5 --from +2 --only a,b --figure jobs
-Simulate { net: "n.json", until: 5, task: Draw { picture: Run(View { from: 2, only: Some("a,b"), figure: Some("jobs") }) } }
+Simulate { net: NetSource { path: "n.json", settings: Settings { assignments: [], replication: 0 } }, until: 5, task: Draw { picture: Run(View { from: 2, only: Some("a,b"), figures: ["jobs"], width: 1280, detail: Fitting }) } }
 twarp draw n.json --until 5 --from 1099511627774
-Simulate { net: "n.json", until: 5, task: Draw { picture: Run(View { from: 1099511627774, only: None, figure: None }) } }
+Simulate { net: NetSource { path: "n.json", settings: Settings { assignments: [], replication: 0 } }, until: 5, task: Draw { picture: Run(View { from: 1099511627774, only: None, figures: [], width: 1280, detail: Fitting }) } }
+twarp draw n.json --until 5 --figure jobs --width 600 --figure a=b=c --marks
+Simulate { net: NetSource { path: "n.json", settings: Settings { assignments: [], replication: 0 } }, until: 5, task: Draw { picture: Run(View { from: 0, only: None, figures: ["jobs", "a=b=c"], width: 600, detail: Marks }) } }
+twarp draw n.json --until 5 --courses --width=4000
+Simulate { net: NetSource { path: "n.json", settings: Settings { assignments: [], replication: 0 } }, until: 5, task: Draw { picture: Run(View { from: 0, only: None, figures: [], width: 4000, detail: Courses }) } }
 twarp draw n.json --until 5 --script s
-Simulate { net: "n.json", until: 5, task: Draw { picture: Warp { cancel: Aggressive, driver: Script("s") } } }
+Simulate { net: NetSource { path: "n.json", settings: Settings { assignments: [], replication: 0 } }, until: 5, task: Draw { picture: Warp { cancel: Aggressive, driver: Script("s") } } }
 twarp draw n.json --until 5 --cancel lazy --seed 1 --steps 2
-Simulate { net: "n.json", until: 5, task: Draw { picture: Warp { cancel: Lazy, driver: Seed { seed: 1, steps: 2 } } } }
+Simulate { net: NetSource { path: "n.json", settings: Settings { assignments: [], replication: 0 } }, until: 5, task: Draw { picture: Warp { cancel: Lazy, driver: Seed { seed: 1, steps: 2 } } } }
 twarp run n.json --until 5
-Simulate { net: "n.json", until: 5, task: Run { cancel: Aggressive, setting: RunOptions { workers: Count(2), burst: 64, window: 1099511627774, progress: false } } }
+Simulate { net: NetSource { path: "n.json", settings: Settings { assignments: [], replication: 0 } }, until: 5, task: Run { cancel: Aggressive, setting: RunOptions { workers: Count(2), burst: 64, window: 1099511627774, progress: false } } }
 twarp run n.json --until 0 --workers 1
-Simulate { net: "n.json", until: 0, task: Run { cancel: Aggressive, setting: RunOptions { workers: Count(1), burst: 64, window: 1099511627774, progress: false } } }
+Simulate { net: NetSource { path: "n.json", settings: Settings { assignments: [], replication: 0 } }, until: 0, task: Run { cancel: Aggressive, setting: RunOptions { workers: Count(1), burst: 64, window: 1099511627774, progress: false } } }
 twarp run n.json --until 5 --workers 64
-Simulate { net: "n.json", until: 5, task: Run { cancel: Aggressive, setting: RunOptions { workers: Count(64), burst: 64, window: 1099511627774, progress: false } } }
+Simulate { net: NetSource { path: "n.json", settings: Settings { assignments: [], replication: 0 } }, until: 5, task: Run { cancel: Aggressive, setting: RunOptions { workers: Count(64), burst: 64, window: 1099511627774, progress: false } } }
 twarp run n.json --until 5 --workers=auto
-Simulate { net: "n.json", until: 5, task: Run { cancel: Aggressive, setting: RunOptions { workers: Auto, burst: 64, window: 1099511627774, progress: false } } }
+Simulate { net: NetSource { path: "n.json", settings: Settings { assignments: [], replication: 0 } }, until: 5, task: Run { cancel: Aggressive, setting: RunOptions { workers: Auto, burst: 64, window: 1099511627774, progress: false } } }
 twarp run n.json --until 5 --burst 1
-Simulate { net: "n.json", until: 5, task: Run { cancel: Aggressive, setting: RunOptions { workers: Count(2), burst: 1, window: 1099511627774, progress: false } } }
+Simulate { net: NetSource { path: "n.json", settings: Settings { assignments: [], replication: 0 } }, until: 5, task: Run { cancel: Aggressive, setting: RunOptions { workers: Count(2), burst: 1, window: 1099511627774, progress: false } } }
 twarp run n.json --until 5 --burst 256
-Simulate { net: "n.json", until: 5, task: Run { cancel: Aggressive, setting: RunOptions { workers: Count(2), burst: 256, window: 1099511627774, progress: false } } }
+Simulate { net: NetSource { path: "n.json", settings: Settings { assignments: [], replication: 0 } }, until: 5, task: Run { cancel: Aggressive, setting: RunOptions { workers: Count(2), burst: 256, window: 1099511627774, progress: false } } }
 twarp run n.json --until 5 --window 0
-Simulate { net: "n.json", until: 5, task: Run { cancel: Aggressive, setting: RunOptions { workers: Count(2), burst: 64, window: 0, progress: false } } }
+Simulate { net: NetSource { path: "n.json", settings: Settings { assignments: [], replication: 0 } }, until: 5, task: Run { cancel: Aggressive, setting: RunOptions { workers: Count(2), burst: 64, window: 0, progress: false } } }
 twarp run n.json --until 1099511627774 --window 1099511627774 --cancel aggressive
-Simulate { net: "n.json", until: 1099511627774, task: Run { cancel: Aggressive, setting: RunOptions { workers: Count(2), burst: 64, window: 1099511627774, progress: false } } }
+Simulate { net: NetSource { path: "n.json", settings: Settings { assignments: [], replication: 0 } }, until: 1099511627774, task: Run { cancel: Aggressive, setting: RunOptions { workers: Count(2), burst: 64, window: 1099511627774, progress: false } } }
 twarp run --window=+7 --burst=007 --workers=3 --cancel=lazy --until=5 n.json
-Simulate { net: "n.json", until: 5, task: Run { cancel: Lazy, setting: RunOptions { workers: Count(3), burst: 7, window: 7, progress: false } } }
+Simulate { net: NetSource { path: "n.json", settings: Settings { assignments: [], replication: 0 } }, until: 5, task: Run { cancel: Lazy, setting: RunOptions { workers: Count(3), burst: 7, window: 7, progress: false } } }
 twarp run --workers 2 --until 5 --cancel lazy -- -n.json
-Simulate { net: "-n.json", until: 5, task: Run { cancel: Lazy, setting: RunOptions { workers: Count(2), burst: 64, window: 1099511627774, progress: false } } }
+Simulate { net: NetSource { path: "-n.json", settings: Settings { assignments: [], replication: 0 } }, until: 5, task: Run { cancel: Lazy, setting: RunOptions { workers: Count(2), burst: 64, window: 1099511627774, progress: false } } }
 twarp run n.json --until 5 --progress
-Simulate { net: "n.json", until: 5, task: Run { cancel: Aggressive, setting: RunOptions { workers: Count(2), burst: 64, window: 1099511627774, progress: true } } }
+Simulate { net: NetSource { path: "n.json", settings: Settings { assignments: [], replication: 0 } }, until: 5, task: Run { cancel: Aggressive, setting: RunOptions { workers: Count(2), burst: 64, window: 1099511627774, progress: true } } }
 twarp run --progress n.json --until 5 --workers 3 --cancel lazy
-Simulate { net: "n.json", until: 5, task: Run { cancel: Lazy, setting: RunOptions { workers: Count(3), burst: 64, window: 1099511627774, progress: true } } }
+Simulate { net: NetSource { path: "n.json", settings: Settings { assignments: [], replication: 0 } }, until: 5, task: Run { cancel: Lazy, setting: RunOptions { workers: Count(3), burst: 64, window: 1099511627774, progress: true } } }
 twarp run --until 5 -- --progress
-Simulate { net: "--progress", until: 5, task: Run { cancel: Aggressive, setting: RunOptions { workers: Count(2), burst: 64, window: 1099511627774, progress: false } } }
+Simulate { net: NetSource { path: "--progress", settings: Settings { assignments: [], replication: 0 } }, until: 5, task: Run { cancel: Aggressive, setting: RunOptions { workers: Count(2), burst: 64, window: 1099511627774, progress: false } } }
 twarp play n.json --until 5 --script s
-Simulate { net: "n.json", until: 5, task: Play { cancel: Aggressive, driver: Script("s") } }
+Simulate { net: NetSource { path: "n.json", settings: Settings { assignments: [], replication: 0 } }, until: 5, task: Play { cancel: Aggressive, driver: Script("s") } }
 twarp play n.json --until 5 --seed 1 --steps 2
-Simulate { net: "n.json", until: 5, task: Play { cancel: Aggressive, driver: Seed { seed: 1, steps: 2 } } }
+Simulate { net: NetSource { path: "n.json", settings: Settings { assignments: [], replication: 0 } }, until: 5, task: Play { cancel: Aggressive, driver: Seed { seed: 1, steps: 2 } } }
 twarp play n.json --until 0 --script=s --cancel aggressive
-Simulate { net: "n.json", until: 0, task: Play { cancel: Aggressive, driver: Script("s") } }
+Simulate { net: NetSource { path: "n.json", settings: Settings { assignments: [], replication: 0 } }, until: 0, task: Play { cancel: Aggressive, driver: Script("s") } }
 twarp play --cancel lazy --script s --until 5 n.json
-Simulate { net: "n.json", until: 5, task: Play { cancel: Lazy, driver: Script("s") } }
+Simulate { net: NetSource { path: "n.json", settings: Settings { assignments: [], replication: 0 } }, until: 5, task: Play { cancel: Lazy, driver: Script("s") } }
 twarp play n.json --until=5 --steps=007 --seed=+7 --cancel=lazy
-Simulate { net: "n.json", until: 5, task: Play { cancel: Lazy, driver: Seed { seed: 7, steps: 7 } } }
+Simulate { net: NetSource { path: "n.json", settings: Settings { assignments: [], replication: 0 } }, until: 5, task: Play { cancel: Lazy, driver: Seed { seed: 7, steps: 7 } } }
 twarp play n.json --until 1099511627774 --seed 18446744073709551615 --steps 1000000
-Simulate { net: "n.json", until: 1099511627774, task: Play { cancel: Aggressive, driver: Seed { seed: 18446744073709551615, steps: 1000000 } } }
+Simulate { net: NetSource { path: "n.json", settings: Settings { assignments: [], replication: 0 } }, until: 1099511627774, task: Play { cancel: Aggressive, driver: Seed { seed: 18446744073709551615, steps: 1000000 } } }
 twarp play n.json --until 5 --seed 0 --steps 0
-Simulate { net: "n.json", until: 5, task: Play { cancel: Aggressive, driver: Seed { seed: 0, steps: 0 } } }
+Simulate { net: NetSource { path: "n.json", settings: Settings { assignments: [], replication: 0 } }, until: 5, task: Play { cancel: Aggressive, driver: Seed { seed: 0, steps: 0 } } }
 twarp seq n.json
 Some(BadLine)
 twarp --version
@@ -122,7 +132,7 @@ fn assert_answer(rt: &impl Abort, alloc: Global, line: &str, wanted: &str) {
 
 #[test]
 fn takes_the_lines_of_each_job(rt: HostRuntime) {
-    assert!(rt; TAKEN.lines().count() == 98);
+    assert!(rt; TAKEN.lines().count() == 108);
     let mut lines = TAKEN.lines();
     while let (Some(line), Some(wanted)) = (lines.next(), lines.next()) {
         assert_answer(&rt, rt.alloc(), line, wanted);

@@ -1,4 +1,5 @@
+use Rattle.tw_cli.proofs.Missing.{none_of}
 use Rattle.tw_cli.proofs.command_line.simulation_in.Goals as goal
 
-pub returns-in_err-until-clause-none : goal.returns-in_err-until-clause-none
-returns-in_err-until-clause-none c = rw c.from_residual-in_err-until.ensures (λ net n task is. c.in_err-until.ensures.none n is.1)
+pub returns-in_default-clause-err : goal.returns-in_default-clause-err
+returns-in_default-clause-err c = λ net n task is. none_of _ c.in_ok-until.ensures.none c.in_default.is n task is.1

@@ -9,8 +9,8 @@ returns-in_err-from-clause-none c = rw c.from_residual.ensures (λ t is.
     let met : Needs table_letters rows = needs_met (codes "table") rows t is in
     c.in_err-from.ensures.none met.0 met.2)
 
-pub returns-in_err-rows-clause-none : goal.returns-in_err-rows-clause-none
-returns-in_err-rows-clause-none c = rw c.from_residual-in_err-rows.ensures (λ t is.
+pub returns-in_err-of-clause-none : goal.returns-in_err-of-clause-none
+returns-in_err-of-clause-none c = rw c.from_residual-in_err-of.ensures (λ t is.
     let rows = rows_of (found_of c.args.options.now) in
     let met : Needs table_letters rows = needs_met (codes "table") rows t is in
-    c.in_err-rows.ensures.none met.1 met.3)
+    c.in_err-of.ensures.none met.1 met.3)

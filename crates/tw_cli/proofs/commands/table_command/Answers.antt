@@ -3,6 +3,6 @@ use Rattle.tw_cli.proofs.commands.table_command.Goals as goal
 
 pub returns : goal.returns
 returns c =
-    let from = grown _ _ _ _ _ c.in_ok-arg.ensures c.from.ensures c.in_ok-told_command.ensures in
-    let items = grown _ _ _ _ _ c.in_ok-arg-2.ensures c.items.ensures from in
-    grows _ _ _ _ c.arg-3.result c.arg-3.ensures c.words.ensures items
+    let items = grown _ _ _ _ _ c.in_ok-arg.ensures c.items.ensures c.in_ok-part_command.ensures in
+    let words = grown _ _ _ _ _ c.in_ok-arg-2.ensures c.words.ensures items in
+    grows _ _ _ _ c.arg-3.result c.arg-3.ensures c.figures.ensures words

@@ -1,4 +1,4 @@
-use Rattle.tw_engine.proofs.Shown.{demo_of_worked}
+use Rattle.tw_engine.proofs.Showing.{demo_of_worked}
 use Rattle.tw_engine.proofs.job_demo.demo.Goals as goal
 
 pub returns : goal.returns

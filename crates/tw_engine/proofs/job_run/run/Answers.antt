@@ -1,4 +1,4 @@
-use Rattle.tw_engine.proofs.Shown.{run_of_worked}
+use Rattle.tw_engine.proofs.Showing.{run_of_worked}
 use Rattle.tw_engine.proofs.job_run.run.Goals as goal
 
 pub returns : goal.returns

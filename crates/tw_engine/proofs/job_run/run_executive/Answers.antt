@@ -3,7 +3,7 @@ use Rattle.std.specs.Prelude.{List, Option}
 use Rattle.tw_msgs.specs.declared.record.Record.{Record}
 use Rattle.tw_engine.specs.Ends.{Fault}
 use Rattle.tw_engine.specs.Runs.{IsShown, run_fault}
-use Rattle.tw_engine.proofs.Shown.{given_up}
+use Rattle.tw_engine.proofs.Showing.{given_up}
 use Rattle.tw_engine.proofs.job_run.run_executive.Goals as goal
 
 pub returns-in-Ok : goal.returns-in-Ok

@@ -2,7 +2,7 @@ use Rattle.tw_texts.specs.Refusals.{not_written_refusal}
 use Rattle.tw_engine.specs.Ends.{failed_of}
 use Rattle.tw_engine.specs.Runs.{IsShown}
 use Rattle.tw_engine.proofs.Passing.{on_err}
-use Rattle.tw_engine.proofs.Shown.{text_short}
+use Rattle.tw_engine.proofs.Showing.{text_short}
 use Rattle.tw_engine.proofs.job_run.write_made.Goals as goal
 
 pub returns-in_err-write_trace : goal.returns-in_err-write_trace

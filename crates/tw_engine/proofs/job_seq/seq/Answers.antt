@@ -1,4 +1,4 @@
-use Rattle.tw_engine.proofs.Shown.{run_of_ordered}
+use Rattle.tw_engine.proofs.Showing.{run_of_ordered}
 use Rattle.tw_engine.proofs.job_seq.seq.Goals as goal
 
 pub returns : goal.returns

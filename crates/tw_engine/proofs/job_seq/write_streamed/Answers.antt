@@ -5,7 +5,7 @@ use Rattle.tw_theory.specs.Simulator.{sequential}
 use Rattle.tw_engine.specs.Ends.{failed_of}
 use Rattle.tw_engine.specs.Runs.{IsShown}
 use Rattle.tw_engine.proofs.Passing.{on_err}
-use Rattle.tw_engine.proofs.Shown.{text_short}
+use Rattle.tw_engine.proofs.Showing.{text_short}
 use Rattle.tw_engine.proofs.job_seq.write_streamed.Goals as goal
 
 pub returns-in_err-write_lines : goal.returns-in_err-write_lines

@@ -1,7 +1,7 @@
 use Rattle.std.proofs.Common.{inr, subst}
 use Rattle.serde_json.specs.View.{view}
 use Rattle.tw_engine.proofs.Viewed.{labels_of_bytes}
-use Rattle.tw_engine.specs.Views.{IsSummedOf}
+use Rattle.tw_engine.specs.Views.{IsSummedOf, summary_of}
 use Rattle.tw_engine.proofs.job_stats.stats.Goals as goal
 
 pub returns : goal.returns
@@ -12,6 +12,6 @@ returns g c =
     inr (
       n,
       c.in_ok-file.ensures.network,
-      subst (λ ls. IsSummedOf n ls c.args.summary.from c.args.summary.until c.args.summary.json c.sum_up.result old new)
+      subst (λ ls. IsSummedOf n ls (summary_of c.args.summary.now) c.sum_up.result old new)
           (labels_of_bytes c.args.bytes.now (view c.in_ok-file.file.value) n c.in_ok-file.ensures.value) c.sum_up.ensures,
     )

@@ -2,8 +2,10 @@ use Rattle.std.proofs.Common.{◌∙◌, ap, length, map, subst, sym}
 use Rattle.std.proofs.lemmas.List.{length-map}
 use Rattle.serde_json.specs.View.{view}
 use Rattle.tw_any_model.specs.AnyModel.{any_meaning}
-use Rattle.tw_engine.proofs.Viewed.{as_many, summed_up}
+use Rattle.tw_engine.proofs.Passing.{on_err}
+use Rattle.tw_engine.proofs.Viewed.{as_many, none_summed, summed_up}
 use Rattle.tw_engine.specs.Runs.{name_in}
+use Rattle.tw_engine.specs.Views.{IsSummedOf, summary_of}
 use Rattle.tw_network.specs.Contents.{network_of}
 use Rattle.tw_stats.specs.Reports.{IsReport}
 use Rattle.tw_stats.specs.Written.{report_bytes}
@@ -18,13 +20,25 @@ report_of-requires g c =
     ap length c.as_slice-labels.ensures.value ∙ sym (length-map c.in_ok-labels.labels.items label)
     ∙ ap length c.in_ok-labels.ensures ∙ as_many (view c.args.file.now.value) n.models
 
+pub returns-in_err-shown : goal.returns-in_err-shown
+returns-in_err-shown g c =
+    let n = c.args.file.now.network in
+    let s = summary_of c.args.summary.now in
+    let labels = labels_said (view c.args.file.now.value) n.models in
+    let old = g.W.Write.contents c.args.out.now in
+    on_err (λ end. IsSummedOf n labels s end old old) c.from_residual.result c.in_err-shown.field-0.0 c.from_residual.ensures.1
+    (none_summed n labels s c.in_err-shown.field-0.0 old c.in_err-shown.ensures)
+
 pub returns-in-Ok-write_report : goal.returns-in-Ok-write_report
 returns-in-Ok-write_report g c =
     let n = c.args.file.now.network in
+    let s = summary_of c.args.summary.now in
     let old = g.W.Write.contents c.args.out.now in
     let new = g.W.Write.contents c.write_report.new.out in
+    let shown = c.in_ok-shown.shown.items in
     let same = ap (map label) c.as_slice-labels.ensures.value ∙ c.in_ok-labels.ensures in
-    summed_up n (labels_said (view c.args.file.now.value) n.models) c.args.summary.from c.args.summary.until c.args.summary.json c.in-Ok.report c.in_ok-line.line old new
-    (subst (λ ls. IsReport (network_of any_meaning n) c.args.summary.from c.args.summary.until ls c.in-Ok.report) same c.in-Ok.ensures.report)
+    summed_up n (labels_said (view c.args.file.now.value) n.models) s shown c.in-Ok.report c.in_ok-line.line old new c.in_ok-shown.ensures
+    (subst (λ ls. IsReport (network_of any_meaning n) s.from s.until ls c.in-Ok.report) same c.in-Ok.ensures.report)
     c.in_ok-line.ensures
-    (subst (λ ls. Appends old new (report_bytes c.args.summary.json (name_in n.names) ls c.in-Ok.report)) same c.in-Ok-write_report.ensures.written)
+    (subst (λ ls. Appends old new (report_bytes s.json (name_in n.names) ls shown c.in-Ok.report)) same
+    (subst (λ l. Appends old new (report_bytes s.json (name_in n.names) (map label c.as_slice-labels.result.now) l c.in-Ok.report)) c.as_slice.ensures.value c.in-Ok-write_report.ensures.written))

@@ -1,5 +1,5 @@
-use Rattle.tw_figure_names.proofs.Programs.{machine_law}
-use Rattle.tw_figure_names.proofs.Telling.{entries_law}
+use Rattle.tw_figure_names.proofs.Programs.{machine_law, observations_law}
+use Rattle.tw_figure_names.proofs.Telling.{entries_law, observed_law}
 use Rattle.tw_figure_names.proofs.law.machine_figures_law.Goals as goal
 
 pub returns-clause-entries : goal.returns-clause-entries
@@ -7,3 +7,9 @@ returns-clause-entries c = entries_law
 
 pub returns-clause-machine : goal.returns-clause-machine
 returns-clause-machine c = machine_law
+
+pub returns-clause-observed : goal.returns-clause-observed
+returns-clause-observed c = observed_law
+
+pub returns-clause-observations : goal.returns-clause-observations
+returns-clause-observations c = observations_law

@@ -22,5 +22,11 @@ returns-clause-behind_queues c = sound 64 4096 _ _ (lit≤ tt) refl
 pub returns-clause-chains : goal.returns-clause-chains
 returns-clause-chains c = sound 64 4096 _ _ (lit≤ tt) refl
 
+pub returns-clause-observing : goal.returns-clause-observing
+returns-clause-observing c = sound 64 4096 _ _ (lit≤ tt) refl
+
+pub returns-clause-observed : goal.returns-clause-observed
+returns-clause-observed c = refl
+
 pub returns-clause-no_chain : goal.returns-clause-no_chain
 returns-clause-no_chain c program means = none-some program (again_means 64 4096 _ program means)

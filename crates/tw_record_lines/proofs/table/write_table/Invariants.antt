@@ -1,9 +1,8 @@
 -- The records so far were handed over; the writer and the lines that are gathered have the table of them.
 use Rattle.std.proofs.Common.{◌≡◌, ◌-◌, List, [], string_bytes}
-use Rattle.tw_figures.specs.Figures.{from_on}
 use Rattle.tw_msgs.specs.declared.record.Record.{Record}
 use Rattle.tw_rounds.specs.Parts.{IsSimulating}
-use Rattle.tw_record_lines.specs.Tables.{table_text}
+use Rattle.tw_record_lines.specs.Tables.{listed, table_text}
 use Rattle.tw_texts.specs.Traces.{MovesBytes}
 use Rattle.tw_theory.specs.Simulator.{round_time}
 use Rattle.tw_vtime.specs.Stamps.{stamp}
@@ -18,10 +17,12 @@ invariant-loop-step g l = record {
   names' : l.transitions.names.now ≡ l.table.names.now;
   kinds : l.outputs.rows ≡ l.table.rows;
   kinds' : l.transitions.rows ≡ l.table.rows;
+  shows : l.outputs.shown.now ≡ l.table.shown.now;
+  shows' : l.transitions.shown.now ≡ l.table.shown.now;
   first : l.outputs.from ≡ l.table.from;
   first' : l.transitions.from ≡ l.table.from;
   none : string_bytes l.transitions.lines ≡ [];
-  written : MovesBytes (g.W.Write.contents l.fn.out) (g.W.Write.contents l.out) (table_text l.table.rows (g.N.Names.name_of l.table.names.now) (from_on l.table.from done)) (string_bytes l.outputs.lines);
+  written : MovesBytes (g.W.Write.contents l.fn.out) (g.W.Write.contents l.out) (table_text l.table.rows (g.N.Names.name_of l.table.names.now) (listed l.table.shown.now l.table.from done)) (string_bytes l.outputs.lines);
 }
 
 abbrev pub decreases-loop-step : goal.decreases-loop-step

@@ -18,7 +18,7 @@ loop-transitions-init g c = record {
   so_far = c.requires;
   until = refl;
   gathered = λ from starts h. h;
-  measures = refl;
+  followed = refl;
   no_outputs = c.new-outputs.ensures.items;
   no_transitions = c.new-transitions.ensures.items;
 }
@@ -63,7 +63,7 @@ loop-transitions-preserved g c =
       until = c.in_ok-step.ensures.until ∙ inv.until;
       gathered = λ from starts h. subst (λ l. IsGathered from starts (inv.done ++ l) c.take_all.new.self) made.slice
           (c.in_ok-take_all-in-Round.ensures.gathered from starts inv.done steady (inv.gathered from starts h));
-      measures = c.take_all.ensures.measures ∙ inv.measures;
+      followed = c.take_all.ensures.followed ∙ inv.followed;
       no_outputs = c.clear.ensures.items;
       no_transitions = c.in_ok-append-in-Round.ensures.other_items;
     }

@@ -3,11 +3,11 @@ use Rattle.std.specs.List.{All}
 use Rattle.tw_network.specs.Contents.{network_of}
 use Rattle.tw_theory.specs.Simulator.{sequential}
 use Rattle.tw_vtime.specs.Stamps.{max_tick}
-use Rattle.tw_figures.specs.Gathered.{IsGathered}
+use Rattle.tw_figures.specs.Gathered.{IsGathered, start_words}
 use Rattle.tw_figures.specs.declared.course.Course.{Course}
 use Rattle.tw_figures.specs.declared.gatherer.Gatherer.{Gatherer}
 use Rattle.tw_figures.specs.declared.member.Member.{Member}
-use Rattle.tw_stats.specs.Gathering.{BeforeEnd, run_ticks, start_words}
+use Rattle.tw_stats.specs.Gathering.{BeforeEnd, run_ticks}
 use Rattle.tw_stats.proofs.Reaching.{fault_before_end, since_within}
 use Rattle.tw_stats.proofs.gathering.gather.Goals as goal
 use Rattle.tw_stats.proofs.gathering.gather.Goals.{In_ok-fault}

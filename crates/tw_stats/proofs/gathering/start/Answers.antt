@@ -1,8 +1,7 @@
-use Rattle.std.proofs.Common.{◌∙◌, ◌++◌, ◌∷◌, [], take, map, ap, subst}
-use Rattle.tw_figures.specs.Gathered.{IsGathered}
+use Rattle.std.proofs.Common.{◌∙◌, ◌++◌, ◌∷◌, [], take, ap, subst}
+use Rattle.tw_figures.specs.Gathered.{IsGathered, followed_in, start_words}
 use Rattle.tw_network.specs.Contents.{network_of}
-use Rattle.tw_stats.specs.Gathering.{measures_in, start_words}
-use Rattle.tw_stats.proofs.Starting.{measures_more, starts_more}
+use Rattle.tw_stats.proofs.Starting.{followed_more, starts_more}
 use Rattle.tw_stats.proofs.gathering.start.Goals as goal
 
 pub loop-component-preserved : goal.loop-component-preserved
@@ -14,7 +13,6 @@ loop-component-preserved g c =
       gathered = subst (λ l. IsGathered c.args.from l [] c.add.new.gathered)
           (starts_more g.M.Atomic.meaning c.args.network.now at c.model-model.result.now c.model-model.ensures)
           (c.in_ok-add.ensures.gathered c.args.from (take at starts) inv.gathered);
-      measures = c.in_ok-add.ensures.measures ∙ ap (λ l. l ++ map (λ f. f.measure) c.as_slice.result.now ∷ []) inv.measures
-          ∙ ap (λ l. take at (measures_in c.args.labels.now) ++ map (λ f. f.measure) l ∷ []) c.as_slice.ensures.value
-          ∙ measures_more c.args.labels.now at c.index-labels-component.result c.loop-component-test.true c.index-labels-component.is;
+      followed = c.in_ok-add.ensures.followed ∙ ap (λ l. l ++ followed_in c.index-labels-component.result ∷ []) inv.followed
+          ∙ followed_more c.args.labels.now at c.index-labels-component.result c.loop-component-test.true c.index-labels-component.is;
     }

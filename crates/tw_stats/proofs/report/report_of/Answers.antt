@@ -4,10 +4,10 @@ use Rattle.std.proofs.lemmas.List.{length-map}
 use Rattle.tw_network.specs.Contents.{network_of}
 use Rattle.tw_theory.specs.Simulator.{sequential}
 use Rattle.tw_figures.specs.Figures.{from_on}
-use Rattle.tw_figures.specs.Gathered.{IsAboveMicrosteps}
+use Rattle.tw_figures.specs.Gathered.{IsAboveMicrosteps, start_words}
 use Rattle.tw_figures.specs.Labelled.{label}
 use Rattle.tw_figures.specs.declared.member.Member.{Member}
-use Rattle.tw_stats.specs.Gathering.{run_ticks, start_words}
+use Rattle.tw_stats.specs.Gathering.{run_ticks}
 use Rattle.tw_stats.specs.Reports.{AreTold, TellsPart, first_tick}
 use Rattle.tw_stats.proofs.Telling.{all_told}
 use Rattle.tw_stats.proofs.report.report_of.Goals as goal
@@ -24,7 +24,7 @@ returns-clause-report g c =
     let ticks = c.max-end.result - first in
     let here : first ≡ first_tick c.args.from = c.unwrap_or-first.ensures in
     let tells = subst (λ (l : List Member). AllZip (TellsPart first ticks) l c.in_ok-parts.parts.items) c.as_slice.ensures.value c.in_ok-parts.ensures in
-    let parts = all_told first c.args.labels.now (start_words net) run.records ticks whole.gathered c.in_ok-parts.parts.items many is.gathered is.measures tells in
+    let parts = all_told first c.args.labels.now (start_words net) run.records ticks whole.gathered c.in_ok-parts.parts.items many is.gathered is.followed tells in
     let time : ticks ≡ run_ticks c.args.until run.fault - first = (let latest = c.max-end.ensures in let end = is.ticks in omega (arith, latest, end)) in
     record {
       parts = subst (λ n. AreTold n (map label c.args.labels.now) (start_words net) run.records ticks c.in_ok-parts.parts.items) here parts;

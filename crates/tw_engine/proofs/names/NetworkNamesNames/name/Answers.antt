@@ -1,5 +1,5 @@
 use Rattle.std.proofs.Common.{◌≤◌, ◌∙◌, ℕ, sym, subst}
-use Rattle.tw_engine.proofs.Shown.{no_name}
+use Rattle.tw_engine.proofs.Showing.{no_name}
 use Rattle.tw_engine.proofs.names.NetworkNamesNames.name.Goals as goal
 
 pub returns-else-component-len : goal.returns-else-component-len

@@ -1,28 +1,26 @@
-use Rattle.std.proofs.Common.{◌≡◌, ◌∙◌, ◌<◌, ◌≤◌, [], ℕ, List, ◌++◌, ◌∷◌, length, map, refl, ap, sym, subst, arith}
+use Rattle.std.proofs.Common.{◌≡◌, ◌∙◌, ◌<◌, ◌≤◌, [], ℕ, List, ◌++◌, ◌∷◌, length, refl, ap, sym, subst, arith}
 use Rattle.std.specs.Prelude.{slice_set}
 use Rattle.std.proofs.lemmas.List.{length-set}
 use Rattle.std.proofs.Math.Seq.{map-set_same}
 use Rattle.tw_theory.specs.Traces.{of_component}
 use Rattle.tw_msgs.specs.declared.record.Record.{Record}
 use Rattle.tw_figures.specs.Figures.{from_on}
-use Rattle.tw_figures.specs.Gathered.{AreCounted, IsMember, measures_of}
-use Rattle.tw_figures.specs.declared.member.Member.{Member}
+use Rattle.tw_figures.specs.Gathered.{AreCounted, IsMember, followed_of, followed_of_all}
 use Rattle.tw_figures.proofs.Gathering.{Members, known_more, own_next, unknown_more}
 use Rattle.tw_figures.proofs.gatherer.Gatherer.take.Goals as goal
 use Rattle.tw_figures.proofs.gatherer.Gatherer.take.Goals.{After-take, In_ok-count}
 
-kept : (c : After-take) → measures_of (slice_set c.count.new.self.members.items c.args.step.now.component c.take.new.self) ≡ measures_of c.args.self.now.members.items
+kept : (c : After-take) → followed_of_all (slice_set c.count.new.self.members.items c.args.step.now.component c.take.new.self) ≡ followed_of_all c.args.self.now.members.items
 kept c =
-    let measures = λ (m : Member). map (λ x. x.measure) m.courses.items in
-    map-set_same measures c.count.new.self.members.items c.args.step.now.component c.take.new.self c.index_mut.result.now
-    (c.take.ensures.measures ∙ ap measures c.index_mut.ensures.value)
-    ∙ ap (λ v. measures_of v.items) c.count.ensures.members
+    map-set_same followed_of c.count.new.self.members.items c.args.step.now.component c.take.new.self c.index_mut.result.now
+    (c.take.ensures.followed ∙ ap followed_of c.index_mut.ensures.value)
+    ∙ ap (λ v. followed_of_all v.items) c.count.ensures.members
 
-pub returns-in_err-take-clause-measures : goal.returns-in_err-take-clause-measures
-returns-in_err-take-clause-measures c = kept (goal.at.returns-in_err-take-clause-measures c).After-take
+pub returns-in_err-take-clause-followed : goal.returns-in_err-take-clause-followed
+returns-in_err-take-clause-followed c = kept (goal.at.returns-in_err-take-clause-followed c).After-take
 
-pub returns-in_ok-take-clause-measures : goal.returns-in_ok-take-clause-measures
-returns-in_ok-take-clause-measures c = kept (goal.at.returns-in_ok-take-clause-measures c).After-take
+pub returns-in_ok-take-clause-followed : goal.returns-in_ok-take-clause-followed
+returns-in_ok-take-clause-followed c = kept (goal.at.returns-in_ok-take-clause-followed c).After-take
 
 counted_in : (c : In_ok-count) (from : ℕ) (rs : List Record) → c.args.self.now.from ≡ from → AreCounted (from_on from rs) c.args.self.now → AreCounted (from_on from (rs ++ c.args.step.now ∷ [])) c.count.new.self
 counted_in c from rs begin h =

@@ -7,7 +7,7 @@ use Rattle.tw_figures.proofs.gatherer.Gatherer.take_all.Goals as goal
 pub loop-step-init : goal.loop-step-init
 loop-step-init c = record {
   gathered = λ from starts records steady h. subst (λ l. IsGathered from starts l c.args.self.now) (sym (append-nil records)) h;
-  measures = refl;
+  followed = refl;
 }
 
 pub take-requires : goal.take-requires
@@ -21,7 +21,7 @@ loop-step-preserved c = record {
       let next = steady_next records c.args.steps.now c.loop-step.step-index c.step-item.result steady c.loop-step-test.true c.step-item.is in
       subst (λ l. IsGathered from starts l c.take.new.self) (one_taken records c.args.steps.now c.loop-step.step-index c.step-item.result c.loop-step-test.true c.step-item.is)
       (c.in_ok-take.ensures.gathered from starts (records ++ take c.loop-step.step-index c.args.steps.now) next.0 (c.loop-step.invariant.gathered from starts records steady h));
-  measures = c.take.ensures.measures ∙ c.loop-step.invariant.measures;
+  followed = c.take.ensures.followed ∙ c.loop-step.invariant.followed;
 }
 
 pub returns-clause-gathered : goal.returns-clause-gathered

@@ -1,0 +1,7 @@
+use Rattle.tw_cli.proofs.Adding.{grown, grows}
+use Rattle.tw_cli.proofs.commands.part_command.Goals as goal
+
+pub returns : goal.returns
+returns c =
+    let from = grown _ _ _ _ _ c.in_ok-arg.ensures c.from.ensures c.in_ok-told_command.ensures in
+    grows _ _ _ _ c.arg-2.result c.arg-2.ensures c.only.ensures from

@@ -1,0 +1,9 @@
+pub mod Seeds
+pub mod Targets
+pub mod Depth
+pub mod Objects
+pub mod Passing
+pub mod Putting
+pub mod Reading
+pub mod Rewritten
+pub mod Written

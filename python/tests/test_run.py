@@ -125,7 +125,7 @@ def test_runs_without_records(until: int) -> None:
 def test_stats_are_those_of_the_program(name: str, until: int) -> None:
     stats = run_of(name, until).stats()
     text = program("stats", f"examples/{name}", "--until", str(until))
-    head, components, figures = text.rstrip("\n").split("\n\n")
+    head, components, figures, *_ = text.rstrip("\n").split("\n\n")
     assert head == (
         f"until {until}  components {len(stats.components)}  records {stats.records}  microsteps {stats.microsteps}"
     )

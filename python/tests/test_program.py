@@ -158,7 +158,7 @@ def test_want_of_memory(tmp_path: Path) -> None:
         lambda: simulate(big, 5).stats(),
         lambda: simulate(big, 5).table(),
         lambda: list(simulate(network("sixty-four-hops.json"), 3000, workers=1).trace()),
-        lambda: simulate(network("sixty-four-hops.json"), 3000).picture(),
+        lambda: simulate(network("sixty-four-hops.json"), 1000).picture(),
     ]
     with program(bound):
         for call in calls:

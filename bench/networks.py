@@ -82,18 +82,48 @@ def with_machines(draw):
     for machine in value["models"]:
         if draw.random() < 0.5:
             observed(draw, machine)
+        if machine.get("queues") and draw.random() < 0.3:
+            cleared(draw, machine)
+        if draw.random() < 0.5:
+            drawn(draw, machine)
     return value, draw.choice([5, 20, 40])
 
 
 def observed(draw, machine):
     """A machine that observes numbers besides."""
-    machine["observations"] = ["seen", "other_seen"]
+    machine["observations"] = [*machine.get("observations", []), "seen", "other_seen"]
     machine["words"] = [*machine["words"], "seen", "other_seen"][-64:]
     for member in ("internal", "external"):
         program = machine.get(member, [])
         program = program if isinstance(program, list) else [program]
-        name, number = draw.choice(machine["observations"]), draw.choice(["value", "now - 3", "-elapsed", "4611686018427387904 + left"])
+        name, number = draw.choice(["seen", "other_seen"]), draw.choice(["value", "now - 3", "-elapsed", "4611686018427387904 + left"])
         machine[member] = [f"observe {name} {number}", *program]
+
+
+def cleared(draw, machine):
+    """A machine that clears a queue when its time is up, and sends the places of its values."""
+    name, room = draw.choice(list(machine["queues"].items()))
+    queue = f"{name}[{draw.choice(['0', '1', 'now % 3'])}]" if isinstance(room, list) else name
+    program = machine.get("internal", [])
+    program = program if isinstance(program, list) else [program]
+    machine["internal"] = [f"if now % {draw.randint(2, 5)} == 0 {{ clear {queue} }}", *program]
+    sent = {"each": queue, "when": draw.choice(["turn != 1", "turn < 3"]), "port": "turn % 4", "value": "value - turn"}
+    machine["output"] = [*machine.get("output", []), sent][-64:]
+
+
+def drawn(draw, machine):
+    """A machine that draws numbers besides, in statements and tests."""
+    machine["tables"] = {**machine.get("tables", {}), "drawn_from": [draw.randint(-3, 9) for _ in range(draw.choice([1, 2, 7]))]}
+    machine["registers"] = {**machine.get("registers", {}), "drawn": 0}
+    machine["words"] = [*machine["words"], "drawn"][-64:]
+    tests = ["sample(drawn_from) > 2", "roll(3)", "drawn % 2", "not roll(length(drawn_from))", "drawn > 9"]
+    lines = ["drawn += sample(drawn_from)", "repeat 2 { drawn ^= roll(9) }", "draw", "drawn = 0", "drawn -= roll(drawn) * length(drawn_from)"]
+    for member in ("internal", "external"):
+        program = machine.get(member, [])
+        program = program if isinstance(program, list) else [program]
+        chain = " else ".join(f"if {draw.choice(tests)} {{ {draw.choice(lines)} }}" for _ in range(draw.randint(1, 4)))
+        chain += f" else {{ {draw.choice(lines)} }}" if draw.random() < 0.5 else ""
+        machine[member] = [draw.choice(lines), chain, *program]
 
 
 def network(seed):
@@ -127,7 +157,7 @@ def put(value, at, other):
     return value
 
 
-WORDS = ["draw ", " observe a value ", "(", ")", "[", "]", "{", "}", " if ", " else ", " repeat ", " + ", " * ", " / ", " % ", " - ", ":=", ";", "t[0]", "0", "9" * 20, "\u00e9", "\\", "\"", "a", ".", "tw-2", "in", " "]
+WORDS = ["draw ", " sample(t) ", " roll(3) ", " length(t) ", " observe a value ", " clear q ", "(", ")", "[", "]", "{", "}", " if ", " else ", " repeat ", " + ", " * ", " / ", " % ", " - ", ":=", ";", "t[0]", "0", "9" * 20, "\u00e9", "\\", "\"", "a", ".", "tw-2", "in", " "]
 
 
 def changed(draw, value):

@@ -95,3 +95,18 @@ count "twarp draw of a long run has no marks" 0 0 $?
 drawn "" --marks
 grep -q 'The picture ends after' "$out"
 count "twarp draw --marks ends before what has no room" 0 0 $?
+
+
+# The pictures of the pages are those that the calls beside them draw.
+while read -r name words; do
+    # shellcheck disable=SC2086 # a line is words
+    "$program" draw $words >"$out" 2>"$err"
+    ended=$?
+    cmp --silent "$out" "docs/pictures/$name.svg"
+    count "docs/pictures/$name.svg" 0 "$ended" $?
+done <<'END'
+ring examples/ring-of-queues.json --until 16
+pool examples/pool.json --until 40
+day examples/call-desk.json --until 28800 --courses --only desk --figure length(line)
+seeds examples/a-row.json --until 40 --seed 12 --steps 90
+END

@@ -346,3 +346,50 @@ def test_two_iterators_side_by_side() -> None:
     run = simulate(network("pool.json"), 40)
     same = [one == other for one, other in zip(run.trace(), run.trace())]
     assert same == [True] * run.stats().records and own_programs() == []
+
+
+@pytest.mark.parametrize("name, until", RUNS)
+def test_changes_are_the_courses(name: str, until: int) -> None:
+    run = run_of(name, until)
+    changes = run.changes()
+    figures = run.stats().figures
+    assert list(changes.columns) == ["tick", "microstep", "component", "figure", "value"]
+    last = changes.groupby(["component", "figure"], observed=True)["value"].last()
+    for component, figure in figures.index:
+        assert int(last[component, figure]) == int(figures.loc[(component, figure), "last"])
+    assert len(last) == len(figures)
+
+
+def test_what_is_shown_from_a_tick_on() -> None:
+    net = Network().add("g", "gen", period=2, value=5).add("t", "tally").couple("g", "t")
+    run = simulate(net, 7)
+    assert run.table(start=3, only="t")["tick"].tolist() == [4, 6]
+    assert run.items(only=["g"])["value"].tolist() == [5, 5, 5]
+    assert run.words(start=5, only=["t"])["number"].tolist() == [3, 15, 5]
+    rows = run.changes(start=3, only="t")[["tick", "figure", "value"]].values.tolist()
+    assert rows == [[3, "count", 1], [3, "sum", 5], [3, "last", 5], [4, "count", 2], [4, "sum", 10], [6, "count", 3], [6, "sum", 15]]
+    with pytest.raises(twarp.RequestError):
+        run.table(only="nobody")
+    with pytest.raises(TypeError):
+        run.table(start=1.5)  # type: ignore[arg-type]
+
+
+def test_other_numbers() -> None:
+    net = Network().add("g", "gen", period=2, value=5).add("t", "tally").couple("g", "t")
+    run = simulate(net, 7, numbers={"g.value": 7, "g.period": 3})
+    assert run.items(only="t")["value"].tolist() == [7, 7]
+    assert [record.tick for record in run.trace()] == [3, 3, 3, 6, 6, 6]
+    assert run.course("t", "sum").to_dict() == {0: 0, 3: 7, 6: 14, 7: 14}
+    assert run.stats(start=4).figures.loc[("t", "sum"), "last"] == 14
+    with pytest.raises(twarp.RequestError):
+        simulate(net, 7, numbers={"g.speed": 1}).stats()
+    with pytest.raises(TypeError):
+        simulate(net, 7, numbers={"g.value": 1.5})  # type: ignore[dict-item]
+
+
+def test_a_replication() -> None:
+    net = Network().add("h", "hop", seed=1, ports=1, spread=3)
+    first, second = (simulate(net, 50, replication=number).words()["number"].tolist() for number in (0, 2))
+    assert first == simulate(net, 50).words()["number"].tolist() != second
+    # the second number of SplitMix64 from 1
+    assert second[0] == simulate(net, 50, numbers={"h.seed": 13757245211066428519}).words()["number"].tolist()[0]

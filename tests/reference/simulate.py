@@ -162,10 +162,12 @@ class Machine:
         self.tables = {name: part[it] if isinstance(it, str) else it for name, it in machine.get("tables", {}).items()}
         self.parameters = {it: part[it] for it in machine.get("parameters", []) if not isinstance(part[it], list)}
         self.observations = {name: [0, 0, 0] for name in machine.get("observations", [])}
-        self.names = {*machine.get("parameters", []), *self.registers, *self.queues, *self.tables, *self.observations}
+        self.procedures = dict(machine.get("procedures", []))
+        self.names = {*self.procedures, *machine.get("parameters", []), *self.registers, *self.queues, *self.tables, *self.observations}
         self.x = mixed(number(machine.get("random", 0)) & MASK)
         self.time = 0
         self.left = None
+        self.drawn = False
         self.longest = number(machine["longest"]) if "longest" in machine else None
         self.seen = {}
         first = number(machine.get("first", -1))
@@ -177,10 +179,13 @@ class Machine:
         return wait if self.longest is None else min(max(wait, 1), self.longest)
 
     # Reading.
-    def begin(self, text, **seen):
+    def begin_text(self, text):
         text = "\n".join(text) if isinstance(text, list) else str(text)
         self.tokens = WORDS.findall(re.sub(r"#[^\n]*", " ", text))
         self.at = 0
+
+    def begin(self, text, **seen):
+        self.begin_text(text)
         self.seen = {"port": 0, "value": 0, "elapsed": 0, "left": 0, "now": self.time, "turn": 0, **seen}
 
     def peek(self):
@@ -272,7 +277,7 @@ class Machine:
             self.take("(")
             end = self.expr()
             self.take(")")
-            return permuted(self.x) * end >> 32 if end > 0 else 0
+            return self.below(end)
         if token in self.tables:
             return self.tables[token][self.index(len(self.tables[token]))]
         if token in self.registers:
@@ -280,8 +285,29 @@ class Machine:
             return cells[self.index(len(cells))] if isinstance(cells, list) else cells
         return self.parameters[token] if token in self.parameters else self.seen[token]
 
+    def below(self, end):
+        return permuted(self.x) * end >> 32 if end > 0 else 0
+
+    def move_on(self):
+        """Behind a statement or a test: x moves where a number was drawn in it."""
+        if self.drawn:
+            self.x = stepped(self.x)
+        self.drawn = False
+
     def function(self, name):
         self.take("(")
+        if name == "roll":
+            self.drawn = True
+            end = self.expr()
+            self.take(")")
+            return self.below(end)
+        if name == "sample" or (name == "length" and self.peek() in self.tables):
+            table = self.tables[self.take()]
+            self.take(")")
+            if name == "length":
+                return len(table)
+            self.drawn = True
+            return table[self.below(len(table))]
         if name in ("min", "max", "choose"):
             values = [self.expr()]
             while self.peek() == ",":
@@ -355,11 +381,19 @@ class Machine:
             at = self.expr() if token == "remove" else 0
             if 0 <= at < len(queue):
                 del queue[at]
+        elif token == "clear" and token not in self.names:
+            self.take()
+            queue, _ = self.queue()
+            queue.clear()
         elif token == "observe" and token not in self.names:
             self.take()
             seen = self.observations[self.take()]
             value = self.expr()
             seen[:] = [signed(seen[0] + 1), signed(seen[1] + value), signed(seen[2] + value * value)]
+        elif token == "do" and token not in self.names:
+            self.take()
+            self.do(self.procedures[self.take()])
+            return
         elif token == "repeat":
             self.take()
             self.repeat()
@@ -367,6 +401,15 @@ class Machine:
             self.choose()
         else:
             self.change()
+        self.move_on()
+
+    def do(self, text):
+        """A procedure: its program in the place of the statement."""
+        tokens, at = self.tokens, self.at
+        self.begin_text(text)
+        while self.peek():
+            self.statement()
+        self.tokens, self.at = tokens, at
 
     def repeat(self):
         token = self.take()
@@ -384,7 +427,11 @@ class Machine:
         while True:
             self.take("if")
             # (a test behind the branch that runs is computed too, and changes nothing)
+            x = self.x
             holds = self.expr() != 0
+            self.move_on()
+            if done:
+                self.x = x
             self.block(holds and not done)
             done = done or holds
             if self.peek() != "else":
@@ -419,10 +466,10 @@ class Machine:
             if "each" in entry:
                 self.begin(entry["each"], elapsed=elapsed, now=tick)
                 values = list(self.queue()[0])
-            for value in values:
+            for place, value in enumerate(values):
                 read = {}
                 for member in ("when", "port", "value"):
-                    self.begin(entry.get(member, 1), elapsed=elapsed, now=tick, value=value)
+                    self.begin(entry.get(member, 1), elapsed=elapsed, now=tick, value=value, turn=place)
                     read[member] = self.expr()
                 if read["when"] and 0 <= read["port"] <= 15:
                     items.append((read["port"], read["value"]))

@@ -3,7 +3,7 @@ use Rattle.std.proofs.Common.{◌≡◌, ◌<◌, ◌+◌, ℕ, suc, List, [], �
 use Rattle.std.specs.Global.{Global}
 use Rattle.serde_json.specs.Data.{Data, Items}
 use Rattle.std.specs.Option.{option_map_or}
-use Rattle.std.specs.Prelude.{◌≢◌, ◌⊎◌, Bool, Option, Some, Result, Ok, Err, String, codes}
+use Rattle.std.specs.Prelude.{◌≢◌, Bool, Option, Some, Result, Ok, Err, String, codes}
 use Rattle.std.specs.Result.{result_ok}
 use Rattle.std.specs.Io.KnownBytes.{Appends, Keeps}
 use Rattle.tw_any_model.specs.AnyModel.{any_meaning}
@@ -11,10 +11,10 @@ use Rattle.tw_any_model.specs.declared.any_model.AnyModel.{AnyModel}
 use Rattle.tw_engine.proofs.Driven.{keeps_all}
 use Rattle.tw_engine.specs.Ends.{Fault, failed_of}
 use Rattle.tw_engine.specs.Runs.{HasNoRun, name_in, run_fault}
-use Rattle.tw_engine.specs.Views.{HasNoneShown, IsFiguresTabulatedOf, IsLineOf, IsSummedOf, IsTabulatedOf, Summed, Tabulated, file_labels, run_table}
+use Rattle.tw_engine.specs.Views.{HasNoneShown, IsLineOf, IsSummedOf, IsTabulatedOf, Summed, Tabulated, figures_table, file_labels, run_table, table_with}
+use Rattle.tw_figures.specs.declared.seeing.Tabled.TheVariants.{OfRun, OfFigures}
 use Rattle.tw_engine.specs.declared.failed.Failed.{Failed}
 use Rattle.tw_figures.specs.Shown.{shown_of}
-use Rattle.tw_figures.specs.declared.seeing.Rows.{Rows}
 use Rattle.tw_figure_names.specs.Said.{atoms_of, labels_from, labels_said, machines_said}
 use Rattle.tw_file_members.specs.Members.{items_in}
 use Rattle.tw_machine_file.specs.Seen.{Machine}
@@ -78,43 +78,28 @@ module _ (n : Contents AnyModel) (labels : List Label) (s : Summed) where
 
 -- ---- the table
 
-module _ (n : Contents AnyModel) (rows : Rows) (t : Tabulated) where
+module _ (n : Contents AnyModel) (table : List Bool → List ℕ) (t : Tabulated) where
   pub tabulated : (shown : List Bool) (fault : Option Fault) (line : Option (String Global)) (old new : Option (List ℕ)) → shown_of n.names t.only ≡ Some shown
-      → fault ≡ run_fault n t.until → IsLineOf n fault line → Appends old new (run_table n rows shown t.from t.until) → IsTabulatedOf n rows t (Ok line) old new
+      → fault ≡ run_fault n t.until → IsLineOf n fault line → Appends old new (table shown) → IsTabulatedOf n table t (Ok line) old new
   tabulated shown fault line old new are is of written =
       (subst (λ (f : Option Fault). IsLineOf n f line) is of, record { shown = shown; are = are; written = written })
 
   -- there is nothing to show
-  pub none_tabulated : (why : Failed) (old : Option (List ℕ)) → HasNoneShown n t.only why → IsTabulatedOf n rows t (Err why) old old
-  none_tabulated why old (inl want) = subst (λ w. IsTabulatedOf n rows t (Err w) old old) (sym want) (refl, inl (keeps_all old))
-  none_tabulated why old (inr none) = subst (λ w. IsTabulatedOf n rows t (Err w) old old) (sym none.0) (inr (refl, none.1), keeps_all old)
+  pub none_tabulated : (why : Failed) (old : Option (List ℕ)) → HasNoneShown n t.only why → IsTabulatedOf n table t (Err why) old old
+  none_tabulated why old (inl want) = subst (λ w. IsTabulatedOf n table t (Err w) old old) (sym want) (refl, inl (keeps_all old))
+  none_tabulated why old (inr none) = subst (λ w. IsTabulatedOf n table t (Err w) old old) (sym none.0) (inr (refl, none.1), keeps_all old)
 
   -- a run that is refused, before anything is written
-  pub not_tabulated : (why : Failed) (old : Option (List ℕ)) → HasNoRun t.until why → IsTabulatedOf n rows t (Err why) old old
-  not_tabulated why old (inl want) = subst (λ w. IsTabulatedOf n rows t (Err w) old old) (sym want) (refl, inl (keeps_all old))
-  not_tabulated why old (inr late) = subst (λ w. IsTabulatedOf n rows t (Err w) old old) (sym late.0) (inl (refl, late.1), keeps_all old)
+  pub not_tabulated : (why : Failed) (old : Option (List ℕ)) → HasNoRun t.until why → IsTabulatedOf n table t (Err why) old old
+  not_tabulated why old (inl want) = subst (λ w. IsTabulatedOf n table t (Err w) old old) (sym want) (refl, inl (keeps_all old))
+  not_tabulated why old (inr late) = subst (λ w. IsTabulatedOf n table t (Err w) old old) (sym late.0) (inl (refl, late.1), keeps_all old)
 
   -- a table that is not written to its end
   pub table_short : (shown : List Bool) (why : NotWritten) (old new : Option (List ℕ)) → shown_of n.names t.only ≡ Some shown
-      → (why ≡ writing.OutOfMemory → AppendsBeginning old new (run_table n rows shown t.from t.until)) → IsTabulatedOf n rows t (Err (failed_of (not_written_refusal why))) old new
+      → (why ≡ writing.OutOfMemory → AppendsBeginning old new (table shown)) → IsTabulatedOf n table t (Err (failed_of (not_written_refusal why))) old new
   table_short shown writing.OutOfMemory old new are begun = (refl, inr (record { shown = shown; are = are; written = begun refl }))
   table_short shown writing.WriteFailed old new are begun = tt
 
--- ---- the table of the figures
-
-module _ (n : Contents AnyModel) (t : Tabulated) where
-  pub figured : (shown : List Bool) (fault : Option Fault) (line : Option (String Global)) (old new : Option (List ℕ)) → shown_of n.names t.only ≡ Some shown
-      → fault ≡ run_fault n t.until → IsLineOf n fault line → IsFiguresTabulatedOf n t (Ok line) old new
-  figured shown fault line old new are is of = (subst (λ (f : Option Fault). IsLineOf n f line) is of, (shown, are))
-
-  pub none_figured : (why : Failed) (old : Option (List ℕ)) → HasNoneShown n t.only why → IsFiguresTabulatedOf n t (Err why) old old
-  none_figured why old (inl want) = subst (λ w. IsFiguresTabulatedOf n t (Err w) old old) (sym want) refl
-  none_figured why old (inr none) = subst (λ w. IsFiguresTabulatedOf n t (Err w) old old) (sym none.0) (inr (refl, none.1), keeps_all old)
-
-  pub not_figured : (why : Failed) (old : Option (List ℕ)) → HasNoRun t.until why → IsFiguresTabulatedOf n t (Err why) old old
-  not_figured why old (inl want) = subst (λ w. IsFiguresTabulatedOf n t (Err w) old old) (sym want) refl
-  not_figured why old (inr late) = subst (λ w. IsFiguresTabulatedOf n t (Err w) old old) (sym late.0) (inl (refl, late.1), keeps_all old)
-
-  pub figures_short : (why : NotWritten) (old new : Option (List ℕ)) → IsFiguresTabulatedOf n t (Err (failed_of (not_written_refusal why))) old new
-  figures_short writing.OutOfMemory old new = refl
-  figures_short writing.WriteFailed old new = tt
+-- a table that is of figures
+pub of_figures : (n : Contents AnyModel) (labels : List Label) (t : Tabulated) → t.of ≡ OfFigures → ◌≡◌ {A = List Bool → List ℕ} (λ shown. figures_table n labels shown t.from t.until) (λ shown. table_with n labels t shown)
+of_figures n labels t is = λ i. λ shown. elim (sym is i) [ OfRun rows ↦ run_table n rows shown t.from t.until | OfFigures ↦ figures_table n labels shown t.from t.until ]

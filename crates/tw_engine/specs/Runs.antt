@@ -2,7 +2,7 @@
 --     run_text n until      the trace of a network's sequential run, and a line for its fault
 --     IsRun bytes until end old new      how a run of the network that a file's bytes mean ends, and what is then written
 --     IsDemo end old new      the same of the demonstration
-use Rattle.std.specs.Prelude.{◌≡◌, ◌<◌, ◌⊎◌, ◌++◌, ℕ, List, [], ◌∷◌, codes, pos, Option, Some, None, Result, Ok, Err, slice_get}
+use Rattle.std.specs.Prelude.{◌≡◌, ◌<◌, ◌⊎◌, ◌++◌, ℕ, List, [], ◌∷◌, codes, pos, Option, Some, None, Result, Ok, Err, IfSome, slice_get}
 use Rattle.std.specs.Io.KnownBytes.{Appends, Keeps}
 use Rattle.tw_vtime.specs.Stamps.{max_tick}
 use Rattle.tw_vtime.specs.declared.refusal.Refusal.{Refusal}
@@ -23,6 +23,7 @@ use Rattle.tw_file_network.specs.TreeMeaning.{IsFault, IsMeaning}
 use Rattle.tw_file_network.specs.declared.refused.FileRefused.{FileRefused}
 use Rattle.tw_texts.specs.Texts.{trace_text, fault_line}
 use Rattle.tw_texts.specs.Traces.{AppendsBeginning}
+use Rattle.tw_record_lines.specs.declared.held.Held.{Held}
 use Rattle.tw_engine.specs.Ends.{Fails, Fault, RunEnd}
 use Rattle.tw_engine.specs.declared.failed.Failed.{Failed}
 use Rattle.tw_engine.specs.declared.failed.Failed.TheVariants.{Bad, Want, NoWrite}
@@ -110,6 +111,12 @@ IsShown n records fault (Ok met) old new = (met ≡ fault) × Appends old new (t
 IsShown n records fault (Err (Bad why line)) old new = ⊥
 IsShown n records fault (Err (Want why)) old new = (why ≡ refusal.OutOfMemory) × (Keeps old new ⊎ AppendsBeginning old new (text_of n records fault))
 IsShown n records fault (Err NoWrite) old new = Unit {0}
+
+-- how a run ends is known, and its trace where it is held
+abbrev pub IsHeld : Contents AnyModel → ℕ → Held → Type 0
+IsHeld n until held =
+    let made = sequential (network_of any_meaning n) until in
+    (held.fault ≡ made.fault) × IfSome held.lines (λ lines. lines.text ≡ trace_text (name_in n.names) made.records)
 
 -- how a run of a network in order ends: its text is written, or the end tick is too late
 abbrev pub IsMadeInOrder : Contents AnyModel → ℕ → RunEnd → Option (List ℕ) → Option (List ℕ) → Type 0

@@ -2,7 +2,8 @@
 --     IsLineOf n fault line      a line says the fault that a run ends in, and there is none where there is no fault
 --     file_labels bytes n      what the models of the network of a file are called, and their figures
 --     IsSummed bytes summed end old new      counts, figures and observations of the run of the network that a file's bytes mean, of the components that are shown
---     IsTabulated bytes tabulated end old new      its table, of its records or of its figures
+--     table_with n labels t shown      the table of a run, of its records or of its figures
+--     IsTabulated bytes tabulated end old new      that table is written
 use Rattle.std.specs.Global.{Global}
 use Rattle.std.specs.Option.{option_map_or}
 use Rattle.std.specs.Prelude.{◌≡◌, ◌⊎◌, ℕ, [], Bool, List, Option, None, Some, Ok, Err, String, option_map, string_bytes}
@@ -17,6 +18,7 @@ use Rattle.tw_engine.specs.declared.failed.Failed.TheVariants.{Bad, Want, NoWrit
 use Rattle.tw_engine.specs.declared.job_stats.Summary.{Summary}
 use Rattle.tw_engine.specs.declared.job_table.Tabulation.{Tabulation}
 use Rattle.tw_figure_names.specs.Said.{labels_said}
+use Rattle.tw_figures.specs.Gathered.{start_words}
 use Rattle.tw_figures.specs.Labelled.{Label}
 use Rattle.tw_figures.specs.Shown.{shown_of}
 use Rattle.tw_figures.specs.declared.seeing.Rows.{Rows}
@@ -24,6 +26,7 @@ use Rattle.tw_figures.specs.declared.seeing.Tabled.{Tabled}
 use Rattle.tw_figures.specs.declared.seeing.Tabled.TheVariants.{OfRun, OfFigures}
 use Rattle.tw_file_network.specs.Meaning.{json_of}
 use Rattle.tw_network.specs.Contents.{Contents, network_of}
+use Rattle.tw_record_lines.specs.FigureTables.{figures_text}
 use Rattle.tw_record_lines.specs.Tables.{listed, table_text}
 use Rattle.tw_stats.specs.Reports.{IsReport}
 use Rattle.tw_stats.specs.Written.{report_bytes}
@@ -97,39 +100,33 @@ tabulation_of t = record { only = option_map (λ o. o.now) t.only; from = t.from
 abbrev pub run_table : Contents AnyModel → Rows → List Bool → ℕ → ℕ → List ℕ
 run_table n rows shown from until = table_text rows (name_in n.names) (listed shown from (sequential (network_of any_meaning n) until).records)
 
--- no name is of no component
-abbrev pub IsSeen : Contents AnyModel → Option (List ℕ) → Type 0
-IsSeen n only = (shown : List Bool) × (shown_of n.names only ≡ Some shown)
-
--- the table of the components that are shown is written
-pub record IsTableOf (n : Contents AnyModel) (rows : Rows) (t : Tabulated) (old new : Option (List ℕ)) : Type 0 where
-  pub shown : List Bool
-  pub are : shown_of n.names t.only ≡ Some shown
-  pub written : Appends old new (run_table n rows shown t.from t.until)
-
--- or a beginning of it
-pub record IsTableBegun (n : Contents AnyModel) (rows : Rows) (t : Tabulated) (old new : Option (List ℕ)) : Type 0 where
-  pub shown : List Bool
-  pub are : shown_of n.names t.only ≡ Some shown
-  pub written : AppendsBeginning old new (run_table n rows shown t.from t.until)
-
-abbrev pub IsTabulatedOf : Contents AnyModel → Rows → Tabulated → ViewEnd → Option (List ℕ) → Option (List ℕ) → Type 0
-IsTabulatedOf n rows t (Ok line) old new = IsLineOf n (run_fault n t.until) line × IsTableOf n rows t old new
-IsTabulatedOf n rows t (Err (Bad why line)) old new = IsUnseen n t.only t.until (Bad why line) × Keeps old new
-IsTabulatedOf n rows t (Err (Want why)) old new = (why ≡ refusal.OutOfMemory) × (Keeps old new ⊎ IsTableBegun n rows t old new)
-IsTabulatedOf n rows t (Err NoWrite) old new = Unit {0}
-
--- that of the figures: which lines it has, tests show
-abbrev pub IsFiguresTabulatedOf : Contents AnyModel → Tabulated → ViewEnd → Option (List ℕ) → Option (List ℕ) → Type 0
-IsFiguresTabulatedOf n t (Ok line) old new = IsLineOf n (run_fault n t.until) line × IsSeen n t.only
-IsFiguresTabulatedOf n t (Err (Bad why line)) old new = IsUnseen n t.only t.until (Bad why line) × Keeps old new
-IsFiguresTabulatedOf n t (Err (Want why)) old new = why ≡ refusal.OutOfMemory
-IsFiguresTabulatedOf n t (Err NoWrite) old new = Unit {0}
+-- the table of the figures of that run, by these labels
+abbrev pub figures_table : Contents AnyModel → List Label → List Bool → ℕ → ℕ → List ℕ
+figures_table n labels shown from until =
+    figures_text (record { name_of = name_in n.names; labels = labels; shown = shown; from = from }) (start_words (network_of any_meaning n)) (sequential (network_of any_meaning n) until).records
 
 -- by what it is of
-abbrev pub IsTabledOf : Contents AnyModel → Tabled → Tabulated → ViewEnd → Option (List ℕ) → Option (List ℕ) → Type 0
-IsTabledOf n (OfRun rows) t end old new = IsTabulatedOf n rows t end old new
-IsTabledOf n OfFigures t end old new = IsFiguresTabulatedOf n t end old new
+abbrev pub table_with : Contents AnyModel → List Label → Tabulated → List Bool → List ℕ
+table_with n labels t shown = elim t.of [ OfRun rows ↦ run_table n rows shown t.from t.until | OfFigures ↦ figures_table n labels shown t.from t.until ]
+
+-- the table of the components that are shown is written
+pub record IsTableOf (n : Contents AnyModel) (table : List Bool → List ℕ) (t : Tabulated) (old new : Option (List ℕ)) : Type 0 where
+  pub shown : List Bool
+  pub are : shown_of n.names t.only ≡ Some shown
+  pub written : Appends old new (table shown)
+
+-- or a beginning of it
+pub record IsTableBegun (n : Contents AnyModel) (table : List Bool → List ℕ) (t : Tabulated) (old new : Option (List ℕ)) : Type 0 where
+  pub shown : List Bool
+  pub are : shown_of n.names t.only ≡ Some shown
+  pub written : AppendsBeginning old new (table shown)
+
+abbrev pub IsTabulatedOf : Contents AnyModel → (List Bool → List ℕ) → Tabulated → ViewEnd → Option (List ℕ) → Option (List ℕ) → Type 0
+IsTabulatedOf n table t (Ok line) old new = IsLineOf n (run_fault n t.until) line × IsTableOf n table t old new
+IsTabulatedOf n table t (Err (Bad why line)) old new = IsUnseen n t.only t.until (Bad why line) × Keeps old new
+IsTabulatedOf n table t (Err (Want why)) old new = (why ≡ refusal.OutOfMemory) × (Keeps old new ⊎ IsTableBegun n table t old new)
+IsTabulatedOf n table t (Err NoWrite) old new = Unit {0}
 
 abbrev pub IsTabulated : List ℕ → Tabulated → ViewEnd → Option (List ℕ) → Option (List ℕ) → Type 0
-IsTabulated bytes t end old new = (Fails end (HasNoNetwork bytes) × Keeps old new) ⊎ Means bytes (λ n. IsTabledOf n t.of t end old new)
+IsTabulated bytes t end old new =
+    (Fails end (HasNoNetwork bytes) × Keeps old new) ⊎ Means bytes (λ n. IsTabulatedOf n (table_with n (file_labels bytes n) t) t end old new)

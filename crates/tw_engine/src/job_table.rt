@@ -1,6 +1,9 @@
 //! The job `table`: the records of a sequential run, or how its figures changed, as comma-separated values.
 
-ghost use Rattle.tw_engine.specs.Views.{IsFiguresTabulatedOf, IsTabulated, IsTabulatedOf, tabulation_of};
+ghost use Rattle.std.specs.Prelude.{ℕ, Bool, List};
+ghost use Rattle.serde_json.specs.View.{view};
+ghost use Rattle.tw_engine.specs.Views.{IsTabulated, IsTabulatedOf, figures_table, run_table, tabulation_of};
+ghost use Rattle.tw_figure_names.specs.Said.{labels_said};
 
 use crate::failed::Failed;
 use crate::faults::{fault_line, fault_of};
@@ -65,8 +68,10 @@ fn tabulate<L: Listener, W: Write>(
     listener: &mut L,
     out: &mut W,
 ) -> Result<Option<String>, Failed>
-    ensures { IsTabulatedOf network.now rows (tabulation_of tabulation.now) result
-        (W.contents out.old) (W.contents out.new) }
+    ensures { let t = tabulation_of tabulation.now in
+        let written : List Bool → List ℕ = λ shown.
+        run_table network.now rows shown t.from t.until in
+        IsTabulatedOf network.now written t result (W.contents out.old) (W.contents out.new) }
 {
     let shown = shown_in(alloc, network, tabulation.only)?;
     let until = tabulation.until;
@@ -92,8 +97,12 @@ fn tabulate_figures<L: Listener, W: Write>(
     listener: &mut L,
     out: &mut W,
 ) -> Result<Option<String>, Failed>
-    ensures { IsFiguresTabulatedOf file.now.network (tabulation_of tabulation.now) result
-        (W.contents out.old) (W.contents out.new) }
+    ensures { let t = tabulation_of tabulation.now in
+        let n = file.now.network in
+        let labels = labels_said (view file.now.value) n.models in
+        let written : List Bool → List ℕ = λ shown.
+        figures_table n labels shown t.from t.until in
+        IsTabulatedOf n written t result (W.contents out.old) (W.contents out.new) }
 {
     let network = &file.network;
     let shown = shown_in(alloc, network, tabulation.only)?;

@@ -9,7 +9,8 @@ use Rattle.tw_any_model.specs.AnyModel.{any_meaning}
 use Rattle.tw_any_model.specs.declared.any_model.AnyModel.{AnyModel}
 use Rattle.tw_engine.proofs.Viewed.{as_many}
 use Rattle.tw_engine.specs.Runs.{name_in}
-use Rattle.tw_engine.specs.Views.{file_labels}
+use Rattle.tw_engine.specs.Views.{figures_table, file_labels}
+use Rattle.tw_record_lines.specs.FigureTables.{figures_text}
 use Rattle.tw_engine_laws.proofs.One.{AreOne}
 use Rattle.tw_engine_laws.proofs.OneReport.{one_report}
 use Rattle.tw_figure_names.specs.Said.{labels_said}
@@ -49,3 +50,10 @@ one_summary bytes n m of_n one from until json shown r s is is' =
     one_report (network_of any_meaning n) (network_of any_meaning m) from until starts (one.run until) json (name_in n.names) (file_labels bytes n) shown r s
     (starts_many n ∙ sym (many bytes n of_n)) is (subst (λ ls. IsReport (network_of any_meaning m) from until ls s) (sym labels) is')
     ∙ ap₂ (λ names ls. report_bytes json (name_in names) ls shown s) (sym one.same.names) labels
+
+-- the table of figures
+pub one_figures : (bytes : List ℕ) (n m : Contents AnyModel) → AreOne n m → (shown : List Bool) (from until : ℕ)
+    → figures_table n (file_labels bytes n) shown from until ≡ figures_table m (file_labels bytes m) shown from until
+one_figures bytes n m one shown from until = λ i.
+    figures_text (record { name_of = name_in (sym one.same.names i); labels = one_labels bytes n m one i; shown = shown; from = from })
+    (map (λ x. x.words x.start) (map any_meaning (sym one.same.models i))) (one.run until i).records

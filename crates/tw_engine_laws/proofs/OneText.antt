@@ -13,6 +13,7 @@ use Rattle.tw_cli.specs.declared.jobs.Job.TheVariants.{Demo, Check, Dot, Simulat
 use Rattle.tw_cli.specs.declared.jobs.Task.{Task}
 use Rattle.tw_cli.specs.declared.jobs.Task.TheVariants.{Seq, Stats, Table, Draw, Run, Play}
 use Rattle.tw_figures.specs.Shown.{shown_of}
+use Rattle.tw_figures.specs.declared.seeing.Tabled.{Tabled}
 use Rattle.tw_figures.specs.declared.seeing.Tabled.TheVariants.{OfRun, OfFigures}
 use Rattle.tw_stats.specs.Written.{report_bytes}
 use Rattle.std.proofs.lemmas.Option.{same_Some}
@@ -22,15 +23,14 @@ use Rattle.tw_engine.specs.Exits.{exit_of, exit_of_rest, exit_of_run, exit_of_vi
 use Rattle.tw_engine.specs.Jobs.{Ends, IsDone, IsPlay, IsScriptedBy}
 use Rattle.tw_engine.specs.Plays.{IsScripted, IsSeeded, committed_text, first}
 use Rattle.tw_engine.specs.Runs.{IsDemo, IsRun, IsRunByWorkers, demo_network, name_in, run_fault, run_text}
-use Rattle.tw_engine.specs.Views.{IsLineOf, IsSummed, IsTabulated, IsTabulatedOf, Summed, Tabulated, file_labels, run_table}
+use Rattle.tw_engine.specs.Views.{IsLineOf, IsSummed, IsTabulated, IsTabulatedOf, Summed, Tabulated, file_labels, table_with}
 use Rattle.tw_engine.specs.declared.exit.Exit.{Exit}
 use Rattle.tw_engine.specs.declared.failed.Failed.{Failed}
 use Rattle.tw_engine.specs.declared.failed.Failed.TheVariants as failed
 use Rattle.tw_engine_laws.proofs.One.{AreOne, are_one, one_check, one_fault, one_line, one_run, one_table}
 use Rattle.tw_engine_laws.proofs.OnePlay.{draw_one, full_before, play_one}
-use Rattle.tw_engine_laws.proofs.OneSummary.{one_summary}
+use Rattle.tw_engine_laws.proofs.OneSummary.{one_figures, one_summary}
 use Rattle.tw_engine_laws.specs.OneText.{HasFullLine, HasOneText, IsDoneWhole, IsSameEnd, WasFull}
-use Rattle.tw_figures.specs.declared.seeing.Rows.{Rows}
 use Rattle.tw_file_network.specs.OneMeaning.{MeansOne}
 use Rattle.tw_file_network.specs.TreeMeaning.{IsMeaning}
 use Rattle.tw_laws.specs.Couplings.{CouplingsLaw}
@@ -129,22 +129,31 @@ module _ (means : (bytes : List ℕ) → MeansOne bytes) (law : CouplingsLaw Any
   one_shown : (only : Option (List ℕ)) (n m : Contents AnyModel) → AreOne n m → (shown shown' : List Bool) → shown_of n.names only ≡ Some shown → shown_of m.names only ≡ Some shown' → shown ≡ shown'
   one_shown only n m same shown shown' is is' = same_Some shown shown' (sym is ∙ ap (λ names. shown_of names only) (sym same.same.names) ∙ is')
 
-  table_ends : (t : Tabulated) (rows : Rows) → t.of ≡ OfRun rows → (line line' : Option (String Global)) → exit ≡ exit_of_view (Ok line) → exit' ≡ exit_of_view (Ok line')
-      → (n m : Contents AnyModel) → IsMeaning bytes n → IsMeaning bytes m → IsTabulatedOf n rows t (Ok line) (Some old) (Some new) → IsTabulatedOf m rows t (Ok line') (Some old) (Some new') → IsSameEnd exit exit' new new'
-  table_ends t rows of line line' is is' n m of_n of_m done done' =
-      let same = one n m of_n of_m in
-      let shown = one_shown t.only n m same done.1.shown done'.1.shown done.1.are done'.1.are in
-      view_end n m same t.until exit exit' old new new' line line' is is'
-      (one_out old new new' (run_table n rows done.1.shown t.from t.until) (run_table m rows done'.1.shown t.from t.until) done.1.written done'.1.written
-      (one_table n m same rows done.1.shown t.from t.until ∙ ap (λ l. run_table m rows l t.from t.until) shown)) done.0 done'.0
+  -- the table is one
+  one_table_of : (n m : Contents AnyModel) → IsMeaning bytes n → AreOne n m → (only : Option (List ℕ)) (from until : ℕ) (of : Tabled) (shown : List Bool)
+      → table_with n (file_labels bytes n) (record { only = only; from = from; until = until; of = of }) shown ≡ table_with m (file_labels bytes m) (record { only = only; from = from; until = until; of = of }) shown
+  one_table_of n m of_n same only from until (OfRun rows) shown = one_table n m same rows shown from until
+  one_table_of n m of_n same only from until OfFigures shown = one_figures bytes n m same shown from until
 
-  tabulated_ends : (only : Option (List ℕ)) (from until : ℕ) (rows : Rows) (line line' : Option (String Global)) → exit ≡ exit_of_view (Ok line) → exit' ≡ exit_of_view (Ok line')
-      → IsTabulated bytes (record { only = only; from = from; until = until; of = OfRun rows }) (Ok line) (Some old) (Some new)
-      → IsTabulated bytes (record { only = only; from = from; until = until; of = OfRun rows }) (Ok line') (Some old) (Some new') → IsSameEnd exit exit' new new'
-  tabulated_ends only from until rows line line' is is' (inl refused) done' = absurd refused.0
-  tabulated_ends only from until rows line line' is is' (inr done) (inl refused) = absurd refused.0
-  tabulated_ends only from until rows line line' is is' (inr (n, of_n, done)) (inr (m, of_m, done')) =
-      table_ends (record { only = only; from = from; until = until; of = OfRun rows }) rows refl line line' is is' n m of_n of_m done done'
+  table_ends : (only : Option (List ℕ)) (from until : ℕ) (of : Tabled) (line line' : Option (String Global)) → exit ≡ exit_of_view (Ok line) → exit' ≡ exit_of_view (Ok line')
+      → (n m : Contents AnyModel) → IsMeaning bytes n → IsMeaning bytes m
+      → IsTabulatedOf n (table_with n (file_labels bytes n) (record { only = only; from = from; until = until; of = of })) (record { only = only; from = from; until = until; of = of }) (Ok line) (Some old) (Some new)
+      → IsTabulatedOf m (table_with m (file_labels bytes m) (record { only = only; from = from; until = until; of = of })) (record { only = only; from = from; until = until; of = of }) (Ok line') (Some old) (Some new') → IsSameEnd exit exit' new new'
+  table_ends only from until of line line' is is' n m of_n of_m done done' =
+      let t : Tabulated = record { only = only; from = from; until = until; of = of } in
+      let same = one n m of_n of_m in
+      let shown = one_shown only n m same done.1.shown done'.1.shown done.1.are done'.1.are in
+      view_end n m same until exit exit' old new new' line line' is is'
+      (one_out old new new' (table_with n (file_labels bytes n) t done.1.shown) (table_with m (file_labels bytes m) t done'.1.shown) done.1.written done'.1.written
+      (one_table_of n m of_n same only from until of done.1.shown ∙ ap (table_with m (file_labels bytes m) t) shown)) done.0 done'.0
+
+  tabulated_ends : (only : Option (List ℕ)) (from until : ℕ) (of : Tabled) (line line' : Option (String Global)) → exit ≡ exit_of_view (Ok line) → exit' ≡ exit_of_view (Ok line')
+      → IsTabulated bytes (record { only = only; from = from; until = until; of = of }) (Ok line) (Some old) (Some new)
+      → IsTabulated bytes (record { only = only; from = from; until = until; of = of }) (Ok line') (Some old) (Some new') → IsSameEnd exit exit' new new'
+  tabulated_ends only from until of line line' is is' (inl refused) done' = absurd refused.0
+  tabulated_ends only from until of line line' is is' (inr done) (inl refused) = absurd refused.0
+  tabulated_ends only from until of line line' is is' (inr (n, of_n, done)) (inr (m, of_m, done')) =
+      table_ends only from until of line line' is is' n m of_n of_m done done'
 
   stats_ends : (s : Summed) (line line' : Option (String Global)) → exit ≡ exit_of_view (Ok line) → exit' ≡ exit_of_view (Ok line')
       → IsSummed bytes s (Ok line) (Some old) (Some new) → IsSummed bytes s (Ok line') (Some old) (Some new') → IsSameEnd exit exit' new new'
@@ -246,13 +255,12 @@ module _ (means : (bytes : List ℕ) → MeansOne bytes) (scripts : ScriptLaw) (
       let e = end_of exit_of_view view_fails (λ end. IsSummed bytes it end (Some old) (Some new)) exit done whole in
       let f = end_of exit_of_view view_fails (λ end. IsSummed bytes it end (Some old) (Some new')) exit' done' whole' in
       stats_ends means law bytes exit exit' old new new' it e.0 f.0 e.1 f.1 e.2 f.2
-  one_text (Simulate net until (Table from only (OfRun rows) progress)) bytes script old new new' exit exit' done done' whole whole' =
+  one_text (Simulate net until (Table from only tabled progress)) bytes script old new new' exit exit' done done' whole whole' =
       let shown = option_map (λ o. o.now) only in
-      let it : Tabulated = record { only = shown; from = from; until = until; of = OfRun rows } in
+      let it : Tabulated = record { only = shown; from = from; until = until; of = tabled } in
       let e = end_of exit_of_view view_fails (λ end. IsTabulated bytes it end (Some old) (Some new)) exit done whole in
       let f = end_of exit_of_view view_fails (λ end. IsTabulated bytes it end (Some old) (Some new')) exit' done' whole' in
-      tabulated_ends means law bytes exit exit' old new new' shown from until rows e.0 f.0 e.1 f.1 e.2 f.2
-  one_text (Simulate net until (Table from only OfFigures progress)) bytes script old new new' exit exit' done done' whole whole' = tt
+      tabulated_ends means law bytes exit exit' old new new' shown from until tabled e.0 f.0 e.1 f.1 e.2 f.2
   one_text (Simulate net until (Draw picture)) bytes script old new new' exit exit' done done' whole whole' = tt
   one_text (Simulate net until (Run cancel setting)) bytes script old new new' exit exit' done done' whole whole' =
       let e = end_of exit_of_run run_fails (λ end. IsRunByWorkers bytes cancel until end (Some old) (Some new)) exit done whole in

@@ -6,7 +6,6 @@ use Rattle.tw_cli.specs.declared.jobs.Job.{Job}
 use Rattle.tw_cli.specs.declared.jobs.Job.TheVariants.{Demo, Check, Dot, Simulate}
 use Rattle.tw_cli.specs.declared.jobs.Task.{Task}
 use Rattle.tw_cli.specs.declared.jobs.Task.TheVariants.{Seq, Stats, Table, Draw, Run, Play}
-use Rattle.tw_figures.specs.declared.seeing.Tabled.TheVariants.{OfRun, OfFigures}
 use Rattle.tw_engine.specs.Exits.{line_of, status_of}
 use Rattle.tw_engine.specs.Jobs.{IsDone}
 use Rattle.tw_engine.specs.declared.exit.Exit.{Exit}
@@ -46,13 +45,12 @@ WasFull old new = (text : List ℕ) × (new ≡ old ++ text) × HasFullLine text
 
 -- ---- what is said of two ends of one job
 
--- of pictures, graphs and tables of figures nothing; of plays where neither has the line of a process that would hold too many nodes (12), which may be said of
+-- of pictures and graphs nothing; of plays where neither has the line of a process that would hold too many nodes (12), which may be said of
 -- a step that would otherwise be made
 abbrev pub AreOneTask : Task → Exit → Exit → List ℕ → List ℕ → List ℕ → Type 0
 AreOneTask (Seq progress) exit exit' old new new' = IsSameEnd exit exit' new new'
 AreOneTask (Stats from only json progress) exit exit' old new new' = IsSameEnd exit exit' new new'
-AreOneTask (Table from only (OfRun rows) progress) exit exit' old new new' = IsSameEnd exit exit' new new'
-AreOneTask (Table from only OfFigures progress) exit exit' old new new' = ⊤
+AreOneTask (Table from only tabled progress) exit exit' old new new' = IsSameEnd exit exit' new new'
 AreOneTask (Draw picture) exit exit' old new new' = ⊤
 AreOneTask (Run cancel setting) exit exit' old new new' = IsSameEnd exit exit' new new'
 AreOneTask (Play cancel driver) exit exit' old new new' = WasFull old new ⊎ (WasFull old new' ⊎ IsSameEnd exit exit' new new')

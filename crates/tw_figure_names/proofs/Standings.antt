@@ -9,7 +9,7 @@ use Rattle.tw_machine_text.specs.Tree as t
 use Rattle.tw_machine_compiler.specs.Expressions.{expression}
 use Rattle.tw_machine_compiler.specs.Program.{shown_word, word_named, word_numbered}
 use Rattle.tw_machine_declaration.specs.Names.{given_number, lists_taken, own_standings, place_named, standing_at, standing_of, standings_of, taken, texts, things}
-use Rattle.tw_machine_declaration.specs.Seen.{Declares, Given, Name, Value, parameter, list_parameter, register, registers, queue, queues, table, list_table, observation, whole, tree}
+use Rattle.tw_machine_declaration.specs.Seen.{Declares, Given, Name, Value, parameter, list_parameter, register, registers, queue, queues, table, list_table, observation, procedure, whole, tree}
 use Rattle.tw_machine_declaration.specs.declared.names.Standing.{Standing}
 use Rattle.tw_machine_declaration.specs.declared.names.Standing.TheVariants as s
 use Rattle.tw_figure_names.specs.Entries.{shown_by, shown_indexed, shown_plain}
@@ -78,6 +78,7 @@ same_standing g h at bt (queues n c) = refl
 same_standing g h at bt (table ns) = refl
 same_standing g h at bt (list_table k) = refl
 same_standing g h at bt observation = refl
+same_standing g h at bt (procedure k) = refl
 
 same_own : (g h : Given) (at : _) (bt : _) (things : List Declares) → map kinds (own_standings g at things) ≡ map kinds (own_standings h bt things)
 same_own g h at bt [] = refl

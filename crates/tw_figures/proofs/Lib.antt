@@ -6,6 +6,8 @@ pub mod Members
 pub mod Roots
 pub mod Rounding
 pub mod SmallSums
+pub mod Starting
+pub mod Steady
 pub mod ToldOf
 pub mod Watching
 pub mod Zipping

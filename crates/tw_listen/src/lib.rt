@@ -6,7 +6,8 @@
 //!   receivers count ([`Counting`]).
 //! - `trial`: [`try_out`], the first rounds of a run, for as long as a [`Judge`] wants more of them. Nothing of them is
 //!   kept.
-//! - `outcome`: [`outcome_telling`], the fault that ends a run, told while its rounds are made. No record of them is kept.
+//! - `outcome`: [`outcome_telling`], the fault that ends a run, told while its rounds are made; and [`run_out`], which makes those that are left.
+//!   No record of them is kept.
 #![tactic(auto)]
 
 mod advancing;
@@ -17,6 +18,6 @@ mod trial;
 
 pub use advancing::{Counting, advance_telling};
 pub use listener::{Listener, Nobody};
-pub use outcome::outcome_telling;
+pub use outcome::{outcome_telling, run_out};
 pub use reached::Reached;
 pub use trial::{Judge, try_out};

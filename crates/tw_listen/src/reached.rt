@@ -36,6 +36,11 @@ impl Reached {
             records: self.records.saturating_add(transitions.records),
         }
     }
+
+    /// So far, of a pass of which nothing is written: with no record.
+    pub fn unwritten(self) -> Reached {
+        Reached { records: 0, ..self }
+    }
 }
 
 /// Counts the parts of a run, and keeps none.

@@ -93,7 +93,7 @@ statement_step s.member-Statement = record {
                   (t, (position_send, (e, tt))),
                   (
                     (t, (which_send, tt)),
-                    (tt, ((e, (box, (box, tt))), ((search sendable depth 20, (box, tt)), ((e, tt), (tt, tt))))),
+                    ((t, (search sendable depth 20, tt)), (tt, ((e, (box, (box, tt))), ((search sendable depth 20, (box, tt)), ((e, tt), (tt, tt)))))),
                   ),
                 ),
               ),
@@ -125,7 +125,7 @@ statement_step_sync s.member-Statement = record {
                   (t, (position_sync, (e, tt))),
                   (
                     (t, (which_sync, tt)),
-                    (tt, ((e, (box, (box, tt))), ((search sendable depth 20, (box, tt)), ((e, tt), (tt, tt))))),
+                    ((t, (search sendable depth 20, tt)), (tt, ((e, (box, (box, tt))), ((search sendable depth 20, (box, tt)), ((e, tt), (tt, tt)))))),
                   ),
                 ),
               ),
@@ -155,7 +155,7 @@ statement_send =
                 (t, (position_send, (e, tt))),
                 (
                   (t, (which_send, tt)),
-                  (tt, ((e, (box, (box, tt))), ((search sendable depth 20, (box, tt)), ((e, tt), (tt, tt))))),
+                  ((t, (search sendable depth 20, tt)), (tt, ((e, (box, (box, tt))), ((search sendable depth 20, (box, tt)), ((e, tt), (tt, tt)))))),
                 ),
               ),
             ),
@@ -183,7 +183,7 @@ statement_sync =
                 (t, (position_sync, (e, tt))),
                 (
                   (t, (which_sync, tt)),
-                  (tt, ((e, (box, (box, tt))), ((search sendable depth 20, (box, tt)), ((e, tt), (tt, tt))))),
+                  ((t, (search sendable depth 20, tt)), (tt, ((e, (box, (box, tt))), ((search sendable depth 20, (box, tt)), ((e, tt), (tt, tt)))))),
                 ),
               ),
             ),

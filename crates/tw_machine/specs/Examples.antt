@@ -1,5 +1,5 @@
 -- What the language says where one might guess otherwise, computed: division of negative numbers, places past an end, and what the items of a bag read.
-use Rattle.std.specs.Prelude.{◌≡◌, ℕ, ℤ, pos, negsuc, List, [], ◌∷◌, Some, None}
+use Rattle.std.specs.Prelude.{◌≡◌, ℕ, ℤ, pos, negsuc, List, [], ◌∷◌, Option, Some, None}
 use Rattle.tw_machine.specs.declared.language.Span.{Span}
 use Rattle.tw_machine.specs.declared.language.Leaf.TheVariants as leaf
 use Rattle.tw_machine.specs.declared.language.Unary.TheVariants as unary
@@ -9,13 +9,15 @@ use Rattle.tw_machine.specs.declared.language.Expr.{Expr}
 use Rattle.tw_machine.specs.declared.language.Expr.TheVariants.{Plain}
 use Rattle.tw_machine.specs.declared.language.Target.TheVariants.{Single}
 use Rattle.tw_machine.specs.declared.language.Position.TheVariants.{Given}
-use Rattle.tw_machine.specs.declared.language.Statement.TheVariants.{Set, Put, Wait}
+use Rattle.tw_machine.specs.declared.language.Statement.{Statement}
+use Rattle.tw_machine.specs.declared.language.Statement.TheVariants.{Set, Put, Clear, Wait}
 use Rattle.tw_machine.specs.declared.memory.State.{State}
 use Rattle.tw_machine.specs.Memory.{MemoryValue}
 use Rattle.tw_machine.specs.Values.{value_of}
 use Rattle.tw_machine.specs.Running.{run}
+use Rattle.tw_machine.specs.Undoing.{kept, past, undone}
 use Rattle.tw_machine.specs.Program.{ProgramText}
-use Rattle.tw_machine.specs.Machine.{machine_meaning, machine_ext, own_input}
+use Rattle.tw_machine.specs.Machine.{machine_meaning, machine_ext, own_input, sent}
 use Rattle.tw_machine.specs.Seen.{one, two}
 
 abbrev pub number : ℤ → Expr
@@ -83,6 +85,30 @@ pub record Puts : Type 0 where
   pub past : put_at (pos 9) (pos 1 ∷ pos 2 ∷ []) ≡ state_with (pos 1 ∷ pos 2 ∷ pos 5 ∷ [])
   pub before : put_at (negsuc 0) (pos 1 ∷ pos 2 ∷ []) ≡ state_with (pos 5 ∷ pos 1 ∷ pos 2 ∷ [])
   pub full : put_at (pos 0) (pos 1 ∷ pos 2 ∷ pos 3 ∷ []) ≡ state_with (pos 1 ∷ pos 2 ∷ pos 3 ∷ [])
+
+-- `clear` on a queue of two, with room for three
+abbrev pub clears : Statement
+clears = Clear (Single 0) 3
+
+abbrev pub two_values : List ℤ
+two_values = pos 1 ∷ pos 2 ∷ []
+
+-- the queue is empty, and how many there were and their values are kept, by which they come back in their order
+pub record Clears : Type 0 where
+  pub empties : run clears [] (own_input 0 0) (state_with two_values) ≡ state_with []
+  pub keeps : kept clears [] (own_input 0 0) (state_with two_values) [] ≡ pos 2 ∷ two_values
+  pub back : undone clears [] (own_input 0 0) (past (memory_with []) (pos 2 ∷ two_values)) ≡ past (memory_with two_values) []
+
+-- ---- what is sent for each value of a queue
+
+-- on the port of its turn, where the condition holds
+abbrev pub sent_each : Option Expr → List (ℕ × ℤ)
+sent_each when = sent (record { when = when; each = Some (Single 0); port = Plain leaf.Turn; value = Plain leaf.Value } ∷ []) [] (own_input 0 0) (memory_with two_values)
+
+-- `turn` is the place of the value in the queue, whether those before it are sent or not
+pub record Turns : Type 0 where
+  pub all : sent_each None ≡ (0, pos 1) ∷ (1, pos 2) ∷ []
+  pub some : sent_each (Some (Plain leaf.Turn)) ≡ (1, pos 2) ∷ []
 
 -- ---- what the items of a bag read
 

@@ -17,7 +17,7 @@ use Rattle.tw_machine.specs.declared.language.Word.{Word}
 use Rattle.tw_machine.specs.declared.language.Word.TheVariants as word
 use Rattle.tw_machine.specs.Program.{ProgramText}
 use Rattle.tw_machine.specs.declared.language.Statement.{Statement}
-use Rattle.tw_machine.specs.declared.language.Statement.TheVariants.{Skip, Then', Block', Set, Alter, Put, Take, Draw, If', Repeat', Wait, Passivate}
+use Rattle.tw_machine.specs.declared.language.Statement.TheVariants.{Skip, Then', Block', Set, Alter, Put, Take, Clear, Draw, If', Repeat', Wait, Passivate}
 
 -- a box that lies nowhere
 abbrev pub nowhere : Box (Unit {0}) Global
@@ -68,6 +68,7 @@ seen_statement (Set t e) = Set (seen_target t) (seen e)
 seen_statement (Alter change t e) = Alter change (seen_target t) (seen e)
 seen_statement (Put t position e) = Put (seen_target t) (seen_position position) (seen e)
 seen_statement (Take t which) = Take (seen_target t) (seen_which which)
+seen_statement (Clear t count) = Clear (seen_target t) count
 seen_statement Draw = Draw
 seen_statement (If' test p a q b) = branch (seen test) (seen_statement a) (seen_statement b)
 seen_statement (Repeat' count p a) = repeated count (seen_statement a)

@@ -2,7 +2,7 @@
 -- seen without these places.
 --     meaning-seen p      what a machine of this program means
 --     kept_log-seen p, undone-seen p      what a turn logs, and what is taken back by it
-use Rattle.std.specs.Prelude.{◌≡◌, ℕ, ℤ, pos, [], ◌∷◌, ◌||◌, ◌+◌, ◌*◌, max, min, length, List, map, take, Option, Some, None, refl, if◌then◌else◌, ◌++◌, option_map, slice_index_or}
+use Rattle.std.specs.Prelude.{◌≡◌, ℕ, ℤ, pos, [], ◌∷◌, suc, ◌||◌, ◌+◌, ◌*◌, max, min, length, List, map, take, drop, Option, Some, None, refl, if◌then◌else◌, ◌++◌, option_map, slice_index_or}
 use Rattle.std.specs.List.{flat_map}
 use Rattle.std.proofs.Common.{ap, ap₂, ◌∙◌}
 use Rattle.tw_atomic.specs.Atomic.{Bag, turned}
@@ -18,7 +18,7 @@ use Rattle.tw_machine.specs.declared.language.Position.TheVariants.{End, Sorted,
 use Rattle.tw_machine.specs.declared.language.Which.{Which}
 use Rattle.tw_machine.specs.declared.language.Which.TheVariants.{Foremost, Chosen}
 use Rattle.tw_machine.specs.declared.language.Statement.{Statement}
-use Rattle.tw_machine.specs.declared.language.Statement.TheVariants.{Skip, Then', Block', Set, Alter, Put, Take, Draw, If', Repeat', Wait, Passivate}
+use Rattle.tw_machine.specs.declared.language.Statement.TheVariants.{Skip, Then', Block', Set, Alter, Put, Take, Clear, Draw, If', Repeat', Wait, Passivate}
 use Rattle.tw_machine.specs.declared.language.Output.{Output}
 use Rattle.tw_machine.specs.declared.language.Word.{Word}
 use Rattle.tw_machine.specs.declared.language.Word.TheVariants as word
@@ -27,12 +27,12 @@ use Rattle.tw_machine.specs.declared.memory.State.{State}
 use Rattle.tw_machine.specs.Memory.{MemoryValue, first_of, behind_first, cell, with_cell, queue}
 use Rattle.tw_machine.specs.Seen.{seen, seen_target, seen_position, seen_which, seen_statement, seen_output, seen_word, seen_program}
 use Rattle.tw_machine.specs.Values.{is_set, natural, computed, applied, brought, value_of, target_of}
-use Rattle.tw_machine.specs.Running.{altered, came, gone, is_there, takes, at_turn, turns, with_memory, with_left, position_of, which_of, run}
-use Rattle.tw_machine.specs.Undoing.{span_at, unary_reads, reads, rereads, kept_target, kept_position, kept_which, kept_cell, kept_put, kept_take, kept_turns, kept, unaltered, Past, past, cell_undone, put_undone, take_undone, undone_turns, undone, needs}
+use Rattle.tw_machine.specs.Running.{altered, came, gone, cleared, is_there, takes, at_turn, turns, with_memory, with_left, position_of, which_of, run}
+use Rattle.tw_machine.specs.Undoing.{span_at, unary_reads, reads, rereads, kept_target, kept_position, kept_which, kept_cell, kept_put, kept_take, kept_clear, kept_turns, kept, unaltered, Past, past, cell_undone, put_undone, take_undone, clear_undone, undone_turns, undone, needs}
 use Rattle.tw_machine.specs.Fits.{FitsExpr, FitsStatement}
 use Rattle.tw_machine.specs.Program.{ProgramText, FitsOutputs, FitsProgram}
 use Rattle.tw_machine.specs.Machine as machine
-use Rattle.tw_machine.specs.Machine.{time, time_left, ticks_of, minus, later, earlier, own_input, item_input, moved, with_clipped, with_value, passes, on_port, offered, offered_each, given_over, given, sent, shown, machine_meaning, machine_int, machine_ext, machine_out, machine_words, machine_start, run_all, kept_all, undone_all, needs_all, kept_left, kept_int, kept_ext, kept_log, undone_int, undone_ext, machine_undone, needs_of, IsMachine}
+use Rattle.tw_machine.specs.Machine.{time, time_left, ticks_of, minus, later, earlier, own_input, item_input, moved, with_clipped, at_value, passes, on_port, offered, offered_each, given_over, given, sent, shown, machine_meaning, machine_int, machine_ext, machine_out, machine_words, machine_start, run_all, kept_all, undone_all, needs_all, kept_left, kept_int, kept_ext, kept_log, undone_int, undone_ext, machine_undone, needs_of, IsMachine}
 
 -- ---- two steps
 
@@ -77,6 +77,7 @@ run-seen (Put t w e) =
     let v = e numbers i s.memory in
     with_memory s (came q (w v (queue s.memory q).items numbers i s.memory) v s.memory)) (target-seen t) (position-seen w) (value-seen e)
 run-seen (Take t w) = ap₂ (λ t w numbers i s. with_memory s (gone (t numbers i s.memory) (w numbers i s.memory) s.memory)) (target-seen t) (which-seen w)
+run-seen (Clear t n) = ap (λ t numbers i s. with_memory s (cleared (t numbers i s.memory) n s.memory)) (target-seen t)
 run-seen Draw = refl
 run-seen (If' e p a q b) = ap₃ (λ e f g numbers i s. if is_set (e numbers i s.memory) then f numbers i s else g numbers i s) (value-seen e) (run-seen a) (run-seen b)
 run-seen (Repeat' n p a) = ap (λ f numbers i s. turns n (λ k r. f numbers (at_turn i k) r) s) (run-seen a)
@@ -120,6 +121,10 @@ kept_take-seen t w =
     ap₂ (λ f g q k m log. if is_there k (queue m q).items then pos 1 ∷ slice_index_or (queue m q).items (natural k) (pos 0) ∷ f q (g (natural k) log) else pos 0 ∷ log)
     (kept_target-seen t) (kept_which-seen w)
 
+pub kept_clear-seen : (t : Target) (n : ℕ) → kept_clear (seen_target t) n ≡ kept_clear t n
+kept_clear-seen t n =
+    ap (λ f q m log. let left = take n (queue m q).items in pos (length left) ∷ f q (left ++ log)) (kept_target-seen t)
+
 pub kept-seen : (a : Statement) → kept (seen_statement a) ≡ kept a
 kept-seen Skip = refl
 kept-seen (Then' p a q b) = ap₃ (λ r f g numbers i s log. g numbers i (r numbers i s) (f numbers i s log)) (run-seen a) (kept-seen a) (kept-seen b)
@@ -131,6 +136,7 @@ kept-seen (Put t w e) =
     let q = t numbers i s.memory in
     k q (w (e numbers i s.memory) (queue s.memory q).items numbers i s.memory) s.memory log) (kept_put-seen t w) (target-seen t) (position-seen w) (value-seen e)
 kept-seen (Take t w) = ap₃ (λ k t w numbers i s log. k (t numbers i s.memory) (w numbers i s.memory) s.memory log) (kept_take-seen t w) (target-seen t) (which-seen w)
+kept-seen (Clear t n) = ap₂ (λ k t numbers i s log. k (t numbers i s.memory) s.memory log) (kept_clear-seen t n) (target-seen t)
 kept-seen Draw = refl
 kept-seen (If' e p a q b) =
     ap₃ (λ e f g numbers i s log. if is_set (e numbers i s.memory) then pos 1 ∷ f numbers i s log else pos 0 ∷ g numbers i s log) (value-seen e) (kept-seen a) (kept-seen b)
@@ -147,6 +153,7 @@ needs-seen (Set t e) = refl
 needs-seen (Alter change t e) = refl
 needs-seen (Put t w e) = refl
 needs-seen (Take t w) = refl
+needs-seen (Clear t n) = refl
 needs-seen Draw = refl
 needs-seen (If' e p a q b) = ap₂ (λ m n. max m n + 1) (needs-seen a) (needs-seen b)
 needs-seen (Repeat' n p a) = ap (λ m. n * m) (needs-seen a)
@@ -173,6 +180,10 @@ take_undone-seen (Single r) (Chosen e) = refl
 take_undone-seen (Indexed s at) Foremost = refl
 take_undone-seen (Indexed s at) (Chosen e) = refl
 
+pub clear_undone-seen : (t : Target) → clear_undone (seen_target t) ≡ clear_undone t
+clear_undone-seen (Single r) = refl
+clear_undone-seen (Indexed s at) = refl
+
 pub undone-seen : (a : Statement) → undone (seen_statement a) ≡ undone a
 undone-seen Skip = refl
 undone-seen (Then' p a q b) = ap₂ (λ f g numbers i u. f numbers i (g numbers i u)) (undone-seen a) (undone-seen b)
@@ -183,6 +194,7 @@ undone-seen (Alter change t e) =
     (rereads-seen t e) (cell_undone-seen t) (target-seen t) (value-seen e)
 undone-seen (Put t w e) = ap (λ f numbers i u. f u) (put_undone-seen t w)
 undone-seen (Take t w) = ap (λ f numbers i u. f u) (take_undone-seen t w)
+undone-seen (Clear t n) = ap (λ f numbers i u. f u) (clear_undone-seen t)
 undone-seen Draw = refl
 undone-seen (If' e p a q b) =
     ap₂ (λ f g numbers i u. if is_set (first_of u.log) then f numbers i (past u.memory (behind_first u.log)) else g numbers i (past u.memory (behind_first u.log)))
@@ -224,18 +236,26 @@ pub offered-seen : (o : Output) → offered (seen_output o) ≡ offered o
 offered-seen o =
     ap₃ (λ w p v numbers i m. if w numbers i m then on_port (p numbers i m) (v numbers i m) else []) (passes-seen o.when) (value-seen o.port) (value-seen o.value)
 
-pub given_over-seen : (each : Option Target) (o : Output) → given_over (option_map seen_target each) (seen_output o) ≡ given_over each o
-given_over-seen None o = ap (λ f numbers i m. f numbers i m) (offered-seen o)
-given_over-seen (Some t) o =
-    ap₂ (λ f t numbers i m. flat_map (λ v. f numbers (with_value i v) m) (queue m (t numbers i m)).items) (offered-seen o) (target-seen t)
+pub offered_each-seen : (o : Output) (numbers : List ℤ) (i : Input) (m : MemoryValue) (k : ℕ) (values : List ℤ)
+    → offered_each (seen_output o) numbers i m k values ≡ offered_each o numbers i m k values
+offered_each-seen o numbers i m k [] = refl
+offered_each-seen o numbers i m k (v ∷ values) =
+    ap₂ (λ f rest. f numbers (at_value i k v) m ++ rest) (offered-seen o) (offered_each-seen o numbers i m (suc k) values)
 
-pub given-seen : (o : Output) → given (seen_output o) ≡ given o
-given-seen o = ap (λ f numbers i m. f numbers i m) (given_over-seen o.each o)
+pub given_over-seen : (each : Option Target) (o : Output) (numbers : List ℤ) (i : Input) (m : MemoryValue)
+    → given_over (option_map seen_target each) (seen_output o) numbers i m ≡ given_over each o numbers i m
+given_over-seen None o numbers i m = ap (λ f. f numbers i m) (offered-seen o)
+given_over-seen (Some t) o numbers i m =
+    ap (λ t. offered_each (seen_output o) numbers i m 0 (queue m (t numbers i m)).items) (target-seen t)
+    ∙ offered_each-seen o numbers i m 0 (queue m (target_of t numbers i m)).items
+
+pub given-seen : (o : Output) (numbers : List ℤ) (i : Input) (m : MemoryValue) → given (seen_output o) numbers i m ≡ given o numbers i m
+given-seen o numbers i m = given_over-seen o.each o numbers i m
 
 pub all_given-seen : (outputs : List Output) (numbers : List ℤ) (i : Input) (m : MemoryValue)
     → flat_map (λ o. given o numbers i m) (map seen_output outputs) ≡ flat_map (λ o. given o numbers i m) outputs
 all_given-seen [] numbers i m = refl
-all_given-seen (o ∷ outputs) numbers i m = ap₂ (λ f rest. f numbers i m ++ rest) (given-seen o) (all_given-seen outputs numbers i m)
+all_given-seen (o ∷ outputs) numbers i m = ap₂ (λ one rest. one ++ rest) (given-seen o numbers i m) (all_given-seen outputs numbers i m)
 
 pub word-seen : (w : Word) → machine.word (seen_word w) ≡ machine.word w
 word-seen (word.Number e) = ap (λ f numbers i m. f numbers i m ∷ []) (value-seen e)
@@ -325,6 +345,7 @@ statement-fits-seen (Set t e) fits = expr-fits-seen e fits
 statement-fits-seen (Alter change t e) fits = expr-fits-seen e fits
 statement-fits-seen (Put t w e) fits = expr-fits-seen e fits
 statement-fits-seen (Take t w) fits = fits
+statement-fits-seen (Clear t n) fits = fits
 statement-fits-seen Draw fits = fits
 statement-fits-seen (If' e p a q b) fits = (statement-fits-seen a fits.0, statement-fits-seen b fits.1)
 statement-fits-seen (Repeat' n p a) fits = (statement-fits-seen a fits.0, fits.1)

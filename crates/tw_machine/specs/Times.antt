@@ -3,7 +3,7 @@ use Rattle.std.specs.Prelude.{◌≡◌, ℕ, zero, suc, ℤ, pos, Bool, true, f
 use Rattle.std.proofs.Common.{◌∙◌}
 use Rattle.tw_atomic.specs.Atomic.{Bag}
 use Rattle.tw_machine.specs.declared.language.Statement.{Statement}
-use Rattle.tw_machine.specs.declared.language.Statement.TheVariants.{Skip, Then', Block', Set, Alter, Put, Take, Draw, If', Repeat', Wait, Passivate}
+use Rattle.tw_machine.specs.declared.language.Statement.TheVariants.{Skip, Then', Block', Set, Alter, Put, Take, Clear, Draw, If', Repeat', Wait, Passivate}
 use Rattle.tw_machine.specs.declared.memory.Input.{Input}
 use Rattle.tw_machine.specs.declared.memory.State.{State}
 use Rattle.tw_machine.specs.Values.{is_set, value_of}
@@ -26,6 +26,7 @@ run-time (Set t e) numbers i s = refl
 run-time (Alter change t e) numbers i s = refl
 run-time (Put t w e) numbers i s = refl
 run-time (Take t w) numbers i s = refl
+run-time (Clear t n) numbers i s = refl
 run-time Draw numbers i s = refl
 run-time (If' e p a q b) numbers i s = branch-time (is_set (value_of e numbers i s.memory)) (run a numbers i s) (run b numbers i s) s.time (run-time a numbers i s) (run-time b numbers i s)
 run-time (Repeat' n p a) numbers i s = turns-time n (λ k r. run a numbers (at_turn i k) r) s (λ k r. run-time a numbers (at_turn i k) r)

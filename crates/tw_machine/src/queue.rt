@@ -7,6 +7,7 @@ ghost use Rattle.std.specs.Prelude.{
   ◌++◌,
   ◌↔◌,
   [],
+  drop,
   length,
   IsTrue,
   IfOk,
@@ -105,6 +106,16 @@ impl Queue {
         ensures { self.new ≡ refilled self.old (remove self.old.items at) }
     {
         self.values.remove(at)
+    }
+
+    /// Takes so many values from the front, or those that there are. It takes no memory.
+    pub fn clear(&mut self, count: u16)
+        ensures { self.new ≡ refilled self.old (drop count self.old.items) }
+    {
+        let count = self.values.len().min(count as usize);
+        let rest = self.values.len() - count;
+        self.values.rotate_left(count);
+        self.values.truncate(rest);
     }
 
     /// Whether both have the same values and the same room.

@@ -15,18 +15,20 @@ use Rattle.tw_machine_text.specs.declared.words.SourceChange.{SourceChange}
 use Rattle.tw_machine_text.specs.declared.words.SourceChange.TheVariants.{Set, Add, Subtract, Xor}
 use Rattle.tw_machine_text.specs.declared.words.Verb.{Verb}
 use Rattle.tw_machine_text.specs.declared.words.Verb.TheVariants.{Push, Insert, Remove, Put, Observe}
+use Rattle.tw_machine_text.specs.declared.words.Deed.{Deed}
+use Rattle.tw_machine_text.specs.declared.words.Deed.TheVariants.{Pop, Clear, Do}
 use Rattle.tw_machine_text.specs.declared.words.Operator.TheVariants.{Comma}
-use Rattle.tw_machine_text.specs.Tree.{Tree, Number, Name, Known, Indexed, Call, RandomBelow, Group, Negate, Not, Binary, SourceStatement, Assign, Act, Pop, Draw, Wait, Passivate, If, IfElse, Repeat, Block, Empty, Then, Arms, One, More}
+use Rattle.tw_machine_text.specs.Tree.{Tree, Number, Name, Known, Indexed, Call, RandomBelow, Group, Negate, Not, Binary, SourceStatement, Assign, Act, Treat, Draw, Wait, Passivate, If, IfElse, Repeat, Block, Empty, Then, Arms, One, More}
 use Rattle.tw_machine_declaration.specs.Seen.{Declaration}
 use Rattle.tw_machine_declaration.specs.declared.names.Standing.{Standing}
 use Rattle.tw_machine_declaration.specs.Turns.{written_turns}
-use Rattle.tw_machine_declaration.specs.Work.{work, counted_turns, statement_work, block_work, tests_work, greatest_work}
+use Rattle.tw_machine_declaration.specs.Work.{queue_room, left, work, counted_turns, statement_work, block_work, tests_work, greatest_work}
 use Rattle.tw_machine_declaration.specs.Members.{all_nodes, output_work, word_work}
 use Rattle.tw_machine_compiler.specs.declared.limits.BadMachine.{BadMachine}
 use Rattle.tw_machine_compiler.specs.declared.limits.BadMachine.TheVariants.{TooManyCells, TooManyQueues, TooMuchRoom, TooManyNumbers, TooManyNodes, TooManyComputations}
 use Rattle.tw_machine.specs.Seen.{branch}
 use Rattle.tw_machine_compiler.specs.Expressions.{expression, queue}
-use Rattle.tw_machine_compiler.specs.Statements.{cell, assigned, put, acted, turns, statement, block, chosen}
+use Rattle.tw_machine_compiler.specs.Statements.{cell, assigned, put, acted, treated, turns, statement, block, chosen}
 use Rattle.tw_machine_compiler.specs.Limits.{register_cells, has_few_cells, limit}
 
 work-some : (ss : List Standing) (e : Tree) → 1 ≤ work ss e
@@ -59,6 +61,11 @@ acted-needs ss Remove q e = omega arith
 acted-needs ss Put q e = omega (arith, put-needs ss q e)
 acted-needs ss Observe q e = omega arith
 
+treated-needs : (deed : Deed) (q : Target) (room : ℕ) → needs (treated deed q room) ≤ 4 + left deed room
+treated-needs Pop q room = omega arith
+treated-needs Clear q room = omega arith
+treated-needs Do q room = omega arith
+
 tests-some : (ss : List Standing) (arms : Arms) → 1 ≤ tests_work ss arms
 tests-some ss (One test b) = work-some ss test
 tests-some ss (More before test b) = omega (arith, work-some ss test)
@@ -79,7 +86,7 @@ mutual
       omega (arith, assigned-needs change (cell ss place) (expression ss e), work-some ss place)
   statement-needs ss (Act verb q e) =
       omega (arith, acted-needs ss verb (queue ss q) e, work-some ss q, work-some ss e)
-  statement-needs ss (Pop q) = omega (arith, work-some ss q)
+  statement-needs ss (Treat d q) = omega (arith, treated-needs d (queue ss q) (queue_room ss q), work-some ss q)
   statement-needs ss Draw = omega arith
   statement-needs ss (Wait e) = omega arith
   statement-needs ss Passivate = omega arith

@@ -1,7 +1,7 @@
 -- What the limits of any program refuse does not hang on where its boxes lie.
 use Rattle.std.proofs.Common.{◌≡◌, refl}
 use Rattle.tw_machine.specs.declared.language.Statement.{Statement}
-use Rattle.tw_machine.specs.declared.language.Statement.TheVariants.{Skip, Then', Block', Set, Alter, Put, Take, Draw, If', Repeat', Wait, Passivate}
+use Rattle.tw_machine.specs.declared.language.Statement.TheVariants.{Skip, Then', Block', Set, Alter, Put, Take, Clear, Draw, If', Repeat', Wait, Passivate}
 use Rattle.tw_machine.specs.Undoing.{needs}
 use Rattle.tw_machine.specs.Program.{ProgramText}
 use Rattle.tw_machine.specs.Limits.{fault_of}
@@ -15,6 +15,7 @@ needs_seen (Set t e) = refl
 needs_seen (Alter change t e) = refl
 needs_seen (Put t w e) = refl
 needs_seen (Take t w) = refl
+needs_seen (Clear t n) = refl
 needs_seen Draw = refl
 needs_seen (If' test p a q b) = rw (needs_seen a, needs_seen b) refl
 needs_seen (Repeat' n p a) = rw (needs_seen a) refl

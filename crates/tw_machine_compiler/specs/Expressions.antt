@@ -43,10 +43,11 @@ known builtin.Turn = leaf.Turn
 abbrev pub number : ℕ → ℤ
 number n = pos (min n 9223372036854775807)
 
--- a name in an expression
+-- a name in an expression; that of a table is how many numbers it has
 abbrev pub named : Standing → Expr
 named (s.Number n) = Plain (leaf.Number n)
 named (s.Cell k) = Plain (leaf.Register k)
+named (s.Table span) = Plain (leaf.Number (pos span.count))
 named _ = zero_expr
 
 -- a name with its index

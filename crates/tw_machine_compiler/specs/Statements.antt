@@ -14,12 +14,15 @@ use Rattle.tw_machine_text.specs.declared.words.SourceChange.{SourceChange}
 use Rattle.tw_machine_text.specs.declared.words.SourceChange.TheVariants.{Set, Add, Subtract, Xor}
 use Rattle.tw_machine_text.specs.declared.words.Verb.{Verb}
 use Rattle.tw_machine_text.specs.declared.words.Verb.TheVariants.{Push, Insert, Remove, Put, Observe}
+use Rattle.tw_machine_text.specs.declared.words.Deed.{Deed}
+use Rattle.tw_machine_text.specs.declared.words.Deed.TheVariants.{Pop, Clear, Do}
 use Rattle.tw_machine_text.specs.declared.words.Operator.TheVariants.{Comma}
-use Rattle.tw_machine_text.specs.Tree.{Tree, Name, Indexed, Binary, SourceStatement, Assign, Act, Pop, Draw, Wait, Passivate, If, IfElse, Repeat, Block, Empty, Then, Arms, One, More}
+use Rattle.tw_machine_text.specs.Tree.{Tree, Name, Indexed, Binary, SourceStatement, Assign, Act, Treat, Draw, Wait, Passivate, If, IfElse, Repeat, Block, Empty, Then, Arms, One, More}
 use Rattle.tw_machine_declaration.specs.declared.names.Standing.{Standing}
 use Rattle.tw_machine_declaration.specs.declared.names.Standing.TheVariants as s
 use Rattle.tw_machine_declaration.specs.Names.{observation_span, standing_at}
 use Rattle.tw_machine_declaration.specs.Turns.{written_turns}
+use Rattle.tw_machine_declaration.specs.Work.{queue_room}
 use Rattle.tw_machine.specs.Seen.{both, branch, repeated}
 use Rattle.tw_machine_compiler.specs.Expressions.{no_target, expression, queue}
 
@@ -59,6 +62,12 @@ acted ss Remove q e = m.Take q (Chosen (expression ss e))
 acted ss Put q e = put ss q e
 acted ss Observe q e = m.Skip
 
+-- what is done to a queue alone, of which this is the room: a queue has no more values than its room; no `do` stands in what is read
+abbrev pub treated : Deed → Target → ℕ → Statement
+treated Pop q room = m.Take q Foremost
+treated Clear q room = m.Clear q room
+treated Do q room = m.Skip
+
 -- how often it is repeated: other numbers than 0 to 64 are refused
 abbrev pub turns : Option ℤ → ℕ
 turns (Some n) = min (natural n) max_turns
@@ -68,7 +77,7 @@ abbrev mutual
   pub statement : List Standing → SourceStatement → Statement
   statement ss (Assign place change e) = assigned change (cell ss place) (expression ss e)
   statement ss (Act verb q e) = acted ss verb (queue ss q) e
-  statement ss (Pop q) = m.Take (queue ss q) Foremost
+  statement ss (Treat d q) = treated d (queue ss q) (queue_room ss q)
   statement ss Draw = m.Draw
   statement ss (Wait e) = m.Wait (expression ss e)
   statement ss Passivate = m.Passivate

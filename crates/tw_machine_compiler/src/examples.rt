@@ -4,9 +4,12 @@ ghost use Rattle.tw_machine_compiler.specs.Examples.{
   adder_adds,
   line_serves,
   line_computes,
+  line_clears,
+  clear_computes,
   line_drops,
   line_takes,
   pool_draws,
+  pool_counts,
   pool_puts,
   pool_computes,
   pool_repeats,
@@ -24,9 +27,12 @@ pub fn machines()
     ensures adder_adds { adder_adds }
     ensures line_serves { line_serves }
     ensures line_computes { line_computes }
+    ensures clears { line_clears }
+    ensures clear_computes { clear_computes }
     ensures line_drops { line_drops }
     ensures line_takes { line_takes }
     ensures pool_draws { pool_draws }
+    ensures pool_counts { pool_counts }
     ensures pool_puts { pool_puts }
     ensures pool_computes { pool_computes }
     ensures pool_repeats { pool_repeats }

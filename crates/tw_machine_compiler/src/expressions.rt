@@ -47,13 +47,14 @@ pub(crate) fn number(digits: u64) -> i64
     digits.min(9223372036854775807) as i64
 }
 
-/// A name in an expression.
+/// A name in an expression; that of a table is how many numbers it has.
 fn named(standing: Standing) -> Expr
     ensures { seen result ≡ named standing }
 {
     match standing {
         Standing::Number(number) => Expr::Plain(Leaf::Number(number)),
         Standing::Cell(place) => Expr::Plain(Leaf::Register(place)),
+        Standing::Table(span) => Expr::Plain(Leaf::Number(span.count as i64)),
         _ => zero(),
     }
 }

@@ -10,6 +10,7 @@ ghost use Rattle.tw_machine_compiler.specs.Statements.{
   assigned,
   put,
   acted,
+  treated,
   turns,
   statement,
   block,
@@ -20,9 +21,9 @@ use crate::expressions::{expression, queue};
 use crate::making::{branch, repeated};
 use std::alloc::{AllocError, Global};
 use tw_machine::language::{Change, Expr, Position, Statement, Target, Which};
-use tw_machine_declaration::{Standing, observation_span, standing_at, written_turns};
+use tw_machine_declaration::{Standing, observation_span, queue_room, standing_at, written_turns};
 use tw_machine_text::{
-    Arms, Block, MAX_TURNS, Operator, SourceChange, SourceExpr, SourceStatement, Verb,
+    Arms, Block, Deed, MAX_TURNS, Operator, SourceChange, SourceExpr, SourceStatement, Verb,
 };
 
 /// A register by its name.
@@ -121,6 +122,17 @@ fn acted(
     }
 }
 
+/// Something is done to a queue alone, of which this is the room: a queue has no more values than its room.
+fn treated(deed: Deed, queue: Target, room: u16) -> Statement
+    ensures { seen_statement result ≡ treated deed (seen_target queue) room }
+{
+    match deed {
+        Deed::Pop => Statement::Take(queue, Which::Foremost),
+        Deed::Clear => Statement::Clear(queue, room),
+        Deed::Do => Statement::Skip,
+    }
+}
+
 /// How often a block is repeated.
 pub(crate) fn turns(written: Option<i128>) -> u8
     ensures value { result ≡ turns written }
@@ -151,9 +163,10 @@ fn statement(
             let queue = queue(alloc, standings, queued)?;
             acted(alloc, standings, *verb, queue, operands)
         }
-        SourceStatement::Pop(queued) => {
+        SourceStatement::Treat(deed, queued) => {
+            let room = queue_room(standings, queued);
             let queue = queue(alloc, standings, queued)?;
-            Ok(Statement::Take(queue, Which::Foremost))
+            Ok(treated(*deed, queue, room as u16))
         }
         SourceStatement::Draw => Ok(Statement::Draw),
         SourceStatement::Wait(ticks) => Ok(Statement::Wait(expression(alloc, standings, ticks)?)),

@@ -6,7 +6,7 @@ use Rattle.tw_machine.specs.declared.language.Span.{Span}
 use Rattle.tw_machine_text.specs.Letters.{functions, same_text}
 use Rattle.tw_machine_declaration.specs.declared.declaration.Constant.{Constant}
 use Rattle.tw_machine_declaration.specs.declared.declaration.Constant.TheVariants as c
-use Rattle.tw_machine_declaration.specs.Seen.{Given, Name, Declares, parameter, list_parameter, register, registers, queue, queues, table, list_table, observation}
+use Rattle.tw_machine_declaration.specs.Seen.{Given, Name, Declares, parameter, list_parameter, register, registers, queue, queues, table, list_table, observation, procedure}
 use Rattle.tw_machine_declaration.specs.declared.names.Places.{Places}
 use Rattle.tw_machine_declaration.specs.declared.names.Standing.{Standing}
 use Rattle.tw_machine_declaration.specs.declared.names.Standing.TheVariants as s
@@ -91,6 +91,7 @@ standing_of given at (queues n c) = s.Queues (record { first = at.queues; count 
 standing_of given at (table ns) = s.Table (record { first = at.numbers; count = min (length ns) numbers_end })
 standing_of given at (list_table k) = s.Table (record { first = list_place given k; count = min (length (list_given given k)) numbers_end })
 standing_of given at observation = s.Observation at.cells
+standing_of given at (procedure k) = s.Nothing
 
 -- the cells of an observation, of which the first is at place k
 abbrev pub observation_span : ℕ → Span

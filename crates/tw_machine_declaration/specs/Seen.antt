@@ -12,7 +12,7 @@ use Rattle.tw_machine_declaration.specs.declared.declaration.Thing.TheVariants a
 use Rattle.tw_machine_declaration.specs.declared.declaration.Value as rust_value
 use Rattle.tw_machine_declaration.specs.declared.declaration.Value.TheVariants as v
 
--- what a machine declares by a name: parameters, and tables of lists, by their place among those of their kind
+-- what a machine declares by a name: parameters, tables of lists and procedures by their place among those of their kind
 pub data Declares : Type 0 where
   parameter : (place : ℕ) → Declares
   list_parameter : (place : ℕ) → Declares
@@ -23,6 +23,7 @@ pub data Declares : Type 0 where
   table : (numbers : List ℤ) → Declares
   list_table : (place : ℕ) → Declares
   observation : Declares
+  procedure : (place : ℕ) → Declares
 
 abbrev pub thing : Thing → Declares
 thing (t.Parameter k) = parameter k
@@ -34,6 +35,7 @@ thing (t.QueueArray n c) = queues n c
 thing (t.Table ns) = table ns.items
 thing (t.ListTable k) = list_table k
 thing t.Observation = observation
+thing (t.Procedure k) = procedure k
 
 -- a name, and what is declared by it
 abbrev pub Name : Type 0

@@ -5,8 +5,10 @@ use Rattle.tw_machine.specs.Values.{natural}
 use Rattle.tw_machine_text.specs.Limits.{max_turns}
 use Rattle.tw_machine_text.specs.declared.words.Verb.{Verb}
 use Rattle.tw_machine_text.specs.declared.words.Verb.TheVariants.{Push, Insert, Remove, Put, Observe}
+use Rattle.tw_machine_text.specs.declared.words.Deed.{Deed}
+use Rattle.tw_machine_text.specs.declared.words.Deed.TheVariants.{Pop, Clear, Do}
 use Rattle.tw_machine_text.specs.declared.words.Operator.TheVariants.{Comma}
-use Rattle.tw_machine_text.specs.Tree.{Tree, Number, Name, Known, Indexed, Call, RandomBelow, Group, Negate, Not, Binary, SourceStatement, Assign, Act, Pop, Draw, Wait, Passivate, If, IfElse, Repeat, Block, Empty, Then, Arms, One, More}
+use Rattle.tw_machine_text.specs.Tree.{Tree, Number, Name, Known, Indexed, Call, RandomBelow, Group, Negate, Not, Binary, SourceStatement, Assign, Act, Treat, Draw, Wait, Passivate, If, IfElse, Repeat, Block, Empty, Then, Arms, One, More}
 use Rattle.tw_machine_declaration.specs.declared.functions.Function.{Function}
 use Rattle.tw_machine_declaration.specs.declared.functions.Function.TheVariants.{Measured, Applied}
 use Rattle.tw_machine_declaration.specs.declared.functions.Joining.TheVariants.{Place}
@@ -56,6 +58,12 @@ moved Remove room = room
 moved Put room = room
 moved Observe room = 0
 
+-- `clear` goes over its queue, `pop` does not; no `do` stands in what is read
+abbrev pub left : Deed → ℕ → ℕ
+left Pop room = 0
+left Clear room = room
+left Do room = 0
+
 -- how many turns are counted: one where a parameter says it of which nothing is given
 abbrev pub counted_turns : Option ℤ → ℕ
 counted_turns (Some n) = min (natural n) max_turns
@@ -70,7 +78,7 @@ abbrev mutual
   pub statement_work : List Standing → SourceStatement → ℕ
   statement_work ss (Assign place change e) = 1 + (work ss place + work ss e)
   statement_work ss (Act verb q e) = 1 + (work ss q + work ss e + moved verb (queue_room ss q))
-  statement_work ss (Pop q) = 1 + work ss q
+  statement_work ss (Treat d q) = 1 + (work ss q + left d (queue_room ss q))
   statement_work ss Draw = 1
   statement_work ss (Wait e) = 1 + work ss e
   statement_work ss Passivate = 1

@@ -31,6 +31,8 @@ pub enum Thing {
     ListTable(usize),
     /// An observation: three cells that its user does not see, 0 at the start.
     Observation,
+    /// A procedure, at this place among them. Its program stands where it is used.
+    Procedure(usize),
 }
 
 /// A name that a machine declares, and what is declared by it.
@@ -57,8 +59,8 @@ pub struct OutputText {
     pub each: Option<SourceExpr>,
 }
 
-/// A machine. The numbers of names in its trees are those of the texts' reader: 0 to 9 for the functions' names, and
-/// from 10 on for `names`, in this order.
+/// A machine. The numbers of names in its trees are those of the texts' reader: 0 to 11 for the functions' names, and
+/// from 12 on for `names`, in this order.
 #[derive(Drop)]
 pub struct Declaration {
     pub names: Vec<Named>,

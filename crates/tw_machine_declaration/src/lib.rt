@@ -7,7 +7,7 @@
 //! - `functions`: [`function_of`], the function of a number.
 //! - `nodes`: [`all_nodes`], how many nodes a machine has.
 //! - `turns`: [`written_turns`], how often a block is repeated.
-//! - `work`: [`block_work`], how many computations a run of a program makes at the most.
+//! - `work`: [`block_work`], how many computations a run of a program makes at the most; [`queue_room`], the room of a queue.
 //! - `computing`: [`outputs_work`] and [`words_work`], the same of what is sent and of the words.
 //!
 //! A tree leans to the left, as deep as it has nodes: the walks over it call themselves up to 4,096 deep. How deep
@@ -31,4 +31,4 @@ pub use names::{
 };
 pub use nodes::all_nodes;
 pub use turns::written_turns;
-pub use work::block_work;
+pub use work::{block_work, queue_room};

@@ -39,7 +39,7 @@ use tw_machine_text::{FUNCTIONS, same_text};
 /// What a name stands for.
 #[derive(Clone, Copy, Debug, PartialEq, Eq)]
 pub enum Standing {
-    /// A list, or a function's name that nothing else has.
+    /// A list, a procedure, or a function's name that nothing else has.
     Nothing,
     /// The number of a parameter.
     Number(i64),
@@ -265,6 +265,7 @@ fn standing_of(given: &Given, at: Places, thing: &Thing) -> Standing
             count: list_count(given, *place),
         }),
         Thing::Observation => Standing::Observation(at.cells),
+        Thing::Procedure(_) => Standing::Nothing,
     }
 }
 

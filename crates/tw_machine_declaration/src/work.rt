@@ -9,6 +9,7 @@ ghost use Rattle.tw_machine_declaration.specs.Work.{
   gone_over,
   work,
   moved,
+  left,
   counted_turns,
   statement_work,
   block_work,
@@ -21,7 +22,7 @@ use crate::names::{Standing, standing_at};
 use crate::turns::written_turns;
 use tw_machine::language::Measure;
 use tw_machine::limits::COMPUTATIONS_END;
-use tw_machine_text::{Arms, Block, MAX_TURNS, Operator, SourceExpr, SourceStatement, Verb};
+use tw_machine_text::{Arms, Block, Deed, MAX_TURNS, Operator, SourceExpr, SourceStatement, Verb};
 
 /// The room of a queue, or of each of an array.
 pub(crate) fn room_at(standing: Standing) -> usize
@@ -36,7 +37,7 @@ pub(crate) fn room_at(standing: Standing) -> usize
 }
 
 /// The room of the queue that stands first.
-pub(crate) fn queue_room(standings: &[Standing], written: &SourceExpr) -> usize
+pub fn queue_room(standings: &[Standing], written: &SourceExpr) -> usize
     ensures value { result ≡ queue_room standings.now (tree written.now) }
     ensures small { result ≤ 65535 }
 {
@@ -96,6 +97,17 @@ fn moved(verb: Verb, room: usize) -> usize
     }
 }
 
+/// How many values of its queue a statement on a queue alone goes over.
+fn left(deed: Deed, room: usize) -> usize
+    ensures value { result ≡ left deed room }
+    ensures small { result ≤ room }
+{
+    match deed {
+        Deed::Pop | Deed::Do => 0,
+        Deed::Clear => room,
+    }
+}
+
 /// How many turns are counted.
 fn counted_turns(written: Option<i128>) -> usize
     ensures value { result ≡ counted_turns written }
@@ -135,7 +147,10 @@ fn statement_work(standings: &[Standing], said: &SourceStatement) -> usize
             let over = moved(*verb, queue_room(standings, queue));
             (1 + (work(standings, queue) + work(standings, operands) + over)).min(COMPUTATIONS_END)
         }
-        SourceStatement::Pop(queue) => (1 + work(standings, queue)).min(COMPUTATIONS_END),
+        SourceStatement::Treat(deed, queue) => {
+            let over = left(*deed, queue_room(standings, queue));
+            (1 + (work(standings, queue) + over)).min(COMPUTATIONS_END)
+        }
         SourceStatement::Wait(ticks) => (1 + work(standings, ticks)).min(COMPUTATIONS_END),
         SourceStatement::If(arms) => {
             (1 + (tests_work(standings, arms) + greatest_work(standings, arms))).min(

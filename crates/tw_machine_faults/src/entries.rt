@@ -1,5 +1,6 @@
 //! What is wrong with the parameters, registers, queues, tables and observations of a machine.
 
+use crate::machines::other_type;
 use crate::names::{
     bad_name, bad_parameter, is_list, is_parameter, observations_of, parameters_of,
 };
@@ -124,6 +125,37 @@ fn name_fault(
         let declared = machine.get(*section).and_then(|members| members.get(name));
         if declared.is_some() {
             return Ok(Some(format!(in alloc; "{shown} is the name of {what} too")?));
+        }
+    }
+    Ok(None)
+}
+
+/// What is wrong with the names of procedures.
+pub(crate) fn procedures_fault(
+    alloc: Global,
+    machine: &Value,
+) -> Result<Option<String>, AllocError> {
+    let Some(pairs) = machine.get("procedures").and_then(Value::as_array) else {
+        return other_type(alloc, machine, "procedures", "a list");
+    };
+    for (i, pair) in pairs.iter().enumerate() {
+        let is_pair = pair.as_array().map(|parts| parts.len()) == Some(2);
+        let Some(text) = pair.get(0).and_then(Value::as_str) else {
+            let line = format!(in alloc; "procedures[{i}] is no list of a name and a program")?;
+            return Ok(Some(line));
+        };
+        if !is_pair {
+            let line = format!(in alloc; "procedures[{i}] is no list of a name and a program")?;
+            return Ok(Some(line));
+        }
+        if let Some(reason) = name_fault(alloc, machine, "procedures", text)? {
+            return Ok(Some(format!(in alloc; "procedures[{i}]: {reason}")?));
+        }
+        let found = quoted(alloc, text)?;
+        for other in pairs.iter().take(i) {
+            if other.get(0).and_then(Value::as_str) == Some(text) {
+                return Ok(Some(format!(in alloc; "procedures[{i}]: {found} stood before")?));
+            }
         }
     }
     Ok(None)

@@ -1,7 +1,8 @@
 //! The machines of a file: the first fault of `models`.
 
 use crate::entries::{
-    not_constant, observations_fault, out_of_range, parameters_fault, section_fault,
+    not_constant, observations_fault, out_of_range, parameters_fault, procedures_fault,
+    section_fault,
 };
 use crate::limits::{limit_fault, own_numbers};
 use crate::members::{entry_fault, member_text, word_again};
@@ -20,7 +21,7 @@ use tw_models::is_kind_name;
 use tw_vtime::MAX_TICK;
 
 /// The members of a machine.
-const MEMBERS: [&str; 13] = [
+const MEMBERS: [&str; 14] = [
     "name",
     "parameters",
     "registers",
@@ -28,6 +29,7 @@ const MEMBERS: [&str; 13] = [
     "tables",
     "observations",
     "random",
+    "procedures",
     "first",
     "longest",
     "internal",
@@ -214,6 +216,13 @@ fn wrong(
             None => observations_fault(alloc, model)?,
         },
         Part::Random => constant_fault(alloc, model, "random", None)?,
+        Part::Procedures => procedures_fault(alloc, model)?,
+        Part::Procedure(i) => {
+            let line = format!(in alloc;
+                "procedures[{i}][1] is neither a text nor a list of texts"
+            )?;
+            Some(line)
+        }
         Part::First => constant_fault(alloc, model, "first", None)?,
         Part::Longest => constant_fault(alloc, model, "longest", Some(MAX_TICK as i64))?,
         Part::Internal => lines_fault(alloc, model, "internal")?,
@@ -289,7 +298,7 @@ fn first_named(models: &[Value], name: &str) -> usize {
 }
 
 /// What is said of a member that is there and no list.
-fn other_type(
+pub(crate) fn other_type(
     alloc: Global,
     model: &Value,
     member: &str,

@@ -26,6 +26,7 @@ pub(crate) fn member_text(alloc: Global, machine: &Value, part: Part) -> Result<
     match part {
         Part::Internal => program_text(alloc, machine, "internal"),
         Part::External => program_text(alloc, machine, "external"),
+        Part::Procedure(i) => procedure_text(alloc, machine, i),
         Part::Port(i) => output_text(alloc, machine, i, "port", Member::Value),
         Part::Value(i) => output_text(alloc, machine, i, "value", Member::Value),
         Part::When(i) => output_text(alloc, machine, i, "when", Member::Value),
@@ -41,18 +42,38 @@ pub(crate) fn member_text(alloc: Global, machine: &Value, part: Part) -> Result<
 
 /// The text of a member that is a program, its lines joined.
 fn program_text(alloc: Global, machine: &Value, member: &str) -> Result<Said, AllocError> {
-    let mut text = text_of(alloc, machine.get(member))?;
-    for (i, line) in items_in(machine, member).iter().enumerate() {
+    Ok(Said {
+        place: String::from_str(alloc, member)?,
+        text: joined(alloc, machine.get(member))?,
+        member: None,
+    })
+}
+
+/// The text of a procedure, its lines joined.
+fn procedure_text(alloc: Global, machine: &Value, i: usize) -> Result<Said, AllocError> {
+    let pair = items_in(machine, "procedures").get(i);
+    let name = pair.and_then(|pair| pair.get(0)).and_then(Value::as_str);
+    let name = name.unwrap_or("");
+    Ok(Said {
+        place: format!(in alloc; "procedures.{name}")?,
+        text: joined(alloc, pair.and_then(|pair| pair.get(1)))?,
+        member: None,
+    })
+}
+
+/// A text, or the lines of a list.
+fn joined(alloc: Global, value: Option<&Value>) -> Result<String, AllocError> {
+    let mut text = text_of(alloc, value)?;
+    let Some(lines) = value.and_then(Value::as_array) else {
+        return Ok(text);
+    };
+    for (i, line) in lines.iter().enumerate() {
         if i > 0 {
             text.push_str("\n")?;
         }
         text.push_str(line.as_str().unwrap_or(""))?;
     }
-    Ok(Said {
-        place: String::from_str(alloc, member)?,
-        text,
-        member: None,
-    })
+    Ok(text)
 }
 
 /// The text of a member of an output.

@@ -51,6 +51,11 @@ pub(crate) fn declared_in(alloc: Global, machine: &Value) -> Result<Vec<Declared
             add(alloc, &mut declared, name, Kind::Observation)?;
         }
     }
+    for (place, pair) in items_in(machine, "procedures").iter().enumerate() {
+        if let Some(name) = pair.get(0).and_then(Value::as_str) {
+            add(alloc, &mut declared, name, Kind::Procedure(place))?;
+        }
+    }
     Ok(declared)
 }
 

@@ -1,5 +1,5 @@
 -- What a machine declares: its parameters, the members `registers`, `queues` and `tables`, whose members are names, and its observations.
-use Rattle.std.specs.Prelude.{◌++◌, ◌∷◌, [], ◌==◌, ◌||◌, ℕ, List, Bool, true, false, Option, Some, None, Result, Ok, Err, codes, length, map, nat_le, option_and_then, option_map, if◌then◌else◌}
+use Rattle.std.specs.Prelude.{◌++◌, ◌∷◌, [], ◌+◌, ◌==◌, ◌||◌, ℕ, List, Bool, true, false, Option, Some, None, Result, Ok, Err, codes, length, map, nat_le, option_and_then, option_map, if◌then◌else◌}
 use Rattle.std.specs.Option.{option_map_or}
 use Rattle.serde_json.specs.Data.{Data, Items, no_items, item, Members, no_members, member}
 use Rattle.serde_json.specs.Find.{get, as_array, as_object, as_str, at}
@@ -7,7 +7,7 @@ use Rattle.serde_json.specs.Events.{items_len}
 use Rattle.tw_machine.specs.Limits.{max_cells, max_numbers, max_observations, max_queues, max_room}
 use Rattle.tw_machine_text.specs.Letters.{same_text}
 use Rattle.tw_machine_text.specs.Text.{position}
-use Rattle.tw_machine_declaration.specs.Seen.{Declares, Name, parameter, list_parameter, register, registers, queue, queues, table, list_table, observation}
+use Rattle.tw_machine_declaration.specs.Seen.{Declares, Name, parameter, list_parameter, register, registers, queue, queues, table, list_table, observation, procedure}
 use Rattle.tw_machine_declaration.specs.declared.declaration.Constant.{Constant}
 use Rattle.tw_machine_file.specs.Constants.{constant, constants, count, wholes}
 use Rattle.tw_machine_file.specs.Fault.{Fault, wrong, once, made, expected, provided}
@@ -138,6 +138,32 @@ few_observations d = once (expected part.Observations why.Shape (as_array d)) (�
 abbrev pub observations_in : Scope → Option Data → Result Scope Fault
 observations_in s None = Ok s
 observations_in s (Some d) = once (few_observations d) (observations_of s)
+
+-- ---- procedures
+
+-- the name of a procedure, of an array of a name and a program
+abbrev pub pair_name : Data → Result (List ℕ) Fault
+pair_name d = expected part.Procedures why.Shape (option_and_then as_str (at 0 d))
+
+abbrev pub pair_by : Data → Option Items → Result (List ℕ) Fault
+pair_by d None = Err (wrong part.Procedures why.Shape)
+pair_by d (Some items) = if items_len items == 2 then pair_name d else Err (wrong part.Procedures why.Shape)
+
+abbrev pub pair_of : Data → Result (List ℕ) Fault
+pair_of d = pair_by d (as_array d)
+
+-- one more behind so many
+abbrev pub procedure_named : ℕ → Scope → List ℕ → Result Scope Fault
+procedure_named k s name = made (λ name. with_name s (name, procedure k)) (new_name part.Procedures (is_name name) s.names name)
+
+abbrev pub procedures_named : ℕ → Scope → Items → Result Scope Fault
+procedures_named k s no_items = Ok s
+procedures_named k s (item d ds) = once (once (pair_of d) (procedure_named k s)) (λ next. procedures_named (k + 1) next ds)
+
+-- the names in the member `procedures`, if there is one
+abbrev pub procedures_in : Scope → Option Data → Result Scope Fault
+procedures_in s None = Ok s
+procedures_in s (Some d) = once (expected part.Procedures why.Shape (as_array d)) (procedures_named 0 s)
 
 -- ---- all names
 

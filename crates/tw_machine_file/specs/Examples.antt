@@ -2,6 +2,7 @@
 use Rattle.std.specs.Prelude.{◌≡◌, ◌∷◌, [], ℕ, List, pos, true, false, Option, Some, None, Result, Ok, Err, codes}
 use Rattle.std.specs.Result.{result_err}
 use Rattle.serde_json.specs.Data.{Data, unsigned, Items, number, string, array, object, no_items, item, Members, no_members, member}
+use Rattle.tw_machine_text.specs.Letters.{own}
 use Rattle.tw_machine_text.specs.Tree.{Number, Name, Indexed, RandomBelow, Binary, Empty, Then, Assign, Wait, Draw}
 use Rattle.tw_machine_text.specs.declared.words.SourceChange.TheVariants.{Add}
 use Rattle.tw_machine_text.specs.declared.words.Operator.TheVariants.{Plus}
@@ -59,7 +60,7 @@ plain = rest_with (made_at (count 0)) no_members (only (string (codes "made")))
 abbrev pub source : Data
 source = source_with (codes "made += 1") (with_name plain)
 
--- ---- what it declares: `seed`, `gaps`, `made` and `gap` are the names 10 to 13
+-- ---- what it declares: `seed`, `gaps`, `made` and `gap` are the first names that are declared
 
 abbrev pub declared_source : Machine
 declared_source = record {
@@ -69,10 +70,10 @@ declared_source = record {
     random = c.Parameter 0;
     first = Some (c.Number (pos 1));
     longest = None;
-    internal = Then (Then (Then Empty (Assign (Name 12) Add (Number 1)) false) (Wait (Indexed 13 (RandomBelow (Number 20)))) true) Draw false;
+    internal = Then (Then (Then Empty (Assign (Name (own 2)) Add (Number 1)) false) (Wait (Indexed (own 3) (RandomBelow (Number 20)))) true) Draw false;
     external = Empty;
-    outputs = record { port = whole (pos 0); sent = tree (Binary Plus (Name 12) (Number 1)); when = None; each = None } ∷ [];
-    words = tree (Name 12) ∷ [];
+    outputs = record { port = whole (pos 0); sent = tree (Binary Plus (Name (own 2)) (Number 1)); when = None; each = None } ∷ [];
+    words = tree (Name (own 2)) ∷ [];
   };
   numbers = codes "seed" ∷ [];
   lists = codes "gaps" ∷ [];

@@ -1,7 +1,7 @@
 -- The machine that one object of `models` declares, or the first thing that is wrong with it.
-use Rattle.std.specs.Prelude.{◌∷◌, [], ℕ, List, map, Option, Some, None, Result, Ok, Err, codes, pos, if◌then◌else◌}
-use Rattle.serde_json.specs.Data.{Data}
-use Rattle.serde_json.specs.Find.{as_object, as_str, get}
+use Rattle.std.specs.Prelude.{◌++◌, ◌+◌, ◌∷◌, [], ℕ, List, map, Option, Some, None, Result, Ok, Err, codes, pos, if◌then◌else◌}
+use Rattle.serde_json.specs.Data.{Data, Items, no_items, item}
+use Rattle.serde_json.specs.Find.{as_array, as_object, as_str, at, get}
 use Rattle.tw_vtime.specs.Stamps.{max_tick}
 use Rattle.tw_machine_text.specs.Kinds.{kinds_of}
 use Rattle.tw_machine_text.specs.Tree.{Block}
@@ -9,7 +9,7 @@ use Rattle.tw_machine_declaration.specs.Seen.{Declaration, Name, Output, Value}
 use Rattle.tw_machine_declaration.specs.declared.declaration.Constant.{Constant}
 use Rattle.tw_machine_declaration.specs.declared.declaration.Constant.TheVariants as c
 use Rattle.tw_machine_file.specs.Constants.{constant, count}
-use Rattle.tw_machine_file.specs.Declares.{scope_of, texts}
+use Rattle.tw_machine_file.specs.Declares.{procedures_in, scope_of, texts}
 use Rattle.tw_machine_file.specs.Fault.{Fault, wrong, once, made, expected, provided}
 use Rattle.tw_machine_file.specs.Names.{is_among, is_machine_name}
 use Rattle.tw_machine_file.specs.Outputs.{outputs_in}
@@ -32,7 +32,7 @@ name_of before d = once (expected part.Name why.Missing d) (λ d. once (expected
 
 abbrev pub machine_members : List (List ℕ)
 machine_members =
-    codes "name" ∷ codes "parameters" ∷ codes "registers" ∷ codes "queues" ∷ codes "tables" ∷ codes "observations" ∷ codes "random" ∷ codes "first" ∷ codes "longest" ∷ codes "internal"
+    codes "name" ∷ codes "parameters" ∷ codes "registers" ∷ codes "queues" ∷ codes "tables" ∷ codes "observations" ∷ codes "random" ∷ codes "procedures" ∷ codes "first" ∷ codes "longest" ∷ codes "internal"
     ∷ codes "external" ∷ codes "output" ∷ codes "words" ∷ []
 
 -- an object with a name, and with no member that no machine has
@@ -59,11 +59,11 @@ longest_in numbers (Some d) = made Some (count part.Longest max_tick numbers d)
 abbrev pub starts_made : Constant → Option Constant → Option Constant → Starts
 starts_made random first longest = record { random = random; first = first; longest = longest }
 
-abbrev pub starts_of : Data → List (List ℕ) → Result Starts Fault
-starts_of d numbers =
-    once (random_in numbers (get (codes "random") d)) (λ random.
+-- behind `random` come the names of procedures
+abbrev pub starts_of : Data → List (List ℕ) → Constant → Result Starts Fault
+starts_of d numbers random =
     once (first_in numbers (get (codes "first") d)) (λ first.
-    made (starts_made random first) (longest_in numbers (get (codes "longest") d))))
+    made (starts_made random first) (longest_in numbers (get (codes "longest") d)))
 
 -- ---- texts
 
@@ -74,13 +74,28 @@ language names = record { names = texts names; kinds = kinds_of (map (λ n. (n.0
 abbrev pub texts_made : Block → Block → List Output → List Value → Texts
 texts_made internal external outputs words = record { internal = internal; external = external; outputs = outputs; words = words }
 
+-- the program of the procedure at place k, which may use those before it
+abbrev pub procedure_of : Language → ℕ → List Block → Data → Result Block Fault
+procedure_of l k before d = program_in l before (part.Procedure k) (at 1 d)
+
+-- those from place k on, behind those before
+abbrev pub procedures_of : Language → ℕ → List Block → Items → Result (List Block) Fault
+procedures_of l k before no_items = Ok before
+procedures_of l k before (item d ds) = once (procedure_of l k before d) (λ p. procedures_of l (k + 1) (before ++ p ∷ []) ds)
+
+-- the programs of the member `procedures`, if there is one
+abbrev pub procedures_said : Language → Option Data → Result (List Block) Fault
+procedures_said l None = Ok []
+procedures_said l (Some d) = once (expected part.Procedures why.Shape (as_array d)) (procedures_of l 0 [])
+
 -- what is said in the machine's language, by its members in order
 abbrev pub texts_of : Data → Language → Result Texts Fault
 texts_of d l =
-    once (program_in l part.Internal (get (codes "internal") d)) (λ internal.
-    once (program_in l part.External (get (codes "external") d)) (λ external.
+    once (procedures_said l (get (codes "procedures") d)) (λ procedures.
+    once (program_in l procedures part.Internal (get (codes "internal") d)) (λ internal.
+    once (program_in l procedures part.External (get (codes "external") d)) (λ external.
     once (outputs_in l (get (codes "output") d)) (λ outputs.
-    made (texts_made internal external outputs) (words_in l (get (codes "words") d)))))
+    made (texts_made internal external outputs) (words_in l (get (codes "words") d))))))
 
 -- ---- the machine, by its members in order
 
@@ -105,5 +120,7 @@ abbrev pub machine_of : List (List ℕ) → Data → Result Machine Fault
 machine_of before d =
     once (head_of before d) (λ name.
     once (scope_of d) (λ s.
-    once (starts_of d s.numbers) (λ starts.
-    made (machine_made name s starts) (texts_of d (language s.names)))))
+    once (random_in s.numbers (get (codes "random") d)) (λ random.
+    once (procedures_in s (get (codes "procedures") d)) (λ s.
+    once (starts_of d s.numbers random) (λ starts.
+    made (machine_made name s starts) (texts_of d (language s.names)))))))

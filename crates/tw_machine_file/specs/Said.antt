@@ -1,44 +1,48 @@
--- What a text says: the program or the expression that the grammar gives it, of at most 64 levels and 4,096 nodes.
-use Rattle.std.specs.Prelude.{◌≡◌, ◌↔◌, ◌∷◌, ℕ, List, false, Option, Some, None, nat_le, option_and_then, option_map, if◌then◌else◌}
-use Rattle.tw_machine_text.specs.Limits.{max_levels, max_nodes, nodes_end}
+-- What a text says: the program or the expression that the grammar gives it, in the core of the language, of at most 64 levels and 4,096 nodes.
+use Rattle.std.specs.Prelude.{◌≡◌, ◌↔◌, ◌∷◌, ◌&&◌, ℕ, suc, length, List, false, Option, Some, None, nat_le, option_and_then, option_map, if◌then◌else◌}
+use Rattle.tw_machine_text.specs.Limits.{max_levels, max_nodes, written_levels, written_nodes}
 use Rattle.tw_machine_text.specs.declared.kinds.Kind.{Kind}
 use Rattle.tw_machine_text.specs.declared.kinds.Member.{Member}
 use Rattle.tw_machine_text.specs.declared.words.Word.{Word}
 use Rattle.tw_machine_text.specs.declared.words.Word.TheVariants.{Wait}
-use Rattle.tw_machine_text.specs.Desugared.{desugared_block, limited}
-use Rattle.tw_machine_text.specs.Kinds.{bound_block, bound_as, waited}
+use Rattle.tw_machine_text.specs.Desugared.{desugared_block, limited, limited_tree}
+use Rattle.tw_machine_text.specs.Drawn.{core_tree, may_stand, may_stand_as}
+use Rattle.tw_machine_text.specs.Kinds.{waited}
 use Rattle.tw_machine_text.specs.Machine.{program_of, weigh}
 use Rattle.tw_machine_text.specs.Text.{words_of, Reads, ReadsTree}
-use Rattle.tw_machine_text.specs.Tree.{Block, Tree}
+use Rattle.tw_machine_text.specs.Tree.{Block, Tree, heads}
 
--- the program that words are, of no more than so many nodes
+-- the program that words are, of no more than so many nodes, and of no more than 4,096 operators and statements
 abbrev pub spelled_program : ℕ → List Word → Option Block
-spelled_program many ws = if nat_le (weigh false ws) many then program_of max_levels ws else None
+spelled_program many ws = if nat_le (weigh false ws) many && nat_le (heads ws) max_nodes then program_of written_levels ws else None
 
--- in which each name stands where it may
-abbrev pub bound_program : List Kind → Block → Option Block
-bound_program kinds p = if bound_block kinds p then Some p else None
+-- in which each name stands where it may, so many procedures may be used, and no more numbers are drawn than may be
+abbrev pub standing_program : List Kind → ℕ → Block → Option Block
+standing_program kinds known p = if may_stand kinds known p then Some p else None
 
-abbrev pub bound_tree : Member → List Kind → Tree → Option Tree
-bound_tree member kinds e = if bound_as member kinds e then Some e else None
+abbrev pub standing_tree : Member → List Kind → Tree → Option Tree
+standing_tree member kinds e = if may_stand_as member kinds e then Some e else None
 
 -- which comes to this in the core of the language
-abbrev pub core_program : Block → Option Block
-core_program p = limited max_levels max_nodes (desugared_block p)
+abbrev pub core_program : List Kind → List Block → Block → Option Block
+core_program kinds procedures p = limited max_levels max_nodes (desugared_block kinds procedures p)
 
--- the program of a text, by the names that are declared and what each name stands for
-unfoldable pub program_said : List (List ℕ) → List Kind → List ℕ → Option Block
-program_said names kinds text =
-    option_and_then core_program (option_and_then (bound_program kinds) (option_and_then (spelled_program max_nodes) (words_of names text)))
+abbrev pub core_value : List Kind → Tree → Option Tree
+core_value kinds e = limited_tree max_levels max_nodes (core_tree kinds e)
+
+-- the program of a text, by the names that are declared, what each name stands for, and the programs of the procedures that it may use
+unfoldable pub program_said : List (List ℕ) → List Kind → List Block → List ℕ → Option Block
+program_said names kinds procedures text =
+    option_and_then (core_program kinds procedures) (option_and_then (standing_program kinds (length procedures)) (option_and_then (spelled_program written_nodes) (words_of names text)))
 
 -- the expression of a text, which is that of the program that waits for it
 unfoldable pub tree_said : Member → List (List ℕ) → List Kind → List ℕ → Option Tree
 tree_said member names kinds text =
-    option_and_then (bound_tree member kinds) (option_and_then waited (option_and_then (spelled_program nodes_end) (option_map (λ ws. Wait ∷ ws) (words_of names text))))
+    option_and_then (core_value kinds) (option_and_then (standing_tree member kinds) (option_and_then waited (option_and_then (spelled_program (suc written_nodes)) (option_map (λ ws. Wait ∷ ws) (words_of names text)))))
 
 -- no program is said but the one that the grammar gives, and that one is
 abbrev pub SaysPrograms : Type 0
-SaysPrograms = (names : List (List ℕ)) (kinds : List Kind) (text : List ℕ) (p : Block) → ((program_said names kinds text ≡ Some p) ↔ Reads max_levels max_nodes names kinds text p)
+SaysPrograms = (names : List (List ℕ)) (kinds : List Kind) (procedures : List Block) (text : List ℕ) (p : Block) → ((program_said names kinds procedures text ≡ Some p) ↔ Reads max_levels max_nodes names kinds procedures text p)
 
 abbrev pub SaysTrees : Type 0
 SaysTrees = (member : Member) (names : List (List ℕ)) (kinds : List Kind) (text : List ℕ) (e : Tree) → ((tree_said member names kinds text ≡ Some e) ↔ ReadsTree max_levels max_nodes member names kinds text e)

@@ -4,7 +4,7 @@ use Rattle.tw_machine_text.specs.Tree.{Block}
 use Rattle.tw_machine_text.specs.Views.{body}
 use Rattle.tw_machine_text.specs.declared.kinds.Kind.{Kind}
 use Rattle.tw_machine_text.specs.declared.kinds.Kind.TheVariants as kind
-use Rattle.tw_machine_declaration.specs.Seen.{Declaration, Declares, Name, Output, Value, parameter, list_parameter, register, registers, queue, queues, table, list_table, observation, declaration, name, output, value}
+use Rattle.tw_machine_declaration.specs.Seen.{Declaration, Declares, Name, Output, Value, parameter, list_parameter, register, registers, queue, queues, table, list_table, observation, procedure, declaration, name, output, value}
 use Rattle.tw_machine_declaration.specs.declared.declaration.Constant.{Constant}
 use Rattle.tw_machine_file.specs.declared.declarations.Scope as rust
 use Rattle.tw_machine_file.specs.declared.machine.FileMachine.{FileMachine}
@@ -22,6 +22,7 @@ kind_of (queues n c) = kind.QueueArray
 kind_of (table ns) = kind.Table
 kind_of (list_table k) = kind.Table
 kind_of observation = kind.Observation
+kind_of (procedure k) = kind.Procedure k
 
 -- what is declared so far: all names in order, and of these the parameters that are numbers and those that are lists
 pub record Scope : Type 0 where

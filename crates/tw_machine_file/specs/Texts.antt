@@ -41,14 +41,14 @@ lines (item d ds) = option_and_then (λ line. option_map (λ rest. line ++ rest)
 abbrev pub text_of : Data → Option (List ℕ)
 text_of d = option_or (as_str d) (option_and_then lines (as_array d))
 
--- the program of a text
-abbrev pub program_text : Language → Part → List ℕ → Result Block Fault
-program_text l part t = said part (program_said l.names l.kinds t)
+-- the program of a text that may use procedures of these programs
+abbrev pub program_text : Language → List Block → Part → List ℕ → Result Block Fault
+program_text l procedures part t = said part (program_said l.names l.kinds procedures t)
 
 -- a member that is a program, if there is one
-abbrev pub program_in : Language → Part → Option Data → Result Block Fault
-program_in l part None = Ok Empty
-program_in l part (Some d) = once (expected part why.Shape (text_of d)) (program_text l part)
+abbrev pub program_in : Language → List Block → Part → Option Data → Result Block Fault
+program_in l procedures part None = Ok Empty
+program_in l procedures part (Some d) = once (expected part why.Shape (text_of d)) (program_text l procedures part)
 
 -- ---- expressions
 

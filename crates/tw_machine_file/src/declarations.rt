@@ -5,7 +5,7 @@ ghost use Rattle.serde_json.specs.View.{view, items_view, members_view};
 ghost use Rattle.tw_machine_text.specs.Text.{position};
 ghost use Rattle.tw_machine_declaration.specs.Seen.{name, thing};
 ghost use Rattle.tw_machine_file.specs.Answers.{Gives, FailsBy, data_of, names_in};
-ghost use Rattle.tw_machine_file.specs.Declares.{declare, declare_all, declared_in, is_list, is_text, names_list, new_name, nothing_declared, few_observations, observation_named, observation_of, observations_in, observations_of, parameter_named, parameter_of, parameters_in, parameters_of, part_of, queue_by, queue_part, register_by, scope_of, table_by, texts, thing_of, with_parameter};
+ghost use Rattle.tw_machine_file.specs.Declares.{declare, declare_all, declared_in, is_list, is_text, names_list, new_name, nothing_declared, few_observations, observation_named, observation_of, observations_in, observations_of, pair_by, pair_name, pair_of, procedure_named, procedures_in, procedures_named, parameter_named, parameter_of, parameters_in, parameters_of, part_of, queue_by, queue_part, register_by, scope_of, table_by, texts, thing_of, with_parameter};
 ghost use Rattle.tw_machine_file.specs.Names.{is_among};
 ghost use Rattle.tw_machine_file.specs.Seen.{scope};
 
@@ -416,7 +416,82 @@ fn observations_in(
     observations_of(alloc, so_far, values)
 }
 
-/// All names of a machine, in this order: its parameters, registers, queues, tables and observations.
+fn pair_name(value: &Value) -> Result<&str, MachineFault>
+    ensures ok { Gives result (λ t. t.now) (pair_name (view value.now)) }
+    ensures err { FailsBy result (pair_name (view value.now)) }
+{
+    let Some(name) = value.get(0) else {
+        return Err(MachineFault::Wrong(Part::Procedures, Why::Shape));
+    };
+    match name.as_str() {
+        Some(text) => Ok(text),
+        None => Err(MachineFault::Wrong(Part::Procedures, Why::Shape)),
+    }
+}
+
+/// The name of a procedure, of an array of a name and a program.
+fn pair_of(value: &Value) -> Result<&str, MachineFault>
+    ensures ok { Gives result (λ t. t.now) (pair_of (view value.now)) }
+    ensures err { FailsBy result (pair_of (view value.now)) }
+{
+    match items_of(value) {
+        Some(values) if has_items(2, values) => pair_name(value),
+        _ => Err(MachineFault::Wrong(Part::Procedures, Why::Shape)),
+    }
+}
+
+/// One procedure more, behind so many.
+fn procedure_named(
+    alloc: Global,
+    place: usize,
+    so_far: Scope,
+    text: &str,
+) -> Result<Scope, MachineFault>
+    ensures ok { Gives result scope (procedure_named place (scope so_far) text.now) }
+    ensures err { FailsBy result (procedure_named place (scope so_far) text.now) }
+{
+    let mut so_far = so_far;
+    let may = is_name(text.as_bytes());
+    new_name(Part::Procedures, may, so_far.names.as_slice(), text)?;
+    let name = String::from_str(alloc, text)?;
+    so_far.names.push(Named {
+        name,
+        thing: Thing::Procedure(place),
+    })?;
+    Ok(so_far)
+}
+
+fn procedures_named(alloc: Global, so_far: Scope, values: &[Value]) -> Result<Scope, MachineFault>
+    ensures ok { Gives result scope (procedures_named 0 (scope so_far) (items_view values.now)) }
+    ensures err { FailsBy result (procedures_named 0 (scope so_far) (items_view values.now)) }
+{
+    let mut all = so_far;
+    for (place, value) in values.iter().enumerate() {
+        let name = pair_of(value)?;
+        all = procedure_named(alloc, place, all, name)?;
+    }
+    Ok(all)
+}
+
+/// The names in the member `procedures`.
+pub(crate) fn procedures_in(
+    alloc: Global,
+    so_far: Scope,
+    member: Option<&Value>,
+) -> Result<Scope, MachineFault>
+    ensures ok { Gives result scope (procedures_in (scope so_far) (data_of member.entry)) }
+    ensures err { FailsBy result (procedures_in (scope so_far) (data_of member.entry)) }
+{
+    let Some(value) = member else {
+        return Ok(so_far);
+    };
+    match items_of(value) {
+        Some(values) => procedures_named(alloc, so_far, values),
+        None => Err(MachineFault::Wrong(Part::Procedures, Why::Shape)),
+    }
+}
+
+/// All names of a machine but its procedures', in this order: its parameters, registers, queues, tables and observations.
 pub(crate) fn scope_of(alloc: Global, value: &Value) -> Result<Scope, MachineFault>
     ensures ok { Gives result scope (scope_of (view value.now)) }
     ensures err { FailsBy result (scope_of (view value.now)) }

@@ -20,6 +20,10 @@ pub enum Part {
     Tables,
     Observations,
     Random,
+    /// The whole of `procedures`, or a name in it.
+    Procedures,
+    /// The program of the procedure at this place.
+    Procedure(usize),
     First,
     Longest,
     Internal,

@@ -1,5 +1,8 @@
 //! A machine of its JSON value.
-ghost use Rattle.serde_json.specs.View.{view};
+ghost use Rattle.std.specs.Prelude.{[], codes, map};
+ghost use Rattle.serde_json.specs.Find.{get};
+ghost use Rattle.serde_json.specs.View.{view, items_view};
+ghost use Rattle.tw_machine_text.specs.Views.{body};
 ghost use Rattle.tw_machine_file.specs.Answers.{Gives, FailsBy, data_of, names_in};
 ghost use Rattle.tw_machine_file.specs.Machine.{
   first_in,
@@ -10,6 +13,9 @@ ghost use Rattle.tw_machine_file.specs.Machine.{
   name_of,
   new_name,
   random_in,
+  procedure_of,
+  procedures_of,
+  procedures_said,
   starts_of,
   texts_of,
 };
@@ -17,12 +23,12 @@ ghost use Rattle.tw_machine_file.specs.Seen.{machine, scope, starts, texts};
 ghost use Rattle.tw_machine_file.specs.Texts.{language_of};
 
 use crate::constants::{constant, count};
-use crate::declarations::{Scope, scope_of};
+use crate::declarations::{Scope, procedures_in, scope_of};
 use crate::fault::{MachineFault, Part, Why};
 use crate::names::{is_machine_name, is_named};
 use crate::outputs::outputs_in;
 use crate::texts::{declared_of, program_in};
-use crate::values::are_among;
+use crate::values::{are_among, items_of};
 use crate::words::words_in;
 use serde_json::Value;
 use std::alloc::Global;
@@ -59,7 +65,7 @@ pub(crate) struct Texts {
 }
 
 /// The members of a machine.
-const MEMBERS: [&[u8]; 13] = [
+const MEMBERS: [&[u8]; 14] = [
     b"name",
     b"parameters",
     b"registers",
@@ -67,6 +73,7 @@ const MEMBERS: [&[u8]; 13] = [
     b"tables",
     b"observations",
     b"random",
+    b"procedures",
     b"first",
     b"longest",
     b"internal",
@@ -149,12 +156,11 @@ fn longest_in(numbers: &[String], member: Option<&Value>) -> Result<Option<Const
     }
 }
 
-/// The members that are constants.
-fn constants_of(numbers: &[String], value: &Value) -> Result<Starts, MachineFault>
-    ensures ok { Gives result starts (starts_of (view value.now) (names_in numbers.now)) }
-    ensures err { FailsBy result (starts_of (view value.now) (names_in numbers.now)) }
+/// The members behind `random` that are constants.
+fn constants_of(numbers: &[String], random: Constant, value: &Value) -> Result<Starts, MachineFault>
+    ensures ok { Gives result starts (starts_of (view value.now) (names_in numbers.now) random) }
+    ensures err { FailsBy result (starts_of (view value.now) (names_in numbers.now) random) }
 {
-    let random = random_in(numbers, value.get("random"))?;
     let first = first_in(numbers, value.get("first"))?;
     let longest = longest_in(numbers, value.get("longest"))?;
     Ok(Starts {
@@ -165,11 +171,81 @@ fn constants_of(numbers: &[String], value: &Value) -> Result<Starts, MachineFaul
 }
 
 /// What a machine of these names starts with.
-fn starts_of(all: &Scope, value: &Value) -> Result<Starts, MachineFault>
-    ensures ok { Gives result starts (starts_of (view value.now) (scope all.now).numbers) }
-    ensures err { FailsBy result (starts_of (view value.now) (scope all.now).numbers) }
+fn starts_of(all: &Scope, random: Constant, value: &Value) -> Result<Starts, MachineFault>
+    ensures ok { Gives result starts (starts_of (view value.now) (scope all.now).numbers random) }
+    ensures err { FailsBy result (starts_of (view value.now) (scope all.now).numbers random) }
 {
-    constants_of(&all.numbers, value)
+    constants_of(&all.numbers, random, value)
+}
+
+/// The seed of a machine of these names.
+fn seed_of(all: &Scope, value: &Value) -> Result<Constant, MachineFault>
+    ensures ok { Gives result (λ c. c) (random_in (scope all.now).numbers
+        (get (codes "random") (view value.now))) }
+    ensures err { FailsBy result (random_in (scope all.now).numbers
+        (get (codes "random") (view value.now))) }
+{
+    random_in(&all.numbers, value.get("random"))
+}
+
+/// The program of the procedure at this place, which may use those before it.
+fn procedure_of(
+    alloc: Global,
+    declared: &[Declared],
+    place: usize,
+    before: &[Block],
+    value: &Value,
+) -> Result<Block, MachineFault>
+    ensures ok { Gives result body (procedure_of (language_of declared.now)
+        place (map body before.now) (view value.now)) }
+    ensures err { FailsBy result (procedure_of (language_of declared.now)
+        place (map body before.now) (view value.now)) }
+{
+    program_in(
+        alloc,
+        declared,
+        before,
+        Part::Procedure(place),
+        value.get(1),
+    )
+}
+
+fn procedures_of(
+    alloc: Global,
+    declared: &[Declared],
+    values: &[Value],
+) -> Result<Vec<Block>, MachineFault>
+    ensures ok { Gives result (λ ps. map body ps.items)
+        (procedures_of (language_of declared.now) 0 [] (items_view values.now)) }
+    ensures err { FailsBy result
+        (procedures_of (language_of declared.now) 0 [] (items_view values.now)) }
+{
+    let mut procedures = Vec::new(alloc);
+    for (place, value) in values.iter().enumerate() {
+        let program = procedure_of(alloc, declared, place, &procedures, value)?;
+        procedures.push(program)?;
+    }
+    Ok(procedures)
+}
+
+/// The programs of the member `procedures`.
+fn procedures_said(
+    alloc: Global,
+    declared: &[Declared],
+    member: Option<&Value>,
+) -> Result<Vec<Block>, MachineFault>
+    ensures ok { Gives result (λ ps. map body ps.items)
+        (procedures_said (language_of declared.now) (data_of member.entry)) }
+    ensures err { FailsBy result
+        (procedures_said (language_of declared.now) (data_of member.entry)) }
+{
+    let Some(value) = member else {
+        return Ok(Vec::new(alloc));
+    };
+    match items_of(value) {
+        Some(values) => procedures_of(alloc, declared, values),
+        None => Err(MachineFault::Wrong(Part::Procedures, Why::Shape)),
+    }
 }
 
 /// What is said by these names.
@@ -177,8 +253,21 @@ fn texts_of(alloc: Global, declared: &[Declared], value: &Value) -> Result<Texts
     ensures ok { Gives result texts (texts_of (view value.now) (language_of declared.now)) }
     ensures err { FailsBy result (texts_of (view value.now) (language_of declared.now)) }
 {
-    let internal = program_in(alloc, declared, Part::Internal, value.get("internal"))?;
-    let external = program_in(alloc, declared, Part::External, value.get("external"))?;
+    let procedures = procedures_said(alloc, declared, value.get("procedures"))?;
+    let internal = program_in(
+        alloc,
+        declared,
+        &procedures,
+        Part::Internal,
+        value.get("internal"),
+    )?;
+    let external = program_in(
+        alloc,
+        declared,
+        &procedures,
+        Part::External,
+        value.get("external"),
+    )?;
     let outputs = outputs_in(alloc, declared, value.get("output"))?;
     let words = words_in(alloc, declared, value.get("words"))?;
     Ok(Texts {
@@ -202,7 +291,7 @@ fn texts_in(alloc: Global, all: &Scope, value: &Value) -> Result<Texts, MachineF
 ///
 /// The first fault in the order of its members is answered ([`MachineFault`], refusal 21): the value is no object; its
 /// name, which none before has; a member that no machine has; then parameters, registers, queues, tables, observations,
-/// random, first, longest, internal, external, output (of an entry its members, then port, value, when, each) and words. In
+/// random, the names of procedures, first, longest, the procedures' programs, internal, external, output (of an entry its members, then port, value, when, each) and words. In
 /// registers, queues and tables the order is that of the value's names, and of each its name comes before what it
 /// declares. Want of memory (4) may come at any point instead. After any of them nothing is left. What hangs on the
 /// numbers of a component, and the limits of the whole machine, is not looked at; a text has at most 4,096 nodes and 64
@@ -217,7 +306,9 @@ pub fn machine_of(
 {
     let name = head_of(before, value)?;
     let scope = scope_of(alloc, value)?;
-    let starts = starts_of(&scope, value)?;
+    let random = seed_of(&scope, value)?;
+    let scope = procedures_in(alloc, scope, value.get("procedures"))?;
+    let starts = starts_of(&scope, random, value)?;
     let texts = texts_in(alloc, &scope, value)?;
     let name = String::from_str(alloc, name)?;
     Ok(FileMachine {

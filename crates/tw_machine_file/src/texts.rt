@@ -43,6 +43,7 @@ fn kind_of(declared: &Thing) -> Kind
         Thing::Table(_) => Kind::Table,
         Thing::ListTable(_) => Kind::Table,
         Thing::Observation => Kind::Observation,
+        Thing::Procedure(place) => Kind::Procedure(*place),
     }
 }
 
@@ -114,13 +115,16 @@ fn text_of(alloc: Global, value: &Value) -> Result<Option<String>, AllocError>
 fn program(
     alloc: Global,
     declared: &[Declared],
+    procedures: &[Block],
     part: Part,
     text: &str,
 ) -> Result<Block, MachineFault>
-    ensures ok { Gives result body (program_text (language_of declared.now) part text.now) }
-    ensures err { FailsBy result (program_text (language_of declared.now) part text.now) }
+    ensures ok { Gives result body (program_text (language_of declared.now)
+        (map body procedures.now) part text.now) }
+    ensures err { FailsBy result (program_text (language_of declared.now)
+        (map body procedures.now) part text.now) }
 {
-    match read_program(alloc, declared, text, MAX_NODES) {
+    match read_program(alloc, declared, procedures, text, MAX_NODES) {
         Ok(read) => Ok(read.block),
         Err(TextRefused::OutOfMemory) => Err(MachineFault::OutOfMemory),
         Err(TextRefused::Wrong(place)) => Err(MachineFault::Text(part, place)),
@@ -149,19 +153,20 @@ fn expression(
 pub fn program_in(
     alloc: Global,
     declared: &[Declared],
+    procedures: &[Block],
     part: Part,
     member: Option<&Value>,
 ) -> Result<Block, MachineFault>
-    ensures ok { Gives result body (program_in (language_of declared.now) part
-        (data_of member.entry)) }
-    ensures err { FailsBy result (program_in (language_of declared.now) part
-        (data_of member.entry)) }
+    ensures ok { Gives result body (program_in (language_of declared.now)
+        (map body procedures.now) part (data_of member.entry)) }
+    ensures err { FailsBy result (program_in (language_of declared.now)
+        (map body procedures.now) part (data_of member.entry)) }
 {
     let Some(value) = member else {
         return Ok(Block::Empty);
     };
     match text_of(alloc, value)? {
-        Some(text) => program(alloc, declared, part, text.as_str()),
+        Some(text) => program(alloc, declared, procedures, part, text.as_str()),
         None => Err(MachineFault::Wrong(part, Why::Shape)),
     }
 }

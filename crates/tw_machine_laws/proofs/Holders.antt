@@ -1,14 +1,13 @@
 -- The holder stands for the relay.
 use Rattle.std.proofs.Common.{◌≡◌, ◌≢◌, ℕ, ℤ, zero, suc, ◌≤◌, ◌++◌, ◌∷◌, [], List, length, take, drop, map, refl, ap, arith, ◌∙◌, Option, Some, None, append-nil, drop_of_length-le, take_all}
 use Rattle.std.specs.Prelude.{slice_index_or}
-use Rattle.std.specs.List.{flat_map}
 use Rattle.std.specs.Int.{w64, cast_signed, cast_unsigned}
 use Rattle.tw_atomic.specs.Atomic.{Bag}
 use Rattle.tw_machine.specs.declared.memory.Input.{Input}
 use Rattle.tw_machine.specs.declared.memory.State.{State}
 use Rattle.tw_machine.specs.declared.language.Statement.{Statement}
 use Rattle.tw_machine.specs.declared.language.Statement.TheVariants.{Skip}
-use Rattle.tw_machine.specs.Memory.{QueueValue, no_queue}
+use Rattle.tw_machine.specs.Memory.{QueueValue, MemoryValue, no_queue}
 use Rattle.tw_machine.specs.Seen.{both}
 use Rattle.tw_machine.specs.Machine as machine
 use Rattle.tw_machine.specs.Machine.{later, machine_ext, machine_int, machine_meaning, machine_out, moved, own_input, ticks_of, time, time_left}
@@ -18,7 +17,7 @@ use Rattle.tw_models.specs.Queue.{later_jobs}
 use Rattle.tw_models.specs.Parameters.{RelayParameters}
 use Rattle.tw_models.specs.declared.relay.RelayState.{RelayState}
 use Rattle.tw_machine_laws.specs.Bisimulation.{IsBisimulation, modulo}
-use Rattle.tw_machine_laws.specs.Holder.{RelayStands, holder, lets_go}
+use Rattle.tw_machine_laws.specs.Holder.{RelayStands, all_held, holder, lets_go}
 use Rattle.tw_machine_laws.proofs.Counts.{shown}
 use Rattle.tw_machine_laws.proofs.Intakes.{accepted-within, bag_comes, begun_by-is, is_kept, kept, pop, popped, waits-with}
 
@@ -82,9 +81,9 @@ ext-stands r s t elapsed bag some h =
 abbrev on_zero : ℤ → ℕ × ℤ
 on_zero v = (0, v)
 
-each : (items : List ℤ) → flat_map (λ v. on_zero v ∷ []) items ≡ map on_zero items
-each [] = refl
-each (v ∷ vs) = ap (λ bag. on_zero v ∷ bag) (each vs)
+each : (numbers : List ℤ) (i : Input) (m : MemoryValue) (k : ℕ) (items : List ℤ) → machine.offered_each all_held numbers i m k items ≡ map on_zero items
+each numbers i m k [] = refl
+each numbers i m k (v ∷ vs) = ap (λ bag. on_zero v ∷ bag) (each numbers i m (suc k) vs)
 
 few : (items : List ℤ) → length items ≤ 32 → length (map on_zero items) ≤ 64
 few items h = omega (arith, h, same items)
@@ -95,8 +94,11 @@ few items h = omega (arith, h, same items)
 
 sends-same : (r : RelayParameters) (s : RelayState) (t : State) → RelayStands s t → (elapsed : ℕ) → s.left ≡ Some elapsed → machine_out (holder r) t ≡ map on_zero s.held.items
 sends-same r s t h elapsed due =
-    ap (λ (queues : List QueueValue). take 64 (flat_map (λ v. on_zero v ∷ []) (slice_index_or queues 0 no_queue).items ++ [])) h.queues
-    ∙ ap (λ (bag : Bag). take 64 (bag ++ [])) (each s.held.items)
+    let gone = ticks_of t.left in
+    let i = own_input gone (later t.time gone) in
+    let numbers = (holder r).numbers in
+    ap (λ (queues : List QueueValue). take 64 (machine.offered_each all_held numbers i t.memory 0 (slice_index_or queues 0 no_queue).items ++ [])) h.queues
+    ∙ ap (λ (bag : Bag). take 64 (bag ++ [])) (each numbers i t.memory 0 s.held.items)
     ∙ ap (λ (bag : Bag). take 64 bag) (append-nil (map on_zero s.held.items))
     ∙ take_all 64 (map on_zero s.held.items) (few s.held.items h.room)
 

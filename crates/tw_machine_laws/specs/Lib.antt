@@ -1,5 +1,6 @@
 pub mod Adder
 pub mod Bisimulation
+pub mod Clear
 pub mod Holder
 pub mod Intake
 pub mod Line

@@ -11,6 +11,8 @@
 //! So the meaning of machines (`tw_machine/specs`) is tied to that of the models (`tw_models/specs`), which was written
 //! first and without it. The hop has no machine here.
 //!
+//! And `clear`, which the core of the language says by the room of its queue, empties it (specs/Clear.antt).
+//!
 //! A count from 2^63 on is a negative number in a machine's register, and not in a model's state: words agree as numbers
 //! of 64 bits.
 #![tactic(auto)]
@@ -24,6 +26,7 @@ ghost use Rattle.tw_models.specs.Relay.{relay_meaning};
 ghost use Rattle.tw_models.specs.Tally.{tally_meaning};
 ghost use Rattle.tw_machine_laws.specs.Adder.{adder, adder_text, TallyStands};
 ghost use Rattle.tw_machine_laws.specs.Bisimulation.{IsBisimulation};
+ghost use Rattle.tw_machine_laws.specs.Clear.{ClearLaw};
 ghost use Rattle.tw_machine_laws.specs.Holder.{holder, holder_text, RelayStands};
 ghost use Rattle.tw_machine_laws.specs.Line.{line, line_text, QueueStands};
 ghost use Rattle.tw_machine_laws.specs.Maker.{maker, maker_text, GenStands};
@@ -48,6 +51,11 @@ pub fn models_law()
         → IsBisimulation RelayStands (relay_meaning r) (machine_meaning (holder r)) }
     ensures queue { (q : QueueParameters)
         → IsBisimulation QueueStands (queue_meaning q) (machine_meaning (line q)) }
+{}
+
+/// `clear` leaves no value in its queue.
+pub fn clear_law()
+    ensures { ClearLaw }
 {}
 
 /// Whichever components of a network are replaced by their machines, its sequential run makes the same records, word for

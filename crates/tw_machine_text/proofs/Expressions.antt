@@ -10,7 +10,7 @@ use Rattle.tw_machine_text.specs.declared.words.Builtin.TheVariants.{Random}
 use Rattle.tw_machine_text.specs.declared.words.Word.{Word}
 use Rattle.tw_machine_text.specs.declared.words.Word.TheVariants as word
 use Rattle.tw_machine_text.specs.Tree.{Tree, Number, Name, Known, Indexed, Call, RandomBelow, Group, Negate, Not, Binary, spelled, rank, left_rank, level, IsExpr, deep}
-use Rattle.tw_machine_text.specs.Machine.{Frame, Operand, InNot, InNegative, InGroup, InIndex, InCall, InRandom, InPlace, InChange, InQueue, InItem, InPop, InWait, InIf, InElseIf, InCount, InThen, InElseThen, InElse, InTurns, State, Need, Have, demand, depth, reduce, nest, shift, close, close_index, step, run}
+use Rattle.tw_machine_text.specs.Machine.{Frame, Operand, InNot, InNegative, InGroup, InIndex, InCall, InRandom, InPlace, InChange, InQueue, InItem, InDeed, InWait, InIf, InElseIf, InCount, InThen, InElseThen, InElse, InTurns, State, Need, Have, demand, depth, reduce, nest, shift, close, close_index, step, run}
 
 pub record Comes (most : ℕ) (s : List Frame) (t : Tree) : Type 0 where
   pub stack : List Frame
@@ -58,7 +58,7 @@ still op (InPlace b ∷ s) t h = refl
 still op (InChange b p c ∷ s) t h = refl
 still op (InQueue b v ∷ s) t h = refl
 still op (InItem b v q ∷ s) t h = refl
-still op (InPop b ∷ s) t h = refl
+still op (InDeed b d ∷ s) t h = refl
 still op (InWait b ∷ s) t h = refl
 still op (InIf b ∷ s) t h = refl
 still op (InElseIf b a ∷ s) t h = refl

@@ -12,8 +12,8 @@ use Rattle.tw_machine_text.specs.Tree.{Tree, Block}
 use Rattle.tw_machine_text.specs.Views.{Tells, IsReadAs}
 use Rattle.tw_machine_text.proofs.Readings.{none_some_words}
 
-pub moved : (n : ℕ) (names : List (List ℕ)) (k l : List Kind) (s t : List ℕ) (p : Block) → k ≡ l → s ≡ t → Reads 64 n names l t p → Reads 64 n names k s p
-moved n names k l s t p e f h = subst (λ (x : List Kind). Reads 64 n names x s p) (sym e) (subst (λ (y : List ℕ). Reads 64 n names l y p) (sym f) h)
+pub moved : (n : ℕ) (names : List (List ℕ)) (k l : List Kind) (ps : List Block) (s t : List ℕ) (p : Block) → k ≡ l → s ≡ t → Reads 64 n names l ps t p → Reads 64 n names k ps s p
+moved n names k l ps s t p e f h = subst (λ (x : List Kind). Reads 64 n names x ps s p) (sym e) (subst (λ (y : List ℕ). Reads 64 n names l ps y p) (sym f) h)
 
 pub moved_tree : (n : ℕ) (m : Member) (names : List (List ℕ)) (k l : List Kind) (s t : List ℕ) (p : Tree) → k ≡ l → s ≡ t → ReadsTree 64 n m names l t p → ReadsTree 64 n m names k s p
 moved_tree n m names k l s t p e f h = subst (λ (x : List Kind). ReadsTree 64 n m names x s p) (sym e) (subst (λ (y : List ℕ). ReadsTree 64 n m names l y p) (sym f) h)

@@ -6,15 +6,15 @@ use Rattle.std.proofs.lemmas.Bool.{lt-ltb}
 use Rattle.tw_machine_text.specs.declared.words.Verb.{Verb}
 use Rattle.tw_machine_text.specs.declared.words.Word.{Word}
 use Rattle.tw_machine_text.specs.declared.words.Word.TheVariants as word
-use Rattle.tw_machine_text.specs.Tree.{Tree, Number, Name, Indexed, Binary, spelled, rank, level, is_count, IsExpr, deep, SourceStatement, Assign, Act, Pop, Draw, Wait, Passivate, If, IfElse, Repeat, Block, Empty, Then, Arms, One, More, said, said_block, said_arms, IsStatement, IsBlock, AreArms, deep_statement, deep_block, deep_arms, Means}
-use Rattle.tw_machine_text.specs.Machine.{Frame, Operand, InNot, InNegative, InGroup, InIndex, InCall, InRandom, InPlace, InChange, InQueue, InItem, InPop, InWait, InIf, InElseIf, InCount, InThen, InElseThen, InElse, InTurns, State, Need, Have, Begin, After, AfterThen, AfterElse, demand, depth, reduce, becomes, open_block, enter, finished, ended, close_block, start, named, marked, have, step, run, whole, program_of}
+use Rattle.tw_machine_text.specs.Tree.{Tree, Number, Name, Indexed, Binary, spelled, rank, level, is_count, IsExpr, deep, SourceStatement, Assign, Act, Treat, Draw, Wait, Passivate, If, IfElse, Repeat, Block, Empty, Then, Arms, One, More, said, said_block, said_arms, IsStatement, IsBlock, AreArms, deep_statement, deep_block, deep_arms, Means}
+use Rattle.tw_machine_text.specs.Machine.{Frame, Operand, InNot, InNegative, InGroup, InIndex, InCall, InRandom, InPlace, InChange, InQueue, InItem, InDeed, InWait, InIf, InElseIf, InCount, InThen, InElseThen, InElse, InTurns, State, Need, Have, Begin, After, AfterThen, AfterElse, demand, depth, reduce, becomes, open_block, enter, finished, ended, close_block, start, named, marked, have, step, run, whole, program_of}
 use Rattle.tw_machine_text.proofs.Expressions.{Comes, come, ahead, ranks, still_past}
 
 -- the words that begin a statement or end a block
 abbrev starts : Word → Bool
 starts (word.Name n) = true
 starts (word.Begins v) = true
-starts word.Pop = true
+starts (word.Does d) = true
 starts word.Draw = true
 starts word.Wait = true
 starts word.Passivate = true
@@ -40,7 +40,7 @@ named-starts n (f ∷ s) t r h = ap (option_and_then (start (word.Name n))) h
 starts-have : (most : ℕ) (w : Word) (s : List Frame) (t : Tree) (r : List Frame × Block) → starts w ≡ true → finished false (reduce 0 s t) ≡ Some r → have most w s t ≡ start w r
 starts-have most (word.Name n) s t r h e = let p = reduce 0 s t in named-starts n p.0 p.1 r e
 starts-have most (word.Begins v) s t r h e = ap (option_and_then (start (word.Begins v))) e
-starts-have most word.Pop s t r h e = ap (option_and_then (start word.Pop)) e
+starts-have most (word.Does d) s t r h e = ap (option_and_then (start (word.Does d))) e
 starts-have most word.Draw s t r h e = ap (option_and_then (start word.Draw)) e
 starts-have most word.Wait s t r h e = ap (option_and_then (start word.Wait)) e
 starts-have most word.Passivate s t r h e = ap (option_and_then (start word.Passivate)) e
@@ -128,9 +128,9 @@ mutual
       ∙ ap (λ (r : List Frame × Tree). run most (spelled e ws) (Have r.0 r.1)) same
       ∙ behind_queue most e b v s q ws)
       refl (λ m. ap (λ z. cond z (Some (s, Then b (Act v q e) m)) None) fits.1)
-  tell most (Pop q) st s b fits can room =
-      last_operand most (InPop b) s b (Pop q) st q (come most q (InPop b ∷ s) fits.1 fits.0 (omega arith))
-      (λ ws. ahead most word.Pop (spelled q ws) st (Need (InPop b ∷ s)) (starting most word.Pop st (s, b) refl can))
+  tell most (Treat d q) st s b fits can room =
+      last_operand most (InDeed b d) s b (Treat d q) st q (come most q (InDeed b d ∷ s) fits.1 fits.0 (omega arith))
+      (λ ws. ahead most (word.Does d) (spelled q ws) st (Need (InDeed b d ∷ s)) (starting most (word.Does d) st (s, b) refl can))
       refl (λ m. refl)
   tell most Draw st s b fits can room =
       record { next = After s b Draw; go = λ ws. ahead most word.Draw ws st (After s b Draw) (starting most word.Draw st (s, b) refl can); plain = refl; marks = refl }
@@ -213,5 +213,5 @@ again_means most many ws program h = ap (program_of most) h.words ∙ again most
 -- words are one program at most
 pub one_program : (ws : List Word) (m n j k : ℕ) (a b : Block) → Means m j ws a → Means n k ws b → a ≡ b
 one_program ws m n j k a b h i =
-    same_Some a b (sym (again_means (max m n) j ws a (record { words = h.words; fits = h.fits; levels = omega (arith, h.levels); size = h.size }))
-    ∙ again_means (max m n) k ws b (record { words = i.words; fits = i.fits; levels = omega (arith, i.levels); size = i.size }))
+    same_Some a b (sym (again_means (max m n) j ws a (record { words = h.words; fits = h.fits; levels = omega (arith, h.levels); size = h.size; short = h.short }))
+    ∙ again_means (max m n) k ws b (record { words = i.words; fits = i.fits; levels = omega (arith, i.levels); size = i.size; short = i.short }))

@@ -11,8 +11,8 @@ use Rattle.tw_machine_text.specs.declared.words.Builtin.TheVariants.{Random}
 use Rattle.tw_machine_text.specs.declared.words.SourceChange.{SourceChange}
 use Rattle.tw_machine_text.specs.declared.words.Word.{Word}
 use Rattle.tw_machine_text.specs.declared.words.Word.TheVariants as word
-use Rattle.tw_machine_text.specs.Tree.{Tree, Number, Name, Known, Indexed, Call, RandomBelow, Group, Negate, Not, Binary, spelled, rank, left_rank, level, count, wanted, is_count, fits_call, IsExpr, deep, SourceStatement, Assign, Act, Pop, Draw, Wait, Passivate, If, IfElse, Repeat, Block, Empty, Then, Arms, One, More, mark, said, said_block, said_arms, IsStatement, IsBlock, AreArms, deep_statement, deep_block, deep_arms, Means}
-use Rattle.tw_machine_text.specs.Machine.{Frame, Operand, InNot, InNegative, InGroup, InIndex, InCall, InRandom, InPlace, InChange, InQueue, InItem, InPop, InWait, InIf, InElseIf, InCount, InThen, InElseThen, InElse, InTurns, State, Need, Have, Begin, After, AfterThen, AfterElse, demand, depth, reduce, nest, operand, need, item, shift, called, indexed, close, close_index, becomes, open_block, enter, finished, ended, close_block, start, named, marked, have, after_arm, after_else, after, step, run, whole, program_of, weigh}
+use Rattle.tw_machine_text.specs.Tree.{Tree, Number, Name, Known, Indexed, Call, RandomBelow, Group, Negate, Not, Binary, spelled, rank, left_rank, level, count, wanted, is_count, fits_call, IsExpr, deep, SourceStatement, Assign, Act, Treat, Draw, Wait, Passivate, If, IfElse, Repeat, Block, Empty, Then, Arms, One, More, mark, said, said_block, said_arms, IsStatement, IsBlock, AreArms, deep_statement, deep_block, deep_arms, Means, heads}
+use Rattle.tw_machine_text.specs.Machine.{Frame, Operand, InNot, InNegative, InGroup, InIndex, InCall, InRandom, InPlace, InChange, InQueue, InItem, InDeed, InWait, InIf, InElseIf, InCount, InThen, InElseThen, InElse, InTurns, State, Need, Have, Begin, After, AfterThen, AfterElse, demand, depth, reduce, nest, operand, need, item, shift, called, indexed, close, close_index, becomes, open_block, enter, finished, ended, close_block, start, named, marked, have, after_arm, after_else, after, step, run, whole, program_of, weigh}
 use Rattle.tw_machine_text.proofs.Expressions.{ranks}
 use Rattle.tw_machine_text.proofs.Weights.{weigh_block}
 
@@ -30,7 +30,7 @@ told (InPlace b ∷ s) ws = told s (said_block b ws)
 told (InChange b p c ∷ s) ws = told s (said_block b (spelled p (word.Becomes c ∷ ws)))
 told (InQueue b v ∷ s) ws = told s (said_block b (word.Begins v ∷ ws))
 told (InItem b v q ∷ s) ws = told s (said_block b (word.Begins v ∷ spelled q ws))
-told (InPop b ∷ s) ws = told s (said_block b (word.Pop ∷ ws))
+told (InDeed b d ∷ s) ws = told s (said_block b (word.Does d ∷ ws))
 told (InWait b ∷ s) ws = told s (said_block b (word.Wait ∷ ws))
 told (InIf b ∷ s) ws = told s (said_block b (word.If ∷ ws))
 told (InElseIf b a ∷ s) ws = told s (said_block b (said_arms a (word.Else ∷ word.If ∷ ws)))
@@ -71,7 +71,7 @@ Fits most (InPlace b ∷ s) = BlockIn most s b × Fits most s
 Fits most (InChange b p c ∷ s) = BlockIn most s b × TreeIn most 9 s p × Fits most s
 Fits most (InQueue b v ∷ s) = BlockIn most s b × Fits most s
 Fits most (InItem b v q ∷ s) = BlockIn most s b × TreeIn most 9 s q × Fits most s
-Fits most (InPop b ∷ s) = BlockIn most s b × Fits most s
+Fits most (InDeed b d ∷ s) = BlockIn most s b × Fits most s
 Fits most (InWait b ∷ s) = BlockIn most s b × Fits most s
 Fits most (InIf b ∷ s) = BlockIn most s b × Fits most s
 Fits most (InElseIf b a ∷ s) = BlockIn most s b × ArmsIn most s a × Fits most s
@@ -140,7 +140,7 @@ shallow most (InPlace b ∷ s) h = shallow most s h.1
 shallow most (InChange b p c ∷ s) h = shallow most s h.2
 shallow most (InQueue b v ∷ s) h = shallow most s h.1
 shallow most (InItem b v q ∷ s) h = shallow most s h.2
-shallow most (InPop b ∷ s) h = shallow most s h.1
+shallow most (InDeed b d ∷ s) h = shallow most s h.1
 shallow most (InWait b ∷ s) h = shallow most s h.1
 shallow most (InIf b ∷ s) h = shallow most s h.1
 shallow most (InElseIf b a ∷ s) h = shallow most s h.2
@@ -279,7 +279,7 @@ finished_kept most before m (InChange b p c ∷ s) t r h e = got (Blocked most (
     (record { words = λ ws. h.words (mark m ws); inside = ((h.fits.0.0, ((h.fits.1.0, h.fits.1.1), (h.fit, h.expr))), omega (arith, h.fits.0.1, h.fits.1.2, h.room)); fits = h.fits.2 })
 finished_kept most before m (InItem b v q ∷ s) t r h e = guarded (Blocked most (λ ws. before (mark m ws))) (nat_eq (count t) (wanted v)) (s, Then b (Act v q t) m) r e
     (λ k. record { words = λ ws. h.words (mark m ws); inside = ((h.fits.0.0, ((h.fits.1.0, h.fits.1.1), k, h.expr)), omega (arith, h.fits.0.1, h.fits.1.2, h.room)); fits = h.fits.2 })
-finished_kept most before m (InPop b ∷ s) t r h e = got (Blocked most (λ ws. before (mark m ws))) (s, Then b (Pop t) m) r e
+finished_kept most before m (InDeed b d ∷ s) t r h e = got (Blocked most (λ ws. before (mark m ws))) (s, Then b (Treat d t) m) r e
     (record { words = λ ws. h.words (mark m ws); inside = ((h.fits.0.0, (h.fit, h.expr)), omega (arith, h.fits.0.1, h.room)); fits = h.fits.1 })
 finished_kept most before m (InWait b ∷ s) t r h e = got (Blocked most (λ ws. before (mark m ws))) (s, Then b (Wait t) m) r e
     (record { words = λ ws. h.words (mark m ws); inside = ((h.fits.0.0, (h.fit, h.expr)), omega (arith, h.fits.0.1, h.room)); fits = h.fits.1 })
@@ -302,7 +302,7 @@ start_kept : (most : ℕ) (before : List Word → List Word) (w : Word) (s : Lis
 start_kept most before (word.Name n) s b next h e = got (Kept most (λ ws. before (word.Name n ∷ ws))) (Have (InPlace b ∷ s) (Name n)) next e
     (have_top most (λ ws. before (word.Name n ∷ ws)) (InPlace b ∷ s) (Name n) (λ ws. h.words (word.Name n ∷ ws)) (h.inside, h.fits) tt (omega arith) (omega (arith, shallow most s h.fits)) (omega arith))
 start_kept most before (word.Begins v) s b next h e = got (Kept most (λ ws. before (word.Begins v ∷ ws))) (Need (InQueue b v ∷ s)) next e (record { words = λ ws. h.words (word.Begins v ∷ ws); fits = (h.inside, h.fits) })
-start_kept most before word.Pop s b next h e = got (Kept most (λ ws. before (word.Pop ∷ ws))) (Need (InPop b ∷ s)) next e (record { words = λ ws. h.words (word.Pop ∷ ws); fits = (h.inside, h.fits) })
+start_kept most before (word.Does d) s b next h e = got (Kept most (λ ws. before (word.Does d ∷ ws))) (Need (InDeed b d ∷ s)) next e (record { words = λ ws. h.words (word.Does d ∷ ws); fits = (h.inside, h.fits) })
 start_kept most before word.Draw s b next h e = got (Kept most (λ ws. before (word.Draw ∷ ws))) (After s b Draw) next e (record { words = λ ws. h.words (word.Draw ∷ ws); fits = (h.inside, tt, omega (arith, shallow most s h.fits), h.fits) })
 start_kept most before word.Wait s b next h e = got (Kept most (λ ws. before (word.Wait ∷ ws))) (Need (InWait b ∷ s)) next e (record { words = λ ws. h.words (word.Wait ∷ ws); fits = (h.inside, h.fits) })
 start_kept most before word.Passivate s b next h e = got (Kept most (λ ws. before (word.Passivate ∷ ws))) (After s b Passivate) next e (record { words = λ ws. h.words (word.Passivate ∷ ws); fits = (h.inside, tt, omega (arith, shallow most s h.fits), h.fits) })
@@ -411,10 +411,10 @@ spelled_of most ws program e =
     let means = whole_kept most (told_state st) r.0 r.1 program done y in
     record { words = sym (k.1 []) ∙ means.words; fits = means.fits; levels = means.levels }))
 
-pub sound : (most many : ℕ) (ws : List Word) (program : Block) → weigh false ws ≤ many → program_of most ws ≡ Some program → Means most many ws program
-sound most many ws program light e =
+pub sound : (most many : ℕ) (ws : List Word) (program : Block) → weigh false ws ≤ many → heads ws ≤ 4096 → program_of most ws ≡ Some program → Means most many ws program
+sound most many ws program light short e =
     let h = spelled_of most ws program e in
-    record { words = h.words; fits = h.fits; levels = h.levels; size = omega (arith, light, ap (weigh false) h.words, weigh_block program []) }
+    record { words = h.words; fits = h.fits; levels = h.levels; size = omega (arith, light, ap (weigh false) h.words, weigh_block program []); short = short }
 
 -- what a program's words weigh
 pub light : (most many : ℕ) (ws : List Word) (program : Block) → Means most many ws program → weigh false ws ≤ many

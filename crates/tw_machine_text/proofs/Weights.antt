@@ -3,7 +3,7 @@ use Rattle.std.proofs.Common.{◌≡◌, ◌+◌, Bool, true, false, List, ◌�
 use Rattle.tw_machine_text.specs.declared.words.Operator.TheVariants.{Comma}
 use Rattle.tw_machine_text.specs.declared.words.Word.{Word}
 use Rattle.tw_machine_text.specs.declared.words.Word.TheVariants as word
-use Rattle.tw_machine_text.specs.Tree.{Tree, Number, Name, Known, Indexed, Call, RandomBelow, Group, Negate, Not, Binary, spelled, SourceStatement, Assign, Act, Pop, Draw, Wait, Passivate, If, IfElse, Repeat, Block, Empty, Then, Arms, One, More, mark, said, said_block, said_arms, nodes, nodes_statement, nodes_block, nodes_arms}
+use Rattle.tw_machine_text.specs.Tree.{Tree, Number, Name, Known, Indexed, Call, RandomBelow, Group, Negate, Not, Binary, spelled, SourceStatement, Assign, Act, Treat, Draw, Wait, Passivate, If, IfElse, Repeat, Block, Empty, Then, Arms, One, More, mark, said, said_block, said_arms, nodes, nodes_statement, nodes_block, nodes_arms}
 use Rattle.tw_machine_text.specs.Machine.{weigh}
 
 pub weigh_tree : (t : Tree) (ws : List Word) (chained : Bool) → weigh chained (spelled t ws) ≡ nodes t + weigh false ws
@@ -36,7 +36,7 @@ mutual
   pub weigh_said : (x : SourceStatement) (ws : List Word) → weigh false (said x ws) ≡ nodes_statement x + weigh false ws
   weigh_said (Assign p c e) ws = omega (arith, weigh_tree p (word.Becomes c ∷ spelled e ws) false, weigh_tree e ws false)
   weigh_said (Act v q e) ws = omega (arith, weigh_tree q (spelled e ws) false, weigh_tree e ws false)
-  weigh_said (Pop q) ws = omega (arith, weigh_tree q ws false)
+  weigh_said (Treat d q) ws = omega (arith, weigh_tree q ws false)
   weigh_said Draw ws = refl
   weigh_said (Wait e) ws = omega (arith, weigh_tree e ws false)
   weigh_said Passivate ws = refl

@@ -1,25 +1,30 @@
--- Worked examples of how tightly operators bind, and of what is desugared, a to d being the names 10 to 13.
-use Rattle.std.specs.Prelude.{◌≡◌, List, [], ◌∷◌, true, false}
+-- Worked examples of how tightly operators bind, and of what is desugared, a to d being the first names that are declared.
+use Rattle.std.specs.Prelude.{◌≡◌, List, [], ◌∷◌, ◌++◌, true, false, replicate}
 use Rattle.tw_machine_text.specs.declared.words.Operator.TheVariants.{Comma, Or, And, Equal, Less, Plus, Minus, Times}
 use Rattle.tw_machine_text.specs.declared.words.Word.{Word}
 use Rattle.tw_machine_text.specs.declared.words.Word.TheVariants as word
 use Rattle.tw_machine_text.specs.declared.words.SourceChange.TheVariants.{Set, Add}
 use Rattle.tw_machine_text.specs.declared.words.Verb.TheVariants.{Push, Put, Observe}
+use Rattle.tw_machine_text.specs.Letters.{own, own_names}
 use Rattle.tw_machine_text.specs.Limits.{max_levels, max_nodes}
+use Rattle.tw_machine_text.specs.declared.kinds.Kind.{Kind}
+use Rattle.tw_machine_text.specs.declared.kinds.Kind.TheVariants.{Nothing, Register, Table, Queue}
+use Rattle.tw_machine_text.specs.declared.kinds.Member.TheVariants.{Value}
 use Rattle.tw_machine_text.specs.Desugared.{desugared_block}
-use Rattle.tw_machine_text.specs.Tree.{Tree, Number, Name, Indexed, Group, Negate, Not, Binary, Block, Empty, Then, Assign, Act, Wait, Draw, IfElse, One, More, Means}
+use Rattle.tw_machine_text.specs.Drawn.{core_tree, may_stand, may_stand_as}
+use Rattle.tw_machine_text.specs.Tree.{Tree, Number, Name, Indexed, Call, RandomBelow, Group, Negate, Not, Binary, SourceStatement, Block, Empty, Then, Assign, Act, Wait, Draw, If, IfElse, Repeat, One, More, Means}
 
 abbrev pub a : Tree
-a = Name 10
+a = Name (own 0)
 
 abbrev pub b : Tree
-b = Name 11
+b = Name (own 1)
 
 abbrev pub c : Tree
-c = Name 12
+c = Name (own 2)
 
 abbrev pub d : Tree
-d = Name 13
+d = Name (own 3)
 
 -- the program that waits for this
 abbrev pub Waiting : List Word → Tree → Type 0
@@ -27,30 +32,30 @@ Waiting ws e = Means max_levels max_nodes (word.Wait ∷ ws) (Then Empty (Wait e
 
 -- not a == b
 abbrev pub not_equal : Type 0
-not_equal = Waiting (word.Not ∷ word.Name 10 ∷ word.Sign Equal ∷ word.Name 11 ∷ []) (Not (Binary Equal a b))
+not_equal = Waiting (word.Not ∷ word.Name (own 0) ∷ word.Sign Equal ∷ word.Name (own 1) ∷ []) (Not (Binary Equal a b))
 
 -- a - b - c
 abbrev pub two_less : Type 0
-two_less = Waiting (word.Name 10 ∷ word.Sign Minus ∷ word.Name 11 ∷ word.Sign Minus ∷ word.Name 12 ∷ []) (Binary Minus (Binary Minus a b) c)
+two_less = Waiting (word.Name (own 0) ∷ word.Sign Minus ∷ word.Name (own 1) ∷ word.Sign Minus ∷ word.Name (own 2) ∷ []) (Binary Minus (Binary Minus a b) c)
 
 -- -a * b
 abbrev pub minus_times : Type 0
-minus_times = Waiting (word.Sign Minus ∷ word.Name 10 ∷ word.Sign Times ∷ word.Name 11 ∷ []) (Binary Times (Negate a) b)
+minus_times = Waiting (word.Sign Minus ∷ word.Name (own 0) ∷ word.Sign Times ∷ word.Name (own 1) ∷ []) (Binary Times (Negate a) b)
 
 -- a < b and c or d
 abbrev pub and_or : Type 0
-and_or = Waiting (word.Name 10 ∷ word.Sign Less ∷ word.Name 11 ∷ word.Sign And ∷ word.Name 12 ∷ word.Sign Or ∷ word.Name 13 ∷ []) (Binary Or (Binary And (Binary Less a b) c) d)
+and_or = Waiting (word.Name (own 0) ∷ word.Sign Less ∷ word.Name (own 1) ∷ word.Sign And ∷ word.Name (own 2) ∷ word.Sign Or ∷ word.Name (own 3) ∷ []) (Binary Or (Binary And (Binary Less a b) c) d)
 
 -- put q 0, a - 1 push q -a draw: a sign behind a queue begins what is pushed
 abbrev pub behind_queues : Type 0
 behind_queues = Means max_levels max_nodes
-    (word.Begins Put ∷ word.Name 12 ∷ word.Number 0 ∷ word.Sign Comma ∷ word.Name 10 ∷ word.Sign Minus ∷ word.Number 1 ∷ word.Begins Push ∷ word.Name 12 ∷ word.Sign Minus ∷ word.Name 10 ∷ word.Draw ∷ [])
+    (word.Begins Put ∷ word.Name (own 2) ∷ word.Number 0 ∷ word.Sign Comma ∷ word.Name (own 0) ∷ word.Sign Minus ∷ word.Number 1 ∷ word.Begins Push ∷ word.Name (own 2) ∷ word.Sign Minus ∷ word.Name (own 0) ∷ word.Draw ∷ [])
     (Then (Then (Then Empty (Act Put c (Binary Comma (Number 0) (Binary Minus a (Number 1)))) false) (Act Push c (Negate a)) false) Draw false)
 
 -- if a { draw; } else if b { } else { c = 1 }
 abbrev pub chains : Type 0
 chains = Means max_levels max_nodes
-    (word.If ∷ word.Name 10 ∷ word.OpenBrace ∷ word.Draw ∷ word.Semicolon ∷ word.CloseBrace ∷ word.Else ∷ word.If ∷ word.Name 11 ∷ word.OpenBrace ∷ word.CloseBrace ∷ word.Else ∷ word.OpenBrace ∷ word.Name 12 ∷ word.Becomes Set ∷ word.Number 1 ∷ word.CloseBrace ∷ [])
+    (word.If ∷ word.Name (own 0) ∷ word.OpenBrace ∷ word.Draw ∷ word.Semicolon ∷ word.CloseBrace ∷ word.Else ∷ word.If ∷ word.Name (own 1) ∷ word.OpenBrace ∷ word.CloseBrace ∷ word.Else ∷ word.OpenBrace ∷ word.Name (own 2) ∷ word.Becomes Set ∷ word.Number 1 ∷ word.CloseBrace ∷ [])
     (Then Empty (IfElse (More (One a (Then Empty Draw true)) b Empty) (Then Empty (Assign c Set (Number 1)) false)) false)
 
 -- observe a b + 1 is written so, and comes to a[0] += 1  a[1] += b + 1  a[2] += (b + 1) * (b + 1)
@@ -58,13 +63,84 @@ abbrev pub a_sum : Tree
 a_sum = Binary Plus b (Number 1)
 
 abbrev pub observing : Type 0
-observing = Means max_levels max_nodes (word.Begins Observe ∷ word.Name 10 ∷ word.Name 11 ∷ word.Sign Plus ∷ word.Number 1 ∷ []) (Then Empty (Act Observe a a_sum) false)
+observing = Means max_levels max_nodes (word.Begins Observe ∷ word.Name (own 0) ∷ word.Name (own 1) ∷ word.Sign Plus ∷ word.Number 1 ∷ []) (Then Empty (Act Observe a a_sum) false)
 
 abbrev pub observed : Type 0
 observed =
-    desugared_block (Then Empty (Act Observe a a_sum) false)
-    ≡ Then (Then (Then Empty (Assign (Indexed 10 (Number 0)) Add (Number 1)) false) (Assign (Indexed 10 (Number 1)) Add a_sum) false) (Assign (Indexed 10 (Number 2)) Add (Binary Times (Group a_sum) (Group a_sum))) false
+    desugared_block [] [] (Then Empty (Act Observe a a_sum) false)
+    ≡ Then (Then (Then Empty (Assign (Indexed (own 0) (Number 0)) Add (Number 1)) false) (Assign (Indexed (own 0) (Number 1)) Add a_sum) false) (Assign (Indexed (own 0) (Number 2)) Add (Binary Times (Group a_sum) (Group a_sum))) false
+
+-- ---- numbers that are drawn, a being a register, b a table and c a queue
+
+abbrev pub kinds : List Kind
+kinds = replicate own_names Nothing ++ Register ∷ Table ∷ Queue ∷ []
+
+-- sample(b), roll(6), length(b), length(c)
+abbrev pub sample_b : Tree
+sample_b = Call 10 b
+
+abbrev pub roll_6 : Tree
+roll_6 = Call 11 (Number 6)
+
+-- b[random(length(b))], where `length(b)` is the name alone
+abbrev pub core_sample_b : Tree
+core_sample_b = Indexed (own 1) (RandomBelow b)
+
+abbrev pub lengths : Type 0
+lengths = (core_tree kinds (Call 3 b) ≡ b) × (core_tree kinds (Call 3 c) ≡ Call 3 c)
+
+-- a = a + sample(b) comes to a = a + b[random(length(b))]  draw
+abbrev pub drawn_behind : Type 0
+drawn_behind =
+    desugared_block kinds [] (Then Empty (Assign a Set (Binary Plus a sample_b)) true)
+    ≡ Then (Then Empty (Assign a Set (Binary Plus a core_sample_b)) false) Draw true
+
+-- a = 1, and a = 2
+abbrev pub first : SourceStatement
+first = Assign a Set (Number 1)
+
+abbrev pub second : SourceStatement
+second = Assign a Set (Number 2)
+
+abbrev pub alone : SourceStatement → Block
+alone s = Then Empty s false
+
+-- `draw`, and then this
+abbrev pub drawing : SourceStatement → Block
+drawing s = Then (Then Empty Draw false) s false
+
+-- if sample(b) < a { a = 1 } comes to if b[random(length(b))] < a { draw a = 1 } else { draw }
+abbrev pub drawn_test : Type 0
+drawn_test =
+    desugared_block kinds [] (alone (If (One (Binary Less sample_b a) (alone first))))
+    ≡ alone (IfElse (One (Binary Less core_sample_b a) (drawing first)) (alone Draw))
+
+-- if roll(6) { a = 1 } else { a = 2 } comes to if random(6) { draw a = 1 } else { draw a = 2 }
+abbrev pub drawn_else : Type 0
+drawn_else =
+    desugared_block kinds [] (alone (IfElse (One roll_6 (alone first)) (alone second)))
+    ≡ alone (IfElse (One (RandomBelow (Number 6)) (drawing first)) (drawing second))
+
+-- if a { a = 1 } else if roll(6) { a = 2 } else if a { } else { a = 1 } comes to if a { a = 1 } else if random(6) { draw a = 2 } else { draw if a { } else { a = 1 } }
+abbrev pub drawn_chain : Type 0
+drawn_chain =
+    desugared_block kinds [] (alone (IfElse (More (More (One a (alone first)) roll_6 (alone second)) a Empty) (alone first)))
+    ≡ alone (IfElse (More (One a (alone first)) (RandomBelow (Number 6)) (drawing second)) (drawing (IfElse (One a Empty) (alone first))))
+
+-- within `repeat` a number is drawn in each turn: repeat 3 { a = roll(6) } comes to repeat 3 { a = random(6) draw }
+abbrev pub drawn_turns : Type 0
+drawn_turns =
+    desugared_block kinds [] (alone (Repeat (Number 3) (alone (Assign a Set roll_6))))
+    ≡ alone (Repeat (Number 3) (Then (alone (Assign a Set (RandomBelow (Number 6)))) Draw false))
+
+-- push c roll(6) may stand, roll(sample(b)) and a member's text with roll(6) may not, nor may length(a)
+abbrev pub few_drawn : Type 0
+few_drawn =
+    (may_stand kinds 0 (alone (Act Push c roll_6)) ≡ true)
+    × (may_stand kinds 0 (alone (Wait (Call 11 sample_b))) ≡ false)
+    × (may_stand_as Value kinds roll_6 ≡ false)
+    × (may_stand kinds 0 (alone (Wait (Call 3 a))) ≡ false)
 
 -- a < b < c means nothing
 abbrev pub no_chain : Type 0
-no_chain = (program : Block) → Means max_levels max_nodes (word.Wait ∷ word.Name 10 ∷ word.Sign Less ∷ word.Name 11 ∷ word.Sign Less ∷ word.Name 12 ∷ []) program → ⊥
+no_chain = (program : Block) → Means max_levels max_nodes (word.Wait ∷ word.Name (own 0) ∷ word.Sign Less ∷ word.Name (own 1) ∷ word.Sign Less ∷ word.Name (own 2) ∷ []) program → ⊥

@@ -1,15 +1,17 @@
 -- What names stand for, and which of them may stand where.
-use Rattle.std.specs.Prelude.{ℕ, Bool, true, false, ◌&&◌, ◌||◌, List, [], ◌∷◌, ◌++◌, map, Option, Some, None, nat_le, nat_lt, if◌then◌else◌, get_or}
+use Rattle.std.specs.Prelude.{ℕ, Bool, true, false, ◌&&◌, ◌||◌, List, [], ◌∷◌, ◌++◌, map, Option, Some, None, nat_eq, nat_le, nat_lt, if◌then◌else◌, get_or}
 use Rattle.tw_machine_text.specs.declared.words.Operator.TheVariants.{Comma}
 use Rattle.tw_machine_text.specs.declared.kinds.Kind.{Kind}
 use Rattle.tw_machine_text.specs.declared.kinds.Member.{Member}
 use Rattle.tw_machine_text.specs.declared.kinds.Member.TheVariants.{Value, Each, Shown}
-use Rattle.tw_machine_text.specs.declared.kinds.Kind.TheVariants.{Nothing, Register, RegisterArray, Queue, QueueArray, Table, Parameter, Observation}
+use Rattle.tw_machine_text.specs.declared.kinds.Kind.TheVariants.{Nothing, Register, RegisterArray, Queue, QueueArray, Table, Parameter, Observation, Procedure}
+use Rattle.tw_machine_text.specs.declared.words.Deed.{Deed}
+use Rattle.tw_machine_text.specs.declared.words.Deed.TheVariants as deed
 use Rattle.tw_machine_text.specs.declared.words.Verb.{Verb}
 use Rattle.tw_machine_text.specs.declared.words.Verb.TheVariants as verb
 use Rattle.tw_machine_text.specs.Letters.{same_text, functions}
 use Rattle.tw_machine_text.specs.Limits.{max_turns}
-use Rattle.tw_machine_text.specs.Tree.{Tree, Number, Name, Known, Indexed, Call, RandomBelow, Group, Negate, Not, Binary, SourceStatement, Assign, Act, Pop, Draw, Wait, Passivate, If, IfElse, Repeat, Block, Empty, Then, Arms, One, More}
+use Rattle.tw_machine_text.specs.Tree.{Tree, Number, Name, Known, Indexed, Call, RandomBelow, Group, Negate, Not, Binary, takes_numbers, SourceStatement, Assign, Act, Treat, Draw, Wait, Passivate, If, IfElse, Repeat, Block, Empty, Then, Arms, One, More}
 
 -- what is declared by a name; where it is declared twice, by the first
 abbrev pub kind_named : List (List ℕ × Kind) → List ℕ → Kind
@@ -54,18 +56,35 @@ abbrev pub is_parameter : Kind → Bool
 is_parameter Parameter = true
 is_parameter _ = false
 
+abbrev pub is_table : Kind → Bool
+is_table Table = true
+is_table _ = false
+
 abbrev pub is_observation : Kind → Bool
 is_observation Observation = true
 is_observation _ = false
 
+-- whether a function is one of a table, `length` or `sample`
+abbrev pub takes_table : ℕ → Bool
+takes_table n = nat_eq n 3 || nat_eq n 10
+
+-- or one whose first argument is a queue, from `length` to `place`
+abbrev pub takes_queue : ℕ → Bool
+takes_queue n = nat_le 3 n && nat_lt n 10
+
+-- a table by its name
+abbrev pub is_table_name : List Kind → Tree → Bool
+is_table_name kinds (Name n) = is_table (stands_for kinds n)
+is_table_name kinds _ = false
+
 abbrev mutual
-  -- an expression, or arguments of which none is a queue
+  -- an expression, or arguments of which none is a queue or a table
   pub bound : List Kind → Tree → Bool
   bound kinds (Number n) = true
   bound kinds (Name n) = reads (stands_for kinds n)
   bound kinds (Known g) = true
   bound kinds (Indexed n e) = indexes (stands_for kinds n) && bound kinds e
-  bound kinds (Call n e) = if nat_lt n 3 then bound kinds e else bound_queue kinds e
+  bound kinds (Call n e) = if takes_numbers n then bound kinds e else (takes_table n && is_table_name kinds e) || (takes_queue n && bound_queue kinds e)
   bound kinds (RandomBelow e) = bound kinds e
   bound kinds (Group e) = bound kinds e
   bound kinds (Negate e) = bound kinds e
@@ -96,6 +115,25 @@ abbrev pub bound_observation : List Kind → Tree → Bool
 bound_observation kinds (Name n) = is_observation (stands_for kinds n)
 bound_observation kinds _ = false
 
+-- a procedure
+abbrev pub is_procedure : Kind → Bool
+is_procedure (Procedure k) = true
+is_procedure _ = false
+
+-- one of the first so many
+abbrev pub is_among : ℕ → Kind → Bool
+is_among known (Procedure k) = nat_lt k known
+is_among known _ = false
+
+abbrev pub bound_procedure : List Kind → Tree → Bool
+bound_procedure kinds (Name n) = is_procedure (stands_for kinds n)
+bound_procedure kinds _ = false
+
+-- what is treated: a procedure, or a queue
+abbrev pub bound_treated : List Kind → Deed → Tree → Bool
+bound_treated kinds deed.Do p = bound_procedure kinds p
+bound_treated kinds d q = bound_queue kinds q
+
 -- what a verb is said of: an observation, or a queue
 abbrev pub bound_object : List Kind → Verb → Tree → Bool
 bound_object kinds verb.Observe q = bound_observation kinds q
@@ -105,7 +143,7 @@ abbrev mutual
   pub bound_statement : List Kind → SourceStatement → Bool
   bound_statement kinds (Assign p c e) = bound_place kinds p && bound kinds e
   bound_statement kinds (Act v q e) = bound_object kinds v q && bound kinds e
-  bound_statement kinds (Pop q) = bound_queue kinds q
+  bound_statement kinds (Treat d q) = bound_treated kinds d q
   bound_statement kinds Draw = true
   bound_statement kinds (Wait e) = bound kinds e
   bound_statement kinds Passivate = true
@@ -120,6 +158,23 @@ abbrev mutual
   pub bound_arms : List Kind → Arms → Bool
   bound_arms kinds (One t b) = bound kinds t && bound_block kinds b
   bound_arms kinds (More a t b) = bound_arms kinds a && bound kinds t && bound_block kinds b
+
+-- only the first so many procedures are used: those that stand before
+abbrev mutual
+  pub uses_statement : List Kind → ℕ → SourceStatement → Bool
+  uses_statement kinds known (Treat deed.Do (Name n)) = is_among known (stands_for kinds n)
+  uses_statement kinds known (If arms) = uses_arms kinds known arms
+  uses_statement kinds known (IfElse arms b) = uses_arms kinds known arms && uses kinds known b
+  uses_statement kinds known (Repeat n b) = uses kinds known b
+  uses_statement kinds known _ = true
+
+  pub uses : List Kind → ℕ → Block → Bool
+  uses kinds known Empty = true
+  uses kinds known (Then b s m) = uses kinds known b && uses_statement kinds known s
+
+  pub uses_arms : List Kind → ℕ → Arms → Bool
+  uses_arms kinds known (One t b) = uses kinds known b
+  uses_arms kinds known (More a t b) = uses_arms kinds known a && uses kinds known b
 
 -- what stands in words beside expressions: a queue, one of an array by its number, an array register, an observation
 abbrev pub is_shown : List Kind → Tree → Bool

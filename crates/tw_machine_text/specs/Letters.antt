@@ -1,12 +1,20 @@
--- Texts that are the same, and the names of the functions.
-use Rattle.std.specs.Prelude.{ℕ, Bool, true, false, ◌&&◌, List, [], ◌∷◌, ◌==◌, codes}
+-- Texts that are the same, and the names that have numbers: the functions', and those that a machine declares.
+use Rattle.std.specs.Prelude.{ℕ, ◌+◌, Bool, true, false, ◌&&◌, List, [], ◌∷◌, ◌==◌, codes}
 
 abbrev pub same_text : List ℕ → List ℕ → Bool
 same_text [] [] = true
 same_text (x ∷ xs) (y ∷ ys) = x == y && same_text xs ys
 same_text _ _ = false
 
--- the functions are the names 0 to 9
+-- the functions are the names 0 to 11
 abbrev pub functions : List (List ℕ)
 functions =
-    codes "min" ∷ codes "max" ∷ codes "choose" ∷ codes "length" ∷ codes "room" ∷ codes "front" ∷ codes "last" ∷ codes "sum" ∷ codes "at" ∷ codes "place" ∷ []
+    codes "min" ∷ codes "max" ∷ codes "choose" ∷ codes "length" ∷ codes "room" ∷ codes "front" ∷ codes "last" ∷ codes "sum" ∷ codes "at" ∷ codes "place"
+    ∷ codes "sample" ∷ codes "roll" ∷ []
+
+-- behind them come the names that a machine declares: how many functions there are, and the number of such a name by its place
+abbrev pub own_names : ℕ
+own_names = 12
+
+abbrev pub own : ℕ → ℕ
+own k = own_names + k

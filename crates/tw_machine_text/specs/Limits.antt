@@ -16,6 +16,13 @@ max_levels = 64
 abbrev pub levels_end : ℕ
 levels_end = 65
 
+-- the same of a text as it is written, before it is in the core: `length(t)` of a table is a level and a node more there. No text of which the core is within its limits passes these
+abbrev pub written_levels : ℕ
+written_levels = 65
+
+abbrev pub written_nodes : ℕ
+written_nodes = 8192
+
 -- how often a block may be repeated
 abbrev pub max_turns : ℕ
 max_turns = 64

@@ -6,9 +6,10 @@ use Rattle.tw_machine_text.specs.declared.words.Operator.TheVariants.{Comma, Min
 use Rattle.tw_machine_text.specs.declared.words.Builtin.TheVariants.{Random}
 use Rattle.tw_machine_text.specs.declared.words.SourceChange.{SourceChange}
 use Rattle.tw_machine_text.specs.declared.words.Verb.{Verb}
+use Rattle.tw_machine_text.specs.declared.words.Deed.{Deed}
 use Rattle.tw_machine_text.specs.declared.words.Word.{Word}
 use Rattle.tw_machine_text.specs.declared.words.Word.TheVariants as word
-use Rattle.tw_machine_text.specs.Tree.{Tree, Number, Name, Known, Indexed, Call, RandomBelow, Group, Negate, Not, Binary, rank, left_rank, count, fits_call, SourceStatement, Assign, Act, Pop, Draw, Wait, Passivate, If, IfElse, Repeat, Block, Empty, Then, Arms, One, More, is_count, wanted}
+use Rattle.tw_machine_text.specs.Tree.{Tree, Number, Name, Known, Indexed, Call, RandomBelow, Group, Negate, Not, Binary, rank, left_rank, count, fits_call, SourceStatement, Assign, Act, Treat, Draw, Wait, Passivate, If, IfElse, Repeat, Block, Empty, Then, Arms, One, More, is_count, wanted}
 
 -- what has begun and is not done, the innermost first
 pub data Frame : Type 0 where
@@ -23,7 +24,7 @@ pub data Frame : Type 0 where
   InChange : (b : Block) (p : Tree) (c : SourceChange) → Frame
   InQueue : (b : Block) (v : Verb) → Frame
   InItem : (b : Block) (v : Verb) (q : Tree) → Frame
-  InPop : (b : Block) → Frame
+  InDeed : (b : Block) (d : Deed) → Frame
   InWait : (b : Block) → Frame
   InIf : (b : Block) → Frame
   InElseIf : (b : Block) (arms : Arms) → Frame
@@ -57,7 +58,7 @@ demand (InCall n ∷ s) = 0
 demand (InItem b v q ∷ s) = 0
 demand (InPlace b ∷ s) = 9
 demand (InQueue b v ∷ s) = 9
-demand (InPop b ∷ s) = 9
+demand (InDeed b d ∷ s) = 9
 demand (_ ∷ s) = 1
 
 -- how deep we are
@@ -145,7 +146,7 @@ open_block most _ = None
 abbrev pub finished : Bool → List Frame × Tree → Option (List Frame × Block)
 finished m (InChange b p c ∷ s, t) = Some (s, Then b (Assign p c t) m)
 finished m (InItem b v q ∷ s, t) = if nat_eq (count t) (wanted v) then Some (s, Then b (Act v q t) m) else None
-finished m (InPop b ∷ s, t) = Some (s, Then b (Pop t) m)
+finished m (InDeed b d ∷ s, t) = Some (s, Then b (Treat d t) m)
 finished m (InWait b ∷ s, t) = Some (s, Then b (Wait t) m)
 finished m _ = None
 
@@ -169,7 +170,7 @@ close_block _ block = None
 abbrev pub start : Word → List Frame × Block → Option State
 start (word.Name n) (s, b) = Some (Have (InPlace b ∷ s) (Name n))
 start (word.Begins v) (s, b) = Some (Need (InQueue b v ∷ s))
-start word.Pop (s, b) = Some (Need (InPop b ∷ s))
+start (word.Does d) (s, b) = Some (Need (InDeed b d ∷ s))
 start word.Draw (s, b) = Some (After s b Draw)
 start word.Wait (s, b) = Some (Need (InWait b ∷ s))
 start word.Passivate (s, b) = Some (After s b Passivate)
@@ -287,7 +288,7 @@ weight (word.Sign op) = 1
 weight word.Not = 1
 weight (word.Becomes c) = 1
 weight (word.Begins v) = 1
-weight word.Pop = 1
+weight (word.Does d) = 1
 weight word.Draw = 1
 weight word.Wait = 1
 weight word.Passivate = 1

@@ -1,18 +1,20 @@
 -- The words of a text.
-use Rattle.std.specs.Prelude.{◌≡◌, ℕ, ◌+◌, ◌-◌, ◌*◌, ◌^◌, ◌≤◌, Bool, true, false, not, ◌&&◌, ◌||◌, ◌⊎◌, List, [], ◌∷◌, ◌++◌, Option, Some, None, is_some, ◌==◌, nat_lt, nat_le, if◌then◌else◌, codes}
+use Rattle.std.specs.Prelude.{◌≡◌, ℕ, ◌+◌, ◌-◌, ◌*◌, ◌^◌, ◌<◌, ◌≤◌, length, Bool, true, false, not, ◌&&◌, ◌||◌, ◌⊎◌, List, [], ◌∷◌, ◌++◌, Option, Some, None, is_some, ◌==◌, nat_lt, nat_le, if◌then◌else◌, codes}
 use Rattle.std.specs.Option.{option_map}
 use Rattle.tw_machine_text.specs.declared.words.Operator.TheVariants.{Comma, Or, And, Equal, NotEqual, Less, LessEqual, Greater, GreaterEqual, Plus, Minus, Times, Divide, Modulo}
 use Rattle.tw_machine_text.specs.declared.words.Builtin.TheVariants.{Random, Port, Value, Elapsed, Left, Now, Turn}
 use Rattle.tw_machine_text.specs.declared.words.SourceChange.TheVariants.{Set, Add, Subtract, Xor}
 use Rattle.tw_machine_text.specs.declared.words.Verb.TheVariants.{Push, Insert, Remove, Put, Observe}
+use Rattle.tw_machine_text.specs.declared.words.Deed.TheVariants.{Pop, Clear, Do}
 use Rattle.tw_machine_text.specs.declared.words.Word.{Word}
 use Rattle.tw_machine_text.specs.declared.words.Word.TheVariants as word
 use Rattle.tw_machine_text.specs.declared.kinds.Kind.{Kind}
 use Rattle.tw_machine_text.specs.declared.kinds.Member.{Member}
-use Rattle.tw_machine_text.specs.Letters.{same_text, functions}
-use Rattle.tw_machine_text.specs.Tree.{Tree, Block, Means, spelled, IsAlone, deep, nodes}
-use Rattle.tw_machine_text.specs.Desugared.{desugared_block, is_within}
-use Rattle.tw_machine_text.specs.Kinds.{bound_block, bound_as}
+use Rattle.tw_machine_text.specs.Letters.{same_text, functions, own_names}
+use Rattle.tw_machine_text.specs.Tree.{Tree, Block, Means, spelled, IsAlone, deep, nodes, heads}
+use Rattle.tw_machine_text.specs.Desugared.{desugared_block, is_within, is_within_tree}
+use Rattle.tw_machine_text.specs.Drawn.{core_tree, may_stand, may_stand_as}
+use Rattle.tw_machine_text.specs.Limits.{max_nodes, written_levels, written_nodes}
 
 abbrev pub is_digit : ℕ → Bool
 is_digit c = nat_le 48 c && nat_le c 57
@@ -39,7 +41,7 @@ reserved =
     ∷ (codes "now", word.Known Now) ∷ (codes "turn", word.Known Turn) ∷ (codes "or", word.Sign Or) ∷ (codes "and", word.Sign And) ∷ (codes "not", word.Not)
     ∷ (codes "if", word.If) ∷ (codes "else", word.Else) ∷ (codes "repeat", word.Repeat) ∷ (codes "wait", word.Wait) ∷ (codes "passivate", word.Passivate)
     ∷ (codes "draw", word.Draw) ∷ (codes "push", word.Begins Push) ∷ (codes "insert", word.Begins Insert) ∷ (codes "put", word.Begins Put) ∷ (codes "remove", word.Begins Remove)
-    ∷ (codes "pop", word.Pop) ∷ []
+    ∷ (codes "pop", word.Does Pop) ∷ []
 
 -- whether a text is a word of the language that no name may be
 abbrev pub is_reserved : List ℕ → Bool
@@ -47,7 +49,7 @@ is_reserved text = is_some (lookup reserved text)
 
 -- the words that begin a statement in a machine that has no such name
 abbrev pub contextual : List (List ℕ × Word)
-contextual = (codes "observe", word.Begins Observe) ∷ []
+contextual = (codes "observe", word.Begins Observe) ∷ (codes "clear", word.Does Clear) ∷ (codes "do", word.Does Do) ∷ []
 
 abbrev pub signs : List (List ℕ × Word)
 signs =
@@ -81,7 +83,7 @@ first_some None o = o
 
 -- and those of the machine follow
 abbrev pub name_of : List (List ℕ) → List ℕ → Option ℕ
-name_of names text = first_some (position 0 functions text) (position 10 names text)
+name_of names text = first_some (position 0 functions text) (position own_names names text)
 
 -- the word of a run or a sign
 abbrev pub word_of : List (List ℕ) → List ℕ → Option Word
@@ -130,31 +132,35 @@ abbrev pub HasWords : List (List ℕ) → Bool → List Word → List ℕ → Ty
 HasWords names commented [] text = AreBlank true commented text
 HasWords names commented (w ∷ ws) text = (rest : List ℕ) × Front names commented text w rest × HasWords names false ws rest
 
--- The text is this program, where the names stand for these: what is written comes to it, in the core of the language.
-pub record Reads (most many : ℕ) (names : List (List ℕ)) (kinds : List Kind) (text : List ℕ) (program : Block) : Type 0 where
+-- The text is this program, where the names stand for these, and procedures are these programs: what is written comes to it, in the core of the language.
+pub record Reads (most many : ℕ) (names : List (List ℕ)) (kinds : List Kind) (procedures : List Block) (text : List ℕ) (program : Block) : Type 0 where
   pub words : List Word
   pub has : HasWords names false words text
   pub written : Block
-  pub means : Means most many words written
-  pub bound : bound_block kinds written ≡ true
-  pub comes : desugared_block written ≡ program
+  pub means : Means written_levels written_nodes words written
+  pub stands : may_stand kinds (length procedures) written ≡ true
+  pub comes : desugared_block kinds procedures written ≡ program
   pub limits : is_within most many program ≡ true
 
--- the text of a member is this expression, queue or array register
+-- the text of a member is this expression, queue or array register: what is written comes to it
 pub record ReadsTree (most many : ℕ) (member : Member) (names : List (List ℕ)) (kinds : List Kind) (text : List ℕ) (e : Tree) : Type 0 where
   pub words : List Word
   pub has : HasWords names false words text
-  pub spells : words ≡ spelled e []
-  pub alone : IsAlone e
-  pub levels : deep e ≤ most
-  pub size : nodes e ≤ many
-  pub bound : bound_as member kinds e ≡ true
+  pub written : Tree
+  pub spells : words ≡ spelled written []
+  pub alone : IsAlone written
+  pub levels : deep written ≤ written_levels
+  pub size : nodes written ≤ written_nodes
+  pub short : heads words < max_nodes
+  pub stands : may_stand_as member kinds written ≡ true
+  pub comes : core_tree kinds written ≡ e
+  pub limits : is_within_tree most many e ≡ true
 
 -- a text says one program at most, however deep
 abbrev pub OneText : Type 0
 OneText =
-    (names : List (List ℕ)) (kinds : List Kind) (text : List ℕ) (m n i j : ℕ) (a b : Block)
-    → Reads m i names kinds text a → Reads n j names kinds text b → a ≡ b
+    (names : List (List ℕ)) (kinds : List Kind) (procedures : List Block) (text : List ℕ) (m n i j : ℕ) (a b : Block)
+    → Reads m i names kinds procedures text a → Reads n j names kinds procedures text b → a ≡ b
 
 -- and one expression at most
 abbrev pub OneTree : Type 0

@@ -23,9 +23,9 @@ declarations declared = map (λ d. (string_bytes d.name, d.kind)) declared
 abbrev pub names_of : List Declared → List (List ℕ)
 names_of declared = map (λ d. string_bytes d.name) declared
 
--- a text says this program, by what a machine declares, of at most so many nodes
-abbrev pub SaysProgram : List Declared → ℕ → List ℕ → Block → Type 0
-SaysProgram declared many text program = Reads max_levels many (names_of declared) (kinds_of (declarations declared)) text program
+-- a text says this program, by what a machine declares and the programs of its procedures, of at most so many nodes
+abbrev pub SaysProgram : List Declared → List Block → ℕ → List ℕ → Block → Type 0
+SaysProgram declared procedures many text program = Reads max_levels many (names_of declared) (kinds_of (declarations declared)) procedures text program
 
 -- the text of a member says this expression, queue or array register
 abbrev pub SaysMember : List Declared → Member → ℕ → List ℕ → Tree → Type 0

@@ -1,5 +1,5 @@
 -- What an expression is, which words it has, and where it may stand.
-use Rattle.std.specs.Prelude.{◌≡◌, ℕ, suc, ◌+◌, ◌<◌, ◌≤◌, max, Bool, true, false, ◌&&◌, List, [], ◌∷◌, nat_eq, nat_le, nat_lt, if◌then◌else◌, slice_index}
+use Rattle.std.specs.Prelude.{◌≡◌, ℕ, suc, ◌+◌, ◌<◌, ◌≤◌, max, Bool, true, false, ◌&&◌, ◌||◌, List, [], ◌∷◌, nat_eq, nat_le, nat_lt, if◌then◌else◌, slice_index}
 use Rattle.tw_machine_text.specs.declared.words.Operator.{Operator}
 use Rattle.tw_machine_text.specs.declared.words.Operator.TheVariants.{Comma, Or, And, Equal, NotEqual, Less, LessEqual, Greater, GreaterEqual, Plus, Minus, Times, Divide, Modulo}
 use Rattle.tw_machine_text.specs.declared.words.Builtin.{Builtin}
@@ -7,8 +7,10 @@ use Rattle.tw_machine_text.specs.declared.words.Builtin.TheVariants.{Random}
 use Rattle.tw_machine_text.specs.declared.words.SourceChange.{SourceChange}
 use Rattle.tw_machine_text.specs.declared.words.Verb.{Verb}
 use Rattle.tw_machine_text.specs.declared.words.Verb.TheVariants.{Push, Insert, Remove, Put, Observe}
+use Rattle.tw_machine_text.specs.declared.words.Deed.{Deed}
 use Rattle.tw_machine_text.specs.declared.words.Word.{Word}
 use Rattle.tw_machine_text.specs.declared.words.Word.TheVariants as word
+use Rattle.tw_machine_text.specs.Limits.{max_nodes}
 
 -- An expression as it is written: a pair of parentheses is a part of it.
 pub data Tree : Type 0 where
@@ -93,13 +95,16 @@ abbrev pub first_level : Tree → ℕ
 first_level (Binary Comma a b) = first_level a
 first_level e = level e
 
--- the functions, in the order of their numbers: min, max, choose, length, room, front, last, sum, at, place
+-- the functions, in the order of their numbers: min, max, choose, length, room, front, last, sum, at, place, sample, roll
 abbrev pub arity : ℕ → ℕ
-arity n = slice_index (2 ∷ 2 ∷ 3 ∷ 1 ∷ 1 ∷ 1 ∷ 1 ∷ 1 ∷ 2 ∷ 2 ∷ []) n
+arity n = slice_index (2 ∷ 2 ∷ 3 ∷ 1 ∷ 1 ∷ 1 ∷ 1 ∷ 1 ∷ 2 ∷ 2 ∷ 1 ∷ 1 ∷ []) n
 
--- from 3 on the first argument is a queue
+-- whether all arguments are numbers: of the first three, and of `roll`; of the others the first is a queue or a table
+abbrev pub takes_numbers : ℕ → Bool
+takes_numbers n = nat_lt n 3 || nat_eq n 11
+
 abbrev pub fits_call : ℕ → Tree → Bool
-fits_call n e = nat_eq (count e) (arity n) && nat_le (if nat_lt n 3 then 1 else 9) (first_level e)
+fits_call n e = nat_eq (count e) (arity n) && nat_le (if takes_numbers n then 1 else 9) (first_level e)
 
 -- each operand binds as tightly as it has to
 abbrev pub IsExpr : Tree → Type 0
@@ -132,7 +137,7 @@ mutual
   pub data SourceStatement : Type 0 where
     Assign : (place : Tree) (change : SourceChange) (e : Tree) → SourceStatement
     Act : (verb : Verb) (queue e : Tree) → SourceStatement
-    Pop : (queue : Tree) → SourceStatement
+    Treat : (deed : Deed) (queue : Tree) → SourceStatement
     Draw : SourceStatement
     Wait : (e : Tree) → SourceStatement
     Passivate : SourceStatement
@@ -157,7 +162,7 @@ abbrev mutual
   pub said : SourceStatement → List Word → List Word
   said (Assign p c e) ws = spelled p (word.Becomes c ∷ spelled e ws)
   said (Act v q e) ws = word.Begins v ∷ spelled q (spelled e ws)
-  said (Pop q) ws = word.Pop ∷ spelled q ws
+  said (Treat d q) ws = word.Does d ∷ spelled q ws
   said Draw ws = word.Draw ∷ ws
   said (Wait e) ws = word.Wait ∷ spelled e ws
   said Passivate ws = word.Passivate ∷ ws
@@ -197,7 +202,7 @@ abbrev mutual
   pub IsStatement : SourceStatement → Type 0
   IsStatement (Assign p c e) = IsPlace p × IsAlone e
   IsStatement (Act v q e) = IsPlace q × (nat_eq (count e) (wanted v) ≡ true) × IsExpr e
-  IsStatement (Pop q) = IsPlace q
+  IsStatement (Treat d q) = IsPlace q
   IsStatement Draw = Unit {0}
   IsStatement (Wait e) = IsAlone e
   IsStatement Passivate = Unit {0}
@@ -217,7 +222,7 @@ abbrev mutual
   pub deep_statement : SourceStatement → ℕ
   deep_statement (Assign p c e) = max (deep p) (deep e)
   deep_statement (Act v q e) = max (deep q) (deep e)
-  deep_statement (Pop q) = deep q
+  deep_statement (Treat d q) = deep q
   deep_statement Draw = 0
   deep_statement (Wait e) = deep e
   deep_statement Passivate = 0
@@ -251,7 +256,7 @@ abbrev mutual
   pub nodes_statement : SourceStatement → ℕ
   nodes_statement (Assign p c e) = 1 + (nodes p + nodes e)
   nodes_statement (Act v q e) = 1 + (nodes q + nodes e)
-  nodes_statement (Pop q) = 1 + nodes q
+  nodes_statement (Treat d q) = 1 + nodes q
   nodes_statement Draw = 1
   nodes_statement (Wait e) = 1 + nodes e
   nodes_statement Passivate = 1
@@ -268,9 +273,29 @@ abbrev mutual
   nodes_arms (One t b) = 1 + (nodes t + nodes_block b)
   nodes_arms (More a t b) = nodes_arms a + (nodes t + nodes_block b)
 
--- These words are this program, no deeper than so many levels and of no more than so many nodes.
+-- how many operators and statements there are, each of which makes a node in the core: a tree is hardly deeper
+abbrev pub head : Word → ℕ
+head (word.Sign Comma) = 0
+head (word.Sign op) = 1
+head word.Not = 1
+head (word.Becomes c) = 1
+head (word.Begins v) = 1
+head (word.Does d) = 1
+head word.Draw = 1
+head word.Wait = 1
+head word.Passivate = 1
+head word.If = 1
+head word.Repeat = 1
+head _ = 0
+
+abbrev pub heads : List Word → ℕ
+heads [] = 0
+heads (w ∷ ws) = head w + heads ws
+
+-- These words are this program, no deeper than so many levels, of no more than so many nodes, and of no more than 4,096 operators and statements.
 pub record Means (most many : ℕ) (ws : List Word) (program : Block) : Type 0 where
   pub words : ws ≡ said_block program []
   pub fits : IsBlock program
   pub levels : deep_block program ≤ most
   pub size : nodes_block program ≤ many
+  pub short : heads ws ≤ max_nodes

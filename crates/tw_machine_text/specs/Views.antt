@@ -20,6 +20,8 @@ use Rattle.tw_machine_text.specs.declared.refusal.TextRefused.{TextRefused}
 use Rattle.tw_machine_text.specs.declared.refusal.TextRefused.TheVariants as e
 use Rattle.tw_machine_text.specs.Tree as t
 use Rattle.tw_machine_text.specs.Machine as m
+use Rattle.tw_machine_text.specs.declared.desugaring.Chain.{Chain}
+use Rattle.tw_machine_text.specs.Desugared as d
 
 abbrev pub tree : SourceExpr → t.Tree
 tree (expr.Number n) = t.Number n
@@ -37,7 +39,7 @@ abbrev mutual
   pub told : SourceStatement → t.SourceStatement
   told (statement.Assign p c e) = t.Assign (tree p) c (tree e)
   told (statement.Act v q e) = t.Act v (tree q) (tree e)
-  told (statement.Pop q) = t.Pop (tree q)
+  told (statement.Treat d q) = t.Treat d (tree q)
   told statement.Draw = t.Draw
   told (statement.Wait e) = t.Wait (tree e)
   told statement.Passivate = t.Passivate
@@ -53,6 +55,10 @@ abbrev mutual
   chain (arms.One' e p b) = t.One (tree e) (body b)
   chain (arms.More' p a e q b) = t.More (chain a) (tree e) (body b)
 
+-- the arms of an `if`, parted behind those that draw
+abbrev pub parted : Chain → d.Chain
+parted c = (map chain c.before.items, chain c.last)
+
 abbrev pub framed : Frame → m.Frame
 framed (frame.Operand a op) = m.Operand (tree a) op
 framed frame.InNot = m.InNot
@@ -65,7 +71,7 @@ framed (frame.InPlace b) = m.InPlace (body b)
 framed (frame.InChange b p c) = m.InChange (body b) (tree p) c
 framed (frame.InQueue b v) = m.InQueue (body b) v
 framed (frame.InItem b v q) = m.InItem (body b) v (tree q)
-framed (frame.InPop b) = m.InPop (body b)
+framed (frame.InDeed b d) = m.InDeed (body b) d
 framed (frame.InWait b) = m.InWait (body b)
 framed (frame.InIf b) = m.InIf (body b)
 framed (frame.InElseIf b a) = m.InElseIf (body b) (chain a)
@@ -111,7 +117,3 @@ abbrev pub IsReadAs : {X Y : Type 0} → (X → Y) → Result X TextRefused → 
 IsReadAs view (Ok x) y = view x ≡ y
 IsReadAs view (Err e.OutOfMemory) y = Unit {0}
 IsReadAs view (Err (e.Wrong place)) y = ⊥
-
-abbrev pub IsWrong : Refused → Type 0
-IsWrong r.OutOfMemory = ⊥
-IsWrong (r.Wrong i) = Unit {0}

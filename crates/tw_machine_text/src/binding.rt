@@ -2,10 +2,18 @@
 ghost use Rattle.std.specs.Prelude.{◌≡◌};
 ghost use Rattle.tw_machine_text.specs.Kinds.{
   bound,
+  is_table_name,
+  takes_table,
+  takes_queue,
   bound_queue,
   bound_place,
   bound_count,
   bound_observation,
+  bound_procedure,
+  bound_treated,
+  uses_statement,
+  uses,
+  uses_arms,
   bound_object,
   bound_statement,
   bound_block,
@@ -17,10 +25,34 @@ ghost use Rattle.tw_machine_text.specs.Views.{tree, told, body, chain};
 
 use crate::kinds::{Kind, Member, stands_for};
 use crate::limits::MAX_TURNS;
-use crate::tree::{Arms, Block, SourceExpr, SourceStatement};
-use crate::words::{Operator, Verb};
+use crate::tree::{Arms, Block, SourceExpr, SourceStatement, takes_numbers};
+use crate::words::{Deed, Operator, Verb};
 
-/// An expression, or arguments of which none is a queue.
+/// Whether a function is one of a table.
+fn takes_table(name: usize) -> bool
+    ensures { result ≡ takes_table name }
+{
+    name == 3 || name == 10
+}
+
+/// Whether it is one whose first argument is a queue.
+fn takes_queue(name: usize) -> bool
+    ensures { result ≡ takes_queue name }
+{
+    name >= 3 && name < 10
+}
+
+/// A table by its name.
+pub(crate) fn is_table_name(kinds: &[Kind], e: &SourceExpr) -> bool
+    ensures { result ≡ is_table_name kinds.now (tree e.now) }
+{
+    match e {
+        SourceExpr::Name(name) => stands_for(kinds, *name).is_table(),
+        _ => false,
+    }
+}
+
+/// An expression, or arguments of which none is a queue or a table.
 #[cycle(expressions)]
 pub(crate) fn bound(kinds: &[Kind], e: &SourceExpr) -> bool
     ensures { result ≡ bound kinds.now (tree e.now) }
@@ -31,10 +63,11 @@ pub(crate) fn bound(kinds: &[Kind], e: &SourceExpr) -> bool
         SourceExpr::Indexed(name, index) => stands_for(kinds, *name).indexes()
             && bound(kinds, index),
         SourceExpr::Call(name, arguments) => {
-            if *name < 3 {
+            if takes_numbers(*name) {
                 bound(kinds, arguments)
             } else {
-                bound_queue(kinds, arguments)
+                (takes_table(*name) && is_table_name(kinds, arguments))
+                    || (takes_queue(*name) && bound_queue(kinds, arguments))
             }
         }
         SourceExpr::RandomBelow(e)
@@ -89,6 +122,25 @@ fn bound_observation(kinds: &[Kind], e: &SourceExpr) -> bool
     }
 }
 
+fn bound_procedure(kinds: &[Kind], e: &SourceExpr) -> bool
+    ensures { result ≡ bound_procedure kinds.now (tree e.now) }
+{
+    match e {
+        SourceExpr::Name(name) => stands_for(kinds, *name).is_procedure(),
+        _ => false,
+    }
+}
+
+/// What is treated: a procedure, or a queue.
+fn bound_treated(kinds: &[Kind], deed: Deed, e: &SourceExpr) -> bool
+    ensures { result ≡ bound_treated kinds.now deed (tree e.now) }
+{
+    match deed {
+        Deed::Do => bound_procedure(kinds, e),
+        Deed::Pop | Deed::Clear => bound_queue(kinds, e),
+    }
+}
+
 /// What a verb is said of: an observation, or a queue.
 fn bound_object(kinds: &[Kind], verb: Verb, e: &SourceExpr) -> bool
     ensures { result ≡ bound_object kinds.now verb (tree e.now) }
@@ -109,7 +161,7 @@ fn bound_statement(kinds: &[Kind], s: &SourceStatement) -> bool
         SourceStatement::Act(verb, object, e) => {
             bound_object(kinds, *verb, object) && bound(kinds, e)
         }
-        SourceStatement::Pop(queue) => bound_queue(kinds, queue),
+        SourceStatement::Treat(deed, named) => bound_treated(kinds, *deed, named),
         SourceStatement::Wait(e) => bound(kinds, e),
         SourceStatement::If(arms) => bound_arms(kinds, arms),
         SourceStatement::IfElse(arms, last) => {
@@ -140,6 +192,46 @@ fn bound_arms(kinds: &[Kind], a: &Arms) -> bool
         Arms::More(before, test, b) => {
             bound_arms(kinds, before) && bound(kinds, test) && bound_block(kinds, b)
         }
+    }
+}
+
+#[cycle(used)]
+fn uses_statement(kinds: &[Kind], known: usize, s: &SourceStatement) -> bool
+    ensures { result ≡ uses_statement kinds.now known (told s.now) }
+{
+    match s {
+        SourceStatement::Treat(Deed::Do, SourceExpr::Name(name)) => stands_for(
+            kinds, *name,
+        ).is_among(known),
+        SourceStatement::If(arms) => uses_arms(kinds, known, arms),
+        SourceStatement::IfElse(arms, last) => {
+            uses_arms(kinds, known, arms) && uses(kinds, known, last)
+        }
+        SourceStatement::Repeat(_, each) => uses(kinds, known, each),
+        _ => true,
+    }
+}
+
+/// Whether only the first so many procedures are used.
+#[cycle(used)]
+pub(crate) fn uses(kinds: &[Kind], known: usize, b: &Block) -> bool
+    ensures { result ≡ uses kinds.now known (body b.now) }
+{
+    match b {
+        Block::Empty => true,
+        Block::Then(before, last, _) => {
+            uses(kinds, known, before) && uses_statement(kinds, known, last)
+        }
+    }
+}
+
+#[cycle(used)]
+fn uses_arms(kinds: &[Kind], known: usize, a: &Arms) -> bool
+    ensures { result ≡ uses_arms kinds.now known (chain a.now) }
+{
+    match a {
+        Arms::One(_, b) => uses(kinds, known, b),
+        Arms::More(before, _, b) => uses_arms(kinds, known, before) && uses(kinds, known, b),
     }
 }
 

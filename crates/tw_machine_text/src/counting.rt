@@ -29,7 +29,7 @@ pub fn nodes(written: &SourceExpr) -> usize
 
 /// The nodes of a statement, at most 4,097.
 #[cycle(nodes_of)]
-fn nodes_statement(said: &SourceStatement) -> usize
+pub(crate) fn nodes_statement(said: &SourceStatement) -> usize
     ensures value { result ≡ min (nodes_statement (told said.now)) nodes_end }
     ensures small { result ≤ nodes_end }
 {
@@ -39,7 +39,7 @@ fn nodes_statement(said: &SourceStatement) -> usize
         SourceStatement::Act(_, queue, operands) => (1 + (nodes(queue) + nodes(operands))).min(
             NODES_END,
         ),
-        SourceStatement::Pop(queue) => (1 + nodes(queue)).min(NODES_END),
+        SourceStatement::Treat(_, queue) => (1 + nodes(queue)).min(NODES_END),
         SourceStatement::Wait(ticks) => (1 + nodes(ticks)).min(NODES_END),
         SourceStatement::If(arms) => nodes_arms(arms),
         SourceStatement::IfElse(arms, last) => (nodes_arms(arms) + nodes_block(last)).min(

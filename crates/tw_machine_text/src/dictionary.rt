@@ -1,6 +1,6 @@
 //! The word that a run of letters and digits is, or a sign.
 ghost use Rattle.std.specs.Prelude.{◌≡◌, ◌==◌, ◌<◌, ◌+◌, map};
-ghost use Rattle.tw_machine_text.specs.Letters.{functions, same_text};
+ghost use Rattle.tw_machine_text.specs.Letters.{functions, own_names, same_text};
 ghost use Rattle.tw_machine_text.specs.Text.{
   name_of,
   is_digit,
@@ -19,7 +19,7 @@ ghost use Rattle.tw_machine_text.specs.Text.{
 ghost use Rattle.tw_machine_text.specs.TextViews.{names_of};
 
 use crate::kinds::Declared;
-use crate::words::{Builtin, Operator, SourceChange, Verb, Word};
+use crate::words::{Builtin, Deed, Operator, SourceChange, Verb, Word};
 
 /// Whether a byte is a digit.
 pub fn is_digit(c: u8) -> bool
@@ -57,11 +57,15 @@ pub const RESERVED: [(&str, Word); 21] = [
     ("insert", Word::Begins(Verb::Insert)),
     ("put", Word::Begins(Verb::Put)),
     ("remove", Word::Begins(Verb::Remove)),
-    ("pop", Word::Pop),
+    ("pop", Word::Does(Deed::Pop)),
 ];
 
 /// The words that begin a statement in a machine that has no such name, each with what it is.
-pub const CONTEXTUAL: [(&str, Word); 1] = [("observe", Word::Begins(Verb::Observe))];
+pub const CONTEXTUAL: [(&str, Word); 3] = [
+    ("observe", Word::Begins(Verb::Observe)),
+    ("clear", Word::Does(Deed::Clear)),
+    ("do", Word::Does(Deed::Do)),
+];
 
 /// The signs, each with what it is.
 const SIGNS: [(&str, Word); 23] = [
@@ -110,9 +114,13 @@ fn lookup(table: &[(&str, Word)], text: &[u8]) -> Option<Word>
 }
 
 /// The names of the functions, in the order of their numbers.
-pub const FUNCTIONS: [&str; 10] = [
-    "min", "max", "choose", "length", "room", "front", "last", "sum", "at", "place",
+pub const FUNCTIONS: [&str; OWN_NAMES] = [
+    "min", "max", "choose", "length", "room", "front", "last", "sum", "at", "place", "sample",
+    "roll",
 ];
+
+/// How many functions there are. The names that a machine declares have the numbers from here on.
+pub const OWN_NAMES: usize = 12;
 
 /// The number of a function in a list.
 fn function_in(functions: &[&str], text: &[u8]) -> Option<usize>
@@ -134,11 +142,11 @@ fn function(text: &[u8]) -> Option<usize>
 
 /// The number of a name of the machine.
 fn position(declared: &[Declared], text: &[u8]) -> Option<usize>
-    ensures { result ≡ position 10 (names_of declared.now) text.now }
+    ensures { result ≡ position own_names (names_of declared.now) text.now }
 {
     for (index, one) in declared.iter().enumerate() {
         if same_text(one.name.as_bytes(), text) {
-            return Some(index + 10);
+            return Some(index + OWN_NAMES);
         }
     }
     None

@@ -8,6 +8,13 @@ ghost use Rattle.tw_machine_text.specs.Examples.{
   chains,
   observing,
   observed,
+  lengths,
+  drawn_behind,
+  drawn_test,
+  drawn_else,
+  drawn_chain,
+  drawn_turns,
+  few_drawn,
   no_chain,
 };
 
@@ -22,4 +29,15 @@ pub fn binding()
     ensures observing { observing }
     ensures observed { observed }
     ensures no_chain { no_chain }
+{}
+
+/// What numbers that are drawn come to, and where they may stand.
+pub fn drawing()
+    ensures lengths { lengths }
+    ensures behind { drawn_behind }
+    ensures test { drawn_test }
+    ensures otherwise { drawn_else }
+    ensures chain { drawn_chain }
+    ensures turns { drawn_turns }
+    ensures few { few_drawn }
 {}

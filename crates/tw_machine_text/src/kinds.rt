@@ -9,7 +9,10 @@ ghost use Rattle.tw_machine_text.specs.Kinds.{
   is_queue,
   is_queue_array,
   is_observation,
+  is_table,
   is_parameter,
+  is_procedure,
+  is_among,
   kind_named,
   kinds_of,
 };
@@ -35,6 +38,8 @@ pub enum Kind {
     /// A parameter that is a list.
     ListParameter,
     Observation,
+    /// A procedure, at this place among them.
+    Procedure(usize),
 }
 
 /// A name that a machine declares, and what it is the name of.
@@ -155,6 +160,28 @@ impl Kind {
         ensures { result ≡ is_observation self }
     {
         matches!(self, Kind::Observation)
+    }
+
+    pub fn is_table(self) -> bool
+        ensures { result ≡ is_table self }
+    {
+        matches!(self, Kind::Table)
+    }
+
+    pub fn is_procedure(self) -> bool
+        ensures { result ≡ is_procedure self }
+    {
+        matches!(self, Kind::Procedure(_))
+    }
+
+    /// Whether it is one of the first so many procedures.
+    pub fn is_among(self, known: usize) -> bool
+        ensures { result ≡ is_among known self }
+    {
+        match self {
+            Kind::Procedure(place) => place < known,
+            _ => false,
+        }
     }
 
     pub fn is_parameter(self) -> bool

@@ -17,7 +17,7 @@ fn below(levels: usize) -> usize
 }
 
 /// The levels of an expression, at most 65.
-fn deep(e: &SourceExpr) -> usize
+pub(crate) fn deep(e: &SourceExpr) -> usize
     ensures value { result ≡ min (deep (tree e.now)) levels_end }
     ensures small { result ≤ levels_end }
 {
@@ -43,7 +43,7 @@ fn deep_statement(said: &SourceStatement) -> usize
         SourceStatement::Draw | SourceStatement::Passivate => 0,
         SourceStatement::Assign(place, _, by) => deep(place).max(deep(by)),
         SourceStatement::Act(_, object, operands) => deep(object).max(deep(operands)),
-        SourceStatement::Pop(queue) => deep(queue),
+        SourceStatement::Treat(_, queue) => deep(queue),
         SourceStatement::Wait(ticks) => deep(ticks),
         SourceStatement::If(arms) => deep_arms(arms),
         SourceStatement::IfElse(arms, last) => deep_arms(arms).max(below(deep_block(last))),

@@ -11,6 +11,11 @@ pub const MAX_LEVELS: usize = 64;
 /// Where counting them ends.
 pub(crate) const LEVELS_END: usize = MAX_LEVELS + 1;
 
+/// The most nodes and levels of a text as it is written, before it is in the core.
+pub(crate) const WRITTEN_NODES: usize = 8192;
+
+pub(crate) const WRITTEN_LEVELS: usize = 65;
+
 /// How often a block may be repeated.
 pub const MAX_TURNS: u64 = 64;
 

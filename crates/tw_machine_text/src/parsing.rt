@@ -1,14 +1,15 @@
 //! A program of its words.
-ghost use Rattle.std.specs.Prelude.{◌≡◌, ℕ, ◌≤◌, nat_le, false, Some, IfOk, List, [], ◌∷◌};
-ghost use Rattle.tw_machine_text.specs.Limits.{max_levels};
+ghost use Rattle.std.specs.Prelude.{◌≡◌, ℕ, ◌≤◌, ◌&&◌, nat_le, false, Some, IfOk, List, [], ◌∷◌};
+ghost use Rattle.tw_machine_text.specs.Limits.{max_nodes, written_levels};
 ghost use Rattle.tw_machine_text.specs.Machine.{program_of, weigh};
-ghost use Rattle.tw_machine_text.specs.Tree.{Means, Block as Tree};
+ghost use Rattle.tw_machine_text.specs.Tree.{Means, heads, Block as Tree};
 ghost use Rattle.tw_machine_text.specs.Views.{body, Tells, refused};
 ghost use Rattle.tw_machine_text.specs.declared.words.Word.{Word};
 
 use crate::fault::Fault;
 use crate::frames::State;
 use crate::kinds::{Kind, Member};
+use crate::limits::MAX_NODES;
 use crate::reading::{ended, step};
 use crate::refused::Refused;
 use crate::stack::Stack;
@@ -30,18 +31,19 @@ pub(crate) fn refused(fault: Fault, index: usize) -> Refused
 fn all(
     alloc: Global,
     member: Option<Member>,
+    known: usize,
     kinds: &[Kind],
     words: &[Word],
     first: &mut Option<usize>,
 ) -> Result<Block, Refused>
-    ensures { Tells body result (program_of max_levels words.now) }
+    ensures { Tells body result (program_of written_levels words.now) }
 {
     let mut stack = Stack::new(alloc);
     let mut state = State::Begin(Block::Empty);
     'words: for (index, word) in words.iter().enumerate() {
         note(
             first,
-            watch(member, kinds, &stack, &state, Some(*word)),
+            watch(member, known, kinds, &stack, &state, Some(*word)),
             index,
         );
         state = match step(alloc, &mut stack, *word, state) {
@@ -51,7 +53,7 @@ fn all(
     }
     note(
         first,
-        watch(member, kinds, &stack, &state, None),
+        watch(member, known, kinds, &stack, &state, None),
         words.len(),
     );
     match ended(alloc, &mut stack, state) {
@@ -87,23 +89,47 @@ fn is_light(words: &[Word], many: usize) -> bool
     true
 }
 
+/// Whether there are no more operators and statements than nodes of a text.
+fn is_short(words: &[Word]) -> bool
+    ensures { result ≡ nat_le (heads words.now) max_nodes }
+{
+    let mut left = MAX_NODES;
+    for word in words {
+        if word.is_head() {
+            if left == 0 {
+                return false;
+            }
+            left -= 1;
+        }
+    }
+    true
+}
+
+/// Both.
+fn is_small(words: &[Word], many: usize) -> bool
+    ensures { result ≡ (nat_le (weigh false words.now) many && nat_le (heads words.now) max_nodes) }
+{
+    is_light(words, many) && is_short(words)
+}
+
 /// The program that the words are.
 pub(crate) fn parse(
     alloc: Global,
     member: Option<Member>,
+    known: usize,
     kinds: &[Kind],
     words: &[Word],
     many: usize,
     first: &mut Option<usize>,
 ) -> Result<Block, Refused>
     // What is read means this program.
-    ensures found { IfOk result (λ program. Means max_levels many words.now (body program)) }
+    ensures found { IfOk result (λ program. Means written_levels many words.now (body program)) }
     // Words that are a program are read as it, unless memory runs out.
-    ensures only { (program : Tree) → Means max_levels many words.now program
+    ensures only { (program : Tree) → Means written_levels many words.now program
         → Tells body result (Some program) }
 {
-    if is_light(words, many) {
-        all(alloc, member, kinds, words, first)
+    if is_small(words, many) {
+        all(alloc, member, known, kinds, words, first)
     } else {
         Err(Refused::Wrong(words.len()))
     }

@@ -1,19 +1,20 @@
 //! The program of a text, and the expression of the text of a member. A wrong text is told by the byte at which the
 //! first word begins that cannot stand there.
-ghost use Rattle.std.specs.Prelude.{◌≡◌, ◌≤◌, ◌∷◌, Some, IfOk};
+ghost use Rattle.std.specs.Prelude.{◌≡◌, ◌≤◌, ◌∷◌, Some, IfOk, map};
 ghost use Rattle.std.specs.Option.{option_map};
 ghost use Rattle.tw_machine_text.specs.Limits.{max_levels, max_nodes};
 ghost use Rattle.tw_machine_text.specs.Kinds.{is_empty, waits, waited};
 ghost use Rattle.tw_machine_text.specs.Text.{Reads, ReadsTree, OneText, OneTree};
 ghost use Rattle.tw_machine_text.specs.TextViews.{names_of};
 ghost use Rattle.tw_machine_text.specs.Tree.{Block as Tree, Tree as Spelled};
-ghost use Rattle.tw_machine_text.specs.Views.{body, told, tree, Tells, IsWrong};
+ghost use Rattle.tw_machine_text.specs.Views.{body, told, tree, Tells};
 ghost use Rattle.tw_machine_text.specs.declared.words.Word.TheVariants.{Wait};
 
-use crate::binding::{bound_as, bound_block};
-use crate::desugaring::desugared;
+use crate::desugaring::{desugared, desugared_tree};
+use crate::drawn::{may_stand, may_stand_as};
 use crate::kinds::{Declared, Kind, Member};
 use crate::lexing::{Words, lex};
+use crate::limits::WRITTEN_NODES;
 use crate::parsing::parse;
 use crate::refused::Refused;
 use crate::tree::{Block, SourceExpr, SourceStatement};
@@ -26,27 +27,38 @@ pub fn read(
     alloc: Global,
     declared: &[Declared],
     kinds: &[Kind],
+    procedures: &[Block],
     text: &[u8],
     many: usize,
 ) -> Result<Block, Refused>
     requires { many ≤ max_nodes }
     // What is read is what the text means.
     ensures found { IfOk result
-        (λ program. Reads max_levels many (names_of declared.now) kinds.now text.now (body program)) }
+        (λ program. Reads max_levels many (names_of declared.now) kinds.now
+        (map body procedures.now) text.now (body program)) }
     // A text that means a program is read as it, unless memory runs out.
     ensures only { (program : Tree)
-        → Reads max_levels many (names_of declared.now) kinds.now text.now program
+        → Reads max_levels many (names_of declared.now) kinds.now
+        (map body procedures.now) text.now program
         → Tells body result (Some program) }
 {
     let Ok(words) = lex(alloc, declared, text) else {
         return Err(Refused::OutOfMemory);
     };
     let mut first = None;
-    match parse(alloc, None, kinds, &words.words, many, &mut first) {
+    match parse(
+        alloc,
+        None,
+        procedures.len(),
+        kinds,
+        &words.words,
+        WRITTEN_NODES,
+        &mut first,
+    ) {
         Ok(written) => {
             let place = words.place(first.unwrap_or(words.words.len()));
-            if words.complete && bound_block(kinds, &written) {
-                desugared(alloc, &written, many, place)
+            if words.complete && may_stand(kinds, procedures.len(), &written) {
+                desugared(alloc, kinds, procedures, &written, many, place)
             } else {
                 Err(Refused::Wrong(place))
             }
@@ -128,27 +140,33 @@ pub(crate) fn read_tree(
         return Err(Refused::OutOfMemory);
     };
     let mut first = None;
-    match parse(alloc, Some(member), kinds, &all, many + 1, &mut first) {
+    match parse(
+        alloc,
+        Some(member),
+        0,
+        kinds,
+        &all,
+        WRITTEN_NODES + 1,
+        &mut first,
+    ) {
         Ok(program) => match waited(program) {
             Some(e) => {
-                if words.complete && bound_as(member, kinds, &e) {
-                    Ok(e)
+                if words.complete && may_stand_as(member, kinds, &e) {
+                    desugared_tree(alloc, kinds, &e, many, place_at(&words, first, all.len()))
                 } else {
-                    Err(wrong_at(&words, first, all.len()))
+                    Err(Refused::Wrong(place_at(&words, first, all.len())))
                 }
             }
-            None => Err(wrong_at(&words, first, all.len())),
+            None => Err(Refused::Wrong(place_at(&words, first, all.len()))),
         },
         Err(Refused::OutOfMemory) => Err(Refused::OutOfMemory),
-        Err(Refused::Wrong(index)) => Err(wrong_at(&words, first, index)),
+        Err(Refused::Wrong(index)) => Err(Refused::Wrong(place_at(&words, first, index))),
     }
 }
 
 /// The place of a wrong word, of which the first is none of the text.
-fn wrong_at(words: &Words, first: Option<usize>, index: usize) -> Refused
-    ensures { IsWrong result }
-{
-    Refused::Wrong(words.place(first.unwrap_or(index).saturating_sub(1)))
+fn place_at(words: &Words, first: Option<usize>, index: usize) -> usize {
+    words.place(first.unwrap_or(index).saturating_sub(1))
 }
 
 /// A text is one program at most, however deep.

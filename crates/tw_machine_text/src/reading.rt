@@ -12,7 +12,7 @@ ghost use Rattle.std.specs.Prelude.{
   if◌then◌else◌,
 };
 ghost use Rattle.std.specs.Option.{option_and_then};
-ghost use Rattle.tw_machine_text.specs.Limits.{max_levels};
+ghost use Rattle.tw_machine_text.specs.Limits.{written_levels};
 ghost use Rattle.tw_machine_text.specs.Stacks.{frames_of, LeadsTo, Finishes};
 ghost use Rattle.tw_machine_text.specs.Machine.{
   joined,
@@ -96,7 +96,7 @@ fn reduce(
 /// A level of an expression begins.
 fn nested(stack: &mut Stack, frame: Frame) -> Result<State, Fault>
     requires { nests (framed frame) ≡ true }
-    ensures { LeadsTo stack.new result (nest max_levels (framed frame) (frames_of stack.old)) }
+    ensures { LeadsTo stack.new result (nest written_levels (framed frame) (frames_of stack.old)) }
 {
     match stack.nest(frame) {
         Ok(()) => Ok(State::Need),
@@ -120,7 +120,7 @@ fn operand(stack: &Stack, rank: usize, expr: SourceExpr) -> Result<State, Fault>
 fn prefix(stack: &mut Stack, rank: usize, frame: Frame) -> Result<State, Fault>
     requires { nests (framed frame) ≡ true }
     ensures { LeadsTo stack.new result (if nat_le (demand (frames_of stack.old)) rank
-        then nest max_levels (framed frame) (frames_of stack.old) else None) }
+        then nest written_levels (framed frame) (frames_of stack.old) else None) }
 {
     if stack.demand() <= rank {
         nested(stack, frame)
@@ -132,7 +132,7 @@ fn prefix(stack: &mut Stack, rank: usize, frame: Frame) -> Result<State, Fault>
 
 /// A word where an operand is to come.
 fn need(stack: &mut Stack, word: Word) -> Result<State, Fault>
-    ensures { LeadsTo stack.new result (need max_levels word (frames_of stack.old)) }
+    ensures { LeadsTo stack.new result (need written_levels word (frames_of stack.old)) }
 {
     match word {
         Word::Number(number) => operand(stack, 8, SourceExpr::Number(number)),
@@ -147,7 +147,7 @@ fn need(stack: &mut Stack, word: Word) -> Result<State, Fault>
 
 /// A word that begins what is done to a queue that has come.
 fn item(stack: &mut Stack, word: Word, operand: SourceExpr) -> Result<State, Fault>
-    ensures { LeadsTo stack.new result (item max_levels word (frames_of stack.old, tree operand)) }
+    ensures { LeadsTo stack.new result (item written_levels word (frames_of stack.old, tree operand)) }
 {
     match stack.pop() {
         Some(Frame::InQueue(block, verb)) => {
@@ -163,7 +163,7 @@ fn item(stack: &mut Stack, word: Word, operand: SourceExpr) -> Result<State, Fau
 
 /// An operator, where what binds more tightly is complete.
 fn shift(stack: &mut Stack, operator: Operator, operand: SourceExpr) -> Result<State, Fault>
-    ensures { LeadsTo stack.new result (shift max_levels operator
+    ensures { LeadsTo stack.new result (shift written_levels operator
         (frames_of stack.old, tree operand)) }
 {
     if stack.demand() <= operator.rank() {
@@ -176,7 +176,7 @@ fn shift(stack: &mut Stack, operator: Operator, operand: SourceExpr) -> Result<S
 
 /// The arguments of a function begin.
 fn called(stack: &mut Stack, operand: SourceExpr) -> Result<State, Fault>
-    ensures { LeadsTo stack.new result (called max_levels (frames_of stack.old) (tree operand)) }
+    ensures { LeadsTo stack.new result (called written_levels (frames_of stack.old) (tree operand)) }
 {
     match operand {
         SourceExpr::Name(name) => nested(stack, Frame::InCall(name)),
@@ -190,7 +190,7 @@ fn called(stack: &mut Stack, operand: SourceExpr) -> Result<State, Fault>
 
 /// An index begins.
 fn indexed(stack: &mut Stack, operand: SourceExpr) -> Result<State, Fault>
-    ensures { LeadsTo stack.new result (indexed max_levels (frames_of stack.old) (tree operand)) }
+    ensures { LeadsTo stack.new result (indexed written_levels (frames_of stack.old) (tree operand)) }
 {
     match operand {
         SourceExpr::Name(name) => nested(stack, Frame::InIndex(name)),
@@ -256,7 +256,7 @@ fn becomes(stack: &mut Stack, change: SourceChange, operand: SourceExpr) -> Resu
 /// A block begins.
 fn enter(stack: &mut Stack, frame: Frame) -> Result<State, Fault>
     requires { nests (framed frame) ≡ true }
-    ensures { LeadsTo stack.new result (enter max_levels (framed frame) (frames_of stack.old)) }
+    ensures { LeadsTo stack.new result (enter written_levels (framed frame) (frames_of stack.old)) }
 {
     match stack.nest(frame) {
         Ok(()) => Ok(State::Begin(Block::Empty)),
@@ -266,7 +266,7 @@ fn enter(stack: &mut Stack, frame: Frame) -> Result<State, Fault>
 
 /// A block begins behind an operand.
 fn open_block(stack: &mut Stack, operand: SourceExpr) -> Result<State, Fault>
-    ensures { LeadsTo stack.new result (open_block max_levels (frames_of stack.old, tree operand)) }
+    ensures { LeadsTo stack.new result (open_block written_levels (frames_of stack.old, tree operand)) }
 {
     match stack.pop() {
         Some(Frame::InIf(block)) => enter(stack, Frame::InThen(block, operand)),
@@ -316,7 +316,7 @@ fn finished(
         Some(Frame::InItem(block, verb, queue)) if operand.is_many(verb.wanted()) => {
             (block, SourceStatement::Act(verb, queue, operand))
         }
-        Some(Frame::InPop(block)) => (block, SourceStatement::Pop(operand)),
+        Some(Frame::InDeed(block, deed)) => (block, SourceStatement::Treat(deed, operand)),
         Some(Frame::InWait(block)) => (block, SourceStatement::Wait(operand)),
         other => {
             drop(other);
@@ -372,7 +372,7 @@ fn start(alloc: Global, stack: &mut Stack, word: Word, block: Block) -> Result<S
             Ok(State::Have(SourceExpr::Name(name)))
         }
         Word::Begins(verb) => asks(stack, Frame::InQueue(block, verb)),
-        Word::Pop => asks(stack, Frame::InPop(block)),
+        Word::Does(deed) => asks(stack, Frame::InDeed(block, deed)),
         Word::Draw => Ok(State::After(block, SourceStatement::Draw)),
         Word::Wait => asks(stack, Frame::InWait(block)),
         Word::Passivate => Ok(State::After(block, SourceStatement::Passivate)),
@@ -423,7 +423,7 @@ fn named(alloc: Global, stack: &mut Stack, name: usize, operand: SourceExpr) -> 
 
 /// A word behind an operand, where all is complete that an operand completes.
 fn settle(alloc: Global, stack: &mut Stack, word: Word, operand: SourceExpr) -> Result<State, Fault>
-    ensures { LeadsTo stack.new result (settle max_levels word
+    ensures { LeadsTo stack.new result (settle written_levels word
         (frames_of stack.old, tree operand)) }
 {
     match word {
@@ -439,7 +439,7 @@ fn settle(alloc: Global, stack: &mut Stack, word: Word, operand: SourceExpr) -> 
 
 /// A word behind an operand.
 fn have(alloc: Global, stack: &mut Stack, word: Word, operand: SourceExpr) -> Result<State, Fault>
-    ensures { LeadsTo stack.new result (have max_levels word (frames_of stack.old) (tree operand)) }
+    ensures { LeadsTo stack.new result (have written_levels word (frames_of stack.old) (tree operand)) }
 {
     match word {
         Word::Sign(operator) => {
@@ -503,7 +503,7 @@ fn after_arm(
 
 /// A word behind `else`.
 fn after_else(stack: &mut Stack, word: Word, block: Block, arms: Arms) -> Result<State, Fault>
-    ensures { LeadsTo stack.new result (after_else max_levels word (frames_of stack.old)
+    ensures { LeadsTo stack.new result (after_else written_levels word (frames_of stack.old)
         (body block) (chain arms)) }
 {
     match word {
@@ -520,7 +520,7 @@ pub(crate) fn step(
     word: Word,
     state: State,
 ) -> Result<State, Fault>
-    ensures { LeadsTo stack.new result (step max_levels word (seen (frames_of stack.old) state)) }
+    ensures { LeadsTo stack.new result (step written_levels word (seen (frames_of stack.old) state)) }
 {
     match state {
         State::Need => need(stack, word),

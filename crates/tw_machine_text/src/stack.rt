@@ -12,16 +12,17 @@ ghost use Rattle.std.specs.Prelude.{
   nat_lt,
   if◌then◌else◌,
 };
-ghost use Rattle.tw_machine_text.specs.Limits.{max_levels};
+ghost use Rattle.tw_machine_text.specs.Limits.{written_levels};
 ghost use Rattle.tw_machine_text.specs.Machine.{nests, closes, demand, depth, wants, is_bottom};
 ghost use Rattle.tw_machine_text.specs.Views.{framed, held, Gives};
 
+use crate::drawn::draws;
 use crate::fault::Fault;
 use crate::frames::Frame;
 use crate::kinds::{Kind, Member, stands_for};
-use crate::limits::MAX_LEVELS;
-use crate::tree::arity;
-use crate::words::{Operator, Verb};
+use crate::limits::{MAX_LEVELS, WRITTEN_LEVELS};
+use crate::tree::{Arms, arity, takes_numbers};
+use crate::words::{Deed, Operator, Verb};
 use std::alloc::{AllocError, Global};
 
 #[derive(Drop)]
@@ -38,8 +39,13 @@ pub(crate) enum Role {
     Place,
     Queue,
     Observation,
+    Procedure,
     /// The first argument of a function of a queue.
     First,
+    /// The argument of `length`: a queue, or a table.
+    Measured,
+    /// The argument of `sample`.
+    Table,
     Count,
     /// A queue alone.
     Each,
@@ -70,6 +76,33 @@ impl Frame {
     }
 }
 
+impl Frame {
+    /// How many levels deeper what it holds is in the core: `observe` is three statements with its number in
+    /// parentheses, and what stands behind the `else` of a test that draws is a block.
+    fn more_levels(&self) -> usize {
+        match self {
+            Frame::InQueue(_, Verb::Observe) | Frame::InItem(_, Verb::Observe, _) => 1,
+            Frame::InElseIf(_, arms) | Frame::InElseThen(_, arms, _) => tests_that_draw(arms),
+            Frame::InElse(_, arms) => match arms {
+                Arms::One(..) => 0,
+                Arms::More(before, _, _) => tests_that_draw(before),
+            },
+            _ => 0,
+        }
+    }
+}
+
+/// How many tests of an `if` draw.
+fn tests_that_draw(arms: &Arms) -> usize {
+    match arms {
+        Arms::One(test, _) => { if draws(test) { 1 } else { 0 } }
+        Arms::More(before, test, _) => {
+            let here = if draws(test) { 1 } else { 0 };
+            tests_that_draw(before).saturating_add(here)
+        }
+    }
+}
+
 impl Stack {
     pub fn new(alloc: Global) -> Stack
         ensures { held result.frames.items ≡ [] }
@@ -94,10 +127,10 @@ impl Stack {
     pub fn nest(&mut self, frame: Frame) -> Result<(), Fault>
         requires { nests (framed frame) ≡ true }
         ensures { Gives (λ _. held self.new.frames.items) result
-            (if nat_lt (depth (held self.old.frames.items)) max_levels
+            (if nat_lt (depth (held self.old.frames.items)) written_levels
             then Some (framed frame ∷ held self.old.frames.items) else None) }
     {
-        if self.deep >= MAX_LEVELS {
+        if self.deep >= WRITTEN_LEVELS {
             drop(frame);
             return Err(Fault::Wrong);
         }
@@ -128,7 +161,7 @@ impl Stack {
             Some(Frame::InNot) => 3,
             Some(Frame::InNegative) => 7,
             Some(Frame::InCall(_) | Frame::InItem(..)) => 0,
-            Some(Frame::InPlace(_) | Frame::InQueue(..) | Frame::InPop(_)) => 9,
+            Some(Frame::InPlace(_) | Frame::InQueue(..) | Frame::InDeed(..)) => 9,
             Some(_) => 1,
         }
     }
@@ -179,27 +212,62 @@ impl Stack {
             }
             Some(Frame::InPlace(_)) => Role::Place,
             Some(Frame::InQueue(_, Verb::Observe)) => Role::Observation,
-            Some(Frame::InQueue(..) | Frame::InPop(_)) => Role::Queue,
-            Some(Frame::InCall(name)) => { if *name < 3 { Role::Value } else { Role::First } }
+            Some(Frame::InDeed(_, Deed::Do)) => Role::Procedure,
+            Some(Frame::InQueue(..) | Frame::InDeed(..)) => Role::Queue,
+            Some(Frame::InCall(name)) => match *name {
+                3 => Role::Measured,
+                10 => Role::Table,
+                other => {
+                    if takes_numbers(other) {
+                        Role::Value
+                    } else {
+                        Role::First
+                    }
+                }
+            },
             Some(Frame::InCount(_)) => Role::Count,
             _ => Role::Value,
         }
     }
 
-    /// Whether it is too deep for an `observe`, which is one level deeper once it is desugared.
-    pub fn is_past_observing(&self) -> bool {
-        if self.deep < MAX_LEVELS {
+    /// Whether what comes is too deep once it is in the core, where `length` of a table is no level.
+    pub fn is_too_deep(&self, is_table: bool) -> bool {
+        let mut deep = self.deep;
+        for frame in self.frames.iter() {
+            deep = deep.saturating_add(frame.more_levels());
+        }
+        match self.frames.last() {
+            Some(Frame::InCall(3)) if is_table => deep > MAX_LEVELS + 1,
+            Some(Frame::InCall(10)) => deep >= MAX_LEVELS,
+            _ => deep > MAX_LEVELS,
+        }
+    }
+
+    /// Whether a number may be drawn here: one in a statement of a program or in a test, and none in the index of what is
+    /// changed.
+    pub fn may_draw(&self, member: Option<Member>) -> bool {
+        if member.is_some() {
             return false;
         }
         for frame in self.frames.iter().rev() {
             match frame {
-                Frame::InQueue(_, Verb::Observe) | Frame::InItem(_, Verb::Observe, _) => {
-                    return true;
+                Frame::Operand(before, _) => {
+                    if draws(before) {
+                        return false;
+                    }
                 }
-                _ => {}
+                Frame::InCall(10 | 11) => return false,
+                Frame::InNot
+                | Frame::InNegative
+                | Frame::InGroup
+                | Frame::InIndex(_)
+                | Frame::InCall(_)
+                | Frame::InRandom => {}
+                Frame::InPlace(_) | Frame::InQueue(..) | Frame::InDeed(..) => return false,
+                _ => return true,
             }
         }
-        false
+        true
     }
 
     /// Whether one argument more may come.

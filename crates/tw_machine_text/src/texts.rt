@@ -1,5 +1,5 @@
 //! The texts of a machine: its programs, and the expressions, queues and words of its other members.
-ghost use Rattle.std.specs.Prelude.{◌≡◌, ◌≢◌, ◌≤◌, IfOk, IfErr};
+ghost use Rattle.std.specs.Prelude.{◌≡◌, ◌≢◌, ◌≤◌, IfOk, IfErr, map};
 ghost use Rattle.tw_machine_text.specs.Limits.{max_nodes};
 ghost use Rattle.tw_machine_text.specs.Place.{IsInText};
 ghost use Rattle.tw_machine_text.specs.TextViews.{SaysProgram, SaysMember};
@@ -43,26 +43,29 @@ fn refusal(text: &str, refused: Refused) -> TextRefused
 }
 
 /// Reads a program, of at most so many nodes: what the machine has left of its 4,096. The names are those that the
-/// machine declares, in any order; in the tree a name is its number, 0 to 9 for the functions' names and from 10 on for
-/// those that are declared. A text that is no program is refused as `Wrong` (21), want of memory as `OutOfMemory` (4).
+/// machine declares, in any order, and procedures the programs of those that are named among them; in the tree a name is its number, 0 to 11 for the functions' names and from 12 on
+/// for those that are declared. A text that is no program is refused as `Wrong` (21), want of memory as `OutOfMemory` (4).
 pub fn read_program(
     alloc: Global,
     declared: &[Declared],
+    procedures: &[Block],
     text: &str,
     left: usize,
 ) -> Result<Program, TextRefused>
     requires { left ≤ max_nodes }
     // What is read is what the text says.
     ensures found { IfOk result
-        (λ program. SaysProgram declared.now left text.now (body program.block)) }
+        (λ program. SaysProgram declared.now (map body procedures.now) left text.now
+        (body program.block)) }
     ensures nodes { IfOk result (λ program. program.nodes ≡ nodes_block (body program.block)) }
     // A text that says a program is read as it, unless memory runs out.
-    ensures only { (program : Tree) → SaysProgram declared.now left text.now program
+    ensures only { (program : Tree)
+        → SaysProgram declared.now (map body procedures.now) left text.now program
         → IsReadAs (λ p. body p.block) result program }
     ensures place { IfErr result (IsInText text.now) }
 {
     let kinds = kinds_of(alloc, declared)?;
-    match read(alloc, declared, &kinds, text.as_bytes(), left) {
+    match read(alloc, declared, &kinds, procedures, text.as_bytes(), left) {
         Ok(block) => {
             let nodes = nodes_block(&block);
             Ok(Program { block, nodes })

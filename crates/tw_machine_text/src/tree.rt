@@ -1,9 +1,10 @@
 //! A program as a tree, as it is written: parentheses and semicolons are parts of it.
 ghost use Rattle.std.specs.Prelude.{◌≡◌, ◌==◌, nat_eq};
-ghost use Rattle.tw_machine_text.specs.Tree.{level, count, first_level, arity, fits_call, is_count};
+ghost use Rattle.tw_machine_text.specs.Tree.{level, count, first_level, arity, takes_numbers, fits_call, is_count};
 ghost use Rattle.tw_machine_text.specs.Views.{tree};
 
-use crate::words::{Builtin, Operator, SourceChange, Verb};
+use crate::dictionary::OWN_NAMES;
+use crate::words::{Builtin, Deed, Operator, SourceChange, Verb};
 
 /// An expression. A place and a queue are one too: a name, with or without an index.
 #[derive(Drop)]
@@ -30,7 +31,8 @@ pub enum SourceStatement {
     Assign(SourceExpr, SourceChange, SourceExpr),
     /// What is done to a queue, or counted of an observation; `put` has a place, a comma and a value.
     Act(Verb, SourceExpr, SourceExpr),
-    Pop(SourceExpr),
+    /// What is done to a queue alone.
+    Treat(Deed, SourceExpr),
     Draw,
     Wait(SourceExpr),
     Passivate,
@@ -98,7 +100,7 @@ impl SourceExpr {
     pub fn fits_call(&self, name: usize) -> bool
         ensures { result ≡ fits_call name (tree self.now) }
     {
-        let least = if name < 3 { 1 } else { 9 };
+        let least = if takes_numbers(name) { 1 } else { 9 };
         self.is_many(arity(name)) && least <= self.first_level()
     }
 
@@ -110,8 +112,16 @@ impl SourceExpr {
     }
 }
 
-/// How many arguments the functions take: min, max, choose, length, room, front, last, sum, at, place.
-const ARITIES: [usize; 10] = [2, 2, 3, 1, 1, 1, 1, 1, 2, 2];
+/// How many arguments the functions take: min, max, choose, length, room, front, last, sum, at, place, sample, roll.
+const ARITIES: [usize; OWN_NAMES] = [2, 2, 3, 1, 1, 1, 1, 1, 2, 2, 1, 1];
+
+/// Whether all arguments of a function are numbers: of the first three, and of `roll`. Of the others the first is a queue
+/// or a table.
+pub(crate) fn takes_numbers(name: usize) -> bool
+    ensures { result ≡ takes_numbers name }
+{
+    name < 3 || name == 11
+}
 
 /// How many arguments a function takes.
 pub(crate) fn arity(name: usize) -> usize

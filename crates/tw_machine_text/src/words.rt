@@ -1,6 +1,6 @@
 //! The words of a program.
-ghost use Rattle.std.specs.Prelude.{◌≡◌, ◌≤◌};
-ghost use Rattle.tw_machine_text.specs.Tree.{rank, left_rank, wanted};
+ghost use Rattle.std.specs.Prelude.{◌≡◌, ◌≤◌, if◌then◌else◌};
+ghost use Rattle.tw_machine_text.specs.Tree.{rank, left_rank, wanted, head};
 ghost use Rattle.tw_machine_text.specs.Machine.{weight};
 
 /// An operator between two operands. A comma stands between the arguments of a function, below all others.
@@ -54,6 +54,17 @@ pub enum Verb {
     Observe,
 }
 
+/// What begins a statement on a queue alone.
+#[derive(Clone, Copy, Debug, PartialEq, Eq)]
+pub enum Deed {
+    /// The first value leaves.
+    Pop,
+    /// All values leave.
+    Clear,
+    /// Does what a procedure does. It stands in what is written alone: what is read has the program in its place.
+    Do,
+}
+
 /// A word. A name is its number in the list of names: first the functions', then those that the machine declares.
 #[derive(Clone, Copy, Debug, PartialEq, Eq)]
 pub enum Word {
@@ -71,7 +82,7 @@ pub enum Word {
     Semicolon,
     Becomes(SourceChange),
     Begins(Verb),
-    Pop,
+    Does(Deed),
     Draw,
     Wait,
     Passivate,
@@ -134,6 +145,25 @@ impl Verb {
 }
 
 impl Word {
+    /// Whether it is an operator, or begins a statement or a test.
+    pub fn is_head(self) -> bool
+        ensures { (if result then 1 else 0) ≡ head self }
+    {
+        match self {
+            Word::Not
+            | Word::Becomes(_)
+            | Word::Begins(_)
+            | Word::Does(_)
+            | Word::Draw
+            | Word::Wait
+            | Word::Passivate
+            | Word::If
+            | Word::Repeat => true,
+            Word::Sign(operator) => operator != Operator::Comma,
+            _ => false,
+        }
+    }
+
     /// How many nodes it makes.
     pub fn weight(self) -> usize
         ensures weight { result ≡ weight self }
@@ -146,7 +176,7 @@ impl Word {
             | Word::Not
             | Word::Becomes(_)
             | Word::Begins(_)
-            | Word::Pop
+            | Word::Does(_)
             | Word::Draw
             | Word::Wait
             | Word::Passivate

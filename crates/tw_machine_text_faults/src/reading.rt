@@ -4,18 +4,30 @@ use crate::spelling::is_word;
 use std::alloc::{AllocError, Global};
 use tw_machine_text::{Declared, Kind, Member};
 
+/// What the first argument of a function is.
+#[derive(Clone, Copy, PartialEq)]
+pub(crate) enum First {
+    Number,
+    Queue,
+    /// A queue or a table.
+    Sized,
+    Table,
+}
+
 /// The arguments that a function takes.
 #[derive(Clone, Copy, PartialEq)]
 pub(crate) struct Called {
     pub(crate) count: usize,
-    /// Whether the first is a queue.
-    pub(crate) of_queue: bool,
+    pub(crate) first: First,
+    /// Whether it draws a number.
+    pub(crate) draws: bool,
 }
 
 /// What is open, and waits for its end.
 #[derive(Clone, Copy, PartialEq)]
 pub(crate) enum Open {
-    Block,
+    /// A block, how many levels deeper than it is written it stands in the core, and whether the test before it draws.
+    Block(usize, bool),
     Group,
     /// The arguments of a function, of which so many commas have come.
     Function(Called, usize),
@@ -44,8 +56,14 @@ pub(crate) enum Last {
     Operand,
     /// A queue has to come.
     NoQueue,
+    /// A queue or a table has to come.
+    NoSized,
+    /// A table has to come.
+    NoTable,
     /// An observation has to come.
     NoObservation,
+    /// A procedure has to come.
+    NoProcedure,
     /// The queue of a statement or a function has come, or the observation of a statement.
     Queue,
     /// A name that has an index.
@@ -70,7 +88,8 @@ pub(crate) enum Head {
     Turns,
     /// `put`, before its comma.
     Put,
-    Pop,
+    /// `pop` and `clear`, behind whose queue nothing stands.
+    Lone,
     Observe,
 }
 
@@ -83,10 +102,14 @@ pub(crate) struct Reading {
     /// How many signs and `not` stand before operands since the statement began.
     pub(crate) signs: usize,
     pub(crate) nodes: usize,
+    /// Whether the statement or the test draws a number.
+    pub(crate) draws: bool,
+    /// How many levels deeper than it is written the `if` stands in the core: for each test before that draws.
+    chain: usize,
     /// What the text is; none is a program.
     pub(crate) member: Option<Member>,
     /// The function that the last word is the name of.
-    called: Option<Called>,
+    pub(crate) called: Option<Called>,
 }
 
 impl Reading {
@@ -102,6 +125,8 @@ impl Reading {
             open: Vec::new(alloc),
             signs: 0,
             nodes: 0,
+            draws: false,
+            chain: 0,
             member,
             called: None,
         }
@@ -109,7 +134,14 @@ impl Reading {
 
     /// How deep the words so far are.
     pub(crate) fn depth(&self) -> usize {
-        self.open.len().saturating_add(self.signs)
+        let mut depth = self.open.len().saturating_add(self.signs);
+        depth = depth.saturating_add(self.chain);
+        for open in self.open.iter() {
+            if let Open::Block(more, _) = open {
+                depth = depth.saturating_add(*more);
+            }
+        }
+        depth
     }
 
     /// Reads a word that can stand here.
@@ -137,7 +169,7 @@ impl Reading {
     }
 
     fn begin_block(&mut self) -> Result<(), AllocError> {
-        self.open.push(Open::Block)?;
+        self.open.push(Open::Block(self.chain, self.draws))?;
         self.end_statement();
         Ok(())
     }
@@ -147,10 +179,29 @@ impl Reading {
         let Some(called) = called else {
             return Ok(self.open.push(Open::Group)?);
         };
-        if called.of_queue {
-            self.last = Last::NoQueue;
+        self.last = match called.first {
+            First::Number => Last::Operator,
+            First::Queue => Last::NoQueue,
+            First::Sized => Last::NoSized,
+            First::Table => Last::NoTable,
+        };
+        if called.draws {
+            self.begin_draw(called);
         }
         Ok(self.open.push(Open::Function(called, 0))?)
+    }
+
+    /// A number is drawn: `sample` makes a node more than its words, and so does the `draw` behind a statement; a test has
+    /// two of these.
+    fn begin_draw(&mut self, called: Called) {
+        self.draws = true;
+        let sampled = if called.first == First::Table { 1 } else { 0 };
+        let more = match self.head {
+            Head::Block => sampled + 2,
+            Head::Observe => 3 * sampled + 1,
+            _ => sampled + 1,
+        };
+        self.nodes = self.nodes.saturating_add(more);
     }
 
     fn begin_index(&mut self) -> Result<(), AllocError> {
@@ -169,7 +220,11 @@ impl Reading {
 
     fn end(&mut self) {
         match self.open.pop() {
-            Some(Open::Block) => self.end_statement(),
+            Some(Open::Block(chain, draws)) => {
+                self.end_statement();
+                self.chain = chain;
+                self.draws = draws;
+            }
             Some(Open::Index(Role::Place)) => self.last = Last::Place,
             Some(Open::Index(Role::Queue)) => self.end_queue(),
             _ => self.last = Last::Operand,
@@ -180,13 +235,15 @@ impl Reading {
         self.last = Last::Statement;
         self.head = Head::Plain;
         self.signs = 0;
+        self.chain = 0;
+        self.draws = false;
     }
 
     /// A queue is whole.
     fn end_queue(&mut self) {
         match (self.open.last(), self.member) {
             (Some(Open::Function(..)), _) | (None, Some(_)) => self.last = Last::Operand,
-            _ if self.head == Head::Pop => self.end_statement(),
+            _ if self.head == Head::Lone => self.end_statement(),
             _ => self.last = Last::Queue,
         }
     }
@@ -213,7 +270,7 @@ impl Reading {
         match word {
             "draw" | "passivate" => self.end_statement(),
             "wait" => self.begin_statement(Head::Plain, Last::Operator),
-            "if" => self.begin_statement(Head::Block, Last::Operator),
+            "if" => self.begin_test(),
             "repeat" => self.begin_statement(Head::Turns, Last::Repeat),
             "else" => self.last = Last::Else,
             "push" | "insert" | "remove" => self.begin_statement(Head::Plain, Last::NoQueue),
@@ -221,7 +278,13 @@ impl Reading {
                 self.begin_statement(Head::Observe, Last::NoObservation);
             }
             "put" => self.begin_statement(Head::Put, Last::NoQueue),
-            "pop" => self.begin_statement(Head::Pop, Last::NoQueue),
+            "pop" => self.begin_statement(Head::Lone, Last::NoQueue),
+            "clear" if kind_of(declared, word).is_none() => {
+                self.begin_statement(Head::Lone, Last::NoQueue);
+            }
+            "do" if kind_of(declared, word).is_none() => {
+                self.begin_statement(Head::Lone, Last::NoProcedure);
+            }
             "and" | "or" => self.last = Last::Operator,
             "not" => {
                 self.signs = self.signs.saturating_add(1);
@@ -235,7 +298,22 @@ impl Reading {
         }
     }
 
+    /// Behind the `else` of a test that draws an `if` is a statement of its own, in a block.
+    fn begin_test(&mut self) {
+        let is_chained = self.last == Last::Else;
+        let (chain, draws) = (self.chain, self.draws);
+        self.begin_statement(Head::Block, Last::Operator);
+        if is_chained && draws {
+            self.chain = chain.saturating_add(1);
+        } else if is_chained {
+            self.chain = chain;
+            self.nodes = self.nodes.saturating_sub(1);
+        }
+    }
+
     fn begin_statement(&mut self, head: Head, last: Last) {
+        self.chain = 0;
+        self.draws = false;
         self.signs = 0;
         self.head = head;
         self.last = last;
@@ -252,7 +330,20 @@ impl Reading {
                     self.end_queue();
                 }
             }
+            Last::NoSized if kind == Some(Kind::Table) => {
+                self.nodes = self.nodes.saturating_sub(self.times());
+                self.last = Last::Operand;
+            }
+            Last::NoSized => {
+                if kind == Some(Kind::QueueArray) {
+                    self.last = Last::Array(Role::Queue);
+                } else {
+                    self.end_queue();
+                }
+            }
+            Last::NoTable => self.last = Last::Operand,
             Last::NoObservation => self.last = Last::Queue,
+            Last::NoProcedure => self.end_statement(),
             Last::Operator | Last::Queue => {
                 self.called = arguments(word);
                 self.last = self.after_operand(kind);
@@ -266,6 +357,11 @@ impl Reading {
                 self.begin_statement(Head::Plain, last);
             }
         }
+    }
+
+    /// How often a node of the statement is counted.
+    fn times(&self) -> usize {
+        if self.head == Head::Observe { 3 } else { 1 }
     }
 
     /// What stands behind a name of this kind in an expression.
@@ -303,15 +399,22 @@ pub(crate) fn kind_of(declared: &[Declared], name: &str) -> Option<Kind> {
 
 /// The arguments of the function of this name.
 pub(crate) fn arguments(name: &str) -> Option<Called> {
-    let (count, of_queue) = match name {
-        "random" => (1, false),
-        "min" | "max" => (2, false),
-        "choose" => (3, false),
-        "length" | "room" | "front" | "last" | "sum" => (1, true),
-        "at" | "place" => (2, true),
+    let (count, first) = match name {
+        "random" | "roll" => (1, First::Number),
+        "min" | "max" => (2, First::Number),
+        "choose" => (3, First::Number),
+        "length" => (1, First::Sized),
+        "room" | "front" | "last" | "sum" => (1, First::Queue),
+        "at" | "place" => (2, First::Queue),
+        "sample" => (1, First::Table),
         _ => return None,
     };
-    Some(Called { count, of_queue })
+    let draws = matches!(name, "sample" | "roll");
+    Some(Called {
+        count,
+        first,
+        draws,
+    })
 }
 
 /// Whether a word is a run of letters and digits.

@@ -1,7 +1,7 @@
 //! What is wrong in a machine's text, in words.
 
 use crate::nearest::Nearest;
-use crate::reading::{Called, Head, Last, Open, Reading, Role, is_name, kind_of};
+use crate::reading::{Called, First, Head, Last, Open, Reading, Role, arguments, is_name, kind_of};
 use crate::spelling::{Spelled, words_of};
 use crate::words::quoted;
 use std::alloc::{AllocError, Global};
@@ -14,6 +14,15 @@ use tw_machine_text::{
 const MAX_NUMBER: &str = "9223372036854775807";
 
 const TOO_MANY_NODES: &str = "more than 4096 nodes";
+
+const TOO_MUCH_DONE: &str =
+    "more than 4096 nodes, or than 64 levels, once procedures stand in their places";
+
+/// Whether a program may end here.
+fn is_whole(reading: &Reading) -> bool {
+    let is_behind_operand = reading.last == Last::Operand && behind_statement(reading).is_none();
+    reading.open.is_empty() && (reading.last == Last::Statement || is_behind_operand)
+}
 
 /// Why a text goes wrong at a place: a program, or the text of such a member.
 ///
@@ -39,6 +48,9 @@ pub fn reason(
     let Some(i) = wrong else {
         if reading.nodes > MAX_NODES {
             return String::from_str(alloc, TOO_MANY_NODES);
+        }
+        if is_whole(&reading) {
+            return String::from_str(alloc, TOO_MUCH_DONE);
         }
         let wanted = wanted(&reading);
         return format!(in alloc; "the text ends too early: expected {wanted}");
@@ -122,13 +134,7 @@ fn is_too_great(digits: &str) -> bool {
 
 /// The limit of a text that a word passes, which could stand here.
 fn limit(reading: &Reading, word: &str) -> Option<&'static str> {
-    let opens = matches!(word, "(" | "[" | "{" | "not" | "-");
-    let is_too_deep = if reading.head == Head::Observe {
-        opens && reading.depth() >= MAX_LEVELS - 1
-    } else {
-        (opens || is_contextual(word)) && reading.depth() >= MAX_LEVELS
-    };
-    if is_too_deep {
+    if is_too_deep(reading, word) {
         return Some(
             "more than 64 levels of blocks, parentheses, brackets and signs in one another",
         );
@@ -137,6 +143,21 @@ fn limit(reading: &Reading, word: &str) -> Option<&'static str> {
         return Some(TOO_MANY_NODES);
     }
     None
+}
+
+/// Whether a word that could stand here is too deep once it is in the core.
+fn is_too_deep(reading: &Reading, word: &str) -> bool {
+    let opens = matches!(word, "(" | "[" | "{" | "not" | "-");
+    let first = reading.called.map(|called| called.first);
+    if reading.last == Last::NoSized {
+        reading.depth() > MAX_LEVELS
+    } else if reading.head == Head::Observe || (word == "(" && first == Some(First::Table)) {
+        opens && reading.depth() >= MAX_LEVELS - 1
+    } else if word == "(" && first == Some(First::Sized) {
+        reading.depth() > MAX_LEVELS
+    } else {
+        (opens || word == "observe") && reading.depth() >= MAX_LEVELS
+    }
 }
 
 /// Whether a name is declared, or one of the language.
@@ -173,7 +194,10 @@ fn unknown(
             "statement begins with"
         }
         Last::NoQueue => "queue is named",
+        Last::NoSized => "queue or table is named",
+        Last::NoTable => "table is named",
         Last::NoObservation => "observation is named",
+        Last::NoProcedure => "procedure is named",
         Last::Repeat => "parameter is named",
         Last::Operator | Last::Queue if next == "(" => "function is named",
         Last::Operator | Last::Queue => "register, parameter or table is named",
@@ -187,7 +211,7 @@ fn unknown(
 /// Whether a statement can begin here.
 fn can_begin_statement(reading: &Reading) -> bool {
     let is_inside = match reading.open.last() {
-        Some(Open::Block) | None => false,
+        Some(Open::Block(..)) | None => false,
         Some(_) => true,
     };
     let is_behind_operand = reading.last == Last::Operand
@@ -239,7 +263,10 @@ fn look_at_words<'b>(
 fn may_stand(last: Last, kind: Kind) -> bool {
     match last {
         Last::NoQueue => matches!(kind, Kind::Queue | Kind::QueueArray),
+        Last::NoSized => matches!(kind, Kind::Queue | Kind::QueueArray | Kind::Table),
+        Last::NoTable => kind == Kind::Table,
         Last::NoObservation => kind == Kind::Observation,
+        Last::NoProcedure => matches!(kind, Kind::Procedure(_)),
         Last::Repeat => kind == Kind::Parameter,
         Last::Operator | Last::Queue => matches!(
             kind,
@@ -259,11 +286,16 @@ fn out_of_place(
 ) -> Result<String, AllocError> {
     let shown = quoted(alloc, word)?;
     let kind = kind_of(declared, word);
-    if reading.last == Last::NoQueue && kind == Some(Kind::Queue) && next == "[" {
+    let names_queue = reading.last == Last::NoQueue || reading.last == Last::NoSized;
+    if names_queue && kind == Some(Kind::Queue) && next == "[" {
         return format!(in alloc; "{shown} is one queue, without an index");
     }
-    if reading.last == Last::NoQueue && kind == Some(Kind::QueueArray) && next != "[" {
+    if names_queue && kind == Some(Kind::QueueArray) && next != "[" {
         return format!(in alloc; "{shown} is an array of queues, each of which has an index");
+    }
+    let is_operand = matches!(reading.last, Last::Operator | Last::Queue);
+    if is_drawing(word) && next == "(" && is_operand {
+        return no_draw(alloc, reading, shown.as_str());
     }
     let more = more_of(reading, word, kind);
     if is_name(word) && !is_number(word) && can_begin_statement(reading) {
@@ -271,6 +303,25 @@ fn out_of_place(
     }
     let wanted = wanted(reading);
     format!(in alloc; "expected {wanted}, not {shown}{more}")
+}
+
+/// Whether a function draws a number.
+fn is_drawing(word: &str) -> bool {
+    match arguments(word) {
+        Some(called) => called.draws,
+        None => false,
+    }
+}
+
+/// The line for a number that is drawn where none may be.
+fn no_draw(alloc: Global, reading: &Reading, shown: &str) -> Result<String, AllocError> {
+    if reading.member.is_some() {
+        return format!(in alloc; "{shown} draws a number: outputs and words draw none");
+    }
+    if reading.draws {
+        return format!(in alloc; "{shown} draws a second number in one statement or test");
+    }
+    format!(in alloc; "{shown} draws a number: the index of what is changed draws none")
 }
 
 /// What is to be said of a word that cannot stand here.
@@ -305,6 +356,7 @@ fn kind_words(kind: Kind) -> &'static str {
         Kind::Parameter => ", a parameter",
         Kind::ListParameter => ", a list",
         Kind::Observation => ", an observation",
+        Kind::Procedure(_) => ", a procedure",
     }
 }
 
@@ -318,7 +370,10 @@ fn wanted(reading: &Reading) -> &'static str {
         Last::Operator | Last::Queue => "an expression",
         Last::Operand => behind_operand(reading),
         Last::NoQueue => "a queue",
+        Last::NoSized => "a queue or a table",
+        Last::NoTable => "a table",
         Last::NoObservation => "an observation",
+        Last::NoProcedure => "a procedure that stands before",
         Last::Array(Role::Shown) => "[ and a number",
         Last::Array(_) => "[ and an index",
         Last::Function(_) => "( and arguments",
@@ -336,7 +391,7 @@ fn behind_operand(reading: &Reading) -> &'static str {
         Some(Open::Function(called, commas)) => behind_argument(*called, *commas),
         Some(Open::Index(Role::Shown)) => "]",
         Some(Open::Index(_)) => "an operator or ]",
-        Some(Open::Block) => match behind_statement(reading) {
+        Some(Open::Block(..)) => match behind_statement(reading) {
             Some(wanted) => wanted,
             None => "an operator, a statement or }",
         },
@@ -350,7 +405,7 @@ fn behind_operand(reading: &Reading) -> &'static str {
 /// What can stand behind an argument of a function.
 fn behind_argument(called: Called, commas: usize) -> &'static str {
     let is_last = commas.saturating_add(1) >= called.count;
-    match (called.of_queue && commas == 0, is_last) {
+    match (called.first != First::Number && commas == 0, is_last) {
         (true, true) => ")",
         (true, false) => "a comma",
         (false, true) => "an operator or )",

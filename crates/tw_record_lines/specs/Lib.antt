@@ -1,2 +1,4 @@
 pub mod FigureRows
+pub mod FigureTables
+pub mod Gathering
 pub mod Tables

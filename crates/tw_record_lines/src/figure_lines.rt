@@ -1,8 +1,25 @@
 //! The lines of a table of figures that are gathered until they are written.
 
-ghost use Rattle.std.specs.Prelude.{◌≡◌, ◌++◌, IfOk, codes, decimal, map, string_bytes};
+ghost use Rattle.std.specs.Prelude.{◌≡◌, ◌<◌, ◌++◌, ◌||◌, ◌∷◌, [], ℕ, ℤ, List, IfOk, OnOk, codes, decimal, if◌then◌else◌, length, map, string_bytes, true};
+ghost use Rattle.tw_figures.specs.Gathered.{start_words};
 ghost use Rattle.tw_figures.specs.Labelled.{figure, label};
+ghost use Rattle.tw_msgs.specs.declared.record.Record.{Record as TheRecord};
+ghost use Rattle.tw_network.specs.Contents.{network_of};
 ghost use Rattle.tw_record_lines.specs.FigureRows.{begin_text, figures_in, values_in};
+ghost use Rattle.tw_record_lines.specs.FigureTables.{figures_head, table_of};
+ghost use Rattle.tw_record_lines.specs.Gathering.{
+  FiguresStand,
+  all_values,
+  changed_values,
+  rows_at,
+  rows_behind,
+  rows_due,
+  rows_of_change,
+  rows_of_turn,
+  rows_with,
+  told_rows,
+  turned_values,
+};
 ghost use Rattle.tw_record_lines.specs.Tables.{time_cells};
 
 use crate::figure_rows::{add_changes, add_values};
@@ -46,7 +63,13 @@ impl FigureLines {
         alloc: Global,
         network: &Network<M>,
         table: &FigureTable<'_, N>,
-    ) -> Result<FigureLines, AllocError> {
+    ) -> Result<FigureLines, AllocError>
+        ensures stand { let net = network_of M.meaning network.now in
+            let t = table_of (N.name_of table.now.names.now) table.now.labels.now
+            table.now.shown.now table.now.from in
+            IfOk result (FiguresStand t (start_words net) []) }
+        ensures text { IfOk result (λ lines. string_bytes lines.text ≡ figures_head) }
+    {
         Ok(FigureLines {
             values: first_values(alloc, network, table)?,
             opened: false,
@@ -60,7 +83,19 @@ impl FigureLines {
         alloc: Global,
         table: &FigureTable<'_, N>,
         steps: &[Record],
-    ) -> Result<(), AllocError> {
+    ) -> Result<(), AllocError>
+        ensures stand { let t = table_of (N.name_of table.now.names.now) table.now.labels.now
+            table.now.shown.now table.now.from in
+            (starts : List (List ℤ)) (front : List TheRecord)
+            → FiguresStand t starts front self.old
+            → OnOk result (FiguresStand t starts (front ++ steps.now) self.new) }
+        ensures text { let t = table_of (N.name_of table.now.names.now) table.now.labels.now
+            table.now.shown.now table.now.from in
+            (starts : List (List ℤ)) (front : List TheRecord)
+            → FiguresStand t starts front self.old
+            → OnOk result (string_bytes self.new.text
+            ≡ string_bytes self.old.text ++ rows_behind t starts front steps.now) }
+    {
         for step in steps {
             self.take(alloc, table, step)?;
         }
@@ -73,13 +108,68 @@ impl FigureLines {
         alloc: Global,
         table: &FigureTable<'_, N>,
         step: &Record,
-    ) -> Result<(), AllocError> {
-        if tick(step.stamp) >= table.from {
-            self.open(alloc, table)?;
+    ) -> Result<(), AllocError>
+        ensures stand { let t = table_of (N.name_of table.now.names.now) table.now.labels.now
+            table.now.shown.now table.now.from in
+            (starts : List (List ℤ)) (front : List TheRecord)
+            → FiguresStand t starts front self.old
+            → OnOk result (FiguresStand t starts (front ++ step.now ∷ []) self.new) }
+        ensures text { let t = table_of (N.name_of table.now.names.now) table.now.labels.now
+            table.now.shown.now table.now.from in
+            (starts : List (List ℤ)) (front : List TheRecord)
+            → FiguresStand t starts front self.old
+            → OnOk result (string_bytes self.new.text
+            ≡ string_bytes self.old.text ++ rows_at t starts front step.now) }
+    {
+        let told = tick(step.stamp) >= table.from;
+        self.open_where(alloc, table, told)?;
+        self.turn(alloc, table, step, told)
+    }
+
+    /// The lines of all figures, where something is told and they do not stand there yet.
+    fn open_where<N: Names>(
+        &mut self,
+        alloc: Global,
+        table: &FigureTable<'_, N>,
+        told: bool,
+    ) -> Result<(), AllocError>
+        ensures text { let t = table_of (N.name_of table.now.names.now) table.now.labels.now
+            table.now.shown.now table.now.from in
+            (starts : List (List ℤ)) (front : List TheRecord) → FiguresStand t starts front self.old
+            → OnOk result (string_bytes self.new.text
+            ≡ string_bytes self.old.text ++ (if told then rows_due t starts front else [])) }
+        ensures opened { OnOk result (self.new.opened ≡ (self.old.opened || told)) }
+        ensures values { self.new.values ≡ self.old.values }
+    {
+        if told {
+            return self.open(alloc, table);
         }
+        Ok(())
+    }
+
+    /// What a record does: an output nothing, a transition what [`change`](FigureLines::change) does.
+    fn turn<N: Names>(
+        &mut self,
+        alloc: Global,
+        table: &FigureTable<'_, N>,
+        step: &Record,
+        told: bool,
+    ) -> Result<(), AllocError>
+        ensures values { let t = table_of (N.name_of table.now.names.now) table.now.labels.now
+            table.now.shown.now table.now.from in
+            OnOk result (map (λ v. v.items) self.new.values.items
+            ≡ turned_values t step.now (map (λ v. v.items) self.old.values.items)) }
+        ensures text { let t = table_of (N.name_of table.now.names.now) table.now.labels.now
+            table.now.shown.now table.now.from in
+            OnOk result (string_bytes self.new.text ≡ string_bytes self.old.text
+            ++ rows_of_turn t step.now told (map (λ v. v.items) self.old.values.items)) }
+        ensures opened { self.new.opened ≡ self.old.opened }
+    {
         match step.kind {
             RecordKind::Out => Ok(()),
-            RecordKind::Int | RecordKind::Ext | RecordKind::Con => self.change(alloc, table, step),
+            RecordKind::Int | RecordKind::Ext | RecordKind::Con => {
+                self.change(alloc, table, step, told)
+            }
         }
     }
 
@@ -88,7 +178,15 @@ impl FigureLines {
         &mut self,
         alloc: Global,
         table: &FigureTable<'_, N>,
-    ) -> Result<(), AllocError> {
+    ) -> Result<(), AllocError>
+        ensures text { let t = table_of (N.name_of table.now.names.now) table.now.labels.now
+            table.now.shown.now table.now.from in
+            (starts : List (List ℤ)) (front : List TheRecord) → FiguresStand t starts front self.old
+            → OnOk result (string_bytes self.new.text
+            ≡ string_bytes self.old.text ++ rows_due t starts front) }
+        ensures opened { OnOk result (self.new.opened ≡ true) }
+        ensures values { self.new.values ≡ self.old.values }
+    {
         if self.opened {
             return Ok(());
         }
@@ -97,25 +195,58 @@ impl FigureLines {
         Ok(())
     }
 
-    /// A transition: the lines of the figures that changed, where all stand there already, and the values that they now have.
+    /// A transition: the lines of the figures that changed, where it is told, and the values that they now have.
     fn change<N: Names>(
         &mut self,
         alloc: Global,
         table: &FigureTable<'_, N>,
         step: &Record,
-    ) -> Result<(), AllocError> {
+        told: bool,
+    ) -> Result<(), AllocError>
+        ensures values { let t = table_of (N.name_of table.now.names.now) table.now.labels.now
+            table.now.shown.now table.now.from in
+            OnOk result (map (λ v. v.items) self.new.values.items
+            ≡ changed_values t step.now (map (λ v. v.items) self.old.values.items)) }
+        ensures text { let t = table_of (N.name_of table.now.names.now) table.now.labels.now
+            table.now.shown.now table.now.from in
+            OnOk result (string_bytes self.new.text ≡ string_bytes self.old.text
+            ++ rows_of_change t step.now told (map (λ v. v.items) self.old.values.items)) }
+        ensures opened { self.new.opened ≡ self.old.opened }
+    {
         let component = step.component;
         if component >= self.values.len() {
             return Ok(());
         }
+        self.tell(alloc, table, step, told)?;
         let figures = figures_in(table.labels, table.shown, component);
-        if self.opened {
-            let begin = cells(alloc, step.stamp, table.names.name(component))?;
-            let values = self.values[component].as_slice();
-            add_changes(&mut self.text, begin.as_str(), figures, values, &step.words)?;
-        }
         self.values[component] = values_of(alloc, figures, &step.words)?;
         Ok(())
+    }
+
+    /// The lines of the figures that a transition of a component that is there changed, where it is told.
+    fn tell<N: Names>(
+        &mut self,
+        alloc: Global,
+        table: &FigureTable<'_, N>,
+        step: &Record,
+        told: bool,
+    ) -> Result<(), AllocError>
+        requires { step.now.component < length self.old.values.items }
+        ensures text { let t = table_of (N.name_of table.now.names.now) table.now.labels.now
+            table.now.shown.now table.now.from in
+            OnOk result (string_bytes self.new.text ≡ string_bytes self.old.text
+            ++ (if told then told_rows t step.now (map (λ v. v.items) self.old.values.items) else [])) }
+        ensures values { self.new.values ≡ self.old.values }
+        ensures opened { self.new.opened ≡ self.old.opened }
+    {
+        if !told {
+            return Ok(());
+        }
+        let component = step.component;
+        let begin = cells(alloc, step.stamp, table.names.name(component))?;
+        let figures = figures_in(table.labels, table.shown, component);
+        let values = self.values[component].as_slice();
+        add_changes(&mut self.text, begin.as_str(), figures, values, &step.words)
     }
 }
 
@@ -124,7 +255,13 @@ fn first_values<M: Atomic, N: Names>(
     alloc: Global,
     network: &Network<M>,
     table: &FigureTable<'_, N>,
-) -> Result<Vec<Vec<i128>>, AllocError> {
+) -> Result<Vec<Vec<i128>>, AllocError>
+    ensures { let net = network_of M.meaning network.now in
+        let t = table_of (N.name_of table.now.names.now) table.now.labels.now
+        table.now.shown.now table.now.from in
+        IfOk result (λ values. map (λ v. v.items) values.items ≡ all_values t 0 (start_words net) []) }
+{
+    network.facts();
     let mut values = Vec::new(alloc);
     for component in 0..network.len() {
         let words = words_of(alloc, network.model(component))?;
@@ -140,7 +277,12 @@ fn add_all<N: Names>(
     text: &mut String,
     table: &FigureTable<'_, N>,
     values: &[Vec<i128>],
-) -> Result<(), AllocError> {
+) -> Result<(), AllocError>
+    ensures { let t = table_of (N.name_of table.now.names.now) table.now.labels.now
+        table.now.shown.now table.now.from in
+        OnOk result (string_bytes text.new
+        ≡ string_bytes text.old ++ rows_with t 0 (map (λ v. v.items) values.now)) }
+{
     for (component, values) in values.iter().enumerate() {
         let figures = figures_in(table.labels, table.shown, component);
         let begin = first_cells(alloc, table.from, table.names.name(component))?;

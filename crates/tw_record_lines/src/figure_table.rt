@@ -1,6 +1,12 @@
 //! The table of the figures of a run, written after each round.
 
-ghost use Rattle.std.specs.Prelude.{◌≤◌};
+ghost use Rattle.std.specs.Prelude.{◌≡◌, ◌≤◌, IfErr, OnOk};
+ghost use Rattle.std.specs.Io.KnownBytes.{Appends};
+ghost use Rattle.tw_figures.specs.Gathered.{start_words};
+ghost use Rattle.tw_network.specs.Contents.{network_of};
+ghost use Rattle.tw_record_lines.specs.FigureTables.{figures_text, table_of};
+ghost use Rattle.tw_texts.specs.Traces.{AppendsBeginning};
+ghost use Rattle.tw_theory.specs.Simulator.{sequential};
 ghost use Rattle.tw_vtime.specs.Stamps.{max_tick};
 
 use crate::figure_lines::{FigureLines, FigureTable};
@@ -30,7 +36,19 @@ pub fn write_figures<M: Atomic, N: Names, L: Listener, W: Write>(
     out: &mut W,
 ) -> Result<(), NotWritten>
     requires { until ≤ max_tick }
+    ensures ok { let net = network_of M.meaning network.now in
+        let t = table_of (N.name_of table.now.names.now) table.now.labels.now
+        table.now.shown.now table.now.from in
+        OnOk result (Appends (W.contents out.old) (W.contents out.new)
+        (figures_text t (start_words net) (sequential net until).records)) }
+    ensures err { let net = network_of M.meaning network.now in
+        let t = table_of (N.name_of table.now.names.now) table.now.labels.now
+        table.now.shown.now table.now.from in
+        IfErr result (λ e. e ≡ NotWritten.OutOfMemory
+        → AppendsBeginning (W.contents out.old) (W.contents out.new)
+        (figures_text t (start_words net) (sequential net until).records)) }
 {
+    network.facts();
     let Ok(mut simulation) = begin(alloc, network, until) else {
         return Err(NotWritten::OutOfMemory);
     };

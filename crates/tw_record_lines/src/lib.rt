@@ -4,6 +4,7 @@
 //! go to the writer after the round. No record is kept, so that a longer run takes no more memory.
 //!
 //! - [`write_lines`] (`trace`): the trace; its lines are gathered by `trace_lines`.
+//! - [`hold_lines`] (`held`): the trace, held while it is short, with the fault that ends the run.
 //! - [`write_table`] (`table`): a [`Table`], whose lines are gathered by `table_lines` and made by `rows`.
 //! - [`write_figures`] (`figure_table`): a [`FigureTable`], whose lines are gathered by `figure_lines` and made by `figure_rows`.
 //!
@@ -13,6 +14,7 @@
 mod figure_lines;
 mod figure_rows;
 mod figure_table;
+mod held;
 mod rows;
 mod table;
 mod table_lines;
@@ -21,6 +23,7 @@ mod trace_lines;
 
 pub use figure_lines::FigureTable;
 pub use figure_table::write_figures;
+pub use held::{Held, hold_lines};
 pub use table::write_table;
 pub use table_lines::Table;
 pub use trace::write_lines;

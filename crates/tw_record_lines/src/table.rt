@@ -1,6 +1,6 @@
 //! The table of a run, written after each round.
 
-ghost use Rattle.std.specs.Prelude.{◌≡◌, ◌≤◌, ◌++◌, [], OnOk, IfErr, string_bytes};
+ghost use Rattle.std.specs.Prelude.{◌≡◌, ◌≤◌, OnOk, IfErr};
 ghost use Rattle.std.specs.Io.KnownBytes.{Appends};
 ghost use Rattle.tw_network.specs.Contents.{network_of};
 ghost use Rattle.tw_record_lines.specs.Tables.{listed, table_text};
@@ -10,13 +10,13 @@ ghost use Rattle.tw_vtime.specs.Stamps.{max_tick};
 
 use crate::rows::head;
 use crate::table_lines::{Table, TableLines};
-use std::alloc::{AllocError, Global};
+use std::alloc::Global;
 use std::io::Write;
 use tw_atomic::Atomic;
 use tw_listen::{Listener, advance_telling};
 use tw_network::Network;
 use tw_rounds::{Advanced, begin};
-use tw_texts::{Names, NotWritten, write_out, write_portion};
+use tw_texts::{Lines, Names, NotWritten};
 
 /// Simulates a network up to the end tick `until`, and writes this table of the records of those components that it shows, from
 /// its first tick on: after each round, in portions of about 65,536 bytes. It keeps the lines of one round and one portion. After each round the listener
@@ -44,11 +44,12 @@ pub fn write_table<M: Atomic, N: Names, L: Listener, W: Write>(
     let Ok(mut simulation) = begin(alloc, network, until) else {
         return Err(NotWritten::OutOfMemory);
     };
-    let Ok(first) = String::from_str(alloc, head(table.rows)) else {
+    let mut first = Lines::new(alloc);
+    let Ok(()) = first.add_line(head(table.rows).as_bytes()) else {
         return Err(NotWritten::OutOfMemory);
     };
-    let mut outputs = TableLines::new(table, first);
-    let mut transitions = TableLines::new(table, String::new(alloc));
+    let mut outputs = TableLines::new(alloc, table, first);
+    let mut transitions = TableLines::new(alloc, table, Lines::new(alloc));
     loop {
         let Ok(step) = advance_telling(
             alloc,
@@ -62,23 +63,12 @@ pub fn write_table<M: Atomic, N: Names, L: Listener, W: Write>(
         };
         match step {
             Advanced::Round => {
-                let Ok(()) = move_lines(&mut transitions.lines, &mut outputs.lines) else {
+                let Ok(()) = outputs.lines.append(&mut transitions.lines) else {
                     return Err(NotWritten::OutOfMemory);
                 };
-                write_portion(&mut outputs.lines, out)?;
+                outputs.lines.write_portion(out)?;
             }
-            Advanced::End(_) => return write_out(&mut outputs.lines, out),
+            Advanced::End(_) => return outputs.lines.write_out(out),
         }
     }
-}
-
-/// Moves lines behind others.
-fn move_lines(from: &mut String, to: &mut String) -> Result<(), AllocError>
-    ensures moved { OnOk result
-        (string_bytes to.new ≡ string_bytes to.old ++ string_bytes from.old) }
-    ensures emptied { OnOk result (string_bytes from.new ≡ []) }
-{
-    to.push_str(from.as_str())?;
-    from.clear();
-    Ok(())
 }

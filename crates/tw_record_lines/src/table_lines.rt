@@ -1,16 +1,16 @@
 //! The lines of a table that are gathered until they are written.
 
-ghost use Rattle.std.specs.Prelude.{◌≡◌, ◌++◌, ◌∷◌, [], string_bytes};
+ghost use Rattle.std.specs.Prelude.{◌≡◌, ◌++◌, ◌∷◌, []};
 ghost use Rattle.tw_record_lines.specs.Tables.{listed, rows_text};
 ghost use Rattle.tw_vtime.specs.Stamps.{tick_of};
 
-use crate::rows::{add_each_item, add_each_word, add_record};
-use std::alloc::AllocError;
+use crate::rows::{Cells, add_each_item, add_each_word, add_record};
+use std::alloc::{AllocError, Global};
 use tw_figures::{Rows, is_shown};
 use tw_listen::{Counting, Reached};
 use tw_msgs::{Bag, RecordKind};
 use tw_rounds::Receiver;
-use tw_texts::Names;
+use tw_texts::{Lines, Names};
 use tw_vtime::Stamp;
 
 /// A table: what its lines are of, the names of the components, which of them are shown, and from which tick on it has records.
@@ -33,13 +33,15 @@ pub struct TableLines<'a, N: Names> {
     rows: Rows,
     shown: &'a [bool],
     from: u64,
-    pub(crate) lines: String,
+    pub(crate) lines: Lines,
+    // Room in which a line is made.
+    room: Vec<u8>,
     reached: Reached,
 }
 
 impl<'a, N: Names> TableLines<'a, N> {
     /// These lines, to which lines of a table are added.
-    pub(crate) fn new(table: &Table<'a, N>, lines: String) -> TableLines<'a, N>
+    pub(crate) fn new(alloc: Global, table: &Table<'a, N>, lines: Lines) -> TableLines<'a, N>
         ensures names { result.names.now ≡ table.now.names.now }
         ensures rows { result.rows ≡ table.now.rows }
         ensures shown { result.shown.now ≡ table.now.shown.now }
@@ -52,6 +54,7 @@ impl<'a, N: Names> TableLines<'a, N> {
             shown: table.shown,
             from: table.from,
             lines,
+            room: Vec::new(alloc),
             reached: Reached::nothing(),
         }
     }
@@ -61,7 +64,7 @@ impl<'a, N: Names> TableLines<'a, N> {
 impl<N: Names> Receiver for TableLines<'_, N> {
     ghost takes = { λ old r new. (new.names.now ≡ old.names.now) × (new.rows ≡ old.rows)
         × (new.shown.now ≡ old.shown.now) × (new.from ≡ old.from)
-        × (string_bytes new.lines ≡ string_bytes old.lines
+        × (new.lines.text ≡ old.lines.text
         ++ rows_text old.rows (N.name_of old.names.now) (listed old.shown.now old.from (r ∷ []))) };
 
     fn take(
@@ -76,12 +79,17 @@ impl<N: Names> Receiver for TableLines<'_, N> {
         if tick(stamp) < self.from || !is_shown(self.shown, component) {
             return Ok(());
         }
-        let name = self.names.name(component);
-        let text = &mut self.lines;
+        let cells = Cells {
+            name: self.names.name(component),
+            at: stamp,
+            kind,
+        };
+        let lines = &mut self.lines;
+        let room = &mut self.room;
         match self.rows {
-            Rows::Records => add_record(text, name, stamp, kind, bag.as_slice(), words),
-            Rows::Items => add_each_item(text, name, stamp, kind, bag.as_slice()),
-            Rows::Words => add_each_word(text, name, stamp, kind, words),
+            Rows::Records => add_record(lines, room, &cells, bag.as_slice(), words),
+            Rows::Items => add_each_item(lines, room, &cells, bag.as_slice()),
+            Rows::Words => add_each_word(lines, room, &cells, words),
         }
     }
 }

@@ -30,6 +30,14 @@ impl<'a, N: Names> TraceLines<'a, N> {
             reached: Reached::nothing(),
         }
     }
+
+    /// The lines alone.
+    pub(crate) fn into_lines(self) -> Lines
+        ensures { result ≡ self.entry.lines }
+    {
+        let TraceLines { lines, .. } = self;
+        lines
+    }
 }
 
 /// Adds the line of each record.

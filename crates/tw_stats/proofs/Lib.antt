@@ -3,7 +3,6 @@ pub mod Objects
 pub mod Paired
 pub mod Reaching
 pub mod Starting
-pub mod Steady
 pub mod Telling
 pub mod Thirds
 pub mod Widths

@@ -1,12 +1,13 @@
 //! Lines of a trace that are gathered until they are written.
 
 ghost use Rattle.std.specs.Io.KnownBytes.{Appends};
-ghost use Rattle.std.specs.Prelude.{◌≡◌, ◌++◌, [], IfErr, IfSome, OnErr, OnOk, string_bytes};
+ghost use Rattle.std.specs.Prelude.{◌≡◌, ◌++◌, [], IfErr, IfSome, OnErr, OnOk, length, string_bytes};
 ghost use Rattle.tw_texts.specs.Texts.{step_line, time_text};
 ghost use Rattle.tw_texts.specs.Traces.{MovesBytes};
 
-use crate::lines::{add_step, add_time};
-use crate::traces::{NotWritten, write_out, write_portion};
+use crate::lines::add_time;
+use crate::tails::{greatest_length, make_room, put_line};
+use crate::traces::{NotWritten, PORTION};
 use std::alloc::{AllocError, Global};
 use std::io::Write;
 use std::marker::Model;
@@ -17,7 +18,9 @@ use tw_vtime::Stamp;
 /// one stamp is written out once.
 #[derive(Drop)]
 pub struct Lines {
-    text: String,
+    text: Vec<u8>,
+    // Room for a line, which is written from its end.
+    room: Vec<u8>,
     // The stamp of the last line, if there was one, and the text of its time.
     last: Option<Stamp>,
     time: String,
@@ -29,7 +32,7 @@ impl Model for Lines {
 
     ghost Value = { Gathered };
 
-    ghost view = { λ lines. record { text = string_bytes lines.text } };
+    ghost view = { λ lines. record { text = lines.text.items } };
 
     ghost invariant = { λ lines. IfSome lines.last (λ at. string_bytes lines.time ≡ time_text at) };
 }
@@ -40,7 +43,8 @@ impl Lines {
         ensures { result.text ≡ [] }
     {
         Lines {
-            text: String::new(alloc),
+            text: Vec::new(alloc),
+            room: Vec::new(alloc),
             last: None,
             time: String::new(alloc),
         }
@@ -62,12 +66,19 @@ impl Lines {
             (self.new.text ≡ self.old.text ++ step_line name.now at kind bag.now words.now) }
     {
         keep_time(&mut self.last, &mut self.time, at)?;
-        self.text.push_str(self.time.as_str())?;
-        self.text.push_str(" ")?;
-        self.text.push_str(name)?;
-        self.text.push_str(" ")?;
-        add_step(&mut self.text, kind, bag, words)?;
-        self.text.push_str("\n")
+        let time = self.time.as_bytes();
+        let name = name.as_bytes();
+        make_room(&mut self.room, greatest_length(time, name, bag, words))?;
+        let start = put_line(self.room.as_mut_slice(), time, name, kind, bag, words);
+        self.text.extend_from_slice(&self.room.as_slice()[start..])
+    }
+
+    /// Adds a line that is made. Where memory is wanting (refusal 4) the lines stay as they were.
+    pub fn add_line(&mut self, line: &[u8]) -> Result<(), AllocError>
+        ensures added { OnOk result (self.new.text ≡ self.old.text ++ line.now) }
+        ensures unchanged { OnErr result (self.new.text ≡ self.old.text) }
+    {
+        self.text.extend_from_slice(line)
     }
 
     /// Adds other lines behind these; then those are none.
@@ -79,9 +90,16 @@ impl Lines {
         ensures unchanged { OnErr result (self.new.text ≡ self.old.text) }
         ensures kept { OnErr result (others.new.text ≡ others.old.text) }
     {
-        self.text.push_str(others.text.as_str())?;
+        self.text.extend_from_slice(others.text.as_slice())?;
         others.text.clear();
         Ok(())
+    }
+
+    /// How many bytes the lines have.
+    pub fn len(&self) -> usize
+        ensures { result ≡ length self.now.text }
+    {
+        self.text.len()
     }
 
     /// Gives the lines up: then there are none.
@@ -97,7 +115,11 @@ impl Lines {
         ensures emptied { OnOk result (self.new.text ≡ []) }
         ensures err { IfErr result (λ e. e ≡ NotWritten.WriteFailed) }
     {
-        write_out(&mut self.text, out)
+        let Ok(()) = out.write_all(self.text.as_slice()) else {
+            return Err(NotWritten::WriteFailed);
+        };
+        self.text.clear();
+        Ok(())
     }
 
     /// Hands the lines to a writer, once they are a portion of 65,536 bytes. Refused as [`write_out`] is.
@@ -106,7 +128,10 @@ impl Lines {
             (MovesBytes (W.contents out.old) (W.contents out.new) self.old.text self.new.text) }
         ensures err { IfErr result (λ e. e ≡ NotWritten.WriteFailed) }
     {
-        write_portion(&mut self.text, out)
+        if self.text.len() < PORTION {
+            return Ok(());
+        }
+        self.write_out(out)
     }
 }
 

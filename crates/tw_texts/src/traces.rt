@@ -17,7 +17,7 @@ use tw_msgs::Record;
 use tw_vtime::Refusal;
 
 /// As many bytes of lines are gathered before they go to the writer at once.
-const PORTION: usize = 65_536;
+pub(crate) const PORTION: usize = 65_536;
 
 /// Why a trace was not written to its end.
 #[derive(Clone, Copy, Debug, PartialEq, Eq)]

@@ -200,6 +200,8 @@ def simulate(
     workers: Union[None, SupportsIndex, Literal["auto"]] = None,
     *,
     on_fault: Literal["raise", "keep"] = "raise",
+    numbers: Optional[Mapping[str, SupportsIndex]] = None,
+    replication: SupportsIndex = 0,
 ) -> Run:
     """A run of a network as it is now, up to the tick `until`: only steps before it are made.
 
@@ -211,22 +213,36 @@ def simulate(
     it raises `LimitFault`, whose `partial` is what there is up to the fault; where it is `"keep"`, that
     is what one gets, and the run's `fault` tells of the fault.
 
+    `numbers` are other numbers for parameters, each by the component's flat name, a dot and the parameter
+    (`{"desk.agents": 4}`); `replication` from 1 on gives every seed its number of that replication. All
+    that is asked of the run is then as of a network with these.
+
     Raises `TypeError` or `ValueError` for arguments of another kind. What is asked of the run raises
     `NetworkError` for a network that the program refuses, `RequestError` for an end tick or a number of
-    workers out of range, `MemoryRefused`, and the kinds of `ProgramError`.
+    workers out of range and for a parameter that there is not (23), `MemoryRefused`, and the kinds of
+    `ProgramError`.
 
     >>> from twarp import Network
     >>> network = Network().add("g", "gen", period=2, value=5).add("t", "tally").couple("g", "t")
     >>> run = simulate(network, until=5)
     >>> run.table()[["tick", "component", "kind"]].values.tolist()[:3]
     [[2, 'g', 'out'], [2, 'g', 'int'], [2, 't', 'ext']]
+    >>> simulate(network, until=5, numbers={"g.value": 7}).stats().figures.loc[("t", "sum"), "last"]
+    14
     """
     if not isinstance(network, Network):
         raise TypeError(f"what is simulated is a Network, not {network!r}")
     if on_fault not in ("raise", "keep"):
         raise ValueError(f'on_fault is "raise" or "keep", not {on_fault!r}')
     count = None if workers is None else "auto" if workers == "auto" else str(_whole(workers, "workers"))
-    return Run(network.to_json().encode("ascii"), flat_models(network), _whole(until, "until"), count, on_fault == "keep")
+    return Run(
+        network.to_json().encode("ascii"),
+        flat_models(network),
+        _whole(until, "until"),
+        count,
+        on_fault == "keep",
+        _settings(numbers or {}, _whole(replication, "replication")),
+    )
 
 
 class Run:
@@ -244,8 +260,10 @@ class Run:
         until: int,
         workers: Optional[str],
         keep: bool,
+        settings: Sequence[str] = (),
     ) -> None:
         self.until = until
+        self._settings = list(settings)
         self._network = network
         self._models = models
         self._workers = workers
@@ -291,27 +309,32 @@ class Run:
             stats = self._figured()
         else:
             since = None if start is None else _whole(start, "start")
-            stats = Stats(_figures(self._network, self.until, since, only))
+            stats = Stats(_figures(self._network, self.until, since, only, self._settings))
             self._learn(stats.fault)
         self._met(stats.fault, stats)
         return stats
 
-    def table(self) -> pd.DataFrame:
+    def table(self, start: Optional[int] = None, only: Union[None, str, Sequence[str]] = None) -> pd.DataFrame:
         """A row for each record: `tick`, `microstep`, `component`, `kind` (both categories), `items`
         (`port=value`) and `words`, as texts with blanks between.
 
-        It is read as the program writes. Raises `LimitFault` (with the rows up to it as `partial`), and
+        With `start` these are the records at that tick and later, with `only` those of the components of
+        these names; so also of `items` and `words`.
+
+        It is read as the program writes. Raises `TypeError` where `start` is no whole number, `RequestError`
+        where it is no tick (23) or a name is none (15), `LimitFault` (with the rows up to it as `partial`), and
         what `simulate` says.
 
         >>> from twarp import Network, simulate
         >>> simulate(Network().add("g", "gen", period=2, value=5), until=3).table().words.tolist()
         ['', '1']
         """
-        return self._table([], {"items": "str", "words": "str"})
+        return self._table(_shown(start, only), {"items": "str", "words": "str"})
 
-    def items(self) -> pd.DataFrame:
+    def items(self, start: Optional[int] = None, only: Union[None, str, Sequence[str]] = None) -> pd.DataFrame:
         """A row for each item of a record: `tick`, `microstep`, `component`, `kind` (both categories),
-        `port` and `value`. Of a kind `out` it was sent, of another it came.
+        `port` and `value`. Of a kind `out` it was sent, of another it came. `start` and `only` are as of
+        `table`.
 
         It is read as the program writes. Raises `LimitFault` (with the rows up to it as `partial`), and
         what `simulate` says.
@@ -320,11 +343,11 @@ class Run:
         >>> simulate(Network().add("g", "gen", period=2, value=5), until=5).items().value.sum()
         10
         """
-        return self._table(["--items"], {"port": "int64", "value": "int64"})
+        return self._table(["--items", *_shown(start, only)], {"port": "int64", "value": "int64"})
 
-    def words(self) -> pd.DataFrame:
+    def words(self, start: Optional[int] = None, only: Union[None, str, Sequence[str]] = None) -> pd.DataFrame:
         """A row for each word of a state after a transition: `tick`, `microstep`, `component`, `kind`
-        (both categories), `place` from 0, and `number`.
+        (both categories), `place` from 0, and `number`. `start` and `only` are as of `table`.
 
         Numbers are int64. The words of a hop are below 2^64: of a network of hops and gens alone they are
         uint64; where hops stand among other models, they are Python's numbers.
@@ -336,12 +359,27 @@ class Run:
         >>> simulate(Network().add("g", "gen", period=2, value=5), until=5).words().number.tolist()
         [1, 2]
         """
+        return self._table(["--words", *_shown(start, only)], {"place": "int64", "number": self._number()})
+
+    def changes(self, start: Optional[int] = None, only: Union[None, str, Sequence[str]] = None) -> pd.DataFrame:
+        """A row for each change of a figure: `tick`, `microstep`, `component`, `figure` (both categories)
+        and `value`. It begins with all figures at tick 0, or at `start` with the values that were left to
+        it. `start` and `only` are as of `table`, the types of values those of `words`.
+
+        It is read as the program writes. Raises `LimitFault` (with the rows up to it as `partial`), and
+        what `table` says.
+
+        >>> from twarp import Network, simulate
+        >>> network = Network().add("q", "queue", service=3).input(1, "q", 7)
+        >>> simulate(network, until=9).changes()[["tick", "figure", "value"]].values.tolist()
+        [[0, 'dropped', 0], [0, 'jobs', 0], [1, 'jobs', 1], [4, 'jobs', 0]]
+        """
+        return self._table(["--figures", *_shown(start, only)], {"value": self._number()}, "figure")
+
+    def _number(self) -> str:
+        """The type of the words of states: those of a hop are below 2^64."""
         models = {model for _, model, _ in self._models}
-        if "hop" not in models:
-            return self._table(["--words"], {"place": "int64", "number": "int64"})
-        if models <= {"hop", "gen"}:
-            return self._table(["--words"], {"place": "int64", "number": "uint64"})
-        return self._table(["--words"], {"place": "int64", "number": "object"})
+        return "int64" if "hop" not in models else "uint64" if models <= {"hop", "gen"} else "object"
 
     def course(self, component: str, figure: str) -> pd.Series:
         """The course of a figure: its value after each tick in which the component made a transition, over
@@ -388,7 +426,7 @@ class Run:
         Record(tick=2, microstep=0, component='g', kind='out', items=(Item(port=0, value=5),), words=())
         """
         words = ["seq"] if self._workers is None else ["run", "--workers", self._workers]
-        words = [*words, "/dev/stdin", "--until", str(self.until)]
+        words = [*words, "/dev/stdin", "--until", str(self.until), *self._settings]
         last = ""
         with Process(words, self._network) as process:
             for line in process.out:
@@ -419,7 +457,7 @@ class Run:
         >>> str(simulate(Network().add("g", "gen", period=2, value=5), until=5).picture())[:4]
         '<svg'
         """
-        words = ["draw", "/dev/stdin", "--until", str(self.until)]
+        words = ["draw", "/dev/stdin", "--until", str(self.until), *self._settings]
         words += _only(only)
         if start is not None:
             words += ["--from", str(_whole(start, "start"))]
@@ -445,13 +483,13 @@ class Run:
 
     def _figured(self) -> Stats:
         if self._stats is None:
-            self._stats = Stats(_figures(self._network, self.until))
+            self._stats = Stats(_figures(self._network, self.until, settings=self._settings))
         self._learn(self._stats.fault)
         return self._stats
 
     def _start(self, component: str, figure: str) -> int:
         """The value of a figure at the start."""
-        raw = _figures(self._network, 0)
+        raw = _figures(self._network, 0, settings=self._settings)
         for at, (name, _, _) in enumerate(self._models):
             if name != component:
                 continue
@@ -465,20 +503,27 @@ class Run:
 
     def _changes(self, component: str, figure: str) -> dict[int, int]:
         """The value of a figure after each tick in which it changed."""
-        words = ["table", "/dev/stdin", "--until", str(self.until), "--figures", *_only(component)]
+        words = ["table", "/dev/stdin", "--until", str(self.until), *self._settings, "--figures", *_only(component)]
         rows = csv.reader(io.StringIO(answer(words, self._network).out.decode()))
         return {int(row[0]): int(row[4]) for row in list(rows)[1:] if row[3] == figure}
 
-    def _table(self, flags: list[str], last: dict[str, str]) -> _Frame:
+    def _table(self, flags: list[str], last: dict[str, str], fourth: Literal["kind", "figure"] = "kind") -> _Frame:
         frames: list[_Frame] = []
-        fault = self._read(flags, last, frames.append)
+        fault = self._read(flags, last, frames.append, fourth=fourth)
         self._met(fault, frames[0])
         return frames[0]
 
-    def _read(self, flags: list[str], last: dict[str, str], take: Any, rows: Optional[int] = None) -> Optional[LimitFault]:
-        words = ["table", "/dev/stdin", "--until", str(self.until), *flags]
+    def _read(
+        self,
+        flags: list[str],
+        last: dict[str, str],
+        take: Any,
+        rows: Optional[int] = None,
+        fourth: Literal["kind", "figure"] = "kind",
+    ) -> Optional[LimitFault]:
+        words = ["table", "/dev/stdin", "--until", str(self.until), *self._settings, *flags]
         names = [name for name, _, _ in self._models]
-        return read_table(words, self._network, names, last, take, rows)
+        return read_table(words, self._network, names, last, take, rows, fourth)
 
 
 # How many rows of a table are looked at together where not all are kept.
@@ -490,10 +535,26 @@ def _only(names: Union[None, str, Sequence[str]]) -> list[str]:
     return [] if names is None else [f"--only={names if isinstance(names, str) else ','.join(names)}"]
 
 
-def _figures(network: bytes, until: int, start: Optional[int] = None, only: Union[None, str, Sequence[str]] = None) -> Any:
+def _shown(start: Optional[int], only: Union[None, str, Sequence[str]]) -> list[str]:
+    """The options that show what is from a tick on, and of these components."""
+    return [*([] if start is None else [f"--from={_whole(start, 'start')}"]), *_only(only)]
+
+
+def _settings(numbers: Mapping[str, SupportsIndex], replication: int) -> list[str]:
+    """The options that give a network other numbers."""
+    seeds = [] if replication == 0 else [f"--seed-all={replication}"]
+    return [*(f"--set={name}={_whole(number, name)}" for name, number in numbers.items()), *seeds]
+
+
+def _figures(
+    network: bytes,
+    until: int,
+    start: Optional[int] = None,
+    only: Union[None, str, Sequence[str]] = None,
+    settings: Sequence[str] = (),
+) -> Any:
     """The answer of `stats --json`."""
-    since = [*([] if start is None else [f"--from={start}"]), *_only(only)]
-    given = answer(["stats", "/dev/stdin", "--until", str(until), *since, "--json"], network)
+    given = answer(["stats", "/dev/stdin", "--until", str(until), *settings, *_shown(start, only), "--json"], network)
     try:
         raw = json.loads(given.out)
         return raw if isinstance(raw, dict) and raw.keys() >= {"until", "records", "components"} else _refuse(given.out)

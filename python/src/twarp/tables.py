@@ -9,7 +9,7 @@ import threading
 from collections.abc import Callable, Iterator, Mapping, Sequence
 from contextlib import contextmanager
 from types import FrameType
-from typing import IO, Any, Optional
+from typing import IO, Any, Literal, Optional
 
 import pandas as pd
 
@@ -21,8 +21,8 @@ __all__ = ["KINDS", "read_table"]
 #: The kinds of a record, in the order in which a frame's category has them.
 KINDS = ("out", "int", "ext", "con")
 
-# What each table begins with.
-_HEAD = b"tick,microstep,component,kind,"
+# The column behind the component, and what its cells are: the kind of a record, or a figure by its name.
+_FOURTH = {"kind": pd.CategoricalDtype(list(KINDS)), "figure": "category"}
 
 # What the pipe of a table is asked to hold, so that the program and the reader wait less for one another.
 _WIDE = 1 << 20
@@ -35,12 +35,14 @@ def read_table(
     last: Mapping[str, str],
     take: Callable[[Any], object],
     rows: Optional[int] = None,
+    fourth: Literal["kind", "figure"] = "kind",
 ) -> Optional[LimitFault]:
     """Starts the program, reads its table as it writes, and hands on the frame: whole, or so many `rows` at
     a time. The answer is the fault that the run met, or None.
 
-    `words` are those of the command line, `names` the components' in their order, `last` the types of
-    the columns behind the kind; `object` stands for whole numbers without a bound.
+    `words` are those of the command line, `names` the components' in their order, `fourth` is the column
+    behind the component, `last` the types of the columns behind that; `object` stands for whole numbers
+    without a bound.
 
     Raises what `twarp.simulate` says, but no `LimitFault`.
 
@@ -53,14 +55,15 @@ def read_table(
         "tick": "int64",
         "microstep": "int64",
         "component": pd.CategoricalDtype(list(dict.fromkeys(names))),
-        "kind": pd.CategoricalDtype(list(KINDS)),
+        fourth: _FOURTH[fourth],
         **{name: "str" if kind == "object" else kind for name, kind in last.items()},
     }
     unbounded = [name for name, kind in last.items() if kind == "object"]
+    head = f"tick,microstep,component,{fourth},".encode("ascii")
     wrong: Optional[Exception] = None
     with Process(words, network) as process, _raised_by_signals() as raised:
         try:
-            for frame in _frames(_Source(process.out, _HEAD, raised), dtypes, rows):
+            for frame in _frames(_Source(process.out, head, raised), dtypes, rows):
                 for name in unbounded:
                     frame[name] = pd.Series([int(number) for number in frame[name]], index=frame.index, dtype=object)
                 take(frame)

@@ -11,6 +11,6 @@ pub returns : goal.returns
 returns g c =
     let n = c.args.run.now.network.now in
     let old = g.W.Write.contents c.args.out.now in
-    let new = g.W.Write.contents c.write_streamed.new.out in
-    inl (subst (λ (f : Option Fault). IsShown n (sequential (network_of any_meaning n) c.args.run.now.until).records f c.write_streamed.result old new)
-    c.in_ok-fault.ensures.fault c.write_streamed.ensures)
+    let new = g.W.Write.contents c.write_streamed-2.new.out in
+    inl (subst (λ (f : Option Fault). IsShown n (sequential (network_of any_meaning n) c.args.run.now.until).records f c.write_streamed-2.result old new)
+    c.in_ok-fault.ensures.fault c.write_streamed-2.ensures)

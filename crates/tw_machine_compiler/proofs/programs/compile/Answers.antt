@@ -1,7 +1,9 @@
-use Rattle.std.proofs.Common.{◌≡◌, ◌≢◌, ◌∙◌, ap, map, sym, Option, Some, None, Result, Ok, Err, IfOk, IfErr}
-use Rattle.tw_machine.specs.Program.{text_of}
+use Rattle.std.proofs.Common.{◌≡◌, ◌≢◌, ◌∙◌, List, ap, map, sym, Option, Some, None, Result, Ok, Err, IfOk, IfErr}
+use Rattle.tw_machine.specs.Program.{ProgramText, text_of}
+use Rattle.tw_machine_declaration.specs.declared.names.Standing.{Standing}
 use Rattle.tw_machine_declaration.specs.Seen.{declaration, given, name}
 use Rattle.tw_machine_declaration.specs.Names.{standings_of}
+use Rattle.tw_machine_compiler.specs.Statements.{block}
 use Rattle.tw_machine_compiler.specs.Limits.{members_fault, limit, fault_of}
 use Rattle.tw_machine_compiler.specs.declared.limits.BadMachine.{BadMachine}
 use Rattle.tw_machine_compiler.specs.declared.limits.BadMachine.TheVariants.{OutOfMemory}
@@ -32,3 +34,17 @@ returns-clause-sound c = no_fault c.limited.result _ _ (found c) c.limited.ensur
 
 pub returns-clause-refused : goal.returns-clause-refused
 returns-clause-refused c = first_fault c.limited.result _ _ (found c) c.limited.ensures.refused
+
+pub limited-requires-clause-internal : goal.limited-requires-clause-internal
+limited-requires-clause-internal c =
+    let g = given c.args.given.now in
+    let d = declaration c.args.declaration.now in
+    let same = c.in_ok-standings.ensures ∙ ap (λ names. standings_of g (map name names)) c.as_slice.ensures.value in
+    ap (λ (p : ProgramText). p.internal) c.in_ok-parts.ensures ∙ ap (λ (ss : List Standing). block ss d.internal) (sym (c.deref-3.ensures.value ∙ same))
+
+pub limited-requires-clause-external : goal.limited-requires-clause-external
+limited-requires-clause-external c =
+    let g = given c.args.given.now in
+    let d = declaration c.args.declaration.now in
+    let same = c.in_ok-standings.ensures ∙ ap (λ names. standings_of g (map name names)) c.as_slice.ensures.value in
+    ap (λ (p : ProgramText). p.external) c.in_ok-parts.ensures ∙ ap (λ (ss : List Standing). block ss d.external) (sym (c.deref-3.ensures.value ∙ same))

@@ -1,5 +1,5 @@
 -- The records so far were handed over; the writer and the lines that are gathered have the table of them.
-use Rattle.std.proofs.Common.{◌≡◌, ◌-◌, List, [], string_bytes}
+use Rattle.std.proofs.Common.{◌≡◌, ◌-◌, List, []}
 use Rattle.tw_msgs.specs.declared.record.Record.{Record}
 use Rattle.tw_rounds.specs.Parts.{IsSimulating}
 use Rattle.tw_record_lines.specs.Tables.{listed, table_text}
@@ -21,8 +21,8 @@ invariant-loop-step g l = record {
   shows' : l.transitions.shown.now ≡ l.table.shown.now;
   first : l.outputs.from ≡ l.table.from;
   first' : l.transitions.from ≡ l.table.from;
-  none : string_bytes l.transitions.lines ≡ [];
-  written : MovesBytes (g.W.Write.contents l.fn.out) (g.W.Write.contents l.out) (table_text l.table.rows (g.N.Names.name_of l.table.names.now) (listed l.table.shown.now l.table.from done)) (string_bytes l.outputs.lines);
+  none : l.transitions.lines.text ≡ [];
+  written : MovesBytes (g.W.Write.contents l.fn.out) (g.W.Write.contents l.out) (table_text l.table.rows (g.N.Names.name_of l.table.names.now) (listed l.table.shown.now l.table.from done)) l.outputs.lines.text;
 }
 
 abbrev pub decreases-loop-step : goal.decreases-loop-step

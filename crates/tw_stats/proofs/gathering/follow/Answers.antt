@@ -8,7 +8,7 @@ use Rattle.tw_rounds.proofs.Received.{collected}
 use Rattle.tw_theory.specs.Simulator.{sequential}
 use Rattle.tw_figures.specs.Figures.{IsSteady}
 use Rattle.tw_figures.specs.Gathered.{IsGathered}
-use Rattle.tw_stats.proofs.Steady.{made_steady, run_steady}
+use Rattle.tw_figures.proofs.Steady.{made_steady, run_steady}
 use Rattle.tw_stats.proofs.gathering.follow.Goals as goal
 use Rattle.tw_stats.proofs.gathering.follow.Goals.{After-as_slice-records, After-as_slice}
 

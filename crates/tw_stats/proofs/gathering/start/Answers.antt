@@ -1,7 +1,8 @@
 use Rattle.std.proofs.Common.{◌∙◌, ◌++◌, ◌∷◌, [], take, ap, subst}
 use Rattle.tw_figures.specs.Gathered.{IsGathered, followed_in, start_words}
 use Rattle.tw_network.specs.Contents.{network_of}
-use Rattle.tw_stats.proofs.Starting.{followed_more, starts_more}
+use Rattle.tw_figures.proofs.Starting.{starts_more}
+use Rattle.tw_stats.proofs.Starting.{followed_more}
 use Rattle.tw_stats.proofs.gathering.start.Goals as goal
 
 pub loop-component-preserved : goal.loop-component-preserved

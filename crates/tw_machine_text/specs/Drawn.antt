@@ -1,0 +1,110 @@
+-- What is written of numbers in another way than in the core of the language: `length(t)` of a table, and the numbers that are drawn by themselves, `sample(t)` and `roll(n)`.
+use Rattle.std.specs.Prelude.{ℕ, ◌+◌, Bool, true, false, ◌&&◌, List, nat_eq, nat_le, if◌then◌else◌}
+use Rattle.tw_machine_text.specs.declared.kinds.Kind.{Kind}
+use Rattle.tw_machine_text.specs.declared.kinds.Member.{Member}
+use Rattle.tw_machine_text.specs.Kinds.{is_table_name, bound_block, bound_as, uses}
+use Rattle.tw_machine_text.specs.Tree.{Tree, Number, Name, Known, Indexed, Call, RandomBelow, Group, Negate, Not, Binary, SourceStatement, Assign, Act, Treat, Draw, Wait, Passivate, If, IfElse, Repeat, Block, Empty, Then, Arms, One, More}
+
+-- ---- in the core
+
+-- a number of a table that is drawn
+abbrev pub sampled : Tree → Tree
+sampled (Name t) = Indexed t (RandomBelow (Name t))
+sampled e = e
+
+-- `length(t)` of a table is its name, which stands for how many numbers it has; `sample(t)` is `t[random(length(t))]`, `roll(n)` is `random(n)`
+abbrev pub core_call : List Kind → ℕ → Tree → Tree
+core_call kinds n e =
+    if nat_eq n 10 then sampled e
+    else if nat_eq n 11 then RandomBelow e
+    else if nat_eq n 3 && is_table_name kinds e then e
+    else Call n e
+
+abbrev pub core_tree : List Kind → Tree → Tree
+core_tree kinds (Number n) = Number n
+core_tree kinds (Name n) = Name n
+core_tree kinds (Known g) = Known g
+core_tree kinds (Indexed n e) = Indexed n (core_tree kinds e)
+core_tree kinds (Call n e) = core_call kinds n (core_tree kinds e)
+core_tree kinds (RandomBelow e) = RandomBelow (core_tree kinds e)
+core_tree kinds (Group e) = Group (core_tree kinds e)
+core_tree kinds (Negate e) = Negate (core_tree kinds e)
+core_tree kinds (Not e) = Not (core_tree kinds e)
+core_tree kinds (Binary op a b) = Binary op (core_tree kinds a) (core_tree kinds b)
+
+-- ---- how many numbers are drawn
+
+-- whether a function draws
+abbrev pub is_drawing : ℕ → Bool
+is_drawing n = nat_le 10 n && nat_le n 11
+
+-- how many numbers an expression draws
+abbrev pub drawn : Tree → ℕ
+drawn (Number n) = 0
+drawn (Name n) = 0
+drawn (Known g) = 0
+drawn (Indexed n e) = drawn e
+drawn (Call n e) = (if is_drawing n then 1 else 0) + drawn e
+drawn (RandomBelow e) = drawn e
+drawn (Group e) = drawn e
+drawn (Negate e) = drawn e
+drawn (Not e) = drawn e
+drawn (Binary op a b) = drawn a + drawn b
+
+abbrev pub draws_none : Tree → Bool
+draws_none e = nat_eq (drawn e) 0
+
+-- at most one number is drawn in a statement or a test, and none in the index of what is changed
+abbrev pub draws_few : Tree → Bool
+draws_few e = nat_le (drawn e) 1
+
+abbrev mutual
+  pub few_drawn_statement : SourceStatement → Bool
+  few_drawn_statement (Assign p c e) = draws_none p && draws_few e
+  few_drawn_statement (Act v q e) = draws_none q && draws_few e
+  few_drawn_statement (Treat d q) = draws_none q
+  few_drawn_statement Draw = true
+  few_drawn_statement (Wait e) = draws_few e
+  few_drawn_statement Passivate = true
+  few_drawn_statement (If arms) = few_drawn_arms arms
+  few_drawn_statement (IfElse arms b) = few_drawn_arms arms && few_drawn b
+  few_drawn_statement (Repeat n b) = few_drawn b
+
+  pub few_drawn : Block → Bool
+  few_drawn Empty = true
+  few_drawn (Then b s m) = few_drawn b && few_drawn_statement s
+
+  pub few_drawn_arms : Arms → Bool
+  few_drawn_arms (One t b) = draws_few t && few_drawn b
+  few_drawn_arms (More a t b) = few_drawn_arms a && draws_few t && few_drawn b
+
+-- each name of a program stands where it may, so many procedures may be used, and no more numbers are drawn than may be
+abbrev pub may_stand : List Kind → ℕ → Block → Bool
+may_stand kinds known program = bound_block kinds program && uses kinds known program && few_drawn program
+
+-- the same of a member's text, in which no number is drawn
+abbrev pub may_stand_as : Member → List Kind → Tree → Bool
+may_stand_as member kinds e = bound_as member kinds e && draws_none e
+
+-- ---- where `draw` stands
+
+-- whether a number is drawn in an expression
+abbrev pub draws : Tree → Bool
+draws e = nat_le 1 (drawn e)
+
+-- or in a statement, but for its blocks and tests
+abbrev pub draws_in : SourceStatement → Bool
+draws_in (Assign p c e) = draws e
+draws_in (Act v q e) = draws e
+draws_in (Wait e) = draws e
+draws_in _ = false
+
+-- or in the last of the tests of an `if`
+abbrev pub draws_last : Arms → Bool
+draws_last (One t b) = draws t
+draws_last (More a t b) = draws t
+
+-- what a block begins with: `draw`, where the test before it draws
+abbrev pub begun : Bool → Block
+begun true = Then Empty Draw false
+begun false = Empty

@@ -1,0 +1,225 @@
+//! Numbers that are drawn by themselves, `sample(t)` and `roll(n)`: how many stand where, and what they are in the core
+//! of the language; and `length(t)` of a table there.
+ghost use Rattle.std.specs.Prelude.{◌≡◌, ◌≤◌, IfOk, min};
+ghost use Rattle.tw_machine_text.specs.Drawn.{
+  sampled,
+  core_call,
+  core_tree,
+  is_drawing,
+  drawn,
+  draws_none,
+  draws_few,
+  few_drawn_statement,
+  few_drawn,
+  few_drawn_arms,
+  may_stand,
+  may_stand_as,
+  draws,
+  draws_in,
+  draws_last,
+};
+ghost use Rattle.tw_machine_text.specs.Views.{tree, told, body, chain};
+
+use crate::binding::{bound_as, bound_block, is_table_name, uses};
+use crate::kinds::{Kind, Member};
+use crate::tree::{Arms, Block, SourceExpr, SourceStatement};
+use std::alloc::{AllocError, Global};
+
+/// A number of a table that is drawn.
+fn sampled(alloc: Global, table: SourceExpr) -> Result<SourceExpr, AllocError>
+    ensures { IfOk result (λ e. tree e ≡ sampled (tree table)) }
+{
+    match table {
+        SourceExpr::Name(name) => {
+            let length = Box::new(alloc, SourceExpr::Name(name))?;
+            let index = Box::new(alloc, SourceExpr::RandomBelow(length))?;
+            Ok(SourceExpr::Indexed(name, index))
+        }
+        other => Ok(other),
+    }
+}
+
+/// A function of arguments in the core.
+fn core_call(
+    alloc: Global,
+    kinds: &[Kind],
+    name: usize,
+    arguments: SourceExpr,
+) -> Result<SourceExpr, AllocError>
+    ensures { IfOk result (λ e. tree e ≡ core_call kinds.now name (tree arguments)) }
+{
+    if name == 10 {
+        sampled(alloc, arguments)
+    } else if name == 11 {
+        Ok(SourceExpr::RandomBelow(Box::new(alloc, arguments)?))
+    } else if name == 3 && is_table_name(kinds, &arguments) {
+        Ok(arguments)
+    } else {
+        Ok(SourceExpr::Call(name, Box::new(alloc, arguments)?))
+    }
+}
+
+/// An expression in the core of the language.
+pub(crate) fn core_tree(
+    alloc: Global,
+    kinds: &[Kind],
+    e: &SourceExpr,
+) -> Result<SourceExpr, AllocError>
+    ensures { IfOk result (λ core. tree core ≡ core_tree kinds.now (tree e.now)) }
+{
+    match e {
+        SourceExpr::Number(number) => Ok(SourceExpr::Number(*number)),
+        SourceExpr::Name(name) => Ok(SourceExpr::Name(*name)),
+        SourceExpr::Known(builtin) => Ok(SourceExpr::Known(*builtin)),
+        SourceExpr::Indexed(name, index) => Ok(SourceExpr::Indexed(
+            *name,
+            Box::new(alloc, core_tree(alloc, kinds, index)?)?,
+        )),
+        SourceExpr::Call(name, arguments) => {
+            let arguments = core_tree(alloc, kinds, arguments)?;
+            core_call(alloc, kinds, *name, arguments)
+        }
+        SourceExpr::RandomBelow(below) => Ok(SourceExpr::RandomBelow(Box::new(
+            alloc,
+            core_tree(alloc, kinds, below)?,
+        )?)),
+        SourceExpr::Group(inner) => Ok(SourceExpr::Group(Box::new(
+            alloc,
+            core_tree(alloc, kinds, inner)?,
+        )?)),
+        SourceExpr::Negate(inner) => Ok(SourceExpr::Negate(Box::new(
+            alloc,
+            core_tree(alloc, kinds, inner)?,
+        )?)),
+        SourceExpr::Not(inner) => Ok(SourceExpr::Not(Box::new(
+            alloc,
+            core_tree(alloc, kinds, inner)?,
+        )?)),
+        SourceExpr::Binary(operator, a, b) => {
+            let a = Box::new(alloc, core_tree(alloc, kinds, a)?)?;
+            let b = Box::new(alloc, core_tree(alloc, kinds, b)?)?;
+            Ok(SourceExpr::Binary(*operator, a, b))
+        }
+    }
+}
+
+/// Whether a function draws.
+fn is_drawing(name: usize) -> bool
+    ensures { result ≡ is_drawing name }
+{
+    name >= 10 && name <= 11
+}
+
+/// How many numbers an expression draws, at most 2.
+fn drawn(e: &SourceExpr) -> usize
+    ensures value { result ≡ min (drawn (tree e.now)) 2 }
+    ensures small { result ≤ 2 }
+{
+    match e {
+        SourceExpr::Number(_) | SourceExpr::Name(_) | SourceExpr::Known(_) => 0,
+        SourceExpr::Call(name, arguments) => {
+            let here = if is_drawing(*name) { 1 } else { 0 };
+            (here + drawn(arguments)).min(2)
+        }
+        SourceExpr::Indexed(_, inner)
+        | SourceExpr::RandomBelow(inner)
+        | SourceExpr::Group(inner)
+        | SourceExpr::Negate(inner)
+        | SourceExpr::Not(inner) => drawn(inner),
+        SourceExpr::Binary(_, a, b) => (drawn(a) + drawn(b)).min(2),
+    }
+}
+
+fn draws_none(e: &SourceExpr) -> bool
+    ensures { result ≡ draws_none (tree e.now) }
+{
+    drawn(e) == 0
+}
+
+fn draws_few(e: &SourceExpr) -> bool
+    ensures { result ≡ draws_few (tree e.now) }
+{
+    drawn(e) <= 1
+}
+
+/// Whether a number is drawn in an expression.
+pub(crate) fn draws(e: &SourceExpr) -> bool
+    ensures { result ≡ draws (tree e.now) }
+{
+    drawn(e) >= 1
+}
+
+/// Whether one is drawn in a statement, but for its blocks and tests.
+pub(crate) fn draws_in(said: &SourceStatement) -> bool
+    ensures { result ≡ draws_in (told said.now) }
+{
+    match said {
+        SourceStatement::Assign(_, _, e)
+        | SourceStatement::Act(_, _, e)
+        | SourceStatement::Wait(e) => draws(e),
+        _ => false,
+    }
+}
+
+/// Whether one is drawn in the last of the tests of an `if`.
+pub(crate) fn draws_last(arms: &Arms) -> bool
+    ensures { result ≡ draws_last (chain arms.now) }
+{
+    match arms {
+        Arms::One(test, _) | Arms::More(_, test, _) => draws(test),
+    }
+}
+
+#[cycle(counts_drawn)]
+fn few_drawn_statement(said: &SourceStatement) -> bool
+    ensures { result ≡ few_drawn_statement (told said.now) }
+{
+    match said {
+        SourceStatement::Draw | SourceStatement::Passivate => true,
+        SourceStatement::Assign(place, _, e) => draws_none(place) && draws_few(e),
+        SourceStatement::Act(_, object, e) => draws_none(object) && draws_few(e),
+        SourceStatement::Treat(_, queue) => draws_none(queue),
+        SourceStatement::Wait(e) => draws_few(e),
+        SourceStatement::If(arms) => few_drawn_arms(arms),
+        SourceStatement::IfElse(arms, last) => few_drawn_arms(arms) && few_drawn(last),
+        SourceStatement::Repeat(_, each) => few_drawn(each),
+    }
+}
+
+/// Whether no more numbers are drawn than may be, in all statements of a block.
+#[cycle(counts_drawn)]
+fn few_drawn(program: &Block) -> bool
+    ensures { result ≡ few_drawn (body program.now) }
+{
+    match program {
+        Block::Empty => true,
+        Block::Then(before, last, _) => few_drawn(before) && few_drawn_statement(last),
+    }
+}
+
+#[cycle(counts_drawn)]
+fn few_drawn_arms(arms: &Arms) -> bool
+    ensures { result ≡ few_drawn_arms (chain arms.now) }
+{
+    match arms {
+        Arms::One(test, then) => draws_few(test) && few_drawn(then),
+        Arms::More(before, test, then) => {
+            few_drawn_arms(before) && draws_few(test) && few_drawn(then)
+        }
+    }
+}
+
+/// Whether each name of a program stands where it may, only the first so many procedures are used, and no more numbers
+/// are drawn than may be.
+pub(crate) fn may_stand(kinds: &[Kind], known: usize, program: &Block) -> bool
+    ensures { result ≡ may_stand kinds.now known (body program.now) }
+{
+    bound_block(kinds, program) && uses(kinds, known, program) && few_drawn(program)
+}
+
+/// The same of a member's text, in which no number is drawn.
+pub(crate) fn may_stand_as(member: Member, kinds: &[Kind], e: &SourceExpr) -> bool
+    ensures { result ≡ may_stand_as member kinds.now (tree e.now) }
+{
+    bound_as(member, kinds, e) && draws_none(e)
+}

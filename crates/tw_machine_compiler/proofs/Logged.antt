@@ -16,9 +16,9 @@ use Rattle.tw_machine_text.specs.declared.words.SourceChange.TheVariants.{Set, A
 use Rattle.tw_machine_text.specs.declared.words.Verb.{Verb}
 use Rattle.tw_machine_text.specs.declared.words.Verb.TheVariants.{Push, Insert, Remove, Put, Observe}
 use Rattle.tw_machine_text.specs.declared.words.Deed.{Deed}
-use Rattle.tw_machine_text.specs.declared.words.Deed.TheVariants.{Pop, Clear, Do}
+use Rattle.tw_machine_text.specs.declared.words.Deed.TheVariants.{Pop, Clear, Do, Stop}
 use Rattle.tw_machine_text.specs.declared.words.Operator.TheVariants.{Comma}
-use Rattle.tw_machine_text.specs.Tree.{Tree, Number, Name, Known, Indexed, Call, RandomBelow, Group, Negate, Not, Binary, SourceStatement, Assign, Act, Treat, Draw, Wait, Passivate, If, IfElse, Repeat, Block, Empty, Then, Arms, One, More}
+use Rattle.tw_machine_text.specs.Tree.{Tree, Number, Name, Known, Indexed, Call, RandomBelow, Group, Negate, Not, Binary, SourceStatement, Assign, Act, Treat, Draw, Wait, Passivate, Start, Send, If, IfElse, Repeat, Block, Empty, Then, Arms, One, More}
 use Rattle.tw_machine_declaration.specs.Seen.{Declaration}
 use Rattle.tw_machine_declaration.specs.declared.names.Standing.{Standing}
 use Rattle.tw_machine_declaration.specs.Turns.{written_turns}
@@ -65,6 +65,7 @@ treated-needs : (deed : Deed) (q : Target) (room : ℕ) → needs (treated deed 
 treated-needs Pop q room = omega arith
 treated-needs Clear q room = omega arith
 treated-needs Do q room = omega arith
+treated-needs Stop q room = omega arith
 
 tests-some : (ss : List Standing) (arms : Arms) → 1 ≤ tests_work ss arms
 tests-some ss (One test b) = work-some ss test
@@ -90,6 +91,8 @@ mutual
   statement-needs ss Draw = omega arith
   statement-needs ss (Wait e) = omega arith
   statement-needs ss Passivate = omega arith
+  statement-needs ss (Start t e) = omega arith
+  statement-needs ss (Send e) = omega arith
   statement-needs ss (If arms) = omega (arith, chosen-needs ss arms Skip 0 (omega arith), tests-some ss arms)
   statement-needs ss (IfElse arms last) =
       omega (arith, chosen-needs ss arms (block ss last) (2 * block_work ss last) (block-needs ss last), tests-some ss arms)

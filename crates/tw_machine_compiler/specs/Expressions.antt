@@ -38,6 +38,7 @@ known builtin.Elapsed = leaf.Elapsed
 known builtin.Left = leaf.Left
 known builtin.Now = leaf.Now
 known builtin.Turn = leaf.Turn
+known builtin.Which = leaf.Number (pos 0)
 
 -- the number of a text, which has none past 2^63 - 1
 abbrev pub number : ℕ → ℤ

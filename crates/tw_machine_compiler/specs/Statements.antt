@@ -15,9 +15,9 @@ use Rattle.tw_machine_text.specs.declared.words.SourceChange.TheVariants.{Set, A
 use Rattle.tw_machine_text.specs.declared.words.Verb.{Verb}
 use Rattle.tw_machine_text.specs.declared.words.Verb.TheVariants.{Push, Insert, Remove, Put, Observe}
 use Rattle.tw_machine_text.specs.declared.words.Deed.{Deed}
-use Rattle.tw_machine_text.specs.declared.words.Deed.TheVariants.{Pop, Clear, Do}
+use Rattle.tw_machine_text.specs.declared.words.Deed.TheVariants.{Pop, Clear, Do, Stop}
 use Rattle.tw_machine_text.specs.declared.words.Operator.TheVariants.{Comma}
-use Rattle.tw_machine_text.specs.Tree.{Tree, Name, Indexed, Binary, SourceStatement, Assign, Act, Treat, Draw, Wait, Passivate, If, IfElse, Repeat, Block, Empty, Then, Arms, One, More}
+use Rattle.tw_machine_text.specs.Tree.{Tree, Name, Indexed, Binary, SourceStatement, Assign, Act, Treat, Draw, Wait, Passivate, Start, Send, If, IfElse, Repeat, Block, Empty, Then, Arms, One, More}
 use Rattle.tw_machine_declaration.specs.declared.names.Standing.{Standing}
 use Rattle.tw_machine_declaration.specs.declared.names.Standing.TheVariants as s
 use Rattle.tw_machine_declaration.specs.Names.{observation_span, standing_at}
@@ -62,17 +62,19 @@ acted ss Remove q e = m.Take q (Chosen (expression ss e))
 acted ss Put q e = put ss q e
 acted ss Observe q e = m.Skip
 
--- what is done to a queue alone, of which this is the room: a queue has no more values than its room; no `do` stands in what is read
+-- what is done to a queue alone, of which this is the room: a queue has no more values than its room; no `do` and no `stop` stands in what is read
 abbrev pub treated : Deed → Target → ℕ → Statement
 treated Pop q room = m.Take q Foremost
 treated Clear q room = m.Clear q room
 treated Do q room = m.Skip
+treated Stop q room = m.Skip
 
 -- how often it is repeated: other numbers than 0 to 64 are refused
 abbrev pub turns : Option ℤ → ℕ
 turns (Some n) = min (natural n) max_turns
 turns None = 0
 
+-- no `start` and no `send` stands in what is read
 abbrev mutual
   pub statement : List Standing → SourceStatement → Statement
   statement ss (Assign place change e) = assigned change (cell ss place) (expression ss e)
@@ -81,6 +83,8 @@ abbrev mutual
   statement ss Draw = m.Draw
   statement ss (Wait e) = m.Wait (expression ss e)
   statement ss Passivate = m.Passivate
+  statement ss (Start t e) = m.Skip
+  statement ss (Send e) = m.Skip
   statement ss (If arms) = chosen ss arms m.Skip
   statement ss (IfElse arms last) = chosen ss arms (block ss last)
   statement ss (Repeat count each) = repeated (turns (written_turns ss count)) (block ss each)

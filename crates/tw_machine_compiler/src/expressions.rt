@@ -25,7 +25,7 @@ use tw_machine::language::{Binary, Expr, Leaf, Measure, Target, Unary};
 use tw_machine_declaration::{Function, Joining, Standing, function_of, standing_at};
 use tw_machine_text::{Builtin, Operator, SourceExpr};
 
-/// What a word of the language reads.
+/// What a word of the language reads. No `which` stands in what is read.
 fn known(builtin: Builtin) -> Leaf
     ensures { result ≡ known builtin }
 {
@@ -37,6 +37,7 @@ fn known(builtin: Builtin) -> Leaf
         Builtin::Left => Leaf::Left,
         Builtin::Now => Leaf::Now,
         Builtin::Turn => Leaf::Turn,
+        Builtin::Which => Leaf::Number(0),
     }
 }
 

@@ -129,7 +129,7 @@ fn treated(deed: Deed, queue: Target, room: u16) -> Statement
     match deed {
         Deed::Pop => Statement::Take(queue, Which::Foremost),
         Deed::Clear => Statement::Clear(queue, room),
-        Deed::Do => Statement::Skip,
+        Deed::Do | Deed::Stop => Statement::Skip,
     }
 }
 
@@ -171,6 +171,7 @@ fn statement(
         SourceStatement::Draw => Ok(Statement::Draw),
         SourceStatement::Wait(ticks) => Ok(Statement::Wait(expression(alloc, standings, ticks)?)),
         SourceStatement::Passivate => Ok(Statement::Passivate),
+        SourceStatement::Start(..) | SourceStatement::Send(_) => Ok(Statement::Skip),
         SourceStatement::If(arms) => chosen(
             alloc,
             standings,

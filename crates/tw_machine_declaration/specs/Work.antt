@@ -6,9 +6,9 @@ use Rattle.tw_machine_text.specs.Limits.{max_turns}
 use Rattle.tw_machine_text.specs.declared.words.Verb.{Verb}
 use Rattle.tw_machine_text.specs.declared.words.Verb.TheVariants.{Push, Insert, Remove, Put, Observe}
 use Rattle.tw_machine_text.specs.declared.words.Deed.{Deed}
-use Rattle.tw_machine_text.specs.declared.words.Deed.TheVariants.{Pop, Clear, Do}
+use Rattle.tw_machine_text.specs.declared.words.Deed.TheVariants.{Pop, Clear, Do, Stop}
 use Rattle.tw_machine_text.specs.declared.words.Operator.TheVariants.{Comma}
-use Rattle.tw_machine_text.specs.Tree.{Tree, Number, Name, Known, Indexed, Call, RandomBelow, Group, Negate, Not, Binary, SourceStatement, Assign, Act, Treat, Draw, Wait, Passivate, If, IfElse, Repeat, Block, Empty, Then, Arms, One, More}
+use Rattle.tw_machine_text.specs.Tree.{Tree, Number, Name, Known, Indexed, Call, RandomBelow, Group, Negate, Not, Binary, SourceStatement, Assign, Act, Treat, Draw, Wait, Passivate, Start, Send, If, IfElse, Repeat, Block, Empty, Then, Arms, One, More}
 use Rattle.tw_machine_declaration.specs.declared.functions.Function.{Function}
 use Rattle.tw_machine_declaration.specs.declared.functions.Function.TheVariants.{Measured, Applied}
 use Rattle.tw_machine_declaration.specs.declared.functions.Joining.TheVariants.{Place}
@@ -58,11 +58,12 @@ moved Remove room = room
 moved Put room = room
 moved Observe room = 0
 
--- `clear` goes over its queue, `pop` does not; no `do` stands in what is read
+-- `clear` goes over its queue, `pop` does not; no `do` and no `stop` stands in what is read
 abbrev pub left : Deed → ℕ → ℕ
 left Pop room = 0
 left Clear room = room
 left Do room = 0
+left Stop room = 0
 
 -- how many turns are counted: one where a parameter says it of which nothing is given
 abbrev pub counted_turns : Option ℤ → ℕ
@@ -82,6 +83,8 @@ abbrev mutual
   statement_work ss Draw = 1
   statement_work ss (Wait e) = 1 + work ss e
   statement_work ss Passivate = 1
+  statement_work ss (Start t e) = 1 + (work ss t + work ss e)
+  statement_work ss (Send e) = 1 + work ss e
   statement_work ss (If arms) = 1 + (tests_work ss arms + greatest_work ss arms)
   statement_work ss (IfElse arms last) = 1 + (tests_work ss arms + max (greatest_work ss arms) (block_work ss last))
   statement_work ss (Repeat count each) = 2 + counted_turns (written_turns ss count) * block_work ss each

@@ -59,8 +59,8 @@ pub struct OutputText {
     pub each: Option<SourceExpr>,
 }
 
-/// A machine. The numbers of names in its trees are those of the texts' reader: 0 to 11 for the functions' names, and
-/// from 12 on for `names`, in this order.
+/// A machine. The numbers of names in its trees are those of the texts' reader: 0 to 15 for the functions' names, and
+/// from 16 on for `names`, in this order.
 #[derive(Drop)]
 pub struct Declaration {
     pub names: Vec<Named>,

@@ -103,7 +103,7 @@ fn left(deed: Deed, room: usize) -> usize
     ensures small { result ≤ room }
 {
     match deed {
-        Deed::Pop | Deed::Do => 0,
+        Deed::Pop | Deed::Do | Deed::Stop => 0,
         Deed::Clear => room,
     }
 }
@@ -151,7 +151,12 @@ fn statement_work(standings: &[Standing], said: &SourceStatement) -> usize
             let over = left(*deed, queue_room(standings, queue));
             (1 + (work(standings, queue) + over)).min(COMPUTATIONS_END)
         }
-        SourceStatement::Wait(ticks) => (1 + work(standings, ticks)).min(COMPUTATIONS_END),
+        SourceStatement::Wait(e) | SourceStatement::Send(e) => {
+            (1 + work(standings, e)).min(COMPUTATIONS_END)
+        }
+        SourceStatement::Start(timer, ticks) => {
+            (1 + (work(standings, timer) + work(standings, ticks))).min(COMPUTATIONS_END)
+        }
         SourceStatement::If(arms) => {
             (1 + (tests_work(standings, arms) + greatest_work(standings, arms))).min(
                 COMPUTATIONS_END,

@@ -1,5 +1,5 @@
 -- The names that are lent to the texts' reader are those of the machine.
-use Rattle.std.proofs.Common.{◌≡◌, ◌∷◌, [], ℕ, List, map, refl, ap, ◌∙◌}
+use Rattle.std.proofs.Common.{◌≡◌, ◌∷◌, [], ℕ, List, None, map, refl, ap, ◌∙◌}
 use Rattle.tw_machine_text.specs.Kinds.{kinds_of}
 use Rattle.tw_machine_text.specs.TextViews.{names_of, declarations}
 use Rattle.tw_machine_text.specs.declared.kinds.Declared.{Declared}
@@ -20,4 +20,4 @@ texts_in (n ∷ ns) = rw (texts_in ns) refl
 
 pub same_language : (ds : List Declared) (names : List Name) → declarations ds ≡ map (λ n. (n.0, kind_of n.1)) names → language_of ds ≡ language names
 unfolding language_of language
-same_language ds names same = λ i. record { names = (names_in ds ∙ ap (map (λ (d : List ℕ × Kind). d.0)) same ∙ texts_in names) i; kinds = kinds_of (same i) }
+same_language ds names same = λ i. record { names = (names_in ds ∙ ap (map (λ (d : List ℕ × Kind). d.0)) same ∙ texts_in names) i; timing = None; kinds = kinds_of (same i) }

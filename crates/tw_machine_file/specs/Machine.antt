@@ -69,7 +69,7 @@ starts_of d numbers random =
 
 -- the names in a machine's texts
 unfoldable pub language : List Name → Language
-language names = record { names = texts names; kinds = kinds_of (map (λ n. (n.0, kind_of n.1)) names) }
+language names = record { names = texts names; timing = None; kinds = kinds_of (map (λ n. (n.0, kind_of n.1)) names) }
 
 abbrev pub texts_made : Block → Block → List Output → List Value → Texts
 texts_made internal external outputs words = record { internal = internal; external = external; outputs = outputs; words = words }

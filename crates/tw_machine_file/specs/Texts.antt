@@ -9,6 +9,7 @@ use Rattle.tw_machine_text.specs.TextViews.{names_of, declarations}
 use Rattle.tw_machine_text.specs.declared.kinds.Declared.{Declared}
 use Rattle.tw_machine_text.specs.declared.kinds.Kind.{Kind}
 use Rattle.tw_machine_text.specs.declared.kinds.Member.{Member}
+use Rattle.tw_machine_text.specs.declared.kinds.Timing.{Timing}
 use Rattle.tw_machine_declaration.specs.Seen.{Value, whole, tree}
 use Rattle.tw_machine_file.specs.Constants.{whole_of}
 use Rattle.tw_machine_file.specs.Fault.{Fault, text, once, made, expected}
@@ -16,9 +17,10 @@ use Rattle.tw_machine_file.specs.Said.{program_said, tree_said}
 use Rattle.tw_machine_file.specs.declared.fault.Part.{Part}
 use Rattle.tw_machine_file.specs.declared.fault.Why.TheVariants as why
 
--- the names that are declared, in order, and what each name stands for
+-- the names that are declared, in order, the timers, if there are any, and what each name stands for
 pub record Language : Type 0 where
   pub names : List (List ℕ)
+  pub timing : Option Timing
   pub kinds : List Kind
 
 -- what is said, or that the text of this part says nothing
@@ -43,7 +45,7 @@ text_of d = option_or (as_str d) (option_and_then lines (as_array d))
 
 -- the program of a text that may use procedures of these programs
 abbrev pub program_text : Language → List Block → Part → List ℕ → Result Block Fault
-program_text l procedures part t = said part (program_said l.names l.kinds procedures t)
+program_text l procedures part t = said part (program_said l.names l.timing l.kinds procedures t)
 
 -- a member that is a program, if there is one
 abbrev pub program_in : Language → List Block → Part → Option Data → Result Block Fault
@@ -54,7 +56,7 @@ program_in l procedures part (Some d) = once (expected part why.Shape (text_of d
 
 -- the expression, the queue or the array register of a text
 abbrev pub tree_text : Language → Part → Member → List ℕ → Result Tree Fault
-tree_text l part member t = said part (tree_said member l.names l.kinds t)
+tree_text l part member t = said part (tree_said member l.names l.timing l.kinds t)
 
 -- the text of a member
 abbrev pub tree_in : Language → Part → Member → Data → Result Tree Fault
@@ -71,4 +73,4 @@ value_in l part member d = value_by l part member d (whole_of d)
 -- ---- the same of names that are lent to the texts' reader
 
 unfoldable pub language_of : List Declared → Language
-language_of declared = record { names = names_of declared; kinds = kinds_of (declarations declared) }
+language_of declared = record { names = names_of declared; timing = None; kinds = kinds_of (declarations declared) }

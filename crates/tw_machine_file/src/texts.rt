@@ -124,7 +124,7 @@ fn program(
     ensures err { FailsBy result (program_text (language_of declared.now)
         (map body procedures.now) part text.now) }
 {
-    match read_program(alloc, declared, procedures, text, MAX_NODES) {
+    match read_program(alloc, declared, None, procedures, text, MAX_NODES) {
         Ok(read) => Ok(read.block),
         Err(TextRefused::OutOfMemory) => Err(MachineFault::OutOfMemory),
         Err(TextRefused::Wrong(place)) => Err(MachineFault::Text(part, place)),
@@ -142,7 +142,7 @@ fn expression(
     ensures ok { Gives result tree (tree_text (language_of declared.now) part member text.now) }
     ensures err { FailsBy result (tree_text (language_of declared.now) part member text.now) }
 {
-    match read_member(alloc, member, declared, text, MAX_NODES) {
+    match read_member(alloc, member, declared, None, text, MAX_NODES) {
         Ok(read) => Ok(read.tree),
         Err(TextRefused::OutOfMemory) => Err(MachineFault::OutOfMemory),
         Err(TextRefused::Wrong(place)) => Err(MachineFault::Text(part, place)),

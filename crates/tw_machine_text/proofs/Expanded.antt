@@ -3,9 +3,9 @@ use Rattle.std.proofs.Common.{◌≡◌, ℕ, ◌+◌, ◌<◌, Bool, true, fals
 use Rattle.std.specs.Prelude.{◌&&◌, nat_le, if◌then◌else◌}
 use Rattle.std.proofs.lemmas.Bool.{leb-true}
 use Rattle.tw_machine_text.specs.declared.kinds.Kind.{Kind}
-use Rattle.tw_machine_text.specs.declared.words.Deed.TheVariants.{Pop, Clear, Do}
+use Rattle.tw_machine_text.specs.declared.words.Deed.TheVariants.{Pop, Clear, Do, Stop}
 use Rattle.tw_machine_text.specs.Kinds.{stands_for}
-use Rattle.tw_machine_text.specs.Tree.{Tree, Number, Name, Known, Indexed, Call, RandomBelow, Group, Negate, Not, Binary, SourceStatement, Assign, Act, Treat, Draw, Wait, Passivate, If, IfElse, Repeat, Block, Empty, Then, Arms, One, More, nodes_statement, nodes_block, nodes_arms, deep_block}
+use Rattle.tw_machine_text.specs.Tree.{Tree, Number, Name, Known, Indexed, Call, RandomBelow, Group, Negate, Not, Binary, SourceStatement, Assign, Act, Treat, Draw, Wait, Passivate, Start, Send, If, IfElse, Repeat, Block, Empty, Then, Arms, One, More, nodes_statement, nodes_block, nodes_arms, deep_block}
 use Rattle.tw_machine_text.specs.Desugared.{joined, procedure_of, placed, expanded_statement, expanded, expanded_arms, nodes_of_statement, nodes_of, nodes_of_arms, limited}
 
 joined_nodes : (before p : Block) → nodes_block (joined before p) ≡ nodes_block before + nodes_block p
@@ -29,9 +29,12 @@ mutual
   placed_nodes kinds ps b (Treat Do (Binary op x y)) m = refl
   placed_nodes kinds ps b (Treat Pop q) m = refl
   placed_nodes kinds ps b (Treat Clear q) m = refl
+  placed_nodes kinds ps b (Treat Stop q) m = refl
   placed_nodes kinds ps b Draw m = refl
   placed_nodes kinds ps b (Wait e) m = refl
   placed_nodes kinds ps b Passivate m = refl
+  placed_nodes kinds ps b (Start t e) m = refl
+  placed_nodes kinds ps b (Send e) m = refl
   placed_nodes kinds ps b (If arms) m = omega (arith, arms_nodes kinds ps arms)
   placed_nodes kinds ps b (IfElse arms last) m = omega (arith, arms_nodes kinds ps arms, block_nodes kinds ps last)
   placed_nodes kinds ps b (Repeat count each) m = omega (arith, block_nodes kinds ps each)

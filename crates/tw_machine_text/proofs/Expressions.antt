@@ -10,7 +10,7 @@ use Rattle.tw_machine_text.specs.declared.words.Builtin.TheVariants.{Random}
 use Rattle.tw_machine_text.specs.declared.words.Word.{Word}
 use Rattle.tw_machine_text.specs.declared.words.Word.TheVariants as word
 use Rattle.tw_machine_text.specs.Tree.{Tree, Number, Name, Known, Indexed, Call, RandomBelow, Group, Negate, Not, Binary, spelled, rank, left_rank, level, IsExpr, deep}
-use Rattle.tw_machine_text.specs.Machine.{Frame, Operand, InNot, InNegative, InGroup, InIndex, InCall, InRandom, InPlace, InChange, InQueue, InItem, InDeed, InWait, InIf, InElseIf, InCount, InThen, InElseThen, InElse, InTurns, State, Need, Have, demand, depth, reduce, nest, shift, close, close_index, step, run}
+use Rattle.tw_machine_text.specs.Machine.{Frame, Operand, InNot, InNegative, InGroup, InIndex, InCall, InRandom, InPlace, InChange, InQueue, InItem, InDeed, InWait, InStart, InTicks, InSend, InIf, InElseIf, InCount, InThen, InElseThen, InElse, InTurns, State, Need, Have, demand, depth, reduce, nest, shift, close, close_index, step, run}
 
 pub record Comes (most : ℕ) (s : List Frame) (t : Tree) : Type 0 where
   pub stack : List Frame
@@ -60,6 +60,9 @@ still op (InQueue b v ∷ s) t h = refl
 still op (InItem b v q ∷ s) t h = refl
 still op (InDeed b d ∷ s) t h = refl
 still op (InWait b ∷ s) t h = refl
+still op (InStart b ∷ s) t h = refl
+still op (InTicks b p ∷ s) t h = refl
+still op (InSend b ∷ s) t h = refl
 still op (InIf b ∷ s) t h = refl
 still op (InElseIf b a ∷ s) t h = refl
 still op (InCount b ∷ s) t h = refl

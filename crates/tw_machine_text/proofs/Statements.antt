@@ -6,8 +6,9 @@ use Rattle.std.proofs.lemmas.Bool.{lt-ltb}
 use Rattle.tw_machine_text.specs.declared.words.Verb.{Verb}
 use Rattle.tw_machine_text.specs.declared.words.Word.{Word}
 use Rattle.tw_machine_text.specs.declared.words.Word.TheVariants as word
-use Rattle.tw_machine_text.specs.Tree.{Tree, Number, Name, Indexed, Binary, spelled, rank, level, is_count, IsExpr, deep, SourceStatement, Assign, Act, Treat, Draw, Wait, Passivate, If, IfElse, Repeat, Block, Empty, Then, Arms, One, More, said, said_block, said_arms, IsStatement, IsBlock, AreArms, deep_statement, deep_block, deep_arms, Means}
-use Rattle.tw_machine_text.specs.Machine.{Frame, Operand, InNot, InNegative, InGroup, InIndex, InCall, InRandom, InPlace, InChange, InQueue, InItem, InDeed, InWait, InIf, InElseIf, InCount, InThen, InElseThen, InElse, InTurns, State, Need, Have, Begin, After, AfterThen, AfterElse, demand, depth, reduce, becomes, open_block, enter, finished, ended, close_block, start, named, marked, have, step, run, whole, program_of}
+use Rattle.tw_machine_text.specs.Tree.{Tree, Number, Name, Indexed, Binary, spelled, rank, level, is_count, IsExpr, deep, SourceStatement, Assign, Act, Treat, Draw, Wait, Passivate, Start, Send, If, IfElse, Repeat, Block, Empty, Then, Arms, One, More, said, said_block, said_arms, IsStatement, IsBlock, AreArms, deep_statement, deep_block, deep_arms, Means}
+use Rattle.tw_machine_text.specs.Letters.{in_number}
+use Rattle.tw_machine_text.specs.Machine.{Frame, Operand, InNot, InNegative, InGroup, InIndex, InCall, InRandom, InPlace, InChange, InQueue, InItem, InDeed, InWait, InStart, InTicks, InSend, InIf, InElseIf, InCount, InThen, InElseThen, InElse, InTurns, State, Need, Have, Begin, After, AfterThen, AfterElse, demand, depth, reduce, becomes, open_block, enter, finished, ended, close_block, start, named, marked, have, step, run, whole, program_of}
 use Rattle.tw_machine_text.proofs.Expressions.{Comes, come, ahead, ranks, still_past}
 
 -- the words that begin a statement or end a block
@@ -18,6 +19,8 @@ starts (word.Does d) = true
 starts word.Draw = true
 starts word.Wait = true
 starts word.Passivate = true
+starts word.Start = true
+starts word.Send = true
 starts word.If = true
 starts word.Repeat = true
 starts word.CloseBrace = true
@@ -35,6 +38,7 @@ starts-after_arm _ s b a h = refl
 named-starts : (n : ℕ) (s : List Frame) (t : Tree) (r : List Frame × Block) → finished false (s, t) ≡ Some r → named n (s, t) ≡ start (word.Name n) r
 named-starts n [] t r h = absurd (cc)
 named-starts n (InQueue b v ∷ s) t r h = absurd (cc)
+named-starts n (InStart b ∷ s) t r h = absurd (cc)
 named-starts n (f ∷ s) t r h = ap (option_and_then (start (word.Name n))) h
 
 starts-have : (most : ℕ) (w : Word) (s : List Frame) (t : Tree) (r : List Frame × Block) → starts w ≡ true → finished false (reduce 0 s t) ≡ Some r → have most w s t ≡ start w r
@@ -44,6 +48,8 @@ starts-have most (word.Does d) s t r h e = ap (option_and_then (start (word.Does
 starts-have most word.Draw s t r h e = ap (option_and_then (start word.Draw)) e
 starts-have most word.Wait s t r h e = ap (option_and_then (start word.Wait)) e
 starts-have most word.Passivate s t r h e = ap (option_and_then (start word.Passivate)) e
+starts-have most word.Start s t r h e = ap (option_and_then (start word.Start)) e
+starts-have most word.Send s t r h e = ap (option_and_then (start word.Send)) e
 starts-have most word.If s t r h e = ap (option_and_then (start word.If)) e
 starts-have most word.Repeat s t r h e = ap (option_and_then (start word.Repeat)) e
 starts-have most word.CloseBrace s t r h e = ap (option_and_then (start word.CloseBrace)) e
@@ -138,6 +144,17 @@ mutual
       last_operand most (InWait b) s b (Wait e) st e (come most e (InWait b ∷ s) fits.1 fits.0 (omega arith))
       (λ ws. ahead most word.Wait (spelled e ws) st (Need (InWait b ∷ s)) (starting most word.Wait st (s, b) refl can))
       refl (λ m. refl)
+  tell most (Start p e) st s b fits can room =
+      let timer = come most p (InStart b ∷ s) fits.0.1 fits.0.0 (omega arith) in
+      last_operand most (InTicks b p) s b (Start p e) st e (come most e (InTicks b p ∷ s) fits.1.1 fits.1.0 (omega arith))
+      (λ ws. ahead most word.Start (spelled p (word.Name in_number ∷ spelled e ws)) st (Need (InStart b ∷ s)) (starting most word.Start st (s, b) refl can)
+      ∙ timer.go (word.Name in_number ∷ spelled e ws)
+      ∙ ap (λ r. option_and_then (run most (spelled e ws)) (named in_number r)) (timer.same 0 (omega arith)))
+      refl (λ m. refl)
+  tell most (Send e) st s b fits can room =
+      last_operand most (InSend b) s b (Send e) st e (come most e (InSend b ∷ s) fits.1 (omega arith) (omega arith))
+      (λ ws. ahead most word.Send (spelled e ws) st (Need (InSend b ∷ s)) (starting most word.Send st (s, b) refl can))
+      refl (λ m. ap (λ z. cond z (Some (s, Then b (Send e) m)) None) fits.0)
   tell most Passivate st s b fits can room =
       record { next = After s b Passivate; go = λ ws. ahead most word.Passivate ws st (After s b Passivate) (starting most word.Passivate st (s, b) refl can); plain = refl; marks = refl }
   tell most (If a) st s b fits can room =

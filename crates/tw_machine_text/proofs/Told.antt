@@ -3,7 +3,7 @@ use Rattle.std.proofs.Common.{◌≡◌, ℕ, ◌+◌, ◌<◌, ◌≤◌, Bool,
 use Rattle.std.specs.Prelude.{nat_eq}
 use Rattle.std.specs.Option.{option_and_then}
 use Rattle.std.proofs.lemmas.Option.{option_and_then_some, same_Some}
-use Rattle.std.proofs.lemmas.Bool.{leb-true, ltb-true}
+use Rattle.std.proofs.lemmas.Bool.{leb-true, ltb-true, eqb-true}
 use Rattle.std.proofs.Math.Dec.{leb, ltb}
 use Rattle.tw_machine_text.specs.declared.words.Operator.{Operator}
 use Rattle.tw_machine_text.specs.declared.words.Operator.TheVariants.{Minus}
@@ -11,8 +11,9 @@ use Rattle.tw_machine_text.specs.declared.words.Builtin.TheVariants.{Random}
 use Rattle.tw_machine_text.specs.declared.words.SourceChange.{SourceChange}
 use Rattle.tw_machine_text.specs.declared.words.Word.{Word}
 use Rattle.tw_machine_text.specs.declared.words.Word.TheVariants as word
-use Rattle.tw_machine_text.specs.Tree.{Tree, Number, Name, Known, Indexed, Call, RandomBelow, Group, Negate, Not, Binary, spelled, rank, left_rank, level, count, wanted, is_count, fits_call, IsExpr, deep, SourceStatement, Assign, Act, Treat, Draw, Wait, Passivate, If, IfElse, Repeat, Block, Empty, Then, Arms, One, More, mark, said, said_block, said_arms, IsStatement, IsBlock, AreArms, deep_statement, deep_block, deep_arms, Means, heads}
-use Rattle.tw_machine_text.specs.Machine.{Frame, Operand, InNot, InNegative, InGroup, InIndex, InCall, InRandom, InPlace, InChange, InQueue, InItem, InDeed, InWait, InIf, InElseIf, InCount, InThen, InElseThen, InElse, InTurns, State, Need, Have, Begin, After, AfterThen, AfterElse, demand, depth, reduce, nest, operand, need, item, shift, called, indexed, close, close_index, becomes, open_block, enter, finished, ended, close_block, start, named, marked, have, after_arm, after_else, after, step, run, whole, program_of, weigh}
+use Rattle.tw_machine_text.specs.Tree.{Tree, Number, Name, Known, Indexed, Call, RandomBelow, Group, Negate, Not, Binary, spelled, rank, left_rank, level, count, wanted, is_count, fits_call, IsExpr, deep, SourceStatement, Assign, Act, Treat, Draw, Wait, Passivate, Start, Send, If, IfElse, Repeat, Block, Empty, Then, Arms, One, More, mark, said, said_block, said_arms, IsStatement, IsBlock, AreArms, deep_statement, deep_block, deep_arms, Means, heads}
+use Rattle.tw_machine_text.specs.Letters.{in_number}
+use Rattle.tw_machine_text.specs.Machine.{Frame, Operand, InNot, InNegative, InGroup, InIndex, InCall, InRandom, InPlace, InChange, InQueue, InItem, InDeed, InWait, InStart, InTicks, InSend, InIf, InElseIf, InCount, InThen, InElseThen, InElse, InTurns, State, Need, Have, Begin, After, AfterThen, AfterElse, demand, depth, reduce, nest, operand, need, item, shift, called, indexed, close, close_index, becomes, open_block, enter, finished, ended, close_block, start, named, marked, have, after_arm, after_else, after, step, run, whole, program_of, weigh}
 use Rattle.tw_machine_text.proofs.Expressions.{ranks}
 use Rattle.tw_machine_text.proofs.Weights.{weigh_block}
 
@@ -32,6 +33,9 @@ told (InQueue b v ∷ s) ws = told s (said_block b (word.Begins v ∷ ws))
 told (InItem b v q ∷ s) ws = told s (said_block b (word.Begins v ∷ spelled q ws))
 told (InDeed b d ∷ s) ws = told s (said_block b (word.Does d ∷ ws))
 told (InWait b ∷ s) ws = told s (said_block b (word.Wait ∷ ws))
+told (InStart b ∷ s) ws = told s (said_block b (word.Start ∷ ws))
+told (InTicks b p ∷ s) ws = told s (said_block b (word.Start ∷ spelled p (word.Name in_number ∷ ws)))
+told (InSend b ∷ s) ws = told s (said_block b (word.Send ∷ ws))
 told (InIf b ∷ s) ws = told s (said_block b (word.If ∷ ws))
 told (InElseIf b a ∷ s) ws = told s (said_block b (said_arms a (word.Else ∷ word.If ∷ ws)))
 told (InCount b ∷ s) ws = told s (said_block b (word.Repeat ∷ ws))
@@ -73,6 +77,9 @@ Fits most (InQueue b v ∷ s) = BlockIn most s b × Fits most s
 Fits most (InItem b v q ∷ s) = BlockIn most s b × TreeIn most 9 s q × Fits most s
 Fits most (InDeed b d ∷ s) = BlockIn most s b × Fits most s
 Fits most (InWait b ∷ s) = BlockIn most s b × Fits most s
+Fits most (InStart b ∷ s) = BlockIn most s b × Fits most s
+Fits most (InTicks b p ∷ s) = BlockIn most s b × TreeIn most 9 s p × Fits most s
+Fits most (InSend b ∷ s) = BlockIn most s b × Fits most s
 Fits most (InIf b ∷ s) = BlockIn most s b × Fits most s
 Fits most (InElseIf b a ∷ s) = BlockIn most s b × ArmsIn most s a × Fits most s
 Fits most (InCount b ∷ s) = BlockIn most s b × Fits most s
@@ -142,6 +149,9 @@ shallow most (InQueue b v ∷ s) h = shallow most s h.1
 shallow most (InItem b v q ∷ s) h = shallow most s h.2
 shallow most (InDeed b d ∷ s) h = shallow most s h.1
 shallow most (InWait b ∷ s) h = shallow most s h.1
+shallow most (InStart b ∷ s) h = shallow most s h.1
+shallow most (InTicks b p ∷ s) h = shallow most s h.2
+shallow most (InSend b ∷ s) h = shallow most s h.1
 shallow most (InIf b ∷ s) h = shallow most s h.1
 shallow most (InElseIf b a ∷ s) h = shallow most s h.2
 shallow most (InCount b ∷ s) h = shallow most s h.1
@@ -283,6 +293,10 @@ finished_kept most before m (InDeed b d ∷ s) t r h e = got (Blocked most (λ w
     (record { words = λ ws. h.words (mark m ws); inside = ((h.fits.0.0, (h.fit, h.expr)), omega (arith, h.fits.0.1, h.room)); fits = h.fits.1 })
 finished_kept most before m (InWait b ∷ s) t r h e = got (Blocked most (λ ws. before (mark m ws))) (s, Then b (Wait t) m) r e
     (record { words = λ ws. h.words (mark m ws); inside = ((h.fits.0.0, (h.fit, h.expr)), omega (arith, h.fits.0.1, h.room)); fits = h.fits.1 })
+finished_kept most before m (InTicks b p ∷ s) t r h e = got (Blocked most (λ ws. before (mark m ws))) (s, Then b (Start p t) m) r e
+    (record { words = λ ws. h.words (mark m ws); inside = ((h.fits.0.0, ((h.fits.1.0, h.fits.1.1), (h.fit, h.expr))), omega (arith, h.fits.0.1, h.fits.1.2, h.room)); fits = h.fits.2 })
+finished_kept most before m (InSend b ∷ s) t r h e = guarded (Blocked most (λ ws. before (mark m ws))) (nat_eq (count t) 2) (s, Then b (Send t) m) r e
+    (λ k. record { words = λ ws. h.words (mark m ws); inside = ((h.fits.0.0, (k, h.expr)), omega (arith, h.fits.0.1, h.room)); fits = h.fits.1 })
 finished_kept most before m [] t r h e = absurd (cc)
 finished_kept most before m (f ∷ s) t r h e = absurd (cc)
 
@@ -306,6 +320,8 @@ start_kept most before (word.Does d) s b next h e = got (Kept most (λ ws. befor
 start_kept most before word.Draw s b next h e = got (Kept most (λ ws. before (word.Draw ∷ ws))) (After s b Draw) next e (record { words = λ ws. h.words (word.Draw ∷ ws); fits = (h.inside, tt, omega (arith, shallow most s h.fits), h.fits) })
 start_kept most before word.Wait s b next h e = got (Kept most (λ ws. before (word.Wait ∷ ws))) (Need (InWait b ∷ s)) next e (record { words = λ ws. h.words (word.Wait ∷ ws); fits = (h.inside, h.fits) })
 start_kept most before word.Passivate s b next h e = got (Kept most (λ ws. before (word.Passivate ∷ ws))) (After s b Passivate) next e (record { words = λ ws. h.words (word.Passivate ∷ ws); fits = (h.inside, tt, omega (arith, shallow most s h.fits), h.fits) })
+start_kept most before word.Start s b next h e = got (Kept most (λ ws. before (word.Start ∷ ws))) (Need (InStart b ∷ s)) next e (record { words = λ ws. h.words (word.Start ∷ ws); fits = (h.inside, h.fits) })
+start_kept most before word.Send s b next h e = got (Kept most (λ ws. before (word.Send ∷ ws))) (Need (InSend b ∷ s)) next e (record { words = λ ws. h.words (word.Send ∷ ws); fits = (h.inside, h.fits) })
 start_kept most before word.If s b next h e = got (Kept most (λ ws. before (word.If ∷ ws))) (Need (InIf b ∷ s)) next e (record { words = λ ws. h.words (word.If ∷ ws); fits = (h.inside, h.fits) })
 start_kept most before word.Repeat s b next h e = got (Kept most (λ ws. before (word.Repeat ∷ ws))) (Need (InCount b ∷ s)) next e (record { words = λ ws. h.words (word.Repeat ∷ ws); fits = (h.inside, h.fits) })
 start_kept most before word.CloseBrace s b next h e = close_block_kept most before s b next h e
@@ -320,6 +336,11 @@ restart_kept most before w s t next h e =
 named_kept : (most : ℕ) (before : List Word → List Word) (n : ℕ) (s : List Frame) (t : Tree) (next : State) → Top most 0 before s t → named n (s, t) ≡ Some next → Kept most (λ ws. before (word.Name n ∷ ws)) next
 named_kept most before n (InQueue b v ∷ s) t next h e = got (Kept most (λ ws. before (word.Name n ∷ ws))) (Have (InItem b v t ∷ s) (Name n)) next e
     (have_top most (λ ws. before (word.Name n ∷ ws)) (InItem b v t ∷ s) (Name n) (λ ws. h.words (word.Name n ∷ ws)) (h.fits.0, (h.fit, h.expr, h.room), h.fits.1) tt (omega arith) (omega (arith, h.room)) (omega arith))
+named_kept most before n (InStart b ∷ s) t next h e = guarded (Kept most (λ ws. before (word.Name n ∷ ws))) (nat_eq n in_number) (Need (InTicks b t ∷ s)) next e
+    (λ k. record {
+      words = λ ws. ap (λ (j : ℕ). told s (said_block b (word.Start ∷ spelled t (word.Name j ∷ ws)))) (sym (eqb-true n in_number k)) ∙ h.words (word.Name n ∷ ws);
+      fits = (h.fits.0, (h.fit, h.expr, h.room), h.fits.1);
+    })
 named_kept most before n [] t next h e = absurd (cc)
 named_kept most before n (f ∷ s) t next h e = restart_kept most before (word.Name n) (f ∷ s) t next h e
 

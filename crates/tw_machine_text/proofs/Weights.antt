@@ -3,7 +3,8 @@ use Rattle.std.proofs.Common.{◌≡◌, ◌+◌, Bool, true, false, List, ◌�
 use Rattle.tw_machine_text.specs.declared.words.Operator.TheVariants.{Comma}
 use Rattle.tw_machine_text.specs.declared.words.Word.{Word}
 use Rattle.tw_machine_text.specs.declared.words.Word.TheVariants as word
-use Rattle.tw_machine_text.specs.Tree.{Tree, Number, Name, Known, Indexed, Call, RandomBelow, Group, Negate, Not, Binary, spelled, SourceStatement, Assign, Act, Treat, Draw, Wait, Passivate, If, IfElse, Repeat, Block, Empty, Then, Arms, One, More, mark, said, said_block, said_arms, nodes, nodes_statement, nodes_block, nodes_arms}
+use Rattle.tw_machine_text.specs.Tree.{Tree, Number, Name, Known, Indexed, Call, RandomBelow, Group, Negate, Not, Binary, spelled, SourceStatement, Assign, Act, Treat, Draw, Wait, Passivate, Start, Send, If, IfElse, Repeat, Block, Empty, Then, Arms, One, More, mark, said, said_block, said_arms, nodes, nodes_statement, nodes_block, nodes_arms}
+use Rattle.tw_machine_text.specs.Letters.{in_number}
 use Rattle.tw_machine_text.specs.Machine.{weigh}
 
 pub weigh_tree : (t : Tree) (ws : List Word) (chained : Bool) → weigh chained (spelled t ws) ≡ nodes t + weigh false ws
@@ -40,6 +41,8 @@ mutual
   weigh_said Draw ws = refl
   weigh_said (Wait e) ws = omega (arith, weigh_tree e ws false)
   weigh_said Passivate ws = refl
+  weigh_said (Start t e) ws = omega (arith, weigh_tree t (word.Name in_number ∷ spelled e ws) false, weigh_tree e ws false)
+  weigh_said (Send e) ws = omega (arith, weigh_tree e ws false)
   weigh_said (If a) ws = weigh_arms a ws
   weigh_said (IfElse a b) ws = omega (arith, weigh_arms a (word.Else ∷ word.OpenBrace ∷ said_block b (word.CloseBrace ∷ ws)), weigh_block b (word.CloseBrace ∷ ws))
   weigh_said (Repeat n b) ws = omega (arith, weigh_tree n (word.OpenBrace ∷ said_block b (word.CloseBrace ∷ ws)) false, weigh_block b (word.CloseBrace ∷ ws))

@@ -1,14 +1,16 @@
--- The program that a written one comes to, in the core of the language, where no `do` and no `observe` stands, no `sample`, no `roll` and no `length` of a table.
+-- The program that a written one comes to, in the core of the language, where no `do` and no `observe` stands, no `sample`, no `roll`, no `length` of a table, and nothing of timers.
 use Rattle.std.specs.Prelude.{ℕ, ◌+◌, Bool, true, false, ◌&&◌, List, [], ◌∷◌, ◌++◌, Option, Some, None, nat_le, slice_index_or, if◌then◌else◌}
 use Rattle.tw_machine_text.specs.declared.kinds.Kind.{Kind}
 use Rattle.tw_machine_text.specs.declared.kinds.Kind.TheVariants.{Procedure}
+use Rattle.tw_machine_text.specs.declared.kinds.Timing.{Timing}
 use Rattle.tw_machine_text.specs.Kinds.{stands_for}
+use Rattle.tw_machine_text.specs.Timers.{timed, timed_text}
 use Rattle.tw_machine_text.specs.declared.words.Operator.TheVariants.{Times}
 use Rattle.tw_machine_text.specs.declared.words.SourceChange.TheVariants.{Add}
 use Rattle.tw_machine_text.specs.declared.words.Deed.TheVariants.{Do}
 use Rattle.tw_machine_text.specs.declared.words.Verb.TheVariants.{Observe}
 use Rattle.tw_machine_text.specs.Drawn.{core_tree, draws, draws_in, draws_last, begun}
-use Rattle.tw_machine_text.specs.Tree.{Tree, Number, Name, Indexed, Group, Binary, SourceStatement, Assign, Act, Treat, Draw, Wait, Passivate, If, IfElse, Repeat, Block, Empty, Then, Arms, One, More, deep, nodes, deep_block, nodes_statement, nodes_block}
+use Rattle.tw_machine_text.specs.Tree.{Tree, Number, Name, Indexed, Group, Binary, SourceStatement, Assign, Act, Treat, Draw, Wait, Passivate, Start, Send, If, IfElse, Repeat, Block, Empty, Then, Arms, One, More, deep, nodes, deep_block, nodes_statement, nodes_block}
 
 -- a cell of an observation grows
 abbrev pub grows : ℕ → ℕ → Tree → SourceStatement
@@ -65,6 +67,8 @@ abbrev mutual
   desugared_statement kinds Draw = Draw
   desugared_statement kinds (Wait e) = Wait (core_tree kinds e)
   desugared_statement kinds Passivate = Passivate
+  desugared_statement kinds (Start t e) = Start (core_tree kinds t) (core_tree kinds e)
+  desugared_statement kinds (Send e) = Send (core_tree kinds e)
   desugared_statement kinds (If arms) = chosen (desugared_arms kinds arms) (no_else (draws_last arms))
   desugared_statement kinds (IfElse arms last) = chosen (desugared_arms kinds arms) (Some (desugared_behind kinds (draws_last arms) last))
   desugared_statement kinds (Repeat count each) = Repeat count (desugared_behind kinds false each)
@@ -111,8 +115,12 @@ abbrev mutual
   expanded_arms kinds procedures (More a t b) = More (expanded_arms kinds procedures a) t (expanded kinds procedures b)
 
 -- the whole program
-abbrev pub desugared_block : List Kind → List Block → Block → Block
-desugared_block kinds procedures program = expanded kinds procedures (desugared_behind kinds false program)
+abbrev pub desugared_block : Option Timing → List Kind → List Block → Block → Block
+desugared_block timing kinds procedures program = expanded kinds procedures (timed timing kinds (desugared_behind kinds false program))
+
+-- an expression
+abbrev pub desugared_text : Option Timing → List Kind → Tree → Tree
+desugared_text timing kinds e = timed_text timing kinds (core_tree kinds e)
 
 -- how many nodes it has, counted before it is put together
 abbrev mutual

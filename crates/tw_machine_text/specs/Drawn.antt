@@ -1,9 +1,8 @@
 -- What is written of numbers in another way than in the core of the language: `length(t)` of a table, and the numbers that are drawn by themselves, `sample(t)` and `roll(n)`.
 use Rattle.std.specs.Prelude.{ℕ, ◌+◌, Bool, true, false, ◌&&◌, List, nat_eq, nat_le, if◌then◌else◌}
 use Rattle.tw_machine_text.specs.declared.kinds.Kind.{Kind}
-use Rattle.tw_machine_text.specs.declared.kinds.Member.{Member}
-use Rattle.tw_machine_text.specs.Kinds.{is_table_name, bound_block, bound_as, uses}
-use Rattle.tw_machine_text.specs.Tree.{Tree, Number, Name, Known, Indexed, Call, RandomBelow, Group, Negate, Not, Binary, SourceStatement, Assign, Act, Treat, Draw, Wait, Passivate, If, IfElse, Repeat, Block, Empty, Then, Arms, One, More}
+use Rattle.tw_machine_text.specs.Kinds.{is_table_name}
+use Rattle.tw_machine_text.specs.Tree.{Tree, Number, Name, Known, Indexed, Call, RandomBelow, Group, Negate, Not, Binary, SourceStatement, Assign, Act, Treat, Draw, Wait, Passivate, Start, Send, If, IfElse, Repeat, Block, Empty, Then, Arms, One, More}
 
 -- ---- in the core
 
@@ -66,6 +65,8 @@ abbrev mutual
   few_drawn_statement Draw = true
   few_drawn_statement (Wait e) = draws_few e
   few_drawn_statement Passivate = true
+  few_drawn_statement (Start t e) = draws_none t && draws_few e
+  few_drawn_statement (Send e) = draws_few e
   few_drawn_statement (If arms) = few_drawn_arms arms
   few_drawn_statement (IfElse arms b) = few_drawn_arms arms && few_drawn b
   few_drawn_statement (Repeat n b) = few_drawn b
@@ -78,14 +79,6 @@ abbrev mutual
   few_drawn_arms (One t b) = draws_few t && few_drawn b
   few_drawn_arms (More a t b) = few_drawn_arms a && draws_few t && few_drawn b
 
--- each name of a program stands where it may, so many procedures may be used, and no more numbers are drawn than may be
-abbrev pub may_stand : List Kind → ℕ → Block → Bool
-may_stand kinds known program = bound_block kinds program && uses kinds known program && few_drawn program
-
--- the same of a member's text, in which no number is drawn
-abbrev pub may_stand_as : Member → List Kind → Tree → Bool
-may_stand_as member kinds e = bound_as member kinds e && draws_none e
-
 -- ---- where `draw` stands
 
 -- whether a number is drawn in an expression
@@ -97,6 +90,8 @@ abbrev pub draws_in : SourceStatement → Bool
 draws_in (Assign p c e) = draws e
 draws_in (Act v q e) = draws e
 draws_in (Wait e) = draws e
+draws_in (Start t e) = draws e
+draws_in (Send e) = draws e
 draws_in _ = false
 
 -- or in the last of the tests of an `if`

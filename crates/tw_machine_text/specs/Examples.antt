@@ -1,18 +1,22 @@
 -- Worked examples of how tightly operators bind, and of what is desugared, a to d being the first names that are declared.
-use Rattle.std.specs.Prelude.{◌≡◌, List, [], ◌∷◌, ◌++◌, true, false, replicate}
-use Rattle.tw_machine_text.specs.declared.words.Operator.TheVariants.{Comma, Or, And, Equal, Less, Plus, Minus, Times}
+use Rattle.std.specs.Prelude.{◌≡◌, ℕ, List, [], ◌∷◌, ◌++◌, Option, Some, None, true, false, replicate}
+use Rattle.tw_machine_text.specs.declared.words.Operator.TheVariants.{Comma, Or, And, Equal, Less, GreaterEqual, Plus, Minus, Times}
 use Rattle.tw_machine_text.specs.declared.words.Word.{Word}
 use Rattle.tw_machine_text.specs.declared.words.Word.TheVariants as word
 use Rattle.tw_machine_text.specs.declared.words.SourceChange.TheVariants.{Set, Add}
+use Rattle.tw_machine_text.specs.declared.words.Builtin.TheVariants.{Left, Now, Which}
+use Rattle.tw_machine_text.specs.declared.words.Deed.TheVariants.{Stop}
 use Rattle.tw_machine_text.specs.declared.words.Verb.TheVariants.{Push, Put, Observe}
-use Rattle.tw_machine_text.specs.Letters.{own, own_names}
+use Rattle.tw_machine_text.specs.Letters.{own, own_names, in_number}
 use Rattle.tw_machine_text.specs.Limits.{max_levels, max_nodes}
 use Rattle.tw_machine_text.specs.declared.kinds.Kind.{Kind}
-use Rattle.tw_machine_text.specs.declared.kinds.Kind.TheVariants.{Nothing, Register, Table, Queue}
+use Rattle.tw_machine_text.specs.declared.kinds.Kind.TheVariants.{Nothing, Register, Table, Queue, Timer, TimerArray}
+use Rattle.tw_machine_text.specs.declared.kinds.Timing.{Timing}
 use Rattle.tw_machine_text.specs.declared.kinds.Member.TheVariants.{Value}
-use Rattle.tw_machine_text.specs.Desugared.{desugared_block}
-use Rattle.tw_machine_text.specs.Drawn.{core_tree, may_stand, may_stand_as}
-use Rattle.tw_machine_text.specs.Tree.{Tree, Number, Name, Indexed, Call, RandomBelow, Group, Negate, Not, Binary, SourceStatement, Block, Empty, Then, Assign, Act, Wait, Draw, If, IfElse, Repeat, One, More, Means}
+use Rattle.tw_machine_text.specs.Desugared.{desugared_block, desugared_text}
+use Rattle.tw_machine_text.specs.Drawn.{core_tree}
+use Rattle.tw_machine_text.specs.Timers.{may_stand, may_stand_as}
+use Rattle.tw_machine_text.specs.Tree.{Tree, Number, Name, Known, Indexed, Call, RandomBelow, Group, Negate, Not, Binary, SourceStatement, Block, Empty, Then, Assign, Act, Treat, Wait, Draw, Passivate, Start, Send, If, IfElse, Repeat, One, More, Means, deep, nodes}
 
 abbrev pub a : Tree
 a = Name (own 0)
@@ -67,7 +71,7 @@ observing = Means max_levels max_nodes (word.Begins Observe ∷ word.Name (own 0
 
 abbrev pub observed : Type 0
 observed =
-    desugared_block [] [] (Then Empty (Act Observe a a_sum) false)
+    desugared_block None [] [] (Then Empty (Act Observe a a_sum) false)
     ≡ Then (Then (Then Empty (Assign (Indexed (own 0) (Number 0)) Add (Number 1)) false) (Assign (Indexed (own 0) (Number 1)) Add a_sum) false) (Assign (Indexed (own 0) (Number 2)) Add (Binary Times (Group a_sum) (Group a_sum))) false
 
 -- ---- numbers that are drawn, a being a register, b a table and c a queue
@@ -92,7 +96,7 @@ lengths = (core_tree kinds (Call 3 b) ≡ b) × (core_tree kinds (Call 3 c) ≡ 
 -- a = a + sample(b) comes to a = a + b[random(length(b))]  draw
 abbrev pub drawn_behind : Type 0
 drawn_behind =
-    desugared_block kinds [] (Then Empty (Assign a Set (Binary Plus a sample_b)) true)
+    desugared_block None kinds [] (Then Empty (Assign a Set (Binary Plus a sample_b)) true)
     ≡ Then (Then Empty (Assign a Set (Binary Plus a core_sample_b)) false) Draw true
 
 -- a = 1, and a = 2
@@ -112,35 +116,116 @@ drawing s = Then (Then Empty Draw false) s false
 -- if sample(b) < a { a = 1 } comes to if b[random(length(b))] < a { draw a = 1 } else { draw }
 abbrev pub drawn_test : Type 0
 drawn_test =
-    desugared_block kinds [] (alone (If (One (Binary Less sample_b a) (alone first))))
+    desugared_block None kinds [] (alone (If (One (Binary Less sample_b a) (alone first))))
     ≡ alone (IfElse (One (Binary Less core_sample_b a) (drawing first)) (alone Draw))
 
 -- if roll(6) { a = 1 } else { a = 2 } comes to if random(6) { draw a = 1 } else { draw a = 2 }
 abbrev pub drawn_else : Type 0
 drawn_else =
-    desugared_block kinds [] (alone (IfElse (One roll_6 (alone first)) (alone second)))
+    desugared_block None kinds [] (alone (IfElse (One roll_6 (alone first)) (alone second)))
     ≡ alone (IfElse (One (RandomBelow (Number 6)) (drawing first)) (drawing second))
 
 -- if a { a = 1 } else if roll(6) { a = 2 } else if a { } else { a = 1 } comes to if a { a = 1 } else if random(6) { draw a = 2 } else { draw if a { } else { a = 1 } }
 abbrev pub drawn_chain : Type 0
 drawn_chain =
-    desugared_block kinds [] (alone (IfElse (More (More (One a (alone first)) roll_6 (alone second)) a Empty) (alone first)))
+    desugared_block None kinds [] (alone (IfElse (More (More (One a (alone first)) roll_6 (alone second)) a Empty) (alone first)))
     ≡ alone (IfElse (More (One a (alone first)) (RandomBelow (Number 6)) (drawing second)) (drawing (IfElse (One a Empty) (alone first))))
 
 -- within `repeat` a number is drawn in each turn: repeat 3 { a = roll(6) } comes to repeat 3 { a = random(6) draw }
 abbrev pub drawn_turns : Type 0
 drawn_turns =
-    desugared_block kinds [] (alone (Repeat (Number 3) (alone (Assign a Set roll_6))))
+    desugared_block None kinds [] (alone (Repeat (Number 3) (alone (Assign a Set roll_6))))
     ≡ alone (Repeat (Number 3) (Then (alone (Assign a Set (RandomBelow (Number 6)))) Draw false))
 
 -- push c roll(6) may stand, roll(sample(b)) and a member's text with roll(6) may not, nor may length(a)
 abbrev pub few_drawn : Type 0
 few_drawn =
-    (may_stand kinds 0 (alone (Act Push c roll_6)) ≡ true)
-    × (may_stand kinds 0 (alone (Wait (Call 11 sample_b))) ≡ false)
-    × (may_stand_as Value kinds roll_6 ≡ false)
-    × (may_stand kinds 0 (alone (Wait (Call 3 a))) ≡ false)
+    (may_stand None kinds 0 (alone (Act Push c roll_6)) ≡ true)
+    × (may_stand None kinds 0 (alone (Wait (Call 11 sample_b))) ≡ false)
+    × (may_stand_as None Value kinds roll_6 ≡ false)
+    × (may_stand None kinds 0 (alone (Wait (Call 3 a))) ≡ false)
 
 -- a < b < c means nothing
 abbrev pub no_chain : Type 0
 no_chain = (program : Block) → Means max_levels max_nodes (word.Wait ∷ word.Name (own 0) ∷ word.Sign Less ∷ word.Name (own 1) ∷ word.Sign Less ∷ word.Name (own 2) ∷ []) program → ⊥
+
+-- ---- timers, a being a register, b a timer and c several of them; behind these stand the names that timers need
+
+abbrev pub timed_kinds : List Kind
+timed_kinds = replicate own_names Nothing ++ Register ∷ Timer (own 8) ∷ TimerArray (own 9) (own 10) ∷ []
+
+abbrev pub timing_of : Option ℕ → Timing
+timing_of timer = record { due = own 3; next = own 4; least = own 5; ports = own 6; values = own 7; of = timer }
+
+abbrev pub plain : Option Timing
+plain = Some (timing_of None)
+
+-- that of a text of c
+abbrev pub of_c : Option Timing
+of_c = Some (timing_of (Some (own 9)))
+
+-- the tick at which b is due
+abbrev pub due_b : Tree
+due_b = Indexed (own 3) (Name (own 8))
+
+-- that at which c[e] is
+abbrev pub due_c : Tree → Tree
+due_c e = Indexed (own 3) (Binary Plus (Name (own 9)) (Call 0 (Binary Comma (Call 1 (Binary Comma e (Number 0))) (Name (own 10)))))
+
+-- which of c goes
+abbrev pub which_c : Tree
+which_c = Group (Binary Minus (Name (own 4)) (Name (own 9)))
+
+-- start b in a + 1  send 0, a  stop c[which] is written so
+abbrev pub timed_words : Type 0
+timed_words = Means max_levels max_nodes
+    (word.Start ∷ word.Name (own 1) ∷ word.Name in_number ∷ word.Name (own 0) ∷ word.Sign Plus ∷ word.Number 1 ∷ word.Send ∷ word.Number 0 ∷ word.Sign Comma ∷ word.Name (own 0) ∷ word.Does Stop ∷ word.Name (own 2) ∷ word.OpenBracket ∷ word.Known Which ∷ word.CloseBracket ∷ [])
+    (Then (Then (alone (Start b (Binary Plus a (Number 1)))) (Send (Binary Comma (Number 0) a)) false) (Treat Stop (Indexed (own 2) (Known Which))) false)
+
+-- start b in a comes to due[before] = now + min(max(a, least), 1099511627775)
+abbrev pub starting : Type 0
+starting =
+    desugared_block plain timed_kinds [] (alone (Start b a))
+    ≡ alone (Assign due_b Set (Binary Plus (Known Now) (Call 0 (Binary Comma (Call 1 (Binary Comma a (Name (own 5)))) (Number 1099511627775)))))
+
+-- stop c[which] comes to due[before + min(max((next - before), 0), last)] = -1 in a text of c, and in another to due[before + min(max(0, 0), last)] = -1
+abbrev pub stopping : Type 0
+stopping =
+    (desugared_block of_c timed_kinds [] (alone (Treat Stop (Indexed (own 2) (Known Which)))) ≡ alone (Assign (due_c which_c) Set (Negate (Number 1))))
+    × (desugared_block plain timed_kinds [] (alone (Treat Stop (Indexed (own 2) (Known Which)))) ≡ alone (Assign (due_c (Number 0)) Set (Negate (Number 1))))
+
+-- send a, roll(6) comes to push ports a  push values random(6)  draw
+abbrev pub sending : Type 0
+sending =
+    desugared_block plain timed_kinds [] (alone (Send (Binary Comma a roll_6)))
+    ≡ Then (Then (alone (Act Push (Name (own 6)) a)) (Act Push (Name (own 7)) (RandomBelow (Number 6))) false) Draw false
+
+-- running(b) is (due[before] >= 0), and rest(c[a]) is max(due[..] - now, -1)
+abbrev pub asking : Type 0
+asking =
+    (desugared_text plain timed_kinds (Call 12 b) ≡ Group (Binary GreaterEqual due_b (Number 0)))
+    × (desugared_text plain timed_kinds (Call 13 (Indexed (own 2) a)) ≡ Call 1 (Binary Comma (Binary Minus (due_c a) (Known Now)) (Negate (Number 1))))
+
+-- idle(c) has 162 nodes and 18 levels
+abbrev pub idling : Type 0
+idling = (nodes (desugared_text plain timed_kinds (Call 14 c)) ≡ 162) × (deep (desugared_text plain timed_kinds (Call 14 c)) ≡ 18)
+
+-- start b in roll(6) and idle(c) may stand; start a in 1, stop c, stop b[0], start c[roll(6)] in 1 and idle(b) may not
+abbrev pub timers_named : Type 0
+timers_named =
+    (may_stand plain timed_kinds 0 (alone (Start b roll_6)) ≡ true)
+    × (may_stand_as plain Value timed_kinds (Call 14 c) ≡ true)
+    × (may_stand plain timed_kinds 0 (alone (Start a (Number 1))) ≡ false)
+    × (may_stand plain timed_kinds 0 (alone (Treat Stop c)) ≡ false)
+    × (may_stand plain timed_kinds 0 (alone (Treat Stop (Indexed (own 1) (Number 0)))) ≡ false)
+    × (may_stand plain timed_kinds 0 (alone (Start (Indexed (own 2) roll_6) (Number 1))) ≡ false)
+    × (may_stand_as plain Value timed_kinds (Call 14 b) ≡ false)
+
+-- in a machine with timers may stand neither wait 1, nor passivate, nor left; in one without them neither send 0, a, nor which
+abbrev pub times_kept : Type 0
+times_kept =
+    (may_stand plain timed_kinds 0 (alone (Wait (Number 1))) ≡ false)
+    × (may_stand plain timed_kinds 0 (alone Passivate) ≡ false)
+    × (may_stand_as plain Value timed_kinds (Known Left) ≡ false)
+    × (may_stand None timed_kinds 0 (alone (Send (Binary Comma (Number 0) a))) ≡ false)
+    × (may_stand_as None Value timed_kinds (Known Which) ≡ false)

@@ -4,14 +4,14 @@ use Rattle.tw_machine_text.specs.declared.words.Operator.TheVariants.{Comma}
 use Rattle.tw_machine_text.specs.declared.kinds.Kind.{Kind}
 use Rattle.tw_machine_text.specs.declared.kinds.Member.{Member}
 use Rattle.tw_machine_text.specs.declared.kinds.Member.TheVariants.{Value, Each, Shown}
-use Rattle.tw_machine_text.specs.declared.kinds.Kind.TheVariants.{Nothing, Register, RegisterArray, Queue, QueueArray, Table, Parameter, Observation, Procedure}
+use Rattle.tw_machine_text.specs.declared.kinds.Kind.TheVariants.{Nothing, Register, RegisterArray, Queue, QueueArray, Table, Parameter, Observation, Procedure, Timer, TimerArray}
 use Rattle.tw_machine_text.specs.declared.words.Deed.{Deed}
 use Rattle.tw_machine_text.specs.declared.words.Deed.TheVariants as deed
 use Rattle.tw_machine_text.specs.declared.words.Verb.{Verb}
 use Rattle.tw_machine_text.specs.declared.words.Verb.TheVariants as verb
 use Rattle.tw_machine_text.specs.Letters.{same_text, functions}
 use Rattle.tw_machine_text.specs.Limits.{max_turns}
-use Rattle.tw_machine_text.specs.Tree.{Tree, Number, Name, Known, Indexed, Call, RandomBelow, Group, Negate, Not, Binary, takes_numbers, SourceStatement, Assign, Act, Treat, Draw, Wait, Passivate, If, IfElse, Repeat, Block, Empty, Then, Arms, One, More}
+use Rattle.tw_machine_text.specs.Tree.{Tree, Number, Name, Known, Indexed, Call, RandomBelow, Group, Negate, Not, Binary, takes_numbers, SourceStatement, Assign, Act, Treat, Draw, Wait, Passivate, Start, Send, If, IfElse, Repeat, Block, Empty, Then, Arms, One, More}
 
 -- what is declared by a name; where it is declared twice, by the first
 abbrev pub kind_named : List (List ℕ × Kind) → List ℕ → Kind
@@ -64,6 +64,24 @@ abbrev pub is_observation : Kind → Bool
 is_observation Observation = true
 is_observation _ = false
 
+-- one timer, and one of so many alike
+abbrev pub is_timer : Kind → Bool
+is_timer (Timer before) = true
+is_timer _ = false
+
+abbrev pub is_timer_array : Kind → Bool
+is_timer_array (TimerArray before last) = true
+is_timer_array _ = false
+
+-- whether a function is one of a timer, `running` or `rest`
+abbrev pub takes_timer : ℕ → Bool
+takes_timer n = nat_le 12 n && nat_lt n 14
+
+-- timers that are alike, by their name
+abbrev pub is_timers_name : List Kind → Tree → Bool
+is_timers_name kinds (Name n) = is_timer_array (stands_for kinds n)
+is_timers_name kinds _ = false
+
 -- whether a function is one of a table, `length` or `sample`
 abbrev pub takes_table : ℕ → Bool
 takes_table n = nat_eq n 3 || nat_eq n 10
@@ -78,13 +96,13 @@ is_table_name kinds (Name n) = is_table (stands_for kinds n)
 is_table_name kinds _ = false
 
 abbrev mutual
-  -- an expression, or arguments of which none is a queue or a table
+  -- an expression, or arguments of which none is a queue, a table or a timer
   pub bound : List Kind → Tree → Bool
   bound kinds (Number n) = true
   bound kinds (Name n) = reads (stands_for kinds n)
   bound kinds (Known g) = true
   bound kinds (Indexed n e) = indexes (stands_for kinds n) && bound kinds e
-  bound kinds (Call n e) = if takes_numbers n then bound kinds e else (takes_table n && is_table_name kinds e) || (takes_queue n && bound_queue kinds e)
+  bound kinds (Call n e) = if takes_numbers n then bound kinds e else (takes_table n && is_table_name kinds e) || (takes_queue n && bound_queue kinds e) || (takes_timer n && bound_timer kinds e) || (nat_eq n 14 && is_timers_name kinds e)
   bound kinds (RandomBelow e) = bound kinds e
   bound kinds (Group e) = bound kinds e
   bound kinds (Negate e) = bound kinds e
@@ -97,6 +115,12 @@ abbrev mutual
   bound_queue kinds (Indexed n e) = is_queue_array (stands_for kinds n) && bound kinds e
   bound_queue kinds (Binary Comma a b) = bound_queue kinds a && bound kinds b
   bound_queue kinds _ = false
+
+  -- a timer
+  pub bound_timer : List Kind → Tree → Bool
+  bound_timer kinds (Name n) = is_timer (stands_for kinds n)
+  bound_timer kinds (Indexed n e) = is_timer_array (stands_for kinds n) && bound kinds e
+  bound_timer kinds _ = false
 
 -- a register, or a cell of an array of them
 abbrev pub bound_place : List Kind → Tree → Bool
@@ -129,9 +153,10 @@ abbrev pub bound_procedure : List Kind → Tree → Bool
 bound_procedure kinds (Name n) = is_procedure (stands_for kinds n)
 bound_procedure kinds _ = false
 
--- what is treated: a procedure, or a queue
+-- what is treated: a procedure, a timer, or a queue
 abbrev pub bound_treated : List Kind → Deed → Tree → Bool
 bound_treated kinds deed.Do p = bound_procedure kinds p
+bound_treated kinds deed.Stop t = bound_timer kinds t
 bound_treated kinds d q = bound_queue kinds q
 
 -- what a verb is said of: an observation, or a queue
@@ -147,6 +172,8 @@ abbrev mutual
   bound_statement kinds Draw = true
   bound_statement kinds (Wait e) = bound kinds e
   bound_statement kinds Passivate = true
+  bound_statement kinds (Start t e) = bound_timer kinds t && bound kinds e
+  bound_statement kinds (Send e) = bound kinds e
   bound_statement kinds (If arms) = bound_arms kinds arms
   bound_statement kinds (IfElse arms b) = bound_arms kinds arms && bound_block kinds b
   bound_statement kinds (Repeat n b) = bound_count kinds n && bound_block kinds b

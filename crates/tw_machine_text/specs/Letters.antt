@@ -6,15 +6,18 @@ same_text [] [] = true
 same_text (x ∷ xs) (y ∷ ys) = x == y && same_text xs ys
 same_text _ _ = false
 
--- the functions are the names 0 to 11
+-- the functions are the names 0 to 14. `in`, which is a word behind a timer alone, is the last of these names that a machine may give to what it declares
 abbrev pub functions : List (List ℕ)
 functions =
     codes "min" ∷ codes "max" ∷ codes "choose" ∷ codes "length" ∷ codes "room" ∷ codes "front" ∷ codes "last" ∷ codes "sum" ∷ codes "at" ∷ codes "place"
-    ∷ codes "sample" ∷ codes "roll" ∷ []
+    ∷ codes "sample" ∷ codes "roll" ∷ codes "running" ∷ codes "rest" ∷ codes "idle" ∷ codes "in" ∷ []
+
+abbrev pub in_number : ℕ
+in_number = 15
 
 -- behind them come the names that a machine declares: how many functions there are, and the number of such a name by its place
 abbrev pub own_names : ℕ
-own_names = 12
+own_names = 16
 
 abbrev pub own : ℕ → ℕ
 own k = own_names + k

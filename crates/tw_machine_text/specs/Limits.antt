@@ -23,6 +23,14 @@ written_levels = 65
 abbrev pub written_nodes : ℕ
 written_nodes = 8192
 
+-- how many timers may be alike
+abbrev pub max_count : ℕ
+max_count = 16
+
+-- in how many ticks a timer is due at most: one past the greatest tick
+abbrev pub last_due : ℕ
+last_due = 1099511627775
+
 -- how often a block may be repeated
 abbrev pub max_turns : ℕ
 max_turns = 64

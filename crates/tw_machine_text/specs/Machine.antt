@@ -9,7 +9,8 @@ use Rattle.tw_machine_text.specs.declared.words.Verb.{Verb}
 use Rattle.tw_machine_text.specs.declared.words.Deed.{Deed}
 use Rattle.tw_machine_text.specs.declared.words.Word.{Word}
 use Rattle.tw_machine_text.specs.declared.words.Word.TheVariants as word
-use Rattle.tw_machine_text.specs.Tree.{Tree, Number, Name, Known, Indexed, Call, RandomBelow, Group, Negate, Not, Binary, rank, left_rank, count, fits_call, SourceStatement, Assign, Act, Treat, Draw, Wait, Passivate, If, IfElse, Repeat, Block, Empty, Then, Arms, One, More, is_count, wanted}
+use Rattle.tw_machine_text.specs.Letters.{in_number}
+use Rattle.tw_machine_text.specs.Tree.{Tree, Number, Name, Known, Indexed, Call, RandomBelow, Group, Negate, Not, Binary, rank, left_rank, count, fits_call, SourceStatement, Assign, Act, Treat, Draw, Wait, Passivate, Start, Send, If, IfElse, Repeat, Block, Empty, Then, Arms, One, More, is_count, wanted}
 
 -- what has begun and is not done, the innermost first
 pub data Frame : Type 0 where
@@ -26,6 +27,9 @@ pub data Frame : Type 0 where
   InItem : (b : Block) (v : Verb) (q : Tree) → Frame
   InDeed : (b : Block) (d : Deed) → Frame
   InWait : (b : Block) → Frame
+  InStart : (b : Block) → Frame
+  InTicks : (b : Block) (timer : Tree) → Frame
+  InSend : (b : Block) → Frame
   InIf : (b : Block) → Frame
   InElseIf : (b : Block) (arms : Arms) → Frame
   InCount : (b : Block) → Frame
@@ -59,6 +63,8 @@ demand (InItem b v q ∷ s) = 0
 demand (InPlace b ∷ s) = 9
 demand (InQueue b v ∷ s) = 9
 demand (InDeed b d ∷ s) = 9
+demand (InStart b ∷ s) = 9
+demand (InSend b ∷ s) = 0
 demand (_ ∷ s) = 1
 
 -- how deep we are
@@ -148,6 +154,8 @@ finished m (InChange b p c ∷ s, t) = Some (s, Then b (Assign p c t) m)
 finished m (InItem b v q ∷ s, t) = if nat_eq (count t) (wanted v) then Some (s, Then b (Act v q t) m) else None
 finished m (InDeed b d ∷ s, t) = Some (s, Then b (Treat d t) m)
 finished m (InWait b ∷ s, t) = Some (s, Then b (Wait t) m)
+finished m (InTicks b timer ∷ s, t) = Some (s, Then b (Start timer t) m)
+finished m (InSend b ∷ s, t) = if nat_eq (count t) 2 then Some (s, Then b (Send t) m) else None
 finished m _ = None
 
 abbrev pub ended : Bool → State → Option (List Frame × Block)
@@ -174,14 +182,17 @@ start (word.Does d) (s, b) = Some (Need (InDeed b d ∷ s))
 start word.Draw (s, b) = Some (After s b Draw)
 start word.Wait (s, b) = Some (Need (InWait b ∷ s))
 start word.Passivate (s, b) = Some (After s b Passivate)
+start word.Start (s, b) = Some (Need (InStart b ∷ s))
+start word.Send (s, b) = Some (Need (InSend b ∷ s))
 start word.If (s, b) = Some (Need (InIf b ∷ s))
 start word.Repeat (s, b) = Some (Need (InCount b ∷ s))
 start word.CloseBrace (s, b) = close_block s b
 start _ _ = None
 
--- a name behind an operand: of what is done to a queue, or of the next statement
+-- a name behind an operand: of what is done to a queue, `in` behind a timer, or of the next statement
 abbrev pub named : ℕ → List Frame × Tree → Option State
 named n (InQueue b v ∷ s, t) = Some (Have (InItem b v t ∷ s) (Name n))
+named n (InStart b ∷ s, t) = if nat_eq n in_number then Some (Need (InTicks b t ∷ s)) else None
 named n (s, t) = option_and_then (start (word.Name n)) (finished false (s, t))
 
 abbrev pub marked : List Frame × Block → Option State
@@ -274,6 +285,11 @@ abbrev pub wants : List Frame → Bool
 wants (InQueue b v ∷ s) = true
 wants _ = false
 
+-- whether a timer has just been asked for, which is started
+abbrev pub starts_timer : List Frame → Bool
+starts_timer (InStart b ∷ s) = true
+starts_timer _ = false
+
 abbrev pub is_bottom : List Frame → Bool
 is_bottom [] = true
 is_bottom (f ∷ s) = false
@@ -292,6 +308,8 @@ weight (word.Does d) = 1
 weight word.Draw = 1
 weight word.Wait = 1
 weight word.Passivate = 1
+weight word.Start = 1
+weight word.Send = 1
 weight word.If = 1
 weight word.Repeat = 1
 weight _ = 0

@@ -2,18 +2,19 @@
 use Rattle.std.specs.Prelude.{◌≡◌, ℕ, ◌+◌, ◌-◌, ◌*◌, ◌^◌, ◌<◌, ◌≤◌, length, Bool, true, false, not, ◌&&◌, ◌||◌, ◌⊎◌, List, [], ◌∷◌, ◌++◌, Option, Some, None, is_some, ◌==◌, nat_lt, nat_le, if◌then◌else◌, codes}
 use Rattle.std.specs.Option.{option_map}
 use Rattle.tw_machine_text.specs.declared.words.Operator.TheVariants.{Comma, Or, And, Equal, NotEqual, Less, LessEqual, Greater, GreaterEqual, Plus, Minus, Times, Divide, Modulo}
-use Rattle.tw_machine_text.specs.declared.words.Builtin.TheVariants.{Random, Port, Value, Elapsed, Left, Now, Turn}
+use Rattle.tw_machine_text.specs.declared.words.Builtin.TheVariants.{Random, Port, Value, Elapsed, Left, Now, Turn, Which}
 use Rattle.tw_machine_text.specs.declared.words.SourceChange.TheVariants.{Set, Add, Subtract, Xor}
 use Rattle.tw_machine_text.specs.declared.words.Verb.TheVariants.{Push, Insert, Remove, Put, Observe}
-use Rattle.tw_machine_text.specs.declared.words.Deed.TheVariants.{Pop, Clear, Do}
+use Rattle.tw_machine_text.specs.declared.words.Deed.TheVariants.{Pop, Clear, Do, Stop}
 use Rattle.tw_machine_text.specs.declared.words.Word.{Word}
 use Rattle.tw_machine_text.specs.declared.words.Word.TheVariants as word
 use Rattle.tw_machine_text.specs.declared.kinds.Kind.{Kind}
 use Rattle.tw_machine_text.specs.declared.kinds.Member.{Member}
+use Rattle.tw_machine_text.specs.declared.kinds.Timing.{Timing}
 use Rattle.tw_machine_text.specs.Letters.{same_text, functions, own_names}
 use Rattle.tw_machine_text.specs.Tree.{Tree, Block, Means, spelled, IsAlone, deep, nodes, heads}
-use Rattle.tw_machine_text.specs.Desugared.{desugared_block, is_within, is_within_tree}
-use Rattle.tw_machine_text.specs.Drawn.{core_tree, may_stand, may_stand_as}
+use Rattle.tw_machine_text.specs.Desugared.{desugared_block, desugared_text, is_within, is_within_tree}
+use Rattle.tw_machine_text.specs.Timers.{may_stand, may_stand_as}
 use Rattle.tw_machine_text.specs.Limits.{max_nodes, written_levels, written_nodes}
 
 abbrev pub is_digit : ℕ → Bool
@@ -47,9 +48,10 @@ reserved =
 abbrev pub is_reserved : List ℕ → Bool
 is_reserved text = is_some (lookup reserved text)
 
--- the words that begin a statement in a machine that has no such name
+-- the words of the language in a machine that has no such name; of timers are the last four
 abbrev pub contextual : List (List ℕ × Word)
-contextual = (codes "observe", word.Begins Observe) ∷ (codes "clear", word.Does Clear) ∷ (codes "do", word.Does Do) ∷ []
+contextual = (codes "observe", word.Begins Observe) ∷ (codes "clear", word.Does Clear) ∷ (codes "do", word.Does Do)
+    ∷ (codes "start", word.Start) ∷ (codes "stop", word.Does Stop) ∷ (codes "send", word.Send) ∷ (codes "which", word.Known Which) ∷ []
 
 abbrev pub signs : List (List ℕ × Word)
 signs =
@@ -132,18 +134,18 @@ abbrev pub HasWords : List (List ℕ) → Bool → List Word → List ℕ → Ty
 HasWords names commented [] text = AreBlank true commented text
 HasWords names commented (w ∷ ws) text = (rest : List ℕ) × Front names commented text w rest × HasWords names false ws rest
 
--- The text is this program, where the names stand for these, and procedures are these programs: what is written comes to it, in the core of the language.
-pub record Reads (most many : ℕ) (names : List (List ℕ)) (kinds : List Kind) (procedures : List Block) (text : List ℕ) (program : Block) : Type 0 where
+-- The text is this program, where the machine has these timers or none, the names stand for these, and procedures are these programs: what is written comes to it, in the core of the language.
+pub record Reads (most many : ℕ) (names : List (List ℕ)) (timing : Option Timing) (kinds : List Kind) (procedures : List Block) (text : List ℕ) (program : Block) : Type 0 where
   pub words : List Word
   pub has : HasWords names false words text
   pub written : Block
   pub means : Means written_levels written_nodes words written
-  pub stands : may_stand kinds (length procedures) written ≡ true
-  pub comes : desugared_block kinds procedures written ≡ program
+  pub stands : may_stand timing kinds (length procedures) written ≡ true
+  pub comes : desugared_block timing kinds procedures written ≡ program
   pub limits : is_within most many program ≡ true
 
 -- the text of a member is this expression, queue or array register: what is written comes to it
-pub record ReadsTree (most many : ℕ) (member : Member) (names : List (List ℕ)) (kinds : List Kind) (text : List ℕ) (e : Tree) : Type 0 where
+pub record ReadsTree (most many : ℕ) (member : Member) (names : List (List ℕ)) (timing : Option Timing) (kinds : List Kind) (text : List ℕ) (e : Tree) : Type 0 where
   pub words : List Word
   pub has : HasWords names false words text
   pub written : Tree
@@ -152,21 +154,21 @@ pub record ReadsTree (most many : ℕ) (member : Member) (names : List (List ℕ
   pub levels : deep written ≤ written_levels
   pub size : nodes written ≤ written_nodes
   pub short : heads words < max_nodes
-  pub stands : may_stand_as member kinds written ≡ true
-  pub comes : core_tree kinds written ≡ e
+  pub stands : may_stand_as timing member kinds written ≡ true
+  pub comes : desugared_text timing kinds written ≡ e
   pub limits : is_within_tree most many e ≡ true
 
 -- a text says one program at most, however deep
 abbrev pub OneText : Type 0
 OneText =
-    (names : List (List ℕ)) (kinds : List Kind) (procedures : List Block) (text : List ℕ) (m n i j : ℕ) (a b : Block)
-    → Reads m i names kinds procedures text a → Reads n j names kinds procedures text b → a ≡ b
+    (names : List (List ℕ)) (timing : Option Timing) (kinds : List Kind) (procedures : List Block) (text : List ℕ) (m n i j : ℕ) (a b : Block)
+    → Reads m i names timing kinds procedures text a → Reads n j names timing kinds procedures text b → a ≡ b
 
 -- and one expression at most
 abbrev pub OneTree : Type 0
 OneTree =
-    (names : List (List ℕ)) (kinds : List Kind) (text : List ℕ) (m n i j : ℕ) (s t : Member) (a b : Tree)
-    → ReadsTree m i s names kinds text a → ReadsTree n j t names kinds text b → a ≡ b
+    (names : List (List ℕ)) (timing : Option Timing) (kinds : List Kind) (text : List ℕ) (m n i j : ℕ) (s t : Member) (a b : Tree)
+    → ReadsTree m i s names timing kinds text a → ReadsTree n j t names timing kinds text b → a ≡ b
 
 -- the same by a machine that takes one byte after another: the words so far, and what is being read
 pub data Mode : Type 0 where

@@ -1,7 +1,8 @@
 -- What the lexer reads, without where it lies in memory.
-use Rattle.std.specs.Prelude.{ℕ, List, map, string_bytes}
+use Rattle.std.specs.Prelude.{ℕ, List, Option, map, string_bytes}
 use Rattle.tw_machine_text.specs.declared.kinds.Declared.{Declared}
 use Rattle.tw_machine_text.specs.declared.kinds.Kind.{Kind}
+use Rattle.tw_machine_text.specs.declared.kinds.Timing.{Timing}
 use Rattle.tw_machine_text.specs.declared.lexing.Mode as declared
 use Rattle.tw_machine_text.specs.declared.lexing.Mode.TheVariants as v
 use Rattle.tw_machine_text.specs.declared.kinds.Member.{Member}
@@ -23,10 +24,10 @@ declarations declared = map (λ d. (string_bytes d.name, d.kind)) declared
 abbrev pub names_of : List Declared → List (List ℕ)
 names_of declared = map (λ d. string_bytes d.name) declared
 
--- a text says this program, by what a machine declares and the programs of its procedures, of at most so many nodes
-abbrev pub SaysProgram : List Declared → List Block → ℕ → List ℕ → Block → Type 0
-SaysProgram declared procedures many text program = Reads max_levels many (names_of declared) (kinds_of (declarations declared)) procedures text program
+-- a text says this program, by what a machine declares, its timers if it has any, and the programs of its procedures, of at most so many nodes
+abbrev pub SaysProgram : List Declared → Option Timing → List Block → ℕ → List ℕ → Block → Type 0
+SaysProgram declared timing procedures many text program = Reads max_levels many (names_of declared) timing (kinds_of (declarations declared)) procedures text program
 
 -- the text of a member says this expression, queue or array register
-abbrev pub SaysMember : List Declared → Member → ℕ → List ℕ → Tree → Type 0
-SaysMember declared member many text e = ReadsTree max_levels many member (names_of declared) (kinds_of (declarations declared)) text e
+abbrev pub SaysMember : List Declared → Option Timing → Member → ℕ → List ℕ → Tree → Type 0
+SaysMember declared timing member many text e = ReadsTree max_levels many member (names_of declared) timing (kinds_of (declarations declared)) text e

@@ -10,6 +10,7 @@ use Rattle.tw_machine_text.specs.declared.words.Verb.TheVariants.{Push, Insert, 
 use Rattle.tw_machine_text.specs.declared.words.Deed.{Deed}
 use Rattle.tw_machine_text.specs.declared.words.Word.{Word}
 use Rattle.tw_machine_text.specs.declared.words.Word.TheVariants as word
+use Rattle.tw_machine_text.specs.Letters.{in_number}
 use Rattle.tw_machine_text.specs.Limits.{max_nodes}
 
 -- An expression as it is written: a pair of parentheses is a part of it.
@@ -95,11 +96,11 @@ abbrev pub first_level : Tree → ℕ
 first_level (Binary Comma a b) = first_level a
 first_level e = level e
 
--- the functions, in the order of their numbers: min, max, choose, length, room, front, last, sum, at, place, sample, roll
+-- the functions, in the order of their numbers: min, max, choose, length, room, front, last, sum, at, place, sample, roll, running, rest, idle; `in` is none
 abbrev pub arity : ℕ → ℕ
-arity n = slice_index (2 ∷ 2 ∷ 3 ∷ 1 ∷ 1 ∷ 1 ∷ 1 ∷ 1 ∷ 2 ∷ 2 ∷ 1 ∷ 1 ∷ []) n
+arity n = slice_index (2 ∷ 2 ∷ 3 ∷ 1 ∷ 1 ∷ 1 ∷ 1 ∷ 1 ∷ 2 ∷ 2 ∷ 1 ∷ 1 ∷ 1 ∷ 1 ∷ 1 ∷ 0 ∷ []) n
 
--- whether all arguments are numbers: of the first three, and of `roll`; of the others the first is a queue or a table
+-- whether all arguments are numbers: of the first three, and of `roll`; of the others the first is a queue, a table or a timer
 abbrev pub takes_numbers : ℕ → Bool
 takes_numbers n = nat_lt n 3 || nat_eq n 11
 
@@ -141,6 +142,8 @@ mutual
     Draw : SourceStatement
     Wait : (e : Tree) → SourceStatement
     Passivate : SourceStatement
+    Start : (timer e : Tree) → SourceStatement
+    Send : (sent : Tree) → SourceStatement
     If : (arms : Arms) → SourceStatement
     IfElse : (arms : Arms) (last : Block) → SourceStatement
     Repeat : (count : Tree) (each : Block) → SourceStatement
@@ -166,6 +169,8 @@ abbrev mutual
   said Draw ws = word.Draw ∷ ws
   said (Wait e) ws = word.Wait ∷ spelled e ws
   said Passivate ws = word.Passivate ∷ ws
+  said (Start t e) ws = word.Start ∷ spelled t (word.Name in_number ∷ spelled e ws)
+  said (Send e) ws = word.Send ∷ spelled e ws
   said (If arms) ws = said_arms arms ws
   said (IfElse arms b) ws = said_arms arms (word.Else ∷ word.OpenBrace ∷ said_block b (word.CloseBrace ∷ ws))
   said (Repeat n b) ws = word.Repeat ∷ spelled n (word.OpenBrace ∷ said_block b (word.CloseBrace ∷ ws))
@@ -206,6 +211,8 @@ abbrev mutual
   IsStatement Draw = Unit {0}
   IsStatement (Wait e) = IsAlone e
   IsStatement Passivate = Unit {0}
+  IsStatement (Start t e) = IsPlace t × IsAlone e
+  IsStatement (Send e) = (nat_eq (count e) 2 ≡ true) × IsExpr e
   IsStatement (If arms) = AreArms arms
   IsStatement (IfElse arms b) = AreArms arms × IsBlock b
   IsStatement (Repeat n b) = (is_count n ≡ true) × IsBlock b
@@ -226,6 +233,8 @@ abbrev mutual
   deep_statement Draw = 0
   deep_statement (Wait e) = deep e
   deep_statement Passivate = 0
+  deep_statement (Start t e) = max (deep t) (deep e)
+  deep_statement (Send e) = deep e
   deep_statement (If arms) = deep_arms arms
   deep_statement (IfElse arms b) = max (deep_arms arms) (suc (deep_block b))
   deep_statement (Repeat n b) = suc (deep_block b)
@@ -260,6 +269,8 @@ abbrev mutual
   nodes_statement Draw = 1
   nodes_statement (Wait e) = 1 + nodes e
   nodes_statement Passivate = 1
+  nodes_statement (Start t e) = 1 + (nodes t + (1 + nodes e))
+  nodes_statement (Send e) = 1 + nodes e
   nodes_statement (If arms) = nodes_arms arms
   nodes_statement (IfElse arms b) = nodes_arms arms + nodes_block b
   nodes_statement (Repeat n b) = 1 + (nodes n + nodes_block b)
@@ -284,6 +295,8 @@ head (word.Does d) = 1
 head word.Draw = 1
 head word.Wait = 1
 head word.Passivate = 1
+head word.Start = 1
+head word.Send = 1
 head word.If = 1
 head word.Repeat = 1
 head _ = 0

@@ -5,6 +5,9 @@ ghost use Rattle.tw_machine_text.specs.Kinds.{
   is_table_name,
   takes_table,
   takes_queue,
+  takes_timer,
+  is_timers_name,
+  bound_timer,
   bound_queue,
   bound_place,
   bound_count,
@@ -42,6 +45,23 @@ fn takes_queue(name: usize) -> bool
     name >= 3 && name < 10
 }
 
+/// Whether it is one of a timer.
+fn takes_timer(name: usize) -> bool
+    ensures { result ≡ takes_timer name }
+{
+    name >= 12 && name < 14
+}
+
+/// Timers that are alike, by their name.
+fn is_timers_name(kinds: &[Kind], e: &SourceExpr) -> bool
+    ensures { result ≡ is_timers_name kinds.now (tree e.now) }
+{
+    match e {
+        SourceExpr::Name(name) => stands_for(kinds, *name).is_timer_array(),
+        _ => false,
+    }
+}
+
 /// A table by its name.
 pub(crate) fn is_table_name(kinds: &[Kind], e: &SourceExpr) -> bool
     ensures { result ≡ is_table_name kinds.now (tree e.now) }
@@ -52,7 +72,7 @@ pub(crate) fn is_table_name(kinds: &[Kind], e: &SourceExpr) -> bool
     }
 }
 
-/// An expression, or arguments of which none is a queue or a table.
+/// An expression, or arguments of which none is a queue, a table or a timer.
 #[cycle(expressions)]
 pub(crate) fn bound(kinds: &[Kind], e: &SourceExpr) -> bool
     ensures { result ≡ bound kinds.now (tree e.now) }
@@ -68,6 +88,8 @@ pub(crate) fn bound(kinds: &[Kind], e: &SourceExpr) -> bool
             } else {
                 (takes_table(*name) && is_table_name(kinds, arguments))
                     || (takes_queue(*name) && bound_queue(kinds, arguments))
+                    || (takes_timer(*name) && bound_timer(kinds, arguments))
+                    || (*name == 14 && is_timers_name(kinds, arguments))
             }
         }
         SourceExpr::RandomBelow(e)
@@ -88,6 +110,19 @@ pub(crate) fn bound_queue(kinds: &[Kind], e: &SourceExpr) -> bool
         SourceExpr::Indexed(name, index) => stands_for(kinds, *name).is_queue_array()
             && bound(kinds, index),
         SourceExpr::Binary(Operator::Comma, a, b) => bound_queue(kinds, a) && bound(kinds, b),
+        _ => false,
+    }
+}
+
+/// A timer.
+#[cycle(expressions)]
+fn bound_timer(kinds: &[Kind], e: &SourceExpr) -> bool
+    ensures { result ≡ bound_timer kinds.now (tree e.now) }
+{
+    match e {
+        SourceExpr::Name(name) => stands_for(kinds, *name).is_timer(),
+        SourceExpr::Indexed(name, index) => stands_for(kinds, *name).is_timer_array()
+            && bound(kinds, index),
         _ => false,
     }
 }
@@ -131,12 +166,13 @@ fn bound_procedure(kinds: &[Kind], e: &SourceExpr) -> bool
     }
 }
 
-/// What is treated: a procedure, or a queue.
+/// What is treated: a procedure, a timer, or a queue.
 fn bound_treated(kinds: &[Kind], deed: Deed, e: &SourceExpr) -> bool
     ensures { result ≡ bound_treated kinds.now deed (tree e.now) }
 {
     match deed {
         Deed::Do => bound_procedure(kinds, e),
+        Deed::Stop => bound_timer(kinds, e),
         Deed::Pop | Deed::Clear => bound_queue(kinds, e),
     }
 }
@@ -162,7 +198,8 @@ fn bound_statement(kinds: &[Kind], s: &SourceStatement) -> bool
             bound_object(kinds, *verb, object) && bound(kinds, e)
         }
         SourceStatement::Treat(deed, named) => bound_treated(kinds, *deed, named),
-        SourceStatement::Wait(e) => bound(kinds, e),
+        SourceStatement::Wait(e) | SourceStatement::Send(e) => bound(kinds, e),
+        SourceStatement::Start(timer, e) => bound_timer(kinds, timer) && bound(kinds, e),
         SourceStatement::If(arms) => bound_arms(kinds, arms),
         SourceStatement::IfElse(arms, last) => {
             bound_arms(kinds, arms) && bound_block(kinds, last)

@@ -40,7 +40,10 @@ pub(crate) fn nodes_statement(said: &SourceStatement) -> usize
             NODES_END,
         ),
         SourceStatement::Treat(_, queue) => (1 + nodes(queue)).min(NODES_END),
-        SourceStatement::Wait(ticks) => (1 + nodes(ticks)).min(NODES_END),
+        SourceStatement::Wait(e) | SourceStatement::Send(e) => (1 + nodes(e)).min(NODES_END),
+        SourceStatement::Start(timer, ticks) => (1 + (nodes(timer) + (1 + nodes(ticks)))).min(
+            NODES_END,
+        ),
         SourceStatement::If(arms) => nodes_arms(arms),
         SourceStatement::IfElse(arms, last) => (nodes_arms(arms) + nodes_block(last)).min(
             NODES_END,

@@ -1,8 +1,8 @@
 //! What a written program comes to in the core of the language: each `observe` is three statements there, and behind a
-//! statement or in the blocks of a test that draws a number stands `draw`.
+//! statement or in the blocks of a test that draws a number stands `draw`. What it has of timers comes then.
 ghost use Rattle.std.specs.Prelude.{◌≡◌, ◌≤◌, true, false, IfOk, map, option_map};
 ghost use Rattle.tw_machine_text.specs.Limits.{max_levels, max_nodes};
-ghost use Rattle.tw_machine_text.specs.Drawn.{core_tree, begun, draws_last};
+ghost use Rattle.tw_machine_text.specs.Drawn.{begun, draws_last};
 ghost use Rattle.tw_machine_text.specs.Desugared.{
   grows,
   squared,
@@ -17,6 +17,7 @@ ghost use Rattle.tw_machine_text.specs.Desugared.{
   desugared_statement,
   desugared_behind,
   desugared_block,
+  desugared_text,
   desugared_arms,
   is_within,
   is_within_tree,
@@ -29,10 +30,11 @@ ghost use Rattle.tw_machine_text.specs.Views.{tree, told, body, chain, parted, T
 use crate::counting::{nodes, nodes_block};
 use crate::drawn::{core_tree, draws, draws_in, draws_last};
 use crate::expanding::{expanded, nodes_of};
-use crate::kinds::Kind;
+use crate::kinds::{Kind, Timing};
 use crate::levels::{deep, deep_block};
 use crate::limits::MAX_LEVELS;
 use crate::refused::Refused;
+use crate::timers::{timed, timed_text};
 use crate::tree::{Arms, Block, SourceExpr, SourceStatement};
 use crate::words::{Operator, SourceChange, Verb};
 use std::alloc::{AllocError, Global};
@@ -269,6 +271,11 @@ fn desugared_statement(
         SourceStatement::Draw => Ok(SourceStatement::Draw),
         SourceStatement::Wait(ticks) => Ok(SourceStatement::Wait(core_tree(alloc, kinds, ticks)?)),
         SourceStatement::Passivate => Ok(SourceStatement::Passivate),
+        SourceStatement::Start(timer, ticks) => {
+            let timer = core_tree(alloc, kinds, timer)?;
+            Ok(SourceStatement::Start(timer, core_tree(alloc, kinds, ticks)?))
+        }
+        SourceStatement::Send(sent) => Ok(SourceStatement::Send(core_tree(alloc, kinds, sent)?)),
         SourceStatement::If(arms) => {
             let all = desugared_arms(alloc, kinds, arms)?;
             let last = no_else(alloc, draws_last(arms))?;
@@ -351,6 +358,7 @@ fn is_within_tree(e: &SourceExpr, many: usize) -> bool
 /// What a written program comes to, if that is within the limits; else the text is wrong at this place.
 pub(crate) fn desugared(
     alloc: Global,
+    timing: Option<Timing>,
     kinds: &[Kind],
     procedures: &[Block],
     written: &Block,
@@ -359,9 +367,10 @@ pub(crate) fn desugared(
 ) -> Result<Block, Refused>
     requires { many ≤ max_nodes }
     ensures { Tells body result (limited max_levels many
-        (desugared_block kinds.now (map body procedures.now) (body written.now))) }
+        (desugared_block timing kinds.now (map body procedures.now) (body written.now))) }
 {
-    let parts = desugared_behind(alloc, kinds, false, written)?;
+    let behind = desugared_behind(alloc, kinds, false, written)?;
+    let parts = timed(alloc, timing, kinds, behind)?;
     if nodes_of(kinds, procedures, &parts) > many {
         return Err(Refused::Wrong(place));
     }
@@ -376,6 +385,7 @@ pub(crate) fn desugared(
 /// What a written expression comes to, if that is within the limits; else the text is wrong at this place.
 pub(crate) fn desugared_tree(
     alloc: Global,
+    timing: Option<Timing>,
     kinds: &[Kind],
     written: &SourceExpr,
     many: usize,
@@ -383,9 +393,10 @@ pub(crate) fn desugared_tree(
 ) -> Result<SourceExpr, Refused>
     requires { many ≤ max_nodes }
     ensures { Tells tree result
-        (limited_tree max_levels many (core_tree kinds.now (tree written.now))) }
+        (limited_tree max_levels many (desugared_text timing kinds.now (tree written.now))) }
 {
-    let e = core_tree(alloc, kinds, written)?;
+    let core = core_tree(alloc, kinds, written)?;
+    let e = timed_text(alloc, timing, kinds, core)?;
     if is_within_tree(&e, many) {
         Ok(e)
     } else {

@@ -60,11 +60,16 @@ pub const RESERVED: [(&str, Word); 21] = [
     ("pop", Word::Does(Deed::Pop)),
 ];
 
-/// The words that begin a statement in a machine that has no such name, each with what it is.
-pub const CONTEXTUAL: [(&str, Word); 3] = [
+/// The words of the language in a machine that has no such name, each with what it is. Of timers are the last four: in a
+/// machine with timers no name may be one of these.
+pub const CONTEXTUAL: [(&str, Word); 7] = [
     ("observe", Word::Begins(Verb::Observe)),
     ("clear", Word::Does(Deed::Clear)),
     ("do", Word::Does(Deed::Do)),
+    ("start", Word::Start),
+    ("stop", Word::Does(Deed::Stop)),
+    ("send", Word::Send),
+    ("which", Word::Known(Builtin::Which)),
 ];
 
 /// The signs, each with what it is.
@@ -113,14 +118,17 @@ fn lookup(table: &[(&str, Word)], text: &[u8]) -> Option<Word>
     None
 }
 
-/// The names of the functions, in the order of their numbers.
+/// The names of the functions, in the order of their numbers, and `in`, which is a word behind a timer alone.
 pub const FUNCTIONS: [&str; OWN_NAMES] = [
     "min", "max", "choose", "length", "room", "front", "last", "sum", "at", "place", "sample",
-    "roll",
+    "roll", "running", "rest", "idle", "in",
 ];
 
-/// How many functions there are. The names that a machine declares have the numbers from here on.
-pub const OWN_NAMES: usize = 12;
+/// How many of these there are. The names that a machine declares have the numbers from here on.
+pub const OWN_NAMES: usize = 16;
+
+/// The number of `in`.
+pub(crate) const IN: usize = 15;
 
 /// The number of a function in a list.
 fn function_in(functions: &[&str], text: &[u8]) -> Option<usize>

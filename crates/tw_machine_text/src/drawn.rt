@@ -12,16 +12,14 @@ ghost use Rattle.tw_machine_text.specs.Drawn.{
   few_drawn_statement,
   few_drawn,
   few_drawn_arms,
-  may_stand,
-  may_stand_as,
   draws,
   draws_in,
   draws_last,
 };
 ghost use Rattle.tw_machine_text.specs.Views.{tree, told, body, chain};
 
-use crate::binding::{bound_as, bound_block, is_table_name, uses};
-use crate::kinds::{Kind, Member};
+use crate::binding::is_table_name;
+use crate::kinds::Kind;
 use crate::tree::{Arms, Block, SourceExpr, SourceStatement};
 use std::alloc::{AllocError, Global};
 
@@ -130,7 +128,7 @@ fn drawn(e: &SourceExpr) -> usize
     }
 }
 
-fn draws_none(e: &SourceExpr) -> bool
+pub(crate) fn draws_none(e: &SourceExpr) -> bool
     ensures { result ≡ draws_none (tree e.now) }
 {
     drawn(e) == 0
@@ -156,7 +154,9 @@ pub(crate) fn draws_in(said: &SourceStatement) -> bool
     match said {
         SourceStatement::Assign(_, _, e)
         | SourceStatement::Act(_, _, e)
-        | SourceStatement::Wait(e) => draws(e),
+        | SourceStatement::Wait(e)
+        | SourceStatement::Start(_, e)
+        | SourceStatement::Send(e) => draws(e),
         _ => false,
     }
 }
@@ -179,7 +179,8 @@ fn few_drawn_statement(said: &SourceStatement) -> bool
         SourceStatement::Assign(place, _, e) => draws_none(place) && draws_few(e),
         SourceStatement::Act(_, object, e) => draws_none(object) && draws_few(e),
         SourceStatement::Treat(_, queue) => draws_none(queue),
-        SourceStatement::Wait(e) => draws_few(e),
+        SourceStatement::Wait(e) | SourceStatement::Send(e) => draws_few(e),
+        SourceStatement::Start(timer, e) => draws_none(timer) && draws_few(e),
         SourceStatement::If(arms) => few_drawn_arms(arms),
         SourceStatement::IfElse(arms, last) => few_drawn_arms(arms) && few_drawn(last),
         SourceStatement::Repeat(_, each) => few_drawn(each),
@@ -188,7 +189,7 @@ fn few_drawn_statement(said: &SourceStatement) -> bool
 
 /// Whether no more numbers are drawn than may be, in all statements of a block.
 #[cycle(counts_drawn)]
-fn few_drawn(program: &Block) -> bool
+pub(crate) fn few_drawn(program: &Block) -> bool
     ensures { result ≡ few_drawn (body program.now) }
 {
     match program {
@@ -207,19 +208,4 @@ fn few_drawn_arms(arms: &Arms) -> bool
             few_drawn_arms(before) && draws_few(test) && few_drawn(then)
         }
     }
-}
-
-/// Whether each name of a program stands where it may, only the first so many procedures are used, and no more numbers
-/// are drawn than may be.
-pub(crate) fn may_stand(kinds: &[Kind], known: usize, program: &Block) -> bool
-    ensures { result ≡ may_stand kinds.now known (body program.now) }
-{
-    bound_block(kinds, program) && uses(kinds, known, program) && few_drawn(program)
-}
-
-/// The same of a member's text, in which no number is drawn.
-pub(crate) fn may_stand_as(member: Member, kinds: &[Kind], e: &SourceExpr) -> bool
-    ensures { result ≡ may_stand_as member kinds.now (tree e.now) }
-{
-    bound_as(member, kinds, e) && draws_none(e)
 }

@@ -16,6 +16,14 @@ ghost use Rattle.tw_machine_text.specs.Examples.{
   drawn_turns,
   few_drawn,
   no_chain,
+  timed_words,
+  starting,
+  stopping,
+  sending,
+  asking,
+  idling,
+  timers_named,
+  times_kept,
 };
 
 /// Each of these words is that program.
@@ -40,4 +48,16 @@ pub fn drawing()
     ensures chain { drawn_chain }
     ensures turns { drawn_turns }
     ensures few { few_drawn }
+{}
+
+/// What is said of timers: how it is written, what it comes to, and where it may stand.
+pub fn timing()
+    ensures words { timed_words }
+    ensures starting { starting }
+    ensures stopping { stopping }
+    ensures sending { sending }
+    ensures asking { asking }
+    ensures idling { idling }
+    ensures named { timers_named }
+    ensures kept { times_kept }
 {}

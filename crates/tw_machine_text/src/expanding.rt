@@ -54,6 +54,11 @@ fn statement_again(alloc: Global, said: &SourceStatement) -> Result<SourceStatem
         }
         SourceStatement::Draw => Ok(SourceStatement::Draw),
         SourceStatement::Wait(ticks) => Ok(SourceStatement::Wait(copied(alloc, ticks)?)),
+        SourceStatement::Start(timer, ticks) => {
+            let timer = copied(alloc, timer)?;
+            Ok(SourceStatement::Start(timer, copied(alloc, ticks)?))
+        }
+        SourceStatement::Send(sent) => Ok(SourceStatement::Send(copied(alloc, sent)?)),
         SourceStatement::Passivate => Ok(SourceStatement::Passivate),
         SourceStatement::If(arms) => {
             let arms = arms_again(alloc, arms)?;

@@ -12,6 +12,8 @@ ghost use Rattle.tw_machine_text.specs.Kinds.{
   is_table,
   is_parameter,
   is_procedure,
+  is_timer,
+  is_timer_array,
   is_among,
   kind_named,
   kinds_of,
@@ -40,6 +42,28 @@ pub enum Kind {
     Observation,
     /// A procedure, at this place among them.
     Procedure(usize),
+    /// A timer. This name, hidden behind the machine's own, stands for how many timers are before it.
+    Timer(usize),
+    /// A timer with a count: as many alike. The first name stands for how many timers are before it, the second for the
+    /// greatest index.
+    TimerArray(usize, usize),
+}
+
+/// The names that a machine with timers has behind its own, by their numbers, and the timer that a text is of. No text
+/// names them.
+#[derive(Clone, Copy, Debug, PartialEq, Eq)]
+pub struct Timing {
+    /// The array register of the ticks at which timers are due; -1 is of one that does not run.
+    pub due: usize,
+    /// The register of the timer that goes next, by its place among all.
+    pub next: usize,
+    /// The least number of ticks for which a timer runs.
+    pub least: usize,
+    /// The queues of the ports and of the values of what is to be sent.
+    pub ports: usize,
+    pub values: usize,
+    /// Where the text is of a timer with a count: the name of how many are before that.
+    pub of: Option<usize>,
 }
 
 /// A name that a machine declares, and what it is the name of.
@@ -172,6 +196,20 @@ impl Kind {
         ensures { result ≡ is_procedure self }
     {
         matches!(self, Kind::Procedure(_))
+    }
+
+    /// Whether it is one timer.
+    pub fn is_timer(self) -> bool
+        ensures { result ≡ is_timer self }
+    {
+        matches!(self, Kind::Timer(_))
+    }
+
+    /// Whether it is so many timers that are alike.
+    pub fn is_timer_array(self) -> bool
+        ensures { result ≡ is_timer_array self }
+    {
+        matches!(self, Kind::TimerArray(..))
     }
 
     /// Whether it is one of the first so many procedures.

@@ -45,6 +45,8 @@ fn deep_statement(said: &SourceStatement) -> usize
         SourceStatement::Act(_, object, operands) => deep(object).max(deep(operands)),
         SourceStatement::Treat(_, queue) => deep(queue),
         SourceStatement::Wait(ticks) => deep(ticks),
+        SourceStatement::Start(timer, ticks) => deep(timer).max(deep(ticks)),
+        SourceStatement::Send(sent) => deep(sent),
         SourceStatement::If(arms) => deep_arms(arms),
         SourceStatement::IfElse(arms, last) => deep_arms(arms).max(below(deep_block(last))),
         SourceStatement::Repeat(_, each) => below(deep_block(each)),

@@ -16,6 +16,12 @@ pub(crate) const WRITTEN_NODES: usize = 8192;
 
 pub(crate) const WRITTEN_LEVELS: usize = 65;
 
+/// How many timers may be alike.
+pub const MAX_COUNT: u64 = 16;
+
+/// In how many ticks a timer is due at most: one past the greatest tick.
+pub(crate) const LAST_DUE: u64 = 1099511627775;
+
 /// How often a block may be repeated.
 pub const MAX_TURNS: u64 = 64;
 

@@ -8,13 +8,12 @@ ghost use Rattle.tw_machine_text.specs.declared.words.Word.{Word};
 
 use crate::fault::Fault;
 use crate::frames::State;
-use crate::kinds::{Kind, Member};
 use crate::limits::MAX_NODES;
 use crate::reading::{ended, step};
 use crate::refused::Refused;
 use crate::stack::Stack;
 use crate::tree::Block;
-use crate::watching::{note, watch};
+use crate::watching::{Setting, note, watch};
 use crate::words::Word;
 use std::alloc::Global;
 
@@ -30,9 +29,7 @@ pub(crate) fn refused(fault: Fault, index: usize) -> Refused
 /// All words, one after another; and the first of them, so far as it was seen, at which a name stands that may not.
 fn all(
     alloc: Global,
-    member: Option<Member>,
-    known: usize,
-    kinds: &[Kind],
+    setting: Setting,
     words: &[Word],
     first: &mut Option<usize>,
 ) -> Result<Block, Refused>
@@ -41,21 +38,13 @@ fn all(
     let mut stack = Stack::new(alloc);
     let mut state = State::Begin(Block::Empty);
     'words: for (index, word) in words.iter().enumerate() {
-        note(
-            first,
-            watch(member, known, kinds, &stack, &state, Some(*word)),
-            index,
-        );
+        note(first, watch(setting, &stack, &state, Some(*word)), index);
         state = match step(alloc, &mut stack, *word, state) {
             Ok(next) => next,
             Err(fault) => return Err(refused(fault, index)),
         };
     }
-    note(
-        first,
-        watch(member, known, kinds, &stack, &state, None),
-        words.len(),
-    );
+    note(first, watch(setting, &stack, &state, None), words.len());
     match ended(alloc, &mut stack, state) {
         Ok(block) => {
             if stack.is_empty() {
@@ -115,9 +104,7 @@ fn is_small(words: &[Word], many: usize) -> bool
 /// The program that the words are.
 pub(crate) fn parse(
     alloc: Global,
-    member: Option<Member>,
-    known: usize,
-    kinds: &[Kind],
+    setting: Setting,
     words: &[Word],
     many: usize,
     first: &mut Option<usize>,
@@ -129,7 +116,7 @@ pub(crate) fn parse(
         → Tells body result (Some program) }
 {
     if is_small(words, many) {
-        all(alloc, member, known, kinds, words, first)
+        all(alloc, setting, words, first)
     } else {
         Err(Refused::Wrong(words.len()))
     }

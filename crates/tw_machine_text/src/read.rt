@@ -11,13 +11,14 @@ ghost use Rattle.tw_machine_text.specs.Views.{body, told, tree, Tells};
 ghost use Rattle.tw_machine_text.specs.declared.words.Word.TheVariants.{Wait};
 
 use crate::desugaring::{desugared, desugared_tree};
-use crate::drawn::{may_stand, may_stand_as};
-use crate::kinds::{Declared, Kind, Member};
+use crate::kinds::{Declared, Kind, Member, Timing};
 use crate::lexing::{Words, lex};
 use crate::limits::WRITTEN_NODES;
 use crate::parsing::parse;
 use crate::refused::Refused;
+use crate::timers::{may_stand, may_stand_as};
 use crate::tree::{Block, SourceExpr, SourceStatement};
+use crate::watching::Setting;
 use crate::words::Word;
 use std::alloc::{AllocError, Global};
 
@@ -26,6 +27,7 @@ use std::alloc::{AllocError, Global};
 pub fn read(
     alloc: Global,
     declared: &[Declared],
+    timing: Option<Timing>,
     kinds: &[Kind],
     procedures: &[Block],
     text: &[u8],
@@ -34,11 +36,11 @@ pub fn read(
     requires { many ≤ max_nodes }
     // What is read is what the text means.
     ensures found { IfOk result
-        (λ program. Reads max_levels many (names_of declared.now) kinds.now
+        (λ program. Reads max_levels many (names_of declared.now) timing kinds.now
         (map body procedures.now) text.now (body program)) }
     // A text that means a program is read as it, unless memory runs out.
     ensures only { (program : Tree)
-        → Reads max_levels many (names_of declared.now) kinds.now
+        → Reads max_levels many (names_of declared.now) timing kinds.now
         (map body procedures.now) text.now program
         → Tells body result (Some program) }
 {
@@ -48,17 +50,20 @@ pub fn read(
     let mut first = None;
     match parse(
         alloc,
-        None,
-        procedures.len(),
-        kinds,
+        Setting {
+            member: None,
+            known: procedures.len(),
+            timed: timing.is_some(),
+            kinds,
+        },
         &words.words,
         WRITTEN_NODES,
         &mut first,
     ) {
         Ok(written) => {
             let place = words.place(first.unwrap_or(words.words.len()));
-            if words.complete && may_stand(kinds, procedures.len(), &written) {
-                desugared(alloc, kinds, procedures, &written, many, place)
+            if words.complete && may_stand(timing, kinds, procedures.len(), &written) {
+                desugared(alloc, timing, kinds, procedures, &written, many, place)
             } else {
                 Err(Refused::Wrong(place))
             }
@@ -120,6 +125,7 @@ pub(crate) fn read_tree(
     alloc: Global,
     member: Member,
     declared: &[Declared],
+    timing: Option<Timing>,
     kinds: &[Kind],
     text: &[u8],
     many: usize,
@@ -127,10 +133,10 @@ pub(crate) fn read_tree(
     requires { many ≤ max_nodes }
     // What is read is what the text is.
     ensures found { IfOk result
-        (λ e. ReadsTree max_levels many member (names_of declared.now) kinds.now text.now (tree e)) }
+        (λ e. ReadsTree max_levels many member (names_of declared.now) timing kinds.now text.now (tree e)) }
     // A text that is one is read as it, unless memory runs out.
     ensures only { (e : Spelled)
-        → ReadsTree max_levels many member (names_of declared.now) kinds.now text.now e
+        → ReadsTree max_levels many member (names_of declared.now) timing kinds.now text.now e
         → Tells tree result (Some e) }
 {
     let Ok(words) = lex(alloc, declared, text) else {
@@ -142,17 +148,27 @@ pub(crate) fn read_tree(
     let mut first = None;
     match parse(
         alloc,
-        Some(member),
-        0,
-        kinds,
+        Setting {
+            member: Some(member),
+            known: 0,
+            timed: timing.is_some(),
+            kinds,
+        },
         &all,
         WRITTEN_NODES + 1,
         &mut first,
     ) {
         Ok(program) => match waited(program) {
             Some(e) => {
-                if words.complete && may_stand_as(member, kinds, &e) {
-                    desugared_tree(alloc, kinds, &e, many, place_at(&words, first, all.len()))
+                if words.complete && may_stand_as(timing, member, kinds, &e) {
+                    desugared_tree(
+                        alloc,
+                        timing,
+                        kinds,
+                        &e,
+                        many,
+                        place_at(&words, first, all.len()),
+                    )
                 } else {
                     Err(Refused::Wrong(place_at(&words, first, all.len())))
                 }

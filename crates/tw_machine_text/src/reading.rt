@@ -44,10 +44,12 @@ ghost use Rattle.tw_machine_text.specs.Machine.{
   after,
   step,
   nests,
+  starts_timer,
 };
 ghost use Rattle.tw_machine_text.specs.Tree.{Then};
 ghost use Rattle.tw_machine_text.specs.Views.{tree, told, body, chain, framed, seen};
 
+use crate::dictionary::IN;
 use crate::fault::Fault;
 use crate::frames::{Frame, State};
 use crate::stack::Stack;
@@ -318,6 +320,8 @@ fn finished(
         }
         Some(Frame::InDeed(block, deed)) => (block, SourceStatement::Treat(deed, operand)),
         Some(Frame::InWait(block)) => (block, SourceStatement::Wait(operand)),
+        Some(Frame::InTicks(block, timer)) => (block, SourceStatement::Start(timer, operand)),
+        Some(Frame::InSend(block)) if operand.is_many(2) => (block, SourceStatement::Send(operand)),
         other => {
             drop(other);
             drop(operand);
@@ -376,6 +380,8 @@ fn start(alloc: Global, stack: &mut Stack, word: Word, block: Block) -> Result<S
         Word::Draw => Ok(State::After(block, SourceStatement::Draw)),
         Word::Wait => asks(stack, Frame::InWait(block)),
         Word::Passivate => Ok(State::After(block, SourceStatement::Passivate)),
+        Word::Start => asks(stack, Frame::InStart(block)),
+        Word::Send => asks(stack, Frame::InSend(block)),
         Word::If => asks(stack, Frame::InIf(block)),
         Word::Repeat => asks(stack, Frame::InCount(block)),
         Word::CloseBrace => close_block(alloc, stack, block),
@@ -410,12 +416,29 @@ fn mark(alloc: Global, stack: &mut Stack, operand: SourceExpr) -> Result<State, 
     }
 }
 
+/// `in`, or another name, behind a timer that is started.
+fn behind_timer(stack: &mut Stack, name: usize, timer: SourceExpr) -> Result<State, Fault>
+    requires { starts_timer (frames_of stack.old) ≡ true }
+    ensures { LeadsTo stack.new result (named name (frames_of stack.old, tree timer)) }
+{
+    match stack.pop() {
+        Some(Frame::InStart(block)) if name == IN => asks(stack, Frame::InTicks(block, timer)),
+        other => {
+            drop(other);
+            drop(timer);
+            Err(Fault::Wrong)
+        }
+    }
+}
+
 /// A name behind an operand.
 fn named(alloc: Global, stack: &mut Stack, name: usize, operand: SourceExpr) -> Result<State, Fault>
     ensures { LeadsTo stack.new result (named name (frames_of stack.old, tree operand)) }
 {
     if stack.wants() {
         item(stack, Word::Name(name), operand)
+    } else if stack.starts_timer() {
+        behind_timer(stack, name, operand)
     } else {
         restart(alloc, stack, Word::Name(name), operand)
     }

@@ -13,7 +13,7 @@ ghost use Rattle.std.specs.Prelude.{
   if◌then◌else◌,
 };
 ghost use Rattle.tw_machine_text.specs.Limits.{written_levels};
-ghost use Rattle.tw_machine_text.specs.Machine.{nests, closes, demand, depth, wants, is_bottom};
+ghost use Rattle.tw_machine_text.specs.Machine.{nests, closes, demand, depth, wants, starts_timer, is_bottom};
 ghost use Rattle.tw_machine_text.specs.Views.{framed, held, Gives};
 
 use crate::drawn::draws;
@@ -40,6 +40,9 @@ pub(crate) enum Role {
     Queue,
     Observation,
     Procedure,
+    Timer,
+    /// Timers that are alike, by their name: the argument of `idle`.
+    Timers,
     /// The first argument of a function of a queue.
     First,
     /// The argument of `length`: a queue, or a table.
@@ -78,10 +81,12 @@ impl Frame {
 
 impl Frame {
     /// How many levels deeper what it holds is in the core: `observe` is three statements with its number in
-    /// parentheses, and what stands behind the `else` of a test that draws is a block.
+    /// parentheses, what stands behind the `else` of a test that draws is a block, and of timers stands more.
     fn more_levels(&self) -> usize {
         match self {
             Frame::InQueue(_, Verb::Observe) | Frame::InItem(_, Verb::Observe, _) => 1,
+            Frame::InCall(12 | 13) => 1,
+            Frame::InTicks(..) => 2,
             Frame::InElseIf(_, arms) | Frame::InElseThen(_, arms, _) => tests_that_draw(arms),
             Frame::InElse(_, arms) => match arms {
                 Arms::One(..) => 0,
@@ -160,8 +165,9 @@ impl Stack {
             Some(Frame::Operand(_, operator)) => operator.rank() + 1,
             Some(Frame::InNot) => 3,
             Some(Frame::InNegative) => 7,
-            Some(Frame::InCall(_) | Frame::InItem(..)) => 0,
-            Some(Frame::InPlace(_) | Frame::InQueue(..) | Frame::InDeed(..)) => 9,
+            Some(Frame::InCall(_) | Frame::InItem(..) | Frame::InSend(_)) => 0,
+            Some(Frame::InPlace(_) | Frame::InQueue(..) | Frame::InDeed(..) | Frame::InStart(_)) =>
+                9,
             Some(_) => 1,
         }
     }
@@ -183,6 +189,13 @@ impl Stack {
         ensures { result ≡ wants (held self.now.frames.items) }
     {
         matches!(self.frames.last(), Some(Frame::InQueue(..)))
+    }
+
+    /// Whether a timer has been asked for last, which is started.
+    pub fn starts_timer(&self) -> bool
+        ensures { result ≡ starts_timer (held self.now.frames.items) }
+    {
+        matches!(self.frames.last(), Some(Frame::InStart(_)))
     }
 
     /// Whether nothing has begun.
@@ -213,10 +226,13 @@ impl Stack {
             Some(Frame::InPlace(_)) => Role::Place,
             Some(Frame::InQueue(_, Verb::Observe)) => Role::Observation,
             Some(Frame::InDeed(_, Deed::Do)) => Role::Procedure,
+            Some(Frame::InStart(_) | Frame::InDeed(_, Deed::Stop)) => Role::Timer,
             Some(Frame::InQueue(..) | Frame::InDeed(..)) => Role::Queue,
             Some(Frame::InCall(name)) => match *name {
                 3 => Role::Measured,
                 10 => Role::Table,
+                12 | 13 => Role::Timer,
+                14 => Role::Timers,
                 other => {
                     if takes_numbers(other) {
                         Role::Value
@@ -263,7 +279,8 @@ impl Stack {
                 | Frame::InIndex(_)
                 | Frame::InCall(_)
                 | Frame::InRandom => {}
-                Frame::InPlace(_) | Frame::InQueue(..) | Frame::InDeed(..) => return false,
+                Frame::InPlace(_) | Frame::InQueue(..) | Frame::InDeed(..) | Frame::InStart(_) =>
+                    return false,
                 _ => return true,
             }
         }
@@ -283,7 +300,7 @@ impl Stack {
                         Some(arguments) => arity(*name) > 2 && arguments.is_many(1),
                     };
                 }
-                Frame::InItem(_, Verb::Put, _) => return before.is_none(),
+                Frame::InItem(_, Verb::Put, _) | Frame::InSend(_) => return before.is_none(),
                 _ => return false,
             }
         }

@@ -8,7 +8,7 @@ ghost use Rattle.tw_machine_text.specs.Views.{body, tree, IsReadAs};
 ghost use Rattle.tw_machine_text.specs.declared.refused.Refused.{Refused};
 
 use crate::counting::{nodes, nodes_block};
-use crate::kinds::{Declared, Member, kinds_of};
+use crate::kinds::{Declared, Member, Timing, kinds_of};
 use crate::place::place_at;
 use crate::read::{read, read_tree};
 use crate::refusal::TextRefused;
@@ -43,11 +43,15 @@ fn refusal(text: &str, refused: Refused) -> TextRefused
 }
 
 /// Reads a program, of at most so many nodes: what the machine has left of its 4,096. The names are those that the
-/// machine declares, in any order, and procedures the programs of those that are named among them; in the tree a name is its number, 0 to 11 for the functions' names and from 12 on
-/// for those that are declared. A text that is no program is refused as `Wrong` (21), want of memory as `OutOfMemory` (4).
+/// machine declares, in any order, and procedures the programs of those that are named among them; in the tree a name is
+/// its number, 0 to 15 for the functions' names and `in`, and from 16 on for those that are declared. Of a machine with
+/// timers the names that stand behind its own are told too, and the timer that the text is of: procedures are read for
+/// each such timer anew, since `which` hangs on it. A text that is no program is refused as `Wrong` (21), want of memory as
+/// `OutOfMemory` (4).
 pub fn read_program(
     alloc: Global,
     declared: &[Declared],
+    timing: Option<Timing>,
     procedures: &[Block],
     text: &str,
     left: usize,
@@ -55,17 +59,25 @@ pub fn read_program(
     requires { left ≤ max_nodes }
     // What is read is what the text says.
     ensures found { IfOk result
-        (λ program. SaysProgram declared.now (map body procedures.now) left text.now
+        (λ program. SaysProgram declared.now timing (map body procedures.now) left text.now
         (body program.block)) }
     ensures nodes { IfOk result (λ program. program.nodes ≡ nodes_block (body program.block)) }
     // A text that says a program is read as it, unless memory runs out.
     ensures only { (program : Tree)
-        → SaysProgram declared.now (map body procedures.now) left text.now program
+        → SaysProgram declared.now timing (map body procedures.now) left text.now program
         → IsReadAs (λ p. body p.block) result program }
     ensures place { IfErr result (IsInText text.now) }
 {
     let kinds = kinds_of(alloc, declared)?;
-    match read(alloc, declared, &kinds, procedures, text.as_bytes(), left) {
+    match read(
+        alloc,
+        declared,
+        timing,
+        &kinds,
+        procedures,
+        text.as_bytes(),
+        left,
+    ) {
         Ok(block) => {
             let nodes = nodes_block(&block);
             Ok(Program { block, nodes })
@@ -80,20 +92,29 @@ pub fn read_member(
     alloc: Global,
     member: Member,
     declared: &[Declared],
+    timing: Option<Timing>,
     text: &str,
     left: usize,
 ) -> Result<Expression, TextRefused>
     requires { left ≤ max_nodes }
     // What is read is what the text says.
-    ensures found { IfOk result (λ e. SaysMember declared.now member left text.now (tree e.tree)) }
+    ensures found { IfOk result (λ e. SaysMember declared.now timing member left text.now (tree e.tree)) }
     ensures nodes { IfOk result (λ e. e.nodes ≡ nodes (tree e.tree)) }
     // A text that says one is read as it, unless memory runs out.
-    ensures only { (e : Spelled) → SaysMember declared.now member left text.now e
+    ensures only { (e : Spelled) → SaysMember declared.now timing member left text.now e
         → IsReadAs (λ x. tree x.tree) result e }
     ensures place { IfErr result (IsInText text.now) }
 {
     let kinds = kinds_of(alloc, declared)?;
-    match read_tree(alloc, member, declared, &kinds, text.as_bytes(), left) {
+    match read_tree(
+        alloc,
+        member,
+        declared,
+        timing,
+        &kinds,
+        text.as_bytes(),
+        left,
+    ) {
         Ok(tree) => {
             let nodes = nodes(&tree);
             Ok(Expression { tree, nodes })

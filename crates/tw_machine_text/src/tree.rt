@@ -31,11 +31,15 @@ pub enum SourceStatement {
     Assign(SourceExpr, SourceChange, SourceExpr),
     /// What is done to a queue, or counted of an observation; `put` has a place, a comma and a value.
     Act(Verb, SourceExpr, SourceExpr),
-    /// What is done to a queue alone.
+    /// What is done to a queue, a procedure or a timer alone.
     Treat(Deed, SourceExpr),
     Draw,
     Wait(SourceExpr),
     Passivate,
+    /// A timer, and in how many ticks it is due. It stands in what is written alone.
+    Start(SourceExpr, SourceExpr),
+    /// A port, a comma and a value. It stands in what is written alone.
+    Send(SourceExpr),
     If(Box<Arms>),
     IfElse(Box<Arms>, Box<Block>),
     Repeat(SourceExpr, Box<Block>),
@@ -112,11 +116,12 @@ impl SourceExpr {
     }
 }
 
-/// How many arguments the functions take: min, max, choose, length, room, front, last, sum, at, place, sample, roll.
-const ARITIES: [usize; OWN_NAMES] = [2, 2, 3, 1, 1, 1, 1, 1, 2, 2, 1, 1];
+/// How many arguments the functions take: min, max, choose, length, room, front, last, sum, at, place, sample, roll,
+/// running, rest, idle; `in` is none.
+const ARITIES: [usize; OWN_NAMES] = [2, 2, 3, 1, 1, 1, 1, 1, 2, 2, 1, 1, 1, 1, 1, 0];
 
-/// Whether all arguments of a function are numbers: of the first three, and of `roll`. Of the others the first is a queue
-/// or a table.
+/// Whether all arguments of a function are numbers: of the first three, and of `roll`. Of the others the first is a queue,
+/// a table or a timer.
 pub(crate) fn takes_numbers(name: usize) -> bool
     ensures { result ≡ takes_numbers name }
 {

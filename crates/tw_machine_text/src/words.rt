@@ -32,6 +32,8 @@ pub enum Builtin {
     Left,
     Now,
     Turn,
+    /// The number of the timer that goes, of those that are alike. It stands in what is written alone.
+    Which,
 }
 
 /// How a place is changed: `=`, `+=`, `-=`, `^=`.
@@ -54,7 +56,7 @@ pub enum Verb {
     Observe,
 }
 
-/// What begins a statement on a queue alone.
+/// What begins a statement on a queue, a procedure or a timer alone.
 #[derive(Clone, Copy, Debug, PartialEq, Eq)]
 pub enum Deed {
     /// The first value leaves.
@@ -63,6 +65,8 @@ pub enum Deed {
     Clear,
     /// Does what a procedure does. It stands in what is written alone: what is read has the program in its place.
     Do,
+    /// A timer runs no more. It stands in what is written alone.
+    Stop,
 }
 
 /// A word. A name is its number in the list of names: first the functions', then those that the machine declares.
@@ -86,6 +90,8 @@ pub enum Word {
     Draw,
     Wait,
     Passivate,
+    Start,
+    Send,
     If,
     Else,
     Repeat,
@@ -157,6 +163,8 @@ impl Word {
             | Word::Draw
             | Word::Wait
             | Word::Passivate
+            | Word::Start
+            | Word::Send
             | Word::If
             | Word::Repeat => true,
             Word::Sign(operator) => operator != Operator::Comma,
@@ -180,6 +188,8 @@ impl Word {
             | Word::Draw
             | Word::Wait
             | Word::Passivate
+            | Word::Start
+            | Word::Send
             | Word::If
             | Word::Repeat => 1,
             Word::Sign(operator) => { if operator == Operator::Comma { 0 } else { 1 } }

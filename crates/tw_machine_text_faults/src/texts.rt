@@ -165,17 +165,30 @@ fn is_known(declared: &[Declared], word: &str) -> bool {
     kind_of(declared, word).is_some()
         || is_reserved(word.as_bytes())
         || is_contextual(word)
-        || FUNCTIONS.contains(&word)
+        || is_function(word)
 }
 
 /// Whether it begins a statement in a machine that has no such name.
 fn is_contextual(word: &str) -> bool {
     for (text, _) in &CONTEXTUAL {
         if *text == word {
-            return true;
+            return !is_of_timers(word);
         }
     }
     false
+}
+
+/// Whether it is a function.
+fn is_function(word: &str) -> bool {
+    FUNCTIONS.contains(&word) && !is_of_timers(word)
+}
+
+/// Whether it is a word only in a machine with timers.
+fn is_of_timers(word: &str) -> bool {
+    matches!(
+        word,
+        "start" | "stop" | "send" | "which" | "running" | "rest" | "idle" | "in"
+    )
 }
 
 /// The line for a name that nothing has.
@@ -234,8 +247,18 @@ fn look_at_names<'b>(
         }
     }
     if last == Last::Operator || last == Last::Queue {
-        nearest.look_all(alloc, &FUNCTIONS)?;
+        look_at_functions(alloc, nearest)?;
         look_at_words(alloc, nearest, true)?;
+    }
+    Ok(())
+}
+
+/// Looks at the functions.
+fn look_at_functions(alloc: Global, nearest: &mut Nearest) -> Result<(), AllocError> {
+    for function in &FUNCTIONS {
+        if !is_of_timers(function) {
+            nearest.look(alloc, function)?;
+        }
     }
     Ok(())
 }
@@ -253,7 +276,9 @@ fn look_at_words<'b>(
     }
     if !numbers {
         for (text, _) in &CONTEXTUAL {
-            nearest.look(alloc, text)?;
+            if !is_of_timers(text) {
+                nearest.look(alloc, text)?;
+            }
         }
     }
     Ok(())
@@ -339,7 +364,7 @@ fn more_of(reading: &Reading, word: &str, kind: Option<Kind>) -> &'static str {
         "not" if reading.last == Last::Operator => "; it wants parentheses here",
         "else" => "; it stands behind the block of an if",
         "}" => "; no block is open here",
-        _ if FUNCTIONS.contains(&word) => ", a function",
+        _ if is_function(word) => ", a function",
         _ => "",
     }
 }
@@ -357,6 +382,8 @@ fn kind_words(kind: Kind) -> &'static str {
         Kind::ListParameter => ", a list",
         Kind::Observation => ", an observation",
         Kind::Procedure(_) => ", a procedure",
+        Kind::Timer(_) => ", a timer",
+        Kind::TimerArray(..) => ", a timer with a count",
     }
 }
 

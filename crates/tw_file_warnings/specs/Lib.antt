@@ -1,0 +1,5 @@
+pub mod Places
+pub mod Starts
+pub mod StartViews
+pub mod Ports
+pub mod Warnings

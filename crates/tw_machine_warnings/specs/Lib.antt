@@ -1,0 +1,7 @@
+pub mod Sought
+pub mod Deeds
+pub mod Texts
+pub mod Warning
+pub mod Names
+pub mod Machines
+pub mod Examples

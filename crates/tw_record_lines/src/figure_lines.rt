@@ -103,7 +103,7 @@ impl FigureLines {
     }
 
     /// Takes the next record of the run. Before the first one that is at the first tick or later stand all figures.
-    fn take<N: Names>(
+    pub(crate) fn take<N: Names>(
         &mut self,
         alloc: Global,
         table: &FigureTable<'_, N>,

@@ -14,15 +14,15 @@ use tw_network::Network;
 use tw_rounds::{Advanced, Fault, SeqRefused, advance, begin};
 use tw_texts::{Lines, Names};
 
-/// Of how many bytes a trace is held at most, but for the lines of its last round: 64 MB.
-const MOST_HELD: usize = 67_108_864;
+/// Of how many bytes a trace or a table is held at most, but for the lines of its last round: 64 MB.
+pub(crate) const MOST_HELD: usize = 67_108_864;
 
-/// How a run ends, and its trace if that was held.
+/// How a run ends, and its trace or its table if that was held.
 #[derive(Drop)]
 pub struct Held {
     /// The limit fault that ends the run, if there is one.
     pub fault: Option<Fault>,
-    /// The lines of all its records, or none where they were too long to be held.
+    /// All lines, or none where they were too long to be held.
     pub lines: Option<Lines>,
 }
 

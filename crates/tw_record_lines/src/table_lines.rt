@@ -1,6 +1,6 @@
 //! The lines of a table that are gathered until they are written.
 
-ghost use Rattle.std.specs.Prelude.{◌≡◌, ◌++◌, ◌∷◌, []};
+ghost use Rattle.std.specs.Prelude.{◌≡◌, ◌++◌, ◌∷◌, [], OnOk};
 ghost use Rattle.tw_record_lines.specs.Tables.{listed, rows_text};
 ghost use Rattle.tw_vtime.specs.Stamps.{tick_of};
 
@@ -8,7 +8,7 @@ use crate::rows::{Cells, add_each_item, add_each_word, add_record};
 use std::alloc::{AllocError, Global};
 use tw_figures::{Rows, is_shown};
 use tw_listen::{Counting, Reached};
-use tw_msgs::{Bag, RecordKind};
+use tw_msgs::{Bag, Record, RecordKind};
 use tw_rounds::Receiver;
 use tw_texts::{Lines, Names};
 use tw_vtime::Stamp;
@@ -57,6 +57,40 @@ impl<'a, N: Names> TableLines<'a, N> {
             room: Vec::new(alloc),
             reached: Reached::nothing(),
         }
+    }
+
+    /// The lines alone.
+    pub(crate) fn into_lines(self) -> Lines
+        ensures { result ≡ self.entry.lines }
+    {
+        let TableLines { lines, .. } = self;
+        lines
+    }
+
+    /// Adds the lines of a record, where it is of a component that is shown and not before the table's first tick. `words` is room.
+    /// Refused for want of memory (4).
+    pub(crate) fn take_record(
+        &mut self,
+        record: &Record,
+        words: &mut Vec<i128>,
+    ) -> Result<(), AllocError>
+        ensures names { OnOk result (self.new.names.now ≡ self.old.names.now) }
+        ensures rows { OnOk result (self.new.rows ≡ self.old.rows) }
+        ensures shown { OnOk result (self.new.shown.now ≡ self.old.shown.now) }
+        ensures from { OnOk result (self.new.from ≡ self.old.from) }
+        ensures lines { let name_of = N.name_of self.old.names.now in
+            OnOk result (self.new.lines.text ≡ self.old.lines.text
+            ++ rows_text self.old.rows name_of (listed self.old.shown.now self.old.from (record.now ∷ []))) }
+    {
+        words.clear();
+        record.words.append_to(words)?;
+        self.take(
+            record.component,
+            record.stamp,
+            record.kind,
+            &record.bag,
+            words.as_slice(),
+        )
     }
 }
 

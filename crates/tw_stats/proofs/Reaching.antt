@@ -12,12 +12,14 @@ use Rattle.tw_theory.specs.Simulator.{Fault, Run, rounds, sequential}
 use Rattle.tw_theory.specs.Traces.{of_component}
 use Rattle.tw_vtime.specs.Stamps.{max_tick, never, stamp, tick_of}
 use Rattle.tw_figures.specs.Figures.{is_transition}
-use Rattle.tw_figures.specs.Gathered.{IsGathered, start_words}
+use Rattle.tw_figures.specs.Gathered.{IsGathered, followed_in_all, followed_of_all, start_words}
 use Rattle.tw_figures.specs.declared.course.Course.{Course}
 use Rattle.tw_figures.specs.declared.gatherer.Gatherer.{Gatherer}
+use Rattle.tw_figures.specs.declared.labels.Labels.{Labels}
 use Rattle.tw_figures.specs.declared.member.Member.{Member}
 use Rattle.tw_theory.proofs.Elements.{each-filter, each_weaker}
-use Rattle.tw_stats.specs.Gathering.{BeforeEnd, run_ticks}
+use Rattle.tw_stats.specs.Gathering.{BeforeEnd, IsGathering, run_ticks}
+use Rattle.tw_stats.specs.declared.gathering.Gathering.{Gathering}
 
 -- a fault stands before the end of time, and behind all records
 pub record IsInTime (rs : List Record) (s : ℕ) : Type 0 where
@@ -59,3 +61,20 @@ module _ {S : Type 0} (net : Network S) (until : ℕ) (ok : IsNetwork net) (boun
       let all = each_weaker (λ r. tick_of r.stamp ≤ ticks) (λ r. tick_of r.stamp ≤ latest) (λ r p. omega arith) (sequential net until).records (within_ticks (sequential net until).fault refl) in
       let own = each-filter (λ r. tick_of r.stamp ≤ latest) (λ r. r.component == k) (sequential net until).records all in
       (member.courses j e m).since latest (omega arith) (each-filter (λ r. tick_of r.stamp ≤ latest) is_transition (of_component k (sequential net until).records) own)
+
+  -- so of what is gathered of a whole run all is known
+  pub whole : (from : ℕ) (labels : List Labels) (gathered : Gatherer) (fault : Option Fault) (g : Gathering)
+      → IsGathered from (start_words net) (sequential net until).records gathered → followed_of_all gathered.members.items ≡ followed_in_all labels → fault ≡ (sequential net until).fault
+      → g.gathered ≡ gathered → g.fault ≡ fault → g.ticks ≡ run_ticks until fault
+      → IsGathering (start_words net) (sequential net until).records (sequential net until).fault labels from until g
+  whole from labels gathered fault g is followed met same ended ticks =
+      let time : g.ticks ≡ run_ticks until (sequential net until).fault = ticks ∙ ap (run_ticks until) met in
+      record {
+        gathered = subst (IsGathered from (start_words net) (sequential net until).records) (sym same) is;
+        followed = ap (λ (o : Gatherer). followed_of_all o.members.items) same ∙ followed;
+        fault = ended ∙ met;
+        ticks = time;
+        reached = subst (λ (n : ℕ). All (λ (m : Member). All (λ (x : Course). x.since ≤ max from n) m.courses.items) g.gathered.members.items) (sym time)
+            (subst (λ (o : Gatherer). All (λ (m : Member). All (λ (x : Course). x.since ≤ max from (run_ticks until (sequential net until).fault)) m.courses.items) o.members.items) (sym same) (since_within from gathered is));
+        in_time = subst BeforeEnd (sym ended) (fault_before_end fault met);
+      }

@@ -4,7 +4,8 @@
 --     IsToldOf from label start records ticks part      what is told of a component that starts in a state of these words and has these records
 --     AreTold from labels starts rs ticks parts      what is told of all components of a run with these records
 --     first_tick from      the tick from which on a report tells: the start of the run, where none was asked for
---     IsReport net from until labels report      what is told of the run of a network until an end tick
+--     IsReportOf starts rs met from until labels report      what is told of a run with these records that ends in this fault, or in none
+--     IsReport net from until labels report      the same of the sequential run of a network until an end tick
 use Rattle.std.specs.Prelude.{◌≡◌, ◌-◌, ℕ, ℤ, List, Option, Some, length, slice_get, unwrap_or}
 use Rattle.std.specs.List.{AllZip}
 use Rattle.tw_figures.specs.Counts.{counts_of}
@@ -20,7 +21,7 @@ use Rattle.tw_figures.specs.declared.told.Told.{Told}
 use Rattle.tw_figures.specs.declared.watch.Watch.{Watch}
 use Rattle.tw_msgs.specs.declared.record.Record.{Record}
 use Rattle.tw_theory.specs.Network.{Network}
-use Rattle.tw_theory.specs.Simulator.{sequential}
+use Rattle.tw_theory.specs.Simulator.{Fault, sequential}
 use Rattle.tw_theory.specs.Traces.{of_component}
 use Rattle.tw_stats.specs.Gathering.{run_ticks}
 use Rattle.tw_stats.specs.declared.report.Part.{Part}
@@ -51,12 +52,16 @@ pub record AreTold (from : ℕ) (labels : List Label) (starts : List (List ℤ))
 abbrev pub first_tick : Option ℕ → ℕ
 first_tick from = unwrap_or from 0
 
--- of the records of the sequential run from that tick on, and over its time from there, which is none where the run ends before
-pub record IsReport {S : Type 0} (net : Network S) (from : Option ℕ) (until : ℕ) (labels : List Label) (report : Report) : Type 0 where
-  pub parts : AreTold (first_tick from) labels (start_words net) (sequential net until).records report.ticks report.parts.items
+-- of the records of the run from that tick on, and over its time from there, which is none where the run ends before; its components start in states of
+-- these words
+pub record IsReportOf (starts : List (List ℤ)) (rs : List Record) (met : Option Fault) (from : Option ℕ) (until : ℕ) (labels : List Label) (report : Report) : Type 0 where
+  pub parts : AreTold (first_tick from) labels starts rs report.ticks report.parts.items
   pub begin : report.from ≡ from
   pub end : report.until ≡ until
-  pub ticks : report.ticks ≡ run_ticks until (sequential net until).fault - first_tick from
-  pub records : report.records ≡ length (from_on (first_tick from) (sequential net until).records)
-  pub microsteps : IsAboveMicrosteps report.microsteps (from_on (first_tick from) (sequential net until).records)
-  pub fault : report.fault ≡ (sequential net until).fault
+  pub ticks : report.ticks ≡ run_ticks until met - first_tick from
+  pub records : report.records ≡ length (from_on (first_tick from) rs)
+  pub microsteps : IsAboveMicrosteps report.microsteps (from_on (first_tick from) rs)
+  pub fault : report.fault ≡ met
+
+abbrev pub IsReport : {S : Type 0} → Network S → Option ℕ → ℕ → List Label → Report → Type 0
+IsReport net from until labels report = IsReportOf (start_words net) (sequential net until).records (sequential net until).fault from until labels report

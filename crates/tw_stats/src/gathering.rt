@@ -1,13 +1,12 @@
 //! Counts, figures and observations, gathered while a network is simulated.
 
-ghost use Rattle.std.specs.Prelude.{◌≡◌, ◌≤◌, ◌<◌, ◌↔◌, ◌++◌, ◌∷◌, [], ℕ, ℤ, List, IfOk, IsErrOf, OnOk, length, map, max};
-ghost use Rattle.std.specs.List.{All};
+ghost use Rattle.std.specs.Prelude.{◌≡◌, ◌≤◌, ◌<◌, ◌↔◌, ◌++◌, ◌∷◌, [], ℕ, ℤ, List, IfOk, IsErrOf, OnOk, length, map};
 ghost use Rattle.tw_figures.specs.Gathered.{IsGathered, followed_in, followed_in_all, followed_of_all, start_words};
 ghost use Rattle.tw_network.specs.Contents.{network_of};
 ghost use Rattle.tw_rounds.specs.Parts.{IsSimulating};
 ghost use Rattle.tw_rounds.specs.declared.refused.SeqRefused.TheVariants.{BadTick};
 ghost use Rattle.tw_theory.specs.Simulator.{sequential};
-ghost use Rattle.tw_stats.specs.Gathering.{BeforeEnd, run_ticks};
+ghost use Rattle.tw_stats.specs.Gathering.{BeforeEnd, IsGathering, IsMade, run_ticks};
 ghost use Rattle.tw_vtime.specs.Stamps.{max_tick};
 
 use std::alloc::{AllocError, Global};
@@ -18,6 +17,15 @@ use tw_msgs::{Record, Words};
 use tw_network::Network;
 use tw_rounds::{Advanced, Fault, SeqRefused, Simulation, advance, begin};
 use tw_vtime::Stamp;
+
+/// A run of a network that is made.
+#[derive(Clone, Copy, Debug)]
+pub struct MadeRun<'a> {
+    /// Its records, in the order of its trace.
+    pub records: &'a [Record],
+    /// The limit fault that ended it.
+    pub fault: Option<Fault>,
+}
 
 /// What is gathered of a network's run.
 #[derive(Debug, Drop)]
@@ -45,18 +53,8 @@ pub(crate) fn gather<M: Atomic, L: Listener>(
     listener: &mut L,
 ) -> Result<Gathering, SeqRefused>
     requires { length labels.now ≡ length network.now.models }
-    ensures gathered { let net = network_of M.meaning network.now in
-        IfOk result
-        (λ g. IsGathered from (start_words net) (sequential net until).records g.gathered) }
-    ensures followed { IfOk result
-        (λ g. followed_of_all g.gathered.members.items ≡ followed_in_all labels.now) }
-    ensures fault { let run = sequential (network_of M.meaning network.now) until in
-        IfOk result (λ g. g.fault ≡ run.fault) }
-    ensures ticks { let run = sequential (network_of M.meaning network.now) until in
-        IfOk result (λ g. g.ticks ≡ run_ticks until run.fault) }
-    ensures reached { IfOk result (λ g. All
-        (λ m. All (λ c. c.since ≤ max from g.ticks) m.courses.items) g.gathered.members.items) }
-    ensures in_time { IfOk result (λ g. BeforeEnd g.fault) }
+    ensures gathering { let net = network_of M.meaning network.now in let run = sequential net until in
+        IfOk result (IsGathering (start_words net) run.records run.fault labels.now from until) }
     ensures bad_tick { IsErrOf result BadTick ↔ (max_tick < until) }
 {
     network.facts();
@@ -64,6 +62,27 @@ pub(crate) fn gather<M: Atomic, L: Listener>(
     let mut gathered = start(alloc, network, labels, from)?;
     let fault = follow(alloc, network, simulation, &mut gathered, listener)?;
     Ok(gathering_of(gathered, until, fault))
+}
+
+/// The same of a run that is made. Refused for want of memory (4), or where a count or a sum would pass the range of its type (4).
+pub(crate) fn gather_made<M: Atomic>(
+    alloc: Global,
+    network: &Network<M>,
+    labels: &[Labels],
+    from: u64,
+    until: u64,
+    run: &MadeRun<'_>,
+) -> Result<Gathering, AllocError>
+    requires labels { length labels.now ≡ length network.now.models }
+    requires until { until ≤ max_tick }
+    requires made { IsMade (sequential (network_of M.meaning network.now) until) run.now }
+    ensures gathering { let net = network_of M.meaning network.now in let run = sequential net until in
+        IfOk result (IsGathering (start_words net) run.records run.fault labels.now from until) }
+{
+    network.facts();
+    let mut gathered = start(alloc, network, labels, from)?;
+    gathered.take_all(run.records)?;
+    Ok(gathering_of(gathered, until, run.fault))
 }
 
 /// What is gathered of a run that ends so.

@@ -1,15 +1,18 @@
 //! What is told of a run.
 
-ghost use Rattle.std.specs.Prelude.{◌≡◌, ◌≤◌, ◌<◌, ◌-◌, ◌↔◌, IfOk, IsErrOf, length, map};
+ghost use Rattle.std.specs.Prelude.{◌≡◌, ◌≤◌, ◌<◌, ◌-◌, ◌↔◌, ℤ, IfOk, IsErrOf, List, Option, length, map, max};
 ghost use Rattle.std.specs.List.{All, AllZip};
 ghost use Rattle.tw_figures.specs.Labelled.{label};
+ghost use Rattle.tw_figures.specs.declared.labels.Labels.{Labels as TheLabels};
+ghost use Rattle.tw_msgs.specs.declared.record.Record.{Record as TheRecord};
 ghost use Rattle.tw_network.specs.Contents.{network_of};
 ghost use Rattle.tw_rounds.specs.declared.refused.SeqRefused.TheVariants.{BadTick};
-ghost use Rattle.tw_stats.specs.Gathering.{BeforeEnd};
-ghost use Rattle.tw_stats.specs.Reports.{IsReport, TellsFigure, TellsObservation, TellsPart};
+ghost use Rattle.tw_stats.specs.Gathering.{BeforeEnd, IsGathering, IsMade};
+ghost use Rattle.tw_stats.specs.Reports.{IsReport, IsReportOf, TellsFigure, TellsObservation, TellsPart, first_tick};
+ghost use Rattle.tw_theory.specs.Simulator.{Fault as TheFault, sequential};
 ghost use Rattle.tw_vtime.specs.Stamps.{max_tick};
 
-use crate::gathering::{Gathering, gather};
+use crate::gathering::{Gathering, MadeRun, gather, gather_made};
 use std::alloc::{AllocError, Global};
 use tw_atomic::Atomic;
 use tw_figures::{Counts, Course, Labels, Member, Observed, Told, Watch};
@@ -72,21 +75,60 @@ pub fn report_of<M: Atomic, L: Listener>(
     ensures bad_tick { IsErrOf result BadTick ↔ (max_tick < until) }
 {
     let first = from.unwrap_or(0);
-    let Gathering {
-        gathered,
-        fault,
-        ticks,
-    } = gather(alloc, network, labels, first, until, listener)?;
-    let end = ticks.max(first);
-    let parts = tell_all(alloc, gathered.members.as_slice(), first, end)?;
+    let gathering = gather(alloc, network, labels, first, until, listener)?;
+    Ok(report_on(alloc, &gathering, from, until)?)
+}
+
+/// Tells the same of a run that is made: of its records and its fault, which are those of the network's sequential run.
+///
+/// Refused for want of memory (4), or where a count or a sum would pass the range of its type (4).
+pub fn report_of_made<M: Atomic>(
+    alloc: Global,
+    network: &Network<M>,
+    labels: &[Labels],
+    from: Option<u64>,
+    until: u64,
+    run: &MadeRun<'_>,
+) -> Result<Report, AllocError>
+    requires labels { length labels.now ≡ length network.now.models }
+    requires until { until ≤ max_tick }
+    requires made { IsMade (sequential (network_of M.meaning network.now) until) run.now }
+    ensures report { let net = network_of M.meaning network.now in
+        IfOk result (IsReport net from until (map label labels.now)) }
+    ensures in_time { IfOk result (λ r. BeforeEnd r.fault) }
+{
+    let first = from.unwrap_or(0);
+    let gathering = gather_made(alloc, network, labels, first, until, run)?;
+    report_on(alloc, &gathering, from, until)
+}
+
+/// Tells of what was gathered of a run up to the end tick `until`, from the tick `from` on. Refused for want of memory (4), or where
+/// a sum would pass its range (4).
+fn report_on(
+    alloc: Global,
+    gathering: &Gathering,
+    from: Option<u64>,
+    until: u64,
+) -> Result<Report, AllocError>
+    requires { All (λ m. All (λ c. c.since ≤ max (first_tick from) gathering.now.ticks) m.courses.items)
+        gathering.now.gathered.members.items }
+    ensures report { (starts : List (List ℤ)) (records : List TheRecord) (fault : Option TheFault) (labels : List TheLabels)
+        → length labels ≡ length starts
+        → IsGathering starts records fault labels (first_tick from) until gathering.now
+        → IfOk result (IsReportOf starts records fault from until (map label labels)) }
+    ensures fault { IfOk result (λ r. r.fault ≡ gathering.now.fault) }
+{
+    let first = from.unwrap_or(0);
+    let end = gathering.ticks.max(first);
+    let parts = tell_all(alloc, gathering.gathered.members.as_slice(), first, end)?;
     Ok(Report {
         parts,
         from,
         until,
         ticks: end - first,
-        records: gathered.records,
-        microsteps: gathered.microsteps,
-        fault,
+        records: gathering.gathered.records,
+        microsteps: gathering.gathered.microsteps,
+        fault: gathering.fault,
     })
 }
 

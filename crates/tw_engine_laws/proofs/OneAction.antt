@@ -1,22 +1,19 @@
 -- One command, obeyed by executives of two networks that are seen as one: the same answer, and the same world after it, unless one is refused
 -- for want of nodes (12).
-use Rattle.std.proofs.Common.{◌≡◌, ◌∙◌, ◌⊎◌, ◌<◌, ◌≤◌, ℕ, List, ap, ap₂, arith, inl, inr, length, refl, subst, sym}
-use Rattle.std.specs.Prelude.{◌≢◌, IfErr, IfOk, IfSome, Option, Some, None, Result, Ok, Err, OnErr, OnOk, min, string_bytes}
+use Rattle.std.proofs.Common.{◌≡◌, ◌∙◌, ◌⊎◌, ℕ, List, ap, ap₂, arith, inl, inr, length, refl, subst, sym}
+use Rattle.std.specs.Prelude.{◌≢◌, IfErr, IfOk, IfSome, Option, Some, None, Result, Ok, Err, OnErr, OnOk}
 use Rattle.tw_actions.specs.declared.action.Action.{Action}
 use Rattle.tw_actions.specs.declared.action.Done.{Done as Came}
-use Rattle.tw_actions.specs.declared.action.Done.TheVariants.{Undone}
 use Rattle.tw_any_model.specs.AnyModel.{any_meaning}
 use Rattle.tw_any_model.specs.declared.any_model.AnyModel.{AnyModel}
 use Rattle.tw_any_model.specs.declared.any_model.AnyState.{AnyState}
 use Rattle.tw_engine_laws.proofs.One.{AreOne}
 use Rattle.tw_exec.specs.Actions.{reason}
-use Rattle.tw_exec.specs.Rewinding.{greatest_count}
-use Rattle.tw_exec.specs.Running.{IsActed, IsReason, Running}
+use Rattle.tw_exec.specs.Running.{Running}
 use Rattle.tw_exec.specs.declared.refused.Refused as refused
 use Rattle.tw_exec.specs.declared.refused.Refused.TheVariants as why
 use Rattle.tw_inspect.specs.Replies.{replied}
 use Rattle.tw_inspect.specs.Reports.{describe_text, report_text}
-use Rattle.tw_inspect.specs.declared.replies.Reply.{Reply as Replied}
 use Rattle.tw_inspect.specs.declared.replies.Reply.TheVariants.{Refused}
 use Rattle.tw_laws.specs.Couplings.{CouplingsLaw}
 use Rattle.tw_network.specs.Contents.{Contents, network_of}
@@ -27,7 +24,7 @@ use Rattle.tw_script.specs.declared.command.Command.{Command}
 use Rattle.tw_script.specs.declared.command.Command.TheVariants.{Act, Mark, Rewind, Show, Describe}
 use Rattle.tw_theory.specs.Executive as theory
 use Rattle.tw_theory.specs.Executive.{Answer, World, act}
-use Rattle.tw_theory.specs.Marks.{marks, rewind, rewound_steps}
+use Rattle.tw_theory.specs.Marks.{marks, rewind}
 
 -- an executive of a network in a world, and a mark
 abbrev pub running : Contents AnyModel → ℕ → World AnyState → Running AnyModel AnyState

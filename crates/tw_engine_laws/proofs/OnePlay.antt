@@ -1,7 +1,6 @@
 -- Two plays of one script, or of one seed, by executives of two networks that are seen as one.
-use Rattle.std.proofs.Common.{◌≡◌, ◌∙◌, ◌⊎◌, ◌++◌, ◌∷◌, [], ℕ, suc, List, ap, ap₂, append_assoc, inl, inr, refl, subst, sym}
+use Rattle.std.proofs.Common.{◌≡◌, ◌∙◌, ◌⊎◌, ◌++◌, [], ℕ, List, ap, ap₂, append_assoc, inl, inr, refl, subst, sym}
 use Rattle.std.specs.Prelude.{◌≢◌, Option, Some, None}
-use Rattle.std.specs.Io.KnownBytes.{Appends}
 use Rattle.rand_pcg.specs.Lcg.{Lcg}
 use Rattle.tw_actions.specs.declared.action.Action.{Action}
 use Rattle.tw_any_model.specs.AnyModel.{any_meaning}
@@ -15,7 +14,6 @@ use Rattle.tw_engine_laws.specs.OneText.{HasFullLine, full_line}
 use Rattle.tw_laws.specs.Couplings.{CouplingsLaw}
 use Rattle.tw_network.specs.Contents.{Contents, network_of}
 use Rattle.tw_play.specs.Playing.{AreDrawn, ArePlayed, IsObeyed, Played, ended, idle, nothing, obeyed, response_text, taken, wants_memory}
-use Rattle.tw_play.specs.Telling.{IsPlayed, IsWhollyDrawn}
 use Rattle.tw_play.specs.declared.response.Response.{Response}
 use Rattle.tw_script.specs.declared.command.Command.{Command}
 use Rattle.tw_script.specs.declared.command.Command.TheVariants.{Act}
@@ -23,7 +21,7 @@ use Rattle.tw_seeded.specs.Schedules.{Words, action_drawn, after as next_of, dra
 use Rattle.tw_texts.specs.Texts.{trace_text}
 use Rattle.tw_theory.specs.Contents.{Cancel}
 use Rattle.tw_theory.specs.Executive.{World}
-use Rattle.tw_theory.specs.Simulator.{Run, sequential}
+use Rattle.tw_theory.specs.Simulator.{Run}
 use Rattle.tw_theory.specs.Soundness.{new_world}
 use Rattle.tw_theory.specs.Traces.{before, least_line}
 

@@ -14,7 +14,6 @@ use Rattle.tw_record_lines.specs.FigureTables.{figures_text}
 use Rattle.tw_engine_laws.proofs.One.{AreOne}
 use Rattle.tw_engine_laws.proofs.OneReport.{one_report}
 use Rattle.tw_figure_names.specs.Said.{labels_said}
-use Rattle.tw_figures.specs.Labelled.{Label}
 use Rattle.tw_file_network.specs.Meaning.{json_of}
 use Rattle.tw_file_network.specs.TreeMeaning.{IsMeaning, IsMeaningOfJson}
 use Rattle.tw_file_network.specs.declared.refused.FileRefused.{FileRefused}

@@ -10,7 +10,6 @@ use Rattle.tw_cli.specs.declared.driving.Driver.{Driver}
 use Rattle.tw_cli.specs.declared.driving.Driver.TheVariants.{Script, Seed}
 use Rattle.tw_cli.specs.declared.jobs.Job.{Job}
 use Rattle.tw_cli.specs.declared.jobs.Job.TheVariants.{Demo, Check, Dot, Simulate}
-use Rattle.tw_cli.specs.declared.jobs.Task.{Task}
 use Rattle.tw_cli.specs.declared.jobs.Task.TheVariants.{Seq, Stats, Table, Draw, Run, Play}
 use Rattle.tw_figures.specs.Shown.{shown_of}
 use Rattle.tw_figures.specs.declared.seeing.Tabled.{Tabled}
@@ -18,9 +17,9 @@ use Rattle.tw_figures.specs.declared.seeing.Tabled.TheVariants.{OfRun, OfFigures
 use Rattle.tw_stats.specs.Written.{report_bytes}
 use Rattle.std.proofs.lemmas.Option.{same_Some}
 use Rattle.tw_engine.specs.Checks.{IsCheck, check_text}
-use Rattle.tw_engine.specs.Ends.{Fault, PlainEnd, RunEnd, ViewEnd}
+use Rattle.tw_engine.specs.Ends.{Fault}
 use Rattle.tw_engine.specs.Exits.{exit_of, exit_of_rest, exit_of_run, exit_of_view, line_of, status_of}
-use Rattle.tw_engine.specs.Jobs.{Ends, IsDone, IsPlay, IsScriptedBy}
+use Rattle.tw_engine.specs.Jobs.{Ends, IsPlay, IsScriptedBy}
 use Rattle.tw_engine.specs.Plays.{IsScripted, IsSeeded, committed_text, first}
 use Rattle.tw_engine.specs.Runs.{IsDemo, IsRun, IsRunByWorkers, demo_network, name_in, run_fault, run_text}
 use Rattle.tw_engine.specs.Views.{IsLineOf, IsSummed, IsTabulated, IsTabulatedOf, Summed, Tabulated, file_labels, table_with}

@@ -1,7 +1,7 @@
 //! How far a run is.
 
 use std::alloc::AllocError;
-use tw_msgs::{Bag, RecordKind};
+use tw_msgs::{Bag, Record, RecordKind};
 use tw_rounds::Receiver;
 use tw_vtime::Stamp;
 
@@ -21,6 +21,15 @@ impl Reached {
             at: Stamp::START,
             records: 0,
         }
+    }
+
+    /// How far a run is whose latest round has these records, and which has `records` in all.
+    pub fn after(round: &[Record], records: u64) -> Reached {
+        let at = match round.last() {
+            Some(record) => record.stamp,
+            None => Stamp::START,
+        };
+        Reached { at, records }
     }
 
     /// One record more is there, of this stamp.

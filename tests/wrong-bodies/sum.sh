@@ -38,19 +38,24 @@ contracts_in() {
     ' "$@"
 }
 
+# The lines of the definitions and proofs in these folders, each with its file, but for comments.
+definitions_in() {
+    find "$@" -type f -print0 2>/dev/null | LC_ALL=C sort -z | xargs -0r grep -Hv '^ *--'
+}
+
 # The sum of the definitions of a crate and of what its code says to those above it, found once.
 declare -A contract_sums=()
 find_contracts() {
     [ -z "${contract_sums[$1]:-}" ] || return 0
     contract_sums[$1]=$(
         {
-            (cd "crates/$1" && find specs -type f -print0 2>/dev/null | LC_ALL=C sort -z | xargs -0r sha256sum)
+            (cd "crates/$1" && definitions_in specs)
             find "crates/$1/src" -type f -name '*.rt' -print0 | LC_ALL=C sort -z | xargs -0 cat | contracts_in | tr -s '[:space:]' ' '
         } | sha256sum
     )
 }
 
-# Sets `sum` to the sum of a crate's code but for comments and layout, of its definitions and proofs, of its wrong bodies here, and of the contracts of all
+# Sets `sum` to the sum of a crate's code, definitions and proofs but for comments, of its wrong bodies here, and of the contracts of all
 # crates below it.
 find_sum() {
     local below name
@@ -59,7 +64,7 @@ find_sum() {
     sum=$(
         {
             (cd "crates/$1" && find src -type f -print0 | LC_ALL=C sort -z | xargs -0 grep -hv '^ *//' | tr -s '[:space:]' ' ')
-            (cd "crates/$1" && find specs proofs -type f -print0 2>/dev/null | LC_ALL=C sort -z | xargs -0 sha256sum)
+            (cd "crates/$1" && definitions_in specs proofs)
             (cd "tests/wrong-bodies/$1" && find . -type f -print0 | LC_ALL=C sort -z | xargs -0 sha256sum)
             for name in $below; do echo "$name ${contract_sums[$name]}"; done
         } | sha256sum | cut -d' ' -f1

@@ -1,6 +1,6 @@
 -- Ports and couplings: known only of machines of which each port is a number.
 --     level_warnings machines room path prefix d      of the components of a model in order, of each what is in it too, and then of its couplings in order
-use Rattle.std.specs.Prelude.{◌+◌, ◌++◌, ◌==◌, ◌∷◌, [], ℕ, zero, suc, pos, negsuc, List, Bool, true, false, not, ◌&&◌, ◌||◌, Option, Some, None, codes, nat_lt, if◌then◌else◌}
+use Rattle.std.specs.Prelude.{◌+◌, ◌++◌, ◌==◌, ◌∷◌, [], ℕ, zero, suc, pos, negsuc, List, Bool, true, false, not, ◌&&◌, ◌||◌, Option, Some, None, codes, is_some, nat_lt, if◌then◌else◌}
 use Rattle.std.specs.List.{list_all, list_any}
 use Rattle.std.specs.Option.{option_map_or}
 use Rattle.std.specs.Str.{bytes_eq}
@@ -49,8 +49,12 @@ leaves name p k = bytes_eq (text_item 0 k) name && is_this p (count_item 1 k)
 abbrev pub is_loose : Data → List ℕ → ℕ → Bool
 is_loose d name p = nat_lt p 16 && not (some_item (leaves name p) (items_in (codes "couplings") d))
 
+-- it is sent whenever the outputs are: there is neither a condition nor a queue whose items it is sent for
+abbrev pub is_plain : Output → Bool
+is_plain o = not (is_some o.when) && not (is_some o.each)
+
 abbrev pub loose_entry : Data → List ℕ → Output → Bool
-loose_entry d name o = option_map_or (is_loose d name) (port_of o.port) false
+loose_entry d name o = is_plain o && option_map_or (is_loose d name) (port_of o.port) false
 
 abbrev pub entries_warnings : Data → List ℕ → List ℕ → ℕ → List Output → List Warning
 entries_warnings d name place i [] = []

@@ -18,6 +18,7 @@ ghost use Rattle.tw_file_warnings.specs.Ports.{
   is_deaf,
   is_known,
   is_loose,
+  is_plain,
   is_on,
   is_silent,
   is_tally,
@@ -131,9 +132,20 @@ fn is_loose(model: &Value, name: &str, port: u64) -> bool
     port < PORTS && !some_leaves(name, port, items_in(model, "couplings"))
 }
 
+/// Whether an entry is sent whenever the outputs are: there is neither a condition nor a queue whose items it is sent for.
+fn is_plain(entry: &OutputText) -> bool
+    ensures { result ≡ is_plain (plain.output entry.now) }
+{
+    entry.when.is_none() && entry.each.is_none()
+}
+
+/// Whether an entry is sent in any case, on a port of the component of this name from which no coupling of the model leads.
 fn loose_entry(model: &Value, name: &str, entry: &OutputText) -> bool
     ensures { result ≡ loose_entry (view model.now) name.now (plain.output entry.now) }
 {
+    if !is_plain(entry) {
+        return false;
+    }
     match port_of(&entry.port) {
         Some(port) => is_loose(model, name, port),
         None => false,
@@ -146,7 +158,7 @@ fn entry_place(alloc: Global, place: &str, index: usize) -> Result<String, Alloc
     format!(in alloc; "{place}[{index}]")
 }
 
-/// Adds a warning for each entry that the component of this name sends on a port that is coupled to nothing.
+/// Adds a warning for each entry that the component of this name sends in any case on a port that is coupled to nothing.
 fn add_entries(
     alloc: Global,
     warnings: &mut Vec<Warning>,

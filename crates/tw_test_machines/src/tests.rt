@@ -1,3 +1,5 @@
 mod from_json;
 mod helpers;
 mod scenes;
+mod timers;
+mod warnings;

@@ -29,3 +29,11 @@ for network in examples/*.json; do
     grep -q "^${network#examples/} " examples/runs.txt
     count "$network in examples/runs.txt" 0 0 $?
 done
+
+# Nothing is odd about an example, or a network of the Python package's library.
+for network in examples/*.json python/src/twarp/library/*.json; do
+    "$program" check "$network" --strict >"$out" 2>"$err"
+    ended=$?
+    [[ $(<"$out") =~ ^ok:\ [^$'\n']*$ ]] && [ ! -s "$err" ]
+    count "twarp check $network --strict" 0 "$ended" $?
+done

@@ -90,12 +90,13 @@ machine-tally machine-tally-drawn draw
 straggler-of-three straggler-of-three-drawn draw
 machine-tally machine-tally-played play --seed 1 --steps 40"
     for case in $PWD/tests/program/{gen-tally,microstep-fault,mutual-confluent,straggler-of-three,nested,check-whole,demonstration,numbers-of-gen-tally} \
-        $PWD/tests/program/{figures-of-gen-tally,graph-of-gen-tally,items-of-a-microstep-fault,a-seed,machine-tally,check-machine-misspelt} \
+        $PWD/tests/program/{figures-of-gen-tally,graph-of-gen-tally,items-of-a-microstep-fault,a-seed,machine-tally,check-machine-misspelt,check-warns-two-waits,check-strict} \
         "$ours"/machine-tally-{told,played} "$ours"/{gen-tally,machine-tally,straggler-of-three}-drawn; do
         mapfile -t words <"$case/args"
         status=$(cat "$case/status" 2>/dev/null || echo 0)
         lines=("${words[*]}")
         [ "${words[0]}" = seq ] && lines+=("run ${words[*]:1} --workers 1" "run ${words[*]:1} --workers 2 --cancel lazy")
+        [[ ${words[0]} =~ ^(stats|table)$ ]] && lines+=("${words[*]} --workers 1" "${words[*]} --workers 2 --cancel lazy")
         for line in "${lines[@]}"; do
             # shellcheck disable=SC2206 # a line is words
             words=($line)
@@ -118,6 +119,7 @@ machine-tally machine-tally-played play --seed 1 --steps 40"
         mapfile -t words <"$case/args"
         refuse_each_byte "${words[@]}"
         [ "${words[0]}" != seq ] || refuse_each_byte run "${words[@]:1}" --workers 2
+        [[ ! ${words[0]} =~ ^(stats|table)$ ]] || refuse_each_byte "${words[@]}" --workers 2
     done
     # Of a network that is refused no script is read.
     for case in $PWD/tests/program/network-before-script $PWD/tests/program/shape-before-unreadable-script; do

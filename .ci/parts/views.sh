@@ -1,6 +1,6 @@
 # Counts, figures and tables of the cases of `seq` in tests/program/ and of the networks of examples/. The wanted counts and figures
 # are the files stats and stats.json there and in tests/views/, which tests/views/expected.py made of the wanted traces; those from a
-# tick on, and the wanted tables, are made here of the same traces.
+# tick on, and the wanted tables, are made here of the same traces. Workers write the same bytes, whatever their setting.
 
 # The table of a trace: of its records, its items or its words.
 as_table() {
@@ -55,16 +55,31 @@ views_of_some() {
     local only from=$((until / 2))
     python3 tests/views/expected.py "$network" "$1" "$until" --figures >"$room/some"
     view table "$room/some" --figures
+    view table "$room/some" --figures --workers 2 --burst 1
     only=$(python3 -c 'import json, sys; print(",".join(it["name"] for it in json.load(sys.stdin)["components"][::-2]))' <"$2")
     [ -n "$only" ] || return 0
     python3 tests/views/expected.py "$network" "$1" "$until" --only "$only" >"$room/some"
     view stats "$room/some" --only "$only"
     python3 tests/views/expected.py "$network" "$1" "$until" --only "$only" --json --from "$from" >"$room/some"
     view stats "$room/some" --only "$only" --json --from "$from"
+    view stats "$room/some" --only "$only" --json --from "$from" --workers auto
     python3 tests/views/expected.py "$network" "$1" "$until" --figures --from "$from" --only "$only" >"$room/some"
     view table "$room/some" --figures --from "$from" --only "$only"
+    view table "$room/some" --figures --from "$from" --only "$only" --workers 4 --window 3
     awk -v only=",$only," '/^fault: / || index(only, "," $2 ",")' "$1" | as_table items >"$room/some"
     view table "$room/some" --items --only "$only"
+    view table "$room/some" --items --only "$only" --workers 3
+}
+
+# Counts and figures, and the table of the records, by 1, 2 and 4 workers who cancel either way.
+views_by_workers() {
+    local workers cancel
+    for workers in 1 2 4; do
+        for cancel in aggressive lazy; do
+            [ ! -e "$1" ] || view stats "$1" --workers "$workers" --cancel "$cancel"
+            view table "$2" --workers "$workers" --cancel "$cancel" --burst 3
+        done
+    done
 }
 
 # All views of a network of which there is a trace, and counts and figures where these files are there.
@@ -80,6 +95,8 @@ views() {
     [ ! -e "$2" ] || views_of_some "$1" "$3"
     awk -F. -v from="$((until / 2))" '/^fault: / || $1 + 0 >= from' "$1" | as_table items >"$room/table"
     view table "$room/table" --items --from "$((until / 2))"
+    as_table records <"$1" >"$room/table"
+    views_by_workers "$2" "$room/table"
     for rows in records items words; do
         as_table "$rows" <"$1" >"$room/table"
         if [ "$rows" = records ]; then view table "$room/table"; else view table "$room/table" "--$rows"; fi
@@ -112,7 +129,7 @@ while read -r network until _ expected; do
 done <examples/runs.txt
 
 # A file that is not there, one that is no JSON, and a script that is not there.
-for line in stats "stats --only a" table "table --items" "table --figures" draw "draw --seed 1 --steps 9" "draw --script examples/straggler.txt"; do
+for line in stats "stats --only a" "stats --workers 2" table "table --items" "table --figures" "table --workers 2" "table --figures --workers 2" draw "draw --seed 1 --steps 9" "draw --script examples/straggler.txt"; do
     read -r job more <<<"$line"
     # shellcheck disable=SC2086 # a line is words
     "$program" "$job" nowhere.json --until 5 $more >"$out" 2>"$err"

@@ -15,7 +15,7 @@ import pytest
 from common import TOP, examples, network
 
 import twarp
-from twarp import Network, NetworkError
+from twarp import Network, NetworkError, NetworkWarning
 
 ADDER = {"name": "adder", "registers": {"sum": 0}, "external": "sum += value", "words": ["sum"]}
 
@@ -62,6 +62,13 @@ def test_a_graph() -> None:
     assert network("gen-tally.json").dot() == wanted.read_text()
     with pytest.raises(NetworkError, match="17 BadName"):
         Network().add("a b", "tally").dot()
+
+
+def test_what_is_odd_is_warned_of() -> None:
+    limited = {"name": "m", "registers": {"x": 0, "limit": 5}, "first": 1, "internal": "x += limit  wait 1", "words": ["x"]}
+    with pytest.warns(NetworkWarning) as told:
+        assert Network().use(limited).add("a", "m").check() == (1, 0, 0)
+    assert [str(warning.message) for warning in told] == ['models[0] "m", "limit": it is nowhere set']
 
 
 def test_coupled_models_and_their_inputs() -> None:

@@ -46,7 +46,10 @@ def test_the_trace_is_that_of_seq(name: str, until: int) -> None:
 @pytest.mark.parametrize("name, until", RUNS)
 @pytest.mark.parametrize("workers", [1, 2, "auto"])
 def test_workers_change_nothing(name: str, until: int, workers: object) -> None:
-    assert list(run_of(name, until, workers=workers).trace()) == list(run_of(name, until).trace())
+    run, alone = run_of(name, until, workers=workers), run_of(name, until)
+    assert list(run.trace()) == list(alone.trace())
+    assert run.table().equals(alone.table()) and run.changes().equals(alone.changes())
+    assert run.stats().figures.equals(alone.stats().figures) and repr(run.fault) == repr(alone.fault)
 
 
 @pytest.mark.parametrize("name, until", RUNS)
@@ -241,6 +244,8 @@ def test_end_ticks_out_of_range(until: int) -> None:
 def test_workers_out_of_range(workers: int) -> None:
     with pytest.raises(twarp.RequestError, match=f"23 BadLine: run --workers {workers} --until 5"):
         next(simulate(Network(), 5, workers).trace())
+    with pytest.raises(twarp.RequestError, match="23 BadLine: stats"):
+        simulate(Network(), 5, workers).stats()
 
 
 RELAYS = Network(3).add("a", "relay", delay=0).add("b", "relay", delay=0).couple("a", "b").couple("b", "a").input(3, "a", 1)

@@ -3,9 +3,10 @@ use Rattle.std.proofs.Common.{◌≡◌, ◌+◌, ◌*◌, ◌==◌, ℕ, List, 
 use Rattle.std.specs.Prelude.{Err, IfErr, IfNone, IfOk, None, Ok, Option, Result, Some, ◌≢◌}
 use Rattle.clap.specs.Words.{Row, Text, subcommand_of}
 use Rattle.tw_actions.specs.declared.cancel.Cancel.{Cancel}
-use Rattle.tw_cli.specs.Options.{IsCancelIn, IsDriverIn, IsFromIn, IsPictureIn, IsSettingIn, IsStartIn, IsTabledIn}
+use Rattle.tw_cli.specs.Options.{IsByIn, IsCancelIn, IsDriverIn, IsFromIn, IsPictureIn, IsSettingIn, IsStartIn, IsTabledIn}
 use Rattle.tw_cli.specs.declared.driving.Driver.{Driver}
 use Rattle.tw_cli.specs.declared.seeing.Picture.{Picture}
+use Rattle.tw_cli.specs.declared.setting.ByWorkers.{ByWorkers}
 use Rattle.tw_cli.specs.declared.setting.RunOptions.{RunOptions}
 use Rattle.tw_figures.specs.declared.seeing.Tabled.{Tabled}
 use Rattle.tw_cli.specs.Lines.{FailsFor, IsJob, IsJobOf, IsReason, IsSimulationOf, IsTaskOf, task_name, twarp_app}
@@ -39,16 +40,16 @@ play_letters = letters (codes "play")
 -- what the options say to a task of this name, beside flags
 abbrev pub Needs : ℕ → List Row → Type 0
 Needs name rows =
-    MatchBool (name == stats_letters) ((from : Option ℕ) × IsStartIn rows from)
-    (MatchBool (name == table_letters) ((from : ℕ) × (of : Tabled) × IsFromIn rows from × IsTabledIn rows of)
+    MatchBool (name == stats_letters) ((from : Option ℕ) × (by : Option ByWorkers) × IsStartIn rows from × IsByIn rows by)
+    (MatchBool (name == table_letters) ((from : ℕ) × (of : Tabled) × (by : Option ByWorkers) × IsFromIn rows from × IsTabledIn rows of × IsByIn rows by)
     (MatchBool (name == draw_letters) ((p : Picture) × IsPictureIn rows p)
     (MatchBool (name == run_letters) ((c : Cancel) × (s : RunOptions) × IsCancelIn rows c × IsSettingIn rows s)
     (MatchBool (name == play_letters) ((c : Cancel) × (d : Driver) × IsCancelIn rows c × IsDriverIn rows d) (Unit {0})))))
 
 met : (rows : List Row) (t : Task) → IsTaskOf (task_name t) rows t → Needs (letters (task_name t)) rows
 met rows (Seq progress) is = tt
-met rows (Stats from only json progress) is = (from, is.1.0)
-met rows (Table from only of progress) is = (from, of, is.1.0, is.1.2)
+met rows (Stats from only json progress by) is = (from, by, is.1.0, is.1.4)
+met rows (Table from only of progress by) is = (from, of, by, is.1.0, is.1.2, is.1.4)
 met rows (Draw picture) is = (picture, is.1)
 met rows (Run cancel setting) is = (cancel, setting, is.1.0, is.1.1)
 met rows (Play cancel driver) is = (cancel, driver, is.1.0, is.1.1)
@@ -61,7 +62,7 @@ needs_met name rows t is = subst (λ (n : Text). Needs (letters n) rows) (sym is
 pub no_job : (name : Text) (rows : List Row) → name ≢ codes "demo" → name ≢ codes "check" → name ≢ codes "dot"
     → ((net : NetSource) (n : ℕ) (t : Task) → ¬ (IsSimulationOf name rows net n t)) → (j : Job) → ¬ (IsJobOf name rows j)
 no_job name rows demo check dot none Demo is = demo is
-no_job name rows demo check dot none (Check net) is = check is.0
+no_job name rows demo check dot none (Check net strict) is = check is.0
 no_job name rows demo check dot none (Dot net) is = dot is.0
 no_job name rows demo check dot none (Simulate net until task) is = none net until task is
 

@@ -4,7 +4,7 @@ use Rattle.std.specs.Prelude.{Option, Some, None, find, is_some, option_and_then
 use Rattle.clap.specs.Values.{read_as}
 use Rattle.clap.specs.Walk.{row_text}
 use Rattle.clap.specs.Words.{Row, Text, first_of}
-use Rattle.tw_cli.specs.Options.{HasNumber, IsDriverIn, IsFromIn, IsPictureIn, IsReplicationIn, IsRowsIn, IsStartIn, IsTabledIn, IsUndriven, IsViewIn, IsWidthIn, IsWorkersIn}
+use Rattle.tw_cli.specs.Options.{HasNumber, IsBurstIn, IsByIn, IsDriverIn, IsFromIn, IsPictureIn, IsInOrder, IsReplicationIn, IsRowsIn, IsStartIn, IsTabledIn, IsTeamIn, IsUndriven, IsViewIn, IsWidthIn, IsWindowIn, IsWorkersIn}
 use Rattle.tw_cli.specs.declared.driving.Driver.{Driver}
 use Rattle.tw_cli.specs.declared.driving.Driver.TheVariants.{Script, Seed}
 use Rattle.tw_cli.specs.declared.seeing.Picture.{Picture}
@@ -14,6 +14,7 @@ use Rattle.tw_figures.specs.declared.seeing.Rows.TheVariants.{Records}
 use Rattle.tw_figures.specs.declared.seeing.Tabled.{Tabled}
 use Rattle.tw_figures.specs.declared.seeing.Tabled.TheVariants.{OfRun, OfFigures}
 use Rattle.tw_figures.specs.declared.seeing.View.{View}
+use Rattle.tw_cli.specs.declared.setting.ByWorkers.{ByWorkers}
 use Rattle.tw_cli.specs.declared.setting.Workers.{Workers}
 use Rattle.tw_cli.specs.declared.setting.Workers.TheVariants.{Auto, Count}
 
@@ -68,6 +69,31 @@ no_width rows stands missing n (inr has) = missing n has
 pub no_seen : (rows : List Row) → IsUndriven rows → ((v : View) → ¬ (IsViewIn rows v)) → (p : Picture) → ¬ (IsPictureIn rows p)
 no_seen rows undriven missing (of.Run view) is = missing view is.1
 no_seen rows undriven missing (of.Warp cancel driver) is = no_driver rows undriven driver is.2
+
+pub no_burst : (rows : List Row) → is_some (first_of (codes "burst") rows) ≡ true
+    → ((n : ℕ) → ¬ (HasNumber (codes "burst") 1 256 rows n)) → (n : ℕ) → ¬ (IsBurstIn rows n)
+no_burst rows stands missing n (inl left_out) = let bad : is_some {T = Text} None ≡ true = sym (ap is_some left_out.0) ∙ stands in cc
+no_burst rows stands missing n (inr has) = missing n has
+
+pub no_window : (rows : List Row) → is_some (first_of (codes "window") rows) ≡ true
+    → ((n : ℕ) → ¬ (HasNumber (codes "window") 0 1099511627774 rows n)) → (n : ℕ) → ¬ (IsWindowIn rows n)
+no_window rows stands missing n (inl left_out) = let bad : is_some {T = Text} None ≡ true = sym (ap is_some left_out.0) ∙ stands in cc
+no_window rows stands missing n (inr has) = missing n has
+
+-- where the number of workers is left out, there are none
+without_number : (rows : List Row) → first_of (codes "workers") rows ≡ None → (w : Workers) → ¬ (IsWorkersIn rows w)
+without_number rows none (Count n) is = left_out_number rows (codes "workers") 1 64 n none is
+without_number rows none Auto is = let bad : None ≡ Some (codes "auto") = sym none ∙ is in cc
+
+-- where an option speaks of workers but their number is left out, nobody makes the run
+pub no_number : (rows : List Row) → ¬ (IsInOrder rows) → first_of (codes "workers") rows ≡ None → (o : Option ByWorkers) → ¬ (IsByIn rows o)
+no_number rows manned none None is = manned is
+no_number rows manned none (Some by) is = without_number rows none by.setting.workers is.1
+
+-- nor where what they are set to does not stand there
+pub no_team : (rows : List Row) → ¬ (IsInOrder rows) → ((by : ByWorkers) → ¬ (IsTeamIn rows by)) → (o : Option ByWorkers) → ¬ (IsByIn rows o)
+no_team rows manned missing None is = manned is
+no_team rows manned missing (Some by) is = missing by is
 
 -- where no kind of line stands, there is no table
 pub no_tabled : (rows : List Row) → ((r : Rows) → ¬ (IsRowsIn rows r)) → (t : Tabled) → ¬ (IsTabledIn rows t)

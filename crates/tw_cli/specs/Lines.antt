@@ -15,7 +15,7 @@ use Rattle.clap.specs.declared.error.kind.ErrorKind.{ErrorKind}
 use Rattle.clap.specs.declared.error.kind.ErrorKind.TheVariants as kind
 use Rattle.tw_vtime.specs.declared.refusal.Refusal.{Refusal}
 use Rattle.tw_vtime.specs.declared.refusal.Refusal.TheVariants as refusal
-use Rattle.tw_cli.specs.Options.{HasFlag, HasNumber, IsCancelIn, IsDriverIn, IsFromIn, IsOnlyIn, IsPictureIn, IsSettingIn, IsSettingsIn, IsStartIn, IsTabledIn}
+use Rattle.tw_cli.specs.Options.{HasFlag, HasNumber, IsByIn, IsCancelIn, IsDriverIn, IsFromIn, IsOnlyIn, IsPictureIn, IsSettingIn, IsSettingsIn, IsStartIn, IsTabledIn}
 use Rattle.tw_cli.specs.declared.jobs.Job.{Job}
 use Rattle.tw_cli.specs.declared.jobs.Job.TheVariants.{Demo, Check, Dot, Simulate}
 use Rattle.tw_cli.specs.declared.jobs.NetSource.{NetSource}
@@ -81,7 +81,7 @@ abbrev pub file_app : Text → App
 file_app name = numbered_app (with_rule (new_app name) net_rule)
 
 abbrev pub check_app : App
-check_app = file_app (codes "check")
+check_app = with_rule (file_app (codes "check")) (flag_rule (codes "strict"))
 
 abbrev pub dot_app : App
 dot_app = file_app (codes "dot")
@@ -97,15 +97,31 @@ told_app name = with_rule (network_app name) (flag_rule (codes "progress"))
 abbrev pub seq_app : App
 seq_app = told_app (codes "seq")
 
+-- a subcommand that workers may make; it makes its run in order where their number is left out
+abbrev pub manned_app : App → App
+manned_app app = with_rule (with_rule (with_rule (with_rule app
+    (text_rule (codes "workers")))
+    (number_rule (codes "burst") 1 256))
+    (number_rule (codes "window") 0 1099511627774))
+    (text_rule (codes "cancel"))
+
+-- `stats` and what it tells of a run
+abbrev pub summary_app : App
+summary_app = with_rule (with_rule (with_rule (told_app (codes "stats")) from_rule) (text_rule (codes "only"))) (flag_rule (codes "json"))
+
 abbrev pub stats_app : App
-stats_app = with_rule (with_rule (with_rule (told_app (codes "stats")) from_rule) (text_rule (codes "only"))) (flag_rule (codes "json"))
+stats_app = manned_app summary_app
 
 -- `table` and what part of a run it shows
 abbrev pub part_app : App
 part_app = with_rule (with_rule (told_app (codes "table")) from_rule) (text_rule (codes "only"))
 
+-- and what its lines are of
+abbrev pub listed_app : App
+listed_app = with_rule (with_rule (with_rule part_app (flag_rule (codes "items"))) (flag_rule (codes "words"))) (flag_rule (codes "figures"))
+
 abbrev pub table_app : App
-table_app = with_rule (with_rule (with_rule part_app (flag_rule (codes "items"))) (flag_rule (codes "words"))) (flag_rule (codes "figures"))
+table_app = manned_app listed_app
 
 -- `run` and what its workers are set to: 2 workers, bursts of 64 steps and a window of all ticks where it is left out,
 -- and no word of how far it is
@@ -172,8 +188,8 @@ IsJoined old made new = (sub : Command) × (made ≡ Ok sub) × AddsSubcommand o
 -- the name of the subcommand of a task
 abbrev pub task_name : Task → Text
 task_name (Seq progress) = codes "seq"
-task_name (Stats from only json progress) = codes "stats"
-task_name (Table from only of progress) = codes "table"
+task_name (Stats from only json progress by) = codes "stats"
+task_name (Table from only of progress by) = codes "table"
 task_name (Draw picture) = codes "draw"
 task_name (Run cancel setting) = codes "run"
 task_name (Play cancel driver) = codes "play"
@@ -181,8 +197,10 @@ task_name (Play cancel driver) = codes "play"
 -- its options say what it is to do
 abbrev pub IsTaskIn : List Row → Task → Type 0
 IsTaskIn rows (Seq progress) = HasFlag (codes "progress") rows progress
-IsTaskIn rows (Stats from only json progress) = IsStartIn rows from × IsOnlyIn rows only × HasFlag (codes "json") rows json × HasFlag (codes "progress") rows progress
-IsTaskIn rows (Table from only of progress) = IsFromIn rows from × IsOnlyIn rows only × IsTabledIn rows of × HasFlag (codes "progress") rows progress
+IsTaskIn rows (Stats from only json progress by) =
+    IsStartIn rows from × IsOnlyIn rows only × HasFlag (codes "json") rows json × HasFlag (codes "progress") rows progress × IsByIn rows by
+IsTaskIn rows (Table from only of progress by) =
+    IsFromIn rows from × IsOnlyIn rows only × IsTabledIn rows of × HasFlag (codes "progress") rows progress × IsByIn rows by
 IsTaskIn rows (Draw picture) = IsPictureIn rows picture
 IsTaskIn rows (Run cancel setting) = IsCancelIn rows cancel × IsSettingIn rows setting
 IsTaskIn rows (Play cancel driver) = IsCancelIn rows cancel × IsDriverIn rows driver
@@ -205,7 +223,7 @@ IsSimulationOf name rows net until task = IsNetIn rows net × IsTimedTask name r
 -- the job of a subcommand's name and its options
 abbrev pub IsJobOf : Text → List Row → Job → Type 0
 IsJobOf name rows Demo = name ≡ codes "demo"
-IsJobOf name rows (Check net) = (name ≡ codes "check") × IsNetIn rows net
+IsJobOf name rows (Check net strict) = (name ≡ codes "check") × IsNetIn rows net × HasFlag (codes "strict") rows strict
 IsJobOf name rows (Dot net) = (name ≡ codes "dot") × IsNetIn rows net
 IsJobOf name rows (Simulate net until task) = IsSimulationOf name rows net until task
 
@@ -217,7 +235,7 @@ IsJob (Some p) j = IsJobOf p.0 p.1 j
 -- the network file of a job
 abbrev pub net_of : Job → Option NetSource
 net_of Demo = None
-net_of (Check net) = Some net
+net_of (Check net strict) = Some net
 net_of (Dot net) = Some net
 net_of (Simulate net until task) = Some net
 

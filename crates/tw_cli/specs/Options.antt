@@ -2,7 +2,7 @@
 --     HasNumber id least most rows n      the number of an option, in its range
 --     texts_of id rows      the texts of an option that may stand there many times
 --     IsSettingsIn rows s      what is changed in the network's file
---     IsStartIn, IsCancelIn, IsDriverIn, IsSettingIn, IsRowsIn, IsTabledIn, IsOnlyIn, IsViewIn, IsPictureIn      what several of them say together
+--     IsStartIn, IsCancelIn, IsDriverIn, IsSettingIn, IsByIn, IsRowsIn, IsTabledIn, IsOnlyIn, IsViewIn, IsPictureIn      what several of them say together
 use Rattle.std.specs.Prelude.{◌≡◌, ◌≢◌, ◌≤◌, ◌⊎◌, ℕ, Bool, List, [], Option, None, Some, codes, false, true, map, option_map, unwrap_or}
 use Rattle.std.specs.Borrow.{Bor}
 use Rattle.std.specs.Str.Parse.{IsNumeral, digits_value, without_leading_plus}
@@ -22,6 +22,7 @@ use Rattle.tw_figures.specs.declared.seeing.Tabled.TheVariants.{OfRun, OfFigures
 use Rattle.tw_figures.specs.declared.seeing.Detail.{Detail}
 use Rattle.tw_figures.specs.declared.seeing.Detail.TheVariants.{Fitting, Marks, Courses}
 use Rattle.tw_figures.specs.declared.seeing.View.{View}
+use Rattle.tw_cli.specs.declared.setting.ByWorkers.{ByWorkers}
 use Rattle.tw_cli.specs.declared.setting.RunOptions.{RunOptions}
 use Rattle.tw_cli.specs.declared.setting.Workers.{Workers}
 use Rattle.tw_cli.specs.declared.setting.Workers.TheVariants.{Count, Auto}
@@ -67,6 +68,34 @@ IsSettingIn rows s =
     × HasNumber (codes "burst") 1 256 rows s.burst
     × HasNumber (codes "window") 0 1099511627774 rows s.window
     × HasFlag (codes "progress") rows s.progress
+
+-- how far they compute at a time: 64 steps where no option stands
+abbrev pub IsBurstIn : List Row → ℕ → Type 0
+IsBurstIn rows n = ((first_of (codes "burst") rows ≡ None) × (n ≡ 64)) ⊎ HasNumber (codes "burst") 1 256 rows n
+
+-- and how far ahead: over all ticks where no option stands
+abbrev pub IsWindowIn : List Row → ℕ → Type 0
+IsWindowIn rows n = ((first_of (codes "window") rows ≡ None) × (n ≡ 1099511627774)) ⊎ HasNumber (codes "window") 0 1099511627774 rows n
+
+-- workers make a run that is made in order without them: their number stands there
+abbrev pub IsTeamIn : List Row → ByWorkers → Type 0
+IsTeamIn rows by =
+    IsCancelIn rows by.cancel
+    × IsWorkersIn rows by.setting.workers
+    × IsBurstIn rows by.setting.burst
+    × IsWindowIn rows by.setting.window
+    × HasFlag (codes "progress") rows by.setting.progress
+
+-- no option stands that speaks of workers
+abbrev pub IsInOrder : List Row → Type 0
+IsInOrder rows =
+    (first_of (codes "workers") rows ≡ None) × (first_of (codes "burst") rows ≡ None) × (first_of (codes "window") rows ≡ None)
+    × (first_of (codes "cancel") rows ≡ None)
+
+-- a run is made in order, or by workers
+abbrev pub IsByIn : List Row → Option ByWorkers → Type 0
+IsByIn rows None = IsInOrder rows
+IsByIn rows (Some by) = IsTeamIn rows by
 
 -- what drives it: a script alone, or a seed and a number of steps with no script
 abbrev pub IsDriverIn : List Row → Driver → Type 0

@@ -9,7 +9,7 @@ use crate::driving::{cancel_in, driver_in};
 use crate::jobs::{Job, NoJob, Task};
 use crate::numbers::net_in;
 use crate::seeing::{from_in, picture_in, start_in, tabled_in};
-use crate::setting::setting_in;
+use crate::setting::{by_in, setting_in};
 use crate::values::{flag_in, number_in, text_in};
 use clap::error::ErrorKind;
 use clap::{ArgMatches, Error};
@@ -23,7 +23,8 @@ fn check_in<'a>(alloc: Global, options: &ArgMatches<'a>) -> Result<Job<'a>, NoJo
         IfErr result (FailsFor ((net : _) → ¬ (IsNetIn rows net))) }
 {
     let net = net_in(alloc, options)?;
-    Ok(Job::Check { net })
+    let strict = flag_in(options, "strict");
+    Ok(Job::Check { net, strict })
 }
 
 /// The job of `dot` and its options; none where they do not say of which file, and what is changed in it.
@@ -36,7 +37,7 @@ fn dot_in<'a>(alloc: Global, options: &ArgMatches<'a>) -> Result<Job<'a>, NoJob>
     Ok(Job::Dot { net })
 }
 
-/// The task of `stats` and its options; none where they do not say from when on it counts.
+/// The task of `stats` and its options; none where they do not say from when on it counts, or who makes the run.
 fn stats_in<'a>(options: &ArgMatches<'a>) -> Option<Task<'a>>
     ensures some { IfSome result (IsTaskOf (codes "stats") (rows_of (found_of options.now))) }
     ensures none { let rows = rows_of (found_of options.now) in
@@ -46,15 +47,17 @@ fn stats_in<'a>(options: &ArgMatches<'a>) -> Option<Task<'a>>
     let only = text_in(options, "only");
     let json = flag_in(options, "json");
     let progress = flag_in(options, "progress");
+    let by = by_in(options)?;
     Some(Task::Stats {
         from,
         only,
         json,
         progress,
+        by,
     })
 }
 
-/// The task of `table` and its options; none where they do not say what it is of, or from when on there are lines.
+/// The task of `table` and its options; none where they do not say what it is of, from when on there are lines, or who makes the run.
 fn table_in<'a>(options: &ArgMatches<'a>) -> Option<Task<'a>>
     ensures some { IfSome result (IsTaskOf (codes "table") (rows_of (found_of options.now))) }
     ensures none { let rows = rows_of (found_of options.now) in
@@ -64,11 +67,13 @@ fn table_in<'a>(options: &ArgMatches<'a>) -> Option<Task<'a>>
     let only = text_in(options, "only");
     let of = tabled_in(options)?;
     let progress = flag_in(options, "progress");
+    let by = by_in(options)?;
     Some(Task::Table {
         from,
         only,
         of,
         progress,
+        by,
     })
 }
 
@@ -205,13 +210,14 @@ fn no_job(error: Error) -> NoJob
 
 /// The job that a command line asks for. The first word is the program's name.
 ///
-/// The jobs are `demo`; `check NET`; `dot NET`; `seq NET --until T`; `stats NET --until T` with `--json` or without, and with `--from T0` (0 to
+/// The jobs are `demo`; `check NET` with `--strict` or without; `dot NET`; `seq NET --until T`; `stats NET --until T` with `--json` or without, and with `--from T0` (0 to
 /// 1,099,511,627,774 ticks) or without; `table NET --until T`
 /// with `--items`, `--words` or `--figures` or none of them, and with `--from T0` or without, both with `--only NAMES` or without; `run NET --until T` with `--workers N` (1 to 64) or `--workers auto`, `--burst K` (1 to
 /// 256 steps) and `--window W` (0 to 1,099,511,627,774 ticks), which are 2, 64 and 1,099,511,627,774 where they are left out;
 /// `play NET --until T` with what drives it, either `--script FILE` alone or both `--seed S` and `--steps N`; and
 /// `draw NET --until T`, either with what drives an executive, as `play`, or with what is seen of a run: `--from T0` (0 to
-/// 1,099,511,627,774 ticks, 0 where it is left out), `--only NAMES` and `--figure NAME`. `run`, `play` and a driven `draw`
+/// 1,099,511,627,774 ticks, 0 where it is left out), `--only NAMES` and `--figure NAME`. `stats` and `table` take the options of `run`,
+/// where `--workers` stands; where it is left out, so are the others. `run`, `play` and a driven `draw`
 /// take `--cancel aggressive` (also where it is left out) or `--cancel lazy`; `seq`, `stats`, `table` and `run` take
 /// `--progress`. A flag stands there once or not at all. T is a number of ticks, 0
 /// to 1,099,511,627,774, S any u64, N of `--steps` at most 1,000,000; numbers are those that clap's reader of a u64

@@ -2,7 +2,7 @@
 
 ghost use Rattle.std.specs.Prelude.{◌≡◌, IfOk, codes};
 ghost use Rattle.clap.specs.Words.{App, app_of};
-ghost use Rattle.tw_cli.specs.Lines.{flag_rule, from_rule, net_rule, number_rule, numbered_app, text_rule, texts_rule, until_rule, alone_app, cancelled_app, check_app, demo_app, dot_app, draw_app, driven_app, file_app, first_app, network_app, part_app, play_app, preset_rule, preset_text_rule, run_app, seen_app, seq_app, set_app, shown_app, stats_app, table_app, told_app, twarp_app, IsArg, IsCommand, IsJoined};
+ghost use Rattle.tw_cli.specs.Lines.{flag_rule, from_rule, net_rule, number_rule, numbered_app, text_rule, texts_rule, until_rule, alone_app, cancelled_app, check_app, demo_app, dot_app, draw_app, driven_app, file_app, first_app, listed_app, manned_app, network_app, part_app, play_app, preset_rule, preset_text_rule, run_app, seen_app, seq_app, set_app, shown_app, stats_app, summary_app, table_app, told_app, twarp_app, IsArg, IsCommand, IsJoined};
 
 use crate::driving::MAX_STEPS;
 use crate::help::{
@@ -129,15 +129,22 @@ fn file_command<'a>(
     numbered_command(bare, alloc)
 }
 
+fn strict<'a>(alloc: Global) -> Arg<'a>
+    ensures { IsArg (flag_rule (codes "strict")) result }
+{
+    flag(alloc, "strict").help("Fail with status 2 if there is a warning")
+}
+
 fn check_command<'a>(alloc: Global) -> Result<Command<'a>, AllocError>
     ensures { IfOk result (IsCommand check_app) }
 {
     file_command(
         alloc,
         "check",
-        "Check a network file. Print what it contains, or the place and the reason of its first fault",
+        "Check a network file. Print what it contains and what is likely to be a mistake, or the place and the reason of its first fault",
         CHECK_END,
-    )
+    )?
+    .arg(strict(alloc))
 }
 
 fn dot_command<'a>(alloc: Global) -> Result<Command<'a>, AllocError>
@@ -219,8 +226,53 @@ fn from<'a>(alloc: Global, help: &'a str) -> Arg<'a>
     number(alloc, "from", "T0", 0, MAX_TICK).help(help)
 }
 
-fn stats_command<'a>(alloc: Global) -> Result<Command<'a>, AllocError>
-    ensures { IfOk result (IsCommand stats_app) }
+fn team<'a>(alloc: Global) -> Arg<'a>
+    ensures { IsArg (text_rule (codes "workers")) result }
+{
+    text(alloc, "workers", "N").help(
+        "Simulate by Time Warp in N threads, 1 to 64, or auto: one per processor if that pays. Default: simulate sequentially. The output is the same",
+    )
+}
+
+fn team_burst<'a>(alloc: Global) -> Arg<'a>
+    ensures { IsArg (number_rule (codes "burst") 1 256) result }
+{
+    number(alloc, "burst", "K", 1, MAX_BURST).help(
+        "Maximum number of steps of one component that a worker computes at a time, 1 to 256. Default: 64. Requires --workers",
+    )
+}
+
+fn team_window<'a>(alloc: Global) -> Arg<'a>
+    ensures { IsArg (number_rule (codes "window") 0 1099511627774) result }
+{
+    number(alloc, "window", "W", 0, MAX_TICK).help(
+        "Maximum number of ticks that a component may be ahead of GVT, 0 to 1099511627774. Default: 1099511627774. Requires --workers",
+    )
+}
+
+fn team_cancel<'a>(alloc: Global) -> Arg<'a>
+    ensures { IsArg (text_rule (codes "cancel")) result }
+{
+    text(alloc, "cancel", "WAY").help(
+        "How to cancel the messages of undone steps: aggressive (at once; the default) or lazy (only messages that are not sent again). Requires --workers",
+    )
+}
+
+/// A subcommand that workers may make.
+fn manned_command<'a>(command: Command<'a>, alloc: Global) -> Result<Command<'a>, AllocError>
+    ensures { (app : App) → IsCommand app command.entry
+        → IfOk result (IsCommand (manned_app app)) }
+{
+    command
+        .arg(team(alloc))?
+        .arg(team_burst(alloc))?
+        .arg(team_window(alloc))?
+        .arg(team_cancel(alloc))
+}
+
+/// `stats` with what it tells of a run.
+fn summary_command<'a>(alloc: Global) -> Result<Command<'a>, AllocError>
+    ensures { IfOk result (IsCommand summary_app) }
 {
     told_command(
         alloc,
@@ -237,6 +289,13 @@ fn stats_command<'a>(alloc: Global) -> Result<Command<'a>, AllocError>
         "Names of the components to print, separated by commas. Default: all",
     ))?
     .arg(json(alloc))
+}
+
+fn stats_command<'a>(alloc: Global) -> Result<Command<'a>, AllocError>
+    ensures { IfOk result (IsCommand stats_app) }
+{
+    let summary = summary_command(alloc)?;
+    manned_command(summary, alloc)
 }
 
 fn items<'a>(alloc: Global) -> Arg<'a>
@@ -283,13 +342,21 @@ fn part_command<'a>(alloc: Global) -> Result<Command<'a>, AllocError>
     ))
 }
 
-fn table_command<'a>(alloc: Global) -> Result<Command<'a>, AllocError>
-    ensures { IfOk result (IsCommand table_app) }
+/// `table` with what its lines are of.
+fn listed_command<'a>(alloc: Global) -> Result<Command<'a>, AllocError>
+    ensures { IfOk result (IsCommand listed_app) }
 {
     part_command(alloc)?
         .arg(items(alloc))?
         .arg(words(alloc))?
         .arg(figures(alloc))
+}
+
+fn table_command<'a>(alloc: Global) -> Result<Command<'a>, AllocError>
+    ensures { IfOk result (IsCommand table_app) }
+{
+    let listed = listed_command(alloc)?;
+    manned_command(listed, alloc)
 }
 
 fn workers<'a>(alloc: Global) -> Arg<'a>

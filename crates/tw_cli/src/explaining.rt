@@ -3,8 +3,8 @@
 use crate::commands::command;
 use crate::driving::cancel_in;
 use crate::seeing::{detail_in, tabled_in};
-use crate::setting::setting_in;
-use crate::values::texts_in;
+use crate::setting::{by_in, setting_in};
+use crate::values::{has, texts_in};
 use clap::ArgMatches;
 use std::alloc::{AllocError, Global};
 use tw_file_settings::assignment_in;
@@ -51,6 +51,9 @@ fn apart_in(name: &str, options: &ArgMatches<'_>) -> &'static str {
     if name == "draw" && detail_in(options).is_none() {
         return "--marks and --courses exclude each other";
     }
+    if (name == "stats" || name == "table") && by_in(options).is_none() {
+        return by_apart(options);
+    }
     if name == "run" && setting_in(options).is_none() {
         return "--workers takes 1 to 64, or auto";
     }
@@ -64,4 +67,15 @@ fn apart_in(name: &str, options: &ArgMatches<'_>) -> &'static str {
         }
         _ => "the options do not go together",
     }
+}
+
+/// Why the options of `stats` or `table` do not say who makes the run.
+fn by_apart(options: &ArgMatches<'_>) -> &'static str {
+    if !has(options, "workers") {
+        return "--burst, --window and --cancel need --workers";
+    }
+    if cancel_in(options).is_none() {
+        return "--cancel takes aggressive or lazy";
+    }
+    "--workers takes 1 to 64, or auto"
 }

@@ -18,7 +18,7 @@ Format of the trace: docs/FORMATS.md, \"Texts\".
 
 pub(crate) const CHECK_END: &str = "Example: twarp check examples/gen-tally.json
 
-Exit status: 0 no fault; 2 a fault: its number is on standard error, its place and reason on standard output; 4 out of memory; 5 standard output failed.
+Exit status: 0 no fault; 2 a fault, or with --strict a warning: its number is on standard error, its place and reason on standard output; 4 out of memory; 5 standard output failed.
 Format of the network file: docs/FORMATS.md.
 ";
 
@@ -36,14 +36,14 @@ Formats of the network file and the trace: docs/FORMATS.md.
 
 pub(crate) const STATS_END: &str = "Example: twarp stats examples/gen-tally.json --until 5 --from 2
 
-Exit status: 0 success; 2 bad command line or file; 3 a component met a limit: its line is on standard error; 4 out of memory; 5 standard output failed.
-Figures of each model, means, and the JSON: docs/FORMATS.md.
+Exit status: 0 success; 2 bad command line or file; 3 a component met a limit: its line is on standard error; 4 out of memory or nodes; 5 standard output failed.
+Figures of each model, means, and the JSON: docs/FORMATS.md. When workers pay: docs/GUIDE.md.
 ";
 
 pub(crate) const TABLE_END: &str = "Example: twarp table examples/gen-tally.json --until 5 --items
 
-Exit status: 0 success; 2 bad command line or file; 3 a component met a limit: its line is on standard error; 4 out of memory; 5 standard output failed.
-Columns: docs/FORMATS.md.
+Exit status: 0 success; 2 bad command line or file; 3 a component met a limit: its line is on standard error; 4 out of memory or nodes; 5 standard output failed.
+Columns: docs/FORMATS.md. When workers pay: docs/GUIDE.md.
 ";
 
 pub(crate) const DRAW_END: &str =

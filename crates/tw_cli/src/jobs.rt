@@ -5,7 +5,7 @@ ghost use Rattle.tw_cli.specs.Lines.{net_of, refusal_of, refused_for_memory};
 
 use crate::driving::Driver;
 use crate::seeing::Picture;
-use crate::setting::RunOptions;
+use crate::setting::{ByWorkers, RunOptions};
 use std::alloc::AllocError;
 use thiserror::Error;
 use tw_actions::Cancel;
@@ -27,10 +27,13 @@ pub struct NetSource<'a> {
 pub enum Job<'a> {
     /// Show a run of a built-in network.
     Demo,
-    /// Read a network file and say what it has, or its first fault, where it stands and why; simulate nothing.
+    /// Read a network file and say what it has and what of it is likely to be a mistake, or its first fault, where it stands and why;
+    /// simulate nothing.
     Check {
         /// The network file.
         net: NetSource<'a>,
+        /// Whether what is likely to be a mistake is a fault.
+        strict: bool,
     },
     /// Read a network file and write the network as Graphviz reads it; simulate nothing.
     Dot {
@@ -56,7 +59,7 @@ pub enum Task<'a> {
         /// Whether a line on standard error tells once a second how far the run is.
         progress: bool,
     },
-    /// The same way; write counts and figures of the run.
+    /// In order or by workers; write counts and figures of the run.
     Stats {
         /// The tick from which on they are counted, 0 to 1,099,511,627,774; of the whole run where there is none.
         from: Option<u64>,
@@ -66,8 +69,10 @@ pub enum Task<'a> {
         json: bool,
         /// Whether a line on standard error tells once a second how far the run is.
         progress: bool,
+        /// How workers make the run; it is made in order where there is none.
+        by: Option<ByWorkers>,
     },
-    /// The same way; write its records, or how its figures changed, as comma-separated values.
+    /// In order or by workers; write the records of the run, or how its figures changed, as comma-separated values.
     Table {
         /// The tick from which on it has these, 0 to 1,099,511,627,774; 0 where none was asked for.
         from: u64,
@@ -77,6 +82,8 @@ pub enum Task<'a> {
         of: Tabled,
         /// Whether a line on standard error tells once a second how far the run is.
         progress: bool,
+        /// How workers make the run; it is made in order where there is none.
+        by: Option<ByWorkers>,
     },
     /// Draw a picture of a run: of this one, or of one by Time Warp.
     Draw {
@@ -106,7 +113,7 @@ impl<'a> Job<'a> {
     {
         match self {
             Job::Demo => None,
-            Job::Check { net } | Job::Dot { net } | Job::Simulate { net, .. } => Some(net),
+            Job::Check { net, .. } | Job::Dot { net } | Job::Simulate { net, .. } => Some(net),
         }
     }
 }

@@ -13,7 +13,7 @@
 //! | `jobs` | what can be asked for ([`Job`], [`Task`]), and why nothing is ([`NoJob`]) |
 //! | `values` | the text, the number or the flag of one option; each number in its range, or none |
 //! | `driving` | what drives an executive ([`Driver`]), and how it cancels |
-//! | `setting` | what workers are set to ([`RunOptions`], [`Workers`]) |
+//! | `setting` | what workers are set to ([`RunOptions`], [`Workers`]), and who makes a run ([`ByWorkers`]) |
 //! | `numbers` | the network file, and other numbers for it ([`NetSource`]) |
 //! | `explaining` | words for a line that is refused ([`line_words`]) |
 //! | `seeing` | what is seen of a run: the lines of a table, and a picture ([`Picture`]) |
@@ -35,4 +35,4 @@ pub use driving::Driver;
 pub use explaining::line_words;
 pub use jobs::{Job, NetSource, NoJob, Task};
 pub use seeing::Picture;
-pub use setting::{RunOptions, Workers};
+pub use setting::{ByWorkers, RunOptions, Workers};

@@ -1,5 +1,6 @@
 -- From the text that is written to what it says of the bytes of the file.
 use Rattle.std.proofs.Common.{◌≡◌, ◌≤◌, ◌++◌, ◌∙◌, ℕ, List, [], length, refl, sym, ap, subst, append_assoc, arith, inl, inr}
+use Rattle.std.specs.Arc.{arc_value}
 use Rattle.std.specs.Prelude.{◌⊎◌, Option, None, Ok, Err}
 use Rattle.std.proofs.lemmas.Option.{slice_get_past}
 use Rattle.tw_msgs.specs.declared.record.Record.{Record}
@@ -22,8 +23,10 @@ use Rattle.tw_texts.specs.Traces.{AppendsBeginning}
 use Rattle.tw_texts.specs.declared.traces.NotWritten.{NotWritten}
 use Rattle.tw_texts.specs.declared.traces.NotWritten.TheVariants.{OutOfMemory, WriteFailed}
 use Rattle.tw_engine.specs.Ends.{Fault, RunEnd, failed_of}
+use Rattle.tw_engine.specs.declared.failed.Failed.{Failed}
 use Rattle.tw_engine.specs.declared.failed.Failed.TheVariants.{Bad, Want, NoWrite}
-use Rattle.tw_engine.specs.Runs.{IsDemo, IsMadeInOrder, IsRun, IsRunByWorkers, IsShown, IsWorked, demo_network, fault_text, name_in, text_or_nothing, run_fault}
+use Rattle.tw_engine.specs.declared.job_run.Made.{Made}
+use Rattle.tw_engine.specs.Runs.{IsDemo, IsMadeInOrder, IsRun, IsRunByWorkers, IsShown, IsUnmade, IsWhole, IsWorked, demo_network, fault_text, name_in, text_or_nothing, run_fault}
 
 pub no_name : (names : List (List ℕ)) (component : ℕ) → length names ≤ component → [] ≡ name_in names component
 no_name names component past = sym (ap text_or_nothing (slice_get_past names component past))
@@ -77,11 +80,25 @@ pub run_of_worked : (bytes : List ℕ) (way : Cancel) (until : ℕ) (n : Content
 run_of_worked bytes way until n end old new means (inl ordered) = inl (run_of_ordered bytes until n end old new means ordered)
 run_of_worked bytes way until n end old new means (inr full) = inr (n, means, full)
 
--- workers who give up for memory or for nodes
-pub given_up : (e : Running AnyModel AnyState) (why : Refusal) (old : Option (List ℕ)) → (why ≡ refusal.OutOfMemory) ⊎ (why ≡ refusal.Full)
-    → (why ≡ refusal.Full → CanBeFull any_meaning e) → IsWorked e (Err (Want why)) old old
-given_up e why old (inl memory) full = inl (inl (memory, inl (keeps_all old)))
-given_up e why old (inr nodes) full = inr ((ap (λ w. Want w) nodes, full nodes), keeps_all old)
+-- workers who give up for memory or for nodes make no run
+pub given_up : (n : Contents AnyModel) (way : Cancel) (until : ℕ) (e : Running AnyModel AnyState) (why : Refusal) → e ≡ start any_meaning n way until
+    → (why ≡ refusal.OutOfMemory) ⊎ (why ≡ refusal.Full) → (why ≡ refusal.Full → CanBeFull any_meaning e) → IsUnmade n way until (Want why)
+given_up n way until e why is (inl memory) full = inl (inl (ap (λ w. Want w) memory))
+given_up n way until e why is (inr nodes) full = inr (ap (λ w. Want w) nodes, subst (λ r. CanBeFull any_meaning r) is (full nodes))
+
+-- where they made none, nothing is written
+pub unmade : (n : Contents AnyModel) (way : Cancel) (until : ℕ) (why : Failed) (old : Option (List ℕ)) → IsUnmade n way until why → IsWorked (start any_meaning n way until) (Err why) old old
+unmade n way until why old (inl (inl want)) = inl (inl (subst (λ w. IsShown n (sequential (network_of any_meaning n) until).records (run_fault n until) (Err w) old old) (sym want) (refl, inl (keeps_all old))))
+unmade n way until why old (inl (inr late)) = inl (inr (late, keeps_all old))
+unmade n way until why old (inr full) = inr (full, keeps_all old)
+
+-- what is written of a run that they made
+pub worked_whole : (n : Contents AnyModel) (way : Cancel) (until : ℕ) (made : Made) (end : RunEnd) (old new : Option (List ℕ)) → arc_value made.network ≡ n → IsWhole until made
+    → IsShown (arc_value made.network) made.records.items made.fault end old new → IsWorked (start any_meaning n way until) end old new
+worked_whole n way until made end old new is whole shown =
+    inl (inl (subst (λ (m : Contents AnyModel). IsShown m (sequential (network_of any_meaning m) until).records (run_fault m until) end old new) is
+    (subst (λ (rs : List Record). IsShown (arc_value made.network) rs (run_fault (arc_value made.network) until) end old new) whole.records
+    (subst (λ (f : Option Fault). IsShown (arc_value made.network) made.records.items f end old new) whole.fault shown))))
 
 -- what they write of the demonstration
 pub demo_of_worked : (n : Contents AnyModel) (end : RunEnd) (old new : Option (List ℕ)) → n ≡ demo_network → IsWorked (start any_meaning n Aggressive 5) end old new → IsDemo end old new

@@ -2,7 +2,8 @@
 --     run_text n until      the trace of a network's sequential run, and a line for its fault
 --     IsRun bytes until end old new      how a run of the network that a file's bytes mean ends, and what is then written
 --     IsDemo end old new      the same of the demonstration
-use Rattle.std.specs.Prelude.{◌≡◌, ◌<◌, ◌⊎◌, ◌++◌, ℕ, List, [], ◌∷◌, codes, pos, Option, Some, None, Result, Ok, Err, IfSome, slice_get}
+use Rattle.std.specs.Arc.{arc_value}
+use Rattle.std.specs.Prelude.{◌≡◌, ◌≤◌, ◌<◌, ◌⊎◌, ◌++◌, ℕ, List, [], ◌∷◌, codes, pos, Option, Some, None, Result, Ok, Err, IfSome, slice_get}
 use Rattle.std.specs.Io.KnownBytes.{Appends, Keeps}
 use Rattle.tw_vtime.specs.Stamps.{max_tick}
 use Rattle.tw_vtime.specs.declared.refusal.Refusal.{Refusal}
@@ -27,6 +28,7 @@ use Rattle.tw_record_lines.specs.declared.held.Held.{Held}
 use Rattle.tw_engine.specs.Ends.{Fails, Fault, RunEnd}
 use Rattle.tw_engine.specs.declared.failed.Failed.{Failed}
 use Rattle.tw_engine.specs.declared.failed.Failed.TheVariants.{Bad, Want, NoWrite}
+use Rattle.tw_engine.specs.declared.job_run.Made.{Made}
 
 -- ---- the text of a run
 
@@ -77,7 +79,7 @@ IsRun bytes until (Err NoWrite) old new = Unit {0}
 
 -- workers give an executive up for nodes (12), before anything is written: only where it can come so far that a process of it would hold
 -- too many
-abbrev pub IsGivenUp : Running AnyModel AnyState → RunEnd → Option (List ℕ) → Option (List ℕ) → Type 0
+abbrev pub IsGivenUp : {A : Type 0} → Running AnyModel AnyState → Result A Failed → Option (List ℕ) → Option (List ℕ) → Type 0
 IsGivenUp e end old new = Fails end (λ why. (why ≡ Want refusal.Full) × CanBeFull any_meaning e) × Keeps old new
 
 -- by workers, who may also give up for nodes
@@ -104,6 +106,16 @@ IsLate until why = (why ≡ Bad refusal.BadTick None) × (max_tick < until)
 -- why there is no run: memory was wanting, or that
 abbrev pub HasNoRun : ℕ → Failed → Type 0
 HasNoRun until why = (why ≡ Want refusal.OutOfMemory) ⊎ IsLate until why
+
+-- why workers made no run: there is none, or they gave up for nodes (12), only where they can come so far that a process would hold too many
+abbrev pub IsUnmade : Contents AnyModel → Cancel → ℕ → Failed → Type 0
+IsUnmade n way until why = HasNoRun until why ⊎ ((why ≡ Want refusal.Full) × CanBeFull any_meaning (start any_meaning n way until))
+
+-- a run that workers made is the sequential one of its network
+pub record IsWhole (until : ℕ) (made : Made) : Type 0 where
+  pub records : made.records.items ≡ (sequential (network_of any_meaning (arc_value made.network)) until).records
+  pub fault : made.fault ≡ run_fault (arc_value made.network) until
+  pub small : until ≤ max_tick
 
 -- what is written of records and a fault
 abbrev pub IsShown : Contents AnyModel → List Record → Option Fault → RunEnd → Option (List ℕ) → Option (List ℕ) → Type 0

@@ -4,19 +4,24 @@
 --     IsSummed bytes summed end old new      counts, figures and observations of the run of the network that a file's bytes mean, of the components that are shown
 --     table_with n labels t shown      the table of a run, of its records or of its figures
 --     IsTabulated bytes tabulated end old new      that table is written
+--     IsSummedBy, IsTabulatedBy by bytes      the same in order, or by workers, who may also give up for nodes
 use Rattle.std.specs.Global.{Global}
 use Rattle.std.specs.Option.{option_map_or}
-use Rattle.std.specs.Prelude.{◌≡◌, ◌⊎◌, ℕ, [], Bool, List, Option, None, Some, Ok, Err, String, option_map, string_bytes}
+use Rattle.std.specs.Prelude.{◌≡◌, ◌⊎◌, ℕ, [], Bool, List, Option, None, Some, IfSome, Ok, Err, String, option_map, string_bytes}
 use Rattle.std.specs.Result.{result_ok}
 use Rattle.std.specs.Io.KnownBytes.{Appends, Keeps}
+use Rattle.tw_actions.specs.declared.cancel.Cancel.{Cancel}
 use Rattle.tw_any_model.specs.AnyModel.{any_meaning}
 use Rattle.tw_any_model.specs.declared.any_model.AnyModel.{AnyModel}
+use Rattle.tw_cli.specs.declared.setting.ByWorkers.{ByWorkers}
 use Rattle.tw_engine.specs.Ends.{Fails, Fault, ViewEnd}
-use Rattle.tw_engine.specs.Runs.{HasNoNetwork, IsLate, Means, fault_text, name_in, run_fault}
+use Rattle.tw_engine.specs.Runs.{HasNoNetwork, IsGivenUp, IsLate, Means, fault_text, name_in, run_fault}
 use Rattle.tw_engine.specs.declared.failed.Failed.{Failed}
 use Rattle.tw_engine.specs.declared.failed.Failed.TheVariants.{Bad, Want, NoWrite}
 use Rattle.tw_engine.specs.declared.job_stats.Summary.{Summary}
+use Rattle.tw_engine.specs.declared.job_table.Listing.{Listing}
 use Rattle.tw_engine.specs.declared.job_table.Tabulation.{Tabulation}
+use Rattle.tw_exec.specs.Running.{start}
 use Rattle.tw_figure_names.specs.Said.{labels_said}
 use Rattle.tw_figures.specs.Gathered.{start_words}
 use Rattle.tw_figures.specs.Labelled.{Label}
@@ -26,6 +31,7 @@ use Rattle.tw_figures.specs.declared.seeing.Tabled.{Tabled}
 use Rattle.tw_figures.specs.declared.seeing.Tabled.TheVariants.{OfRun, OfFigures}
 use Rattle.tw_file_network.specs.Meaning.{json_of}
 use Rattle.tw_network.specs.Contents.{Contents, network_of}
+use Rattle.tw_record_lines.specs.declared.held.Held.{Held}
 use Rattle.tw_record_lines.specs.FigureTables.{figures_text}
 use Rattle.tw_record_lines.specs.Tables.{listed, table_text}
 use Rattle.tw_stats.specs.Reports.{IsReport}
@@ -74,6 +80,14 @@ pub record IsReported (n : Contents AnyModel) (labels : List Label) (s : Summed)
   pub is : IsReport (network_of any_meaning n) s.from s.until labels report
   pub written : Appends old new (report_bytes s.json (name_in n.names) labels shown report)
 
+-- a report is written, of the components that are shown; where memory is wanting nothing is
+abbrev pub IsReportWritten : Contents AnyModel → List Label → List Bool → Bool → Report → ViewEnd → Option (List ℕ) → Option (List ℕ) → Type 0
+IsReportWritten n labels shown json report (Ok line) old new =
+    IsLineOf n report.fault line × Appends old new (report_bytes json (name_in n.names) labels shown report)
+IsReportWritten n labels shown json report (Err (Bad why line)) old new = ⊥
+IsReportWritten n labels shown json report (Err (Want why)) old new = (why ≡ refusal.OutOfMemory) × Keeps old new
+IsReportWritten n labels shown json report (Err NoWrite) old new = Unit {0}
+
 -- where memory is wanting nothing is written
 abbrev pub IsSummedOf : Contents AnyModel → List Label → Summed → ViewEnd → Option (List ℕ) → Option (List ℕ) → Type 0
 IsSummedOf n labels s (Ok line) old new = IsLineOf n (run_fault n s.until) line × IsReported n labels s old new
@@ -83,6 +97,15 @@ IsSummedOf n labels s (Err NoWrite) old new = Unit {0}
 
 abbrev pub IsSummed : List ℕ → Summed → ViewEnd → Option (List ℕ) → Option (List ℕ) → Type 0
 IsSummed bytes s end old new = (Fails end (HasNoNetwork bytes) × Keeps old new) ⊎ Means bytes (λ n. IsSummedOf n (file_labels bytes n) s end old new)
+
+-- by workers
+abbrev pub IsSummedByWorkers : List ℕ → Cancel → Summed → ViewEnd → Option (List ℕ) → Option (List ℕ) → Type 0
+IsSummedByWorkers bytes way s end old new =
+    IsSummed bytes s end old new ⊎ Means bytes (λ n. IsGivenUp (start any_meaning n way s.until) end old new)
+
+abbrev pub IsSummedBy : Option ByWorkers → List ℕ → Summed → ViewEnd → Option (List ℕ) → Option (List ℕ) → Type 0
+IsSummedBy None bytes s end old new = IsSummed bytes s end old new
+IsSummedBy (Some by) bytes s end old new = IsSummedByWorkers bytes by.cancel s end old new
 
 -- ---- the table
 
@@ -99,6 +122,9 @@ tabulation_of t = record { only = option_map (λ o. o.now) t.only; from = t.from
 -- the table of the records of a network's sequential run, of the components that are shown and from a tick on
 abbrev pub run_table : Contents AnyModel → Rows → List Bool → ℕ → ℕ → List ℕ
 run_table n rows shown from until = table_text rows (name_in n.names) (listed shown from (sequential (network_of any_meaning n) until).records)
+
+abbrev pub listing_text : Listing → List ℕ
+listing_text l = run_table l.run.network.now l.rows l.shown.now l.from l.run.until
 
 -- the table of the figures of that run, by these labels
 abbrev pub figures_table : Contents AnyModel → List Label → List Bool → ℕ → ℕ → List ℕ
@@ -130,3 +156,32 @@ IsTabulatedOf n table t (Err NoWrite) old new = Unit {0}
 abbrev pub IsTabulated : List ℕ → Tabulated → ViewEnd → Option (List ℕ) → Option (List ℕ) → Type 0
 IsTabulated bytes t end old new =
     (Fails end (HasNoNetwork bytes) × Keeps old new) ⊎ Means bytes (λ n. IsTabulatedOf n (table_with n (file_labels bytes n) t) t end old new)
+
+-- by workers
+abbrev pub IsTabulatedByWorkers : List ℕ → Cancel → Tabulated → ViewEnd → Option (List ℕ) → Option (List ℕ) → Type 0
+IsTabulatedByWorkers bytes way t end old new =
+    IsTabulated bytes t end old new ⊎ Means bytes (λ n. IsGivenUp (start any_meaning n way t.until) end old new)
+
+abbrev pub IsTabulatedBy : Option ByWorkers → List ℕ → Tabulated → ViewEnd → Option (List ℕ) → Option (List ℕ) → Type 0
+IsTabulatedBy None bytes t end old new = IsTabulated bytes t end old new
+IsTabulatedBy (Some by) bytes t end old new = IsTabulatedByWorkers bytes by.cancel t end old new
+
+-- ---- its parts
+
+-- the text of a table is written, or a beginning of it, and the line of a fault answered
+abbrev pub IsTableWritten : Contents AnyModel → Option Fault → List ℕ → ViewEnd → Option (List ℕ) → Option (List ℕ) → Type 0
+IsTableWritten n fault text (Ok line) old new = IsLineOf n fault line × Appends old new text
+IsTableWritten n fault text (Err (Bad why line)) old new = ⊥
+IsTableWritten n fault text (Err (Want why)) old new = (why ≡ refusal.OutOfMemory) × (Keeps old new ⊎ AppendsBeginning old new text)
+IsTableWritten n fault text (Err NoWrite) old new = Unit {0}
+
+-- how a table of a run in order ends: it is written, or the end tick is too late
+abbrev pub IsListed : Listing → ViewEnd → Option (List ℕ) → Option (List ℕ) → Type 0
+IsListed l end old new =
+    IsTableWritten l.run.network.now (run_fault l.run.network.now l.run.until) (listing_text l) end old new
+    ⊎ (Fails end (IsLate l.run.until) × Keeps old new)
+
+-- how a run ends is known, and its table where it is held
+abbrev pub IsTableHeld : Listing → Held → Type 0
+IsTableHeld l held =
+    (held.fault ≡ run_fault l.run.network.now l.run.until) × IfSome held.lines (λ lines. lines.text ≡ listing_text l)

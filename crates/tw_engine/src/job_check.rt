@@ -1,10 +1,13 @@
 //! The job `check`: a look at a network file that simulates nothing.
 
-ghost use Rattle.std.specs.Prelude.{◌≡◌, ℕ, List, Ok, IfOk, string_bytes};
+ghost use Rattle.std.specs.Prelude.{◌≡◌, ℕ, List, Ok, IfErr, IfOk, OnOk, map, string_bytes};
+ghost use Rattle.std.specs.Io.KnownBytes.{Appends};
 ghost use Rattle.serde_json.specs.View.{view};
 ghost use Rattle.tw_file_faults.specs.Lines.{HasNoLineEnd};
 ghost use Rattle.tw_file_network.specs.Meaning.{json_of};
-ghost use Rattle.tw_engine.specs.Checks.{IsCheck, IsCounted, IsTold};
+ghost use Rattle.tw_engine.specs.Checks.{IsCheck, IsTold, IsWarned, count_text};
+ghost use Rattle.tw_engine.specs.declared.failed.Failed.TheVariants as failed;
+ghost use Rattle.tw_machine_warnings.specs.Warning.{warning};
 
 use crate::failed::Failed;
 use serde_json::Value;
@@ -13,36 +16,70 @@ use std::io::Write;
 use tw_any_model::AnyModel;
 use tw_file_faults::{explain, explain_text};
 use tw_file_network::{FileRefused, json_of, network_of_value};
+use tw_file_warnings::warnings_of;
+use tw_machine_warnings::{Warning, lines_of};
 use tw_network::Network;
 use tw_vtime::Refusal;
 
-/// Does the job `check` of [`alone`](crate::alone) on a file's bytes; [`Failed`] where the file is at fault too. It takes no handle, and
-/// so it returns.
+/// Does the job `check` of [`alone`](crate::alone) on a file's bytes; [`Failed`] where the file is at fault too, and where the check is
+/// strict and there is a warning. It takes no handle, and so it returns.
 ///
 /// It fails as the table of [`alone`](crate::alone) says.
-pub fn check<W: Write>(alloc: Global, bytes: &[u8], out: &mut W) -> Result<(), Failed>
-    ensures { IsCheck bytes.now result (W.contents out.old) (W.contents out.new) }
+pub fn check<W: Write>(alloc: Global, bytes: &[u8], strict: bool, out: &mut W) -> Result<(), Failed>
+    ensures { IsCheck bytes.now strict result (W.contents out.old) (W.contents out.new) }
 {
     match json_of(alloc, bytes) {
-        Ok(value) => check_value(alloc, &value, out),
+        Ok(value) => check_value(alloc, &value, strict, out),
         Err(fault) => Err(write_fault(fault, explain_text(alloc, bytes), out)),
     }
 }
 
 /// Checks a file by its JSON value.
-fn check_value<W: Write>(alloc: Global, value: &Value, out: &mut W) -> Result<(), Failed>
+fn check_value<W: Write>(
+    alloc: Global,
+    value: &Value,
+    strict: bool,
+    out: &mut W,
+) -> Result<(), Failed>
     ensures { (bytes : List ℕ) → json_of bytes ≡ Ok (view value.now)
-        → IsCheck bytes result (W.contents out.old) (W.contents out.new) }
+        → IsCheck bytes strict result (W.contents out.old) (W.contents out.new) }
 {
     match network_of_value(alloc, value) {
-        Ok(network) => write_counts(&network, out),
+        Ok(network) => {
+            let warnings = warnings_of(alloc, value)?;
+            write_checked(alloc, &network, warnings.as_slice(), strict, out)
+        }
         Err(fault) => Err(write_fault(fault, explain(alloc, value, fault), out)),
     }
 }
 
+/// Writes what a network has, and a line for each of these warnings. Where the check is strict and there is one, it is refused then (21).
+fn write_checked<W: Write>(
+    alloc: Global,
+    network: &Network<AnyModel>,
+    warnings: &[Warning],
+    strict: bool,
+    out: &mut W,
+) -> Result<(), Failed>
+    ensures { IsWarned network.now (map warning warnings.now) strict result
+        (W.contents out.old) (W.contents out.new) }
+{
+    let lines = lines_of(alloc, warnings)?;
+    write_counts(network, out)?;
+    let Ok(()) = out.write_all(lines.as_bytes()) else {
+        return Err(Failed::NoWrite);
+    };
+    if strict && !warnings.is_empty() {
+        return Err(Failed::from(Refusal::BadShape));
+    }
+    Ok(())
+}
+
 /// Writes how many components, couplings and inputs a network has.
 fn write_counts<W: Write>(network: &Network<AnyModel>, out: &mut W) -> Result<(), Failed>
-    ensures { IsCounted network.now result (W.contents out.old) (W.contents out.new) }
+    ensures ok { OnOk result
+        (Appends (W.contents out.old) (W.contents out.new) (count_text network.now)) }
+    ensures err { IfErr result (λ why. why ≡ failed.NoWrite) }
 {
     let components = network.len();
     let couplings = network.couplings().len();

@@ -1,9 +1,11 @@
 //! The job `run`: a run by workers, or in order where that is left to the program and workers would not pay.
 
-ghost use Rattle.std.specs.Prelude.{◌≡◌, IfErr, IfOk};
+ghost use Rattle.std.specs.Arc.{arc_value};
+ghost use Rattle.std.specs.Prelude.{◌≡◌, ◌≤◌, IfErr, IfOk};
 ghost use Rattle.tw_any_model.specs.AnyModel.{any_meaning};
 ghost use Rattle.tw_exec.specs.Running.{start};
-ghost use Rattle.tw_engine.specs.Runs.{HasNoRun, IsRunByWorkers, IsShown, IsWorked};
+ghost use Rattle.tw_engine.specs.Runs.{HasNoRun, IsRunByWorkers, IsShown, IsUnmade, IsWhole, IsWorked};
+ghost use Rattle.tw_vtime.specs.Stamps.{max_tick};
 ghost use Rattle.tw_workers_progress.specs.Settings.{IsSet};
 
 use crate::choosing::workers_of;
@@ -38,6 +40,17 @@ pub(crate) struct Plan {
     pub(crate) options: RunOptions,
 }
 
+/// A run that workers made.
+#[derive(Drop)]
+pub(crate) struct Made {
+    /// Of this network.
+    pub(crate) network: Arc<Network<AnyModel>>,
+    /// Its records, in the order of its trace.
+    pub(crate) records: Vec<Record>,
+    /// The limit fault that ended it.
+    pub(crate) fault: Option<Fault>,
+}
+
 /// Does the job `run` of [`engine`](crate::engine) on a file's bytes, and answers the fault that the trace ends in, if it ends in one.
 ///
 /// It fails as the table of [`engine`](crate::engine) says.
@@ -66,43 +79,46 @@ pub(crate) fn run_network<R: Threads + Wait + Clock + Eprint + Sync, W: Write>(
     ensures { IsWorked (start any_meaning network plan.cancel plan.until) result
         (W.contents out.old) (W.contents out.new) }
 {
-    let Plan {
-        until,
-        cancel,
-        options,
-    } = plan;
-    match workers_of(rt, alloc, &network, until, options) {
+    match workers_of(rt, alloc, &network, plan.until, plan.options) {
         Some(workers) => {
-            let executive = start_executive(alloc, network, until, cancel)?;
-            let set = setting_of(options, workers);
-            run_executive(rt, alloc, executive, set, options.progress, out)
+            let made = make(rt, alloc, network, plan, workers)?;
+            let records = made.records.as_slice();
+            write_made(alloc, &made.network, records, made.fault, out)
         }
         None => {
             let run = Run {
                 network: &network,
-                until,
+                until: plan.until,
             };
-            let mut teller = Teller::new(rt, until, options.progress);
+            let mut teller = Teller::new(rt, plan.until, plan.options.progress);
             simulate(alloc, &run, &mut teller, out)
         }
     }
 }
 
-/// Runs an executive by workers, and writes the text of its network's run.
-fn run_executive<R: Threads + Wait + Clock + Eprint + Sync, W: Write>(
+/// Has so many workers make a network's run. Where the plan says so, a thread tells on standard error how far it is.
+///
+/// Refused where the end tick is above the greatest one (10), for want of memory (4), or where a process would hold too many nodes (12).
+pub(crate) fn make<R: Threads + Wait + Clock + Eprint + Sync>(
     rt: &R,
     alloc: Global,
-    executive: Executive<AnyModel>,
-    setting: Setting,
-    progress: bool,
-    out: &mut W,
-) -> Result<Option<Fault>, Failed>
-    requires { IsSet setting }
-    ensures { IsWorked executive result (W.contents out.old) (W.contents out.new) }
+    network: Network<AnyModel>,
+    plan: Plan,
+    workers: u64,
+) -> Result<Made, Failed>
+    ensures network { IfOk result (λ made. arc_value made.network ≡ network) }
+    ensures whole { IfOk result (IsWhole plan.until) }
+    ensures err { IfErr result (IsUnmade network plan.cancel plan.until) }
 {
+    let executive = start_executive(alloc, network, plan.until, plan.cancel)?;
     let network = Arc::try_clone(executive.network())?;
-    match run_by_workers(rt, alloc, executive, setting, progress) {
-        Ok((records, fault)) => write_made(alloc, &network, records.as_slice(), fault, out),
+    let setting = setting_of(plan.options, workers);
+    match run_by_workers(rt, alloc, executive, setting, plan.options.progress) {
+        Ok((records, fault)) => Ok(Made {
+            network,
+            records,
+            fault,
+        }),
         Err(why) => Err(Failed::Want(why)),
     }
 }
@@ -135,6 +151,7 @@ fn start_executive(
     cancel: Cancel,
 ) -> Result<Executive<AnyModel>, Failed>
     ensures start { IfOk result (λ e. e ≡ start any_meaning network cancel until) }
+    ensures small { IfOk result (λ _. until ≤ max_tick) }
     ensures err { IfErr result (HasNoRun until) }
 {
     match Executive::with_cancel(alloc, network, until, cancel) {

@@ -1,19 +1,37 @@
-//! The job `stats`: counts, figures and observations of a sequential run.
+//! The job `stats`: counts, figures and observations of a run, in order or by workers.
 
+ghost use Rattle.std.specs.Prelude.{◌≤◌, map};
 ghost use Rattle.serde_json.specs.View.{view};
+ghost use Rattle.tw_any_model.specs.AnyModel.{any_meaning};
 ghost use Rattle.tw_figure_names.specs.Said.{labels_said};
-ghost use Rattle.tw_engine.specs.Views.{IsSummed, IsSummedOf, summary_of};
+ghost use Rattle.tw_engine.specs.Views.{IsReportWritten, IsSummed, IsSummedByWorkers, IsSummedOf, summary_of};
+ghost use Rattle.tw_figures.specs.Labelled.{label};
+ghost use Rattle.tw_network.specs.Contents.{network_of};
+ghost use Rattle.tw_stats.specs.Gathering.{BeforeEnd, IsMade};
+ghost use Rattle.tw_theory.specs.Simulator.{sequential};
+ghost use Rattle.tw_vtime.specs.Stamps.{max_tick};
 
+use crate::choosing::workers_of;
 use crate::failed::Failed;
 use crate::faults::fault_line;
+use crate::job_run::{Plan, make};
 use crate::names::NetworkNames;
 use crate::reading::{NetworkFile, file_in};
 use crate::shown::shown_in;
+use crate::telling::Teller;
+use serde_json::Value;
 use std::alloc::Global;
 use std::io::Write;
+use std::sync::Wait;
+use std::thread::Threads;
+use std::time::Clock;
+use tw_any_model::AnyModel;
+use tw_cli::ByWorkers;
 use tw_figure_names::labels_in;
+use tw_figures::Labels;
 use tw_listen::Listener;
-use tw_stats::{Layout, report_of, write_report};
+use tw_network::Network;
+use tw_stats::{Layout, MadeRun, Report, report_of, report_of_made, write_report};
 use tw_vtime::Refusal;
 
 /// What is told of a run, and how.
@@ -74,14 +92,96 @@ fn sum_up<L: Listener, W: Write>(
         Ok(report) => report,
         Err(why) => return Err(Failed::from(Refusal::from(why))),
     };
-    let line = fault_line(alloc, network, report.fault)?;
-    let names = NetworkNames { network };
     let layout = Layout {
         json: summary.json,
         shown: shown.as_slice(),
     };
-    match write_report(alloc, &report, &names, labels, &layout, out) {
+    write_up(alloc, network, labels, &layout, &report, out)
+}
+
+/// Writes a report of a network's run, and answers the line of the run's fault, if it ends in one.
+fn write_up<W: Write>(
+    alloc: Global,
+    network: &Network<AnyModel>,
+    labels: &[Labels],
+    layout: &Layout<'_>,
+    report: &Report,
+    out: &mut W,
+) -> Result<Option<String>, Failed>
+    requires { BeforeEnd report.now.fault }
+    ensures { let said = map label labels.now in
+        IsReportWritten network.now said layout.now.shown.now layout.now.json report.now
+        result (W.contents out.old) (W.contents out.new) }
+{
+    let line = fault_line(alloc, network, report.fault)?;
+    let names = NetworkNames { network };
+    match write_report(alloc, report, &names, labels, layout, out) {
         Ok(()) => Ok(line),
         Err(why) => Err(Failed::from(why)),
     }
+}
+
+/// Does the job `stats` of [`engine`](crate::engine) on a file's bytes by workers, and answers the line of the run's fault, if it ends in
+/// one.
+///
+/// It fails as the table of [`engine`](crate::engine) says.
+pub(crate) fn stats_by_workers<R: Threads + Wait + Clock + Eprint + Sync, W: Write>(
+    rt: &R,
+    alloc: Global,
+    bytes: &[u8],
+    summary: &Summary<'_>,
+    by: ByWorkers,
+    out: &mut W,
+) -> Result<Option<String>, Failed>
+    ensures { IsSummedByWorkers bytes.now by.cancel (summary_of summary.now) result
+        (W.contents out.old) (W.contents out.new) }
+{
+    let file = file_in(alloc, bytes)?;
+    let plan = Plan {
+        until: summary.until,
+        cancel: by.cancel,
+        options: by.setting,
+    };
+    match workers_of(rt, alloc, &file.network, plan.until, plan.options) {
+        Some(workers) => {
+            let NetworkFile { value, network } = file;
+            let made = make(rt, alloc, network, plan, workers)?;
+            let run = MadeRun {
+                records: made.records.as_slice(),
+                fault: made.fault,
+            };
+            sum_up_made(alloc, &value, &made.network, &run, summary, out)
+        }
+        None => {
+            let mut teller = Teller::new(rt, plan.until, plan.options.progress);
+            sum_up(alloc, &file, summary, &mut teller, out)
+        }
+    }
+}
+
+/// Writes the counts, the figures and the observations of a run that is made, with the names that its network's file has for them.
+fn sum_up_made<W: Write>(
+    alloc: Global,
+    value: &Value,
+    network: &Network<AnyModel>,
+    run: &MadeRun<'_>,
+    summary: &Summary<'_>,
+    out: &mut W,
+) -> Result<Option<String>, Failed>
+    requires small { summary.now.until ≤ max_tick }
+    requires made { let net = network_of any_meaning network.now in
+        IsMade (sequential net summary.now.until) run.now }
+    ensures { let n = network.now in
+        IsSummedOf n (labels_said (view value.now) n.models) (summary_of summary.now)
+        result (W.contents out.old) (W.contents out.new) }
+{
+    let shown = shown_in(alloc, network, summary.only)?;
+    let labels = labels_in(alloc, value, network)?;
+    let labels = labels.as_slice();
+    let report = report_of_made(alloc, network, labels, summary.from, summary.until, run)?;
+    let layout = Layout {
+        json: summary.json,
+        shown: shown.as_slice(),
+    };
+    write_up(alloc, network, labels, &layout, &report, out)
 }

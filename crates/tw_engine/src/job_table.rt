@@ -1,23 +1,44 @@
-//! The job `table`: the records of a sequential run, or how its figures changed, as comma-separated values.
+//! The job `table`: the records of a run, or how its figures changed, as comma-separated values; in order or by workers.
 
-ghost use Rattle.std.specs.Prelude.{ℕ, Bool, List};
+ghost use Rattle.std.specs.Prelude.{◌≡◌, ◌≤◌, Bool, IfSome, List, ℕ};
 ghost use Rattle.serde_json.specs.View.{view};
-ghost use Rattle.tw_engine.specs.Views.{IsTabulated, IsTabulatedOf, figures_table, run_table, tabulation_of};
+ghost use Rattle.tw_any_model.specs.AnyModel.{any_meaning};
+ghost use Rattle.tw_engine.specs.Views.{IsListed, IsTableHeld, IsTableWritten, IsTabulated, IsTabulatedByWorkers, IsTabulatedOf, figures_table, listing_text, run_table, table_with, tabulation_of};
 ghost use Rattle.tw_figure_names.specs.Said.{labels_said};
+ghost use Rattle.tw_network.specs.Contents.{network_of};
+ghost use Rattle.tw_stats.specs.Gathering.{IsMade};
+ghost use Rattle.tw_theory.specs.Simulator.{sequential};
+ghost use Rattle.tw_vtime.specs.Stamps.{max_tick};
 
+use crate::choosing::workers_of;
 use crate::failed::Failed;
 use crate::faults::{fault_line, fault_of};
+use crate::job_run::{Plan, make};
 use crate::names::NetworkNames;
 use crate::reading::{NetworkFile, Run, file_in, network_in};
 use crate::shown::shown_in;
+use crate::telling::Teller;
+use serde_json::Value;
 use std::alloc::Global;
 use std::io::Write;
+use std::sync::Wait;
+use std::thread::Threads;
+use std::time::Clock;
+use tw_actions::Fault;
 use tw_any_model::AnyModel;
+use tw_cli::ByWorkers;
 use tw_figure_names::labels_in;
 use tw_figures::{Rows, Tabled};
 use tw_listen::Listener;
 use tw_network::Network;
-use tw_record_lines::{FigureTable, Table, write_figures, write_table};
+use tw_record_lines::{
+    FigureTable, Held, Table, hold_table, write_figures, write_figures_of, write_table,
+    write_table_of,
+};
+use tw_rounds::meets_no_limit;
+use tw_stats::MadeRun;
+use tw_texts::Lines;
+use tw_vtime::MAX_TICK;
 
 /// What of a run stands in a table.
 #[derive(Clone, Copy, Debug, PartialEq, Eq)]
@@ -58,8 +79,16 @@ pub fn table<L: Listener, W: Write>(
     }
 }
 
-/// Writes the table of the records of a network's run. The fault is worked out first, so that nothing is written before the outcome is
-/// known.
+/// A table of records: of which run, what its lines are of, which components it shows, and from which tick on.
+#[derive(Clone, Copy)]
+pub(crate) struct Listing<'a> {
+    pub(crate) run: Run<'a>,
+    pub(crate) rows: Rows,
+    pub(crate) shown: &'a [bool],
+    pub(crate) from: u64,
+}
+
+/// Writes the table of the records of a network's run.
 fn tabulate<L: Listener, W: Write>(
     alloc: Global,
     network: &Network<AnyModel>,
@@ -74,16 +103,96 @@ fn tabulate<L: Listener, W: Write>(
         IsTabulatedOf network.now written t result (W.contents out.old) (W.contents out.new) }
 {
     let shown = shown_in(alloc, network, tabulation.only)?;
-    let until = tabulation.until;
-    let run = Run { network, until };
-    let fault = fault_of(alloc, &run, listener)?;
+    let listing = Listing {
+        run: Run {
+            network,
+            until: tabulation.until,
+        },
+        rows,
+        shown: shown.as_slice(),
+        from: tabulation.from,
+    };
+    list(alloc, &listing, listener, out)
+}
+
+/// Simulates a network in order, and writes a table of its records. Nothing is written before it is known how the run ends: where that is
+/// not plain beforehand, the table is held as long as it is short; else the fault is worked out first, and the run is made twice.
+fn list<L: Listener, W: Write>(
+    alloc: Global,
+    listing: &Listing<'_>,
+    listener: &mut L,
+    out: &mut W,
+) -> Result<Option<String>, Failed>
+    ensures { IsListed listing.now result (W.contents out.old) (W.contents out.new) }
+{
+    if let Some(held) = held_of(alloc, listing, listener) {
+        let Held { fault, lines } = held;
+        return match lines {
+            Some(lines) => write_held(alloc, listing, fault, lines, out),
+            None => write_streamed(alloc, listing, fault, listener, out),
+        };
+    }
+    let fault = fault_of(alloc, &listing.run, listener)?;
+    write_streamed(alloc, listing, fault, listener, out)
+}
+
+/// How a run ends, and a table of it if that was held; or none, where it is plain beforehand that no limit is met, where the end tick is
+/// above the greatest one, or where memory was refused.
+fn held_of<L: Listener>(alloc: Global, listing: &Listing<'_>, listener: &mut L) -> Option<Held>
+    ensures small { IfSome result (λ _. listing.now.run.until ≤ max_tick) }
+    ensures held { IfSome result (IsTableHeld listing.now) }
+{
+    let Run { network, until } = listing.run;
+    if until > MAX_TICK || meets_no_limit(network, until) {
+        return None;
+    }
+    let names = NetworkNames { network };
+    let table = Table {
+        rows: listing.rows,
+        names: &names,
+        shown: listing.shown,
+        from: listing.from,
+    };
+    hold_table(alloc, network, until, &table, listener).ok()
+}
+
+/// Writes a table that is held, of a run that ends in this fault or in none.
+fn write_held<W: Write>(
+    alloc: Global,
+    listing: &Listing<'_>,
+    fault: Option<Fault>,
+    mut lines: Lines,
+    out: &mut W,
+) -> Result<Option<String>, Failed>
+    requires { lines.text ≡ listing_text listing.now }
+    ensures { IsTableWritten listing.now.run.network.now fault (listing_text listing.now)
+        result (W.contents out.old) (W.contents out.new) }
+{
+    let line = fault_line(alloc, listing.run.network, fault)?;
+    lines.write_out(out)?;
+    Ok(line)
+}
+
+/// Writes a table of a run that ends in this fault or in none, as the run is made.
+fn write_streamed<L: Listener, W: Write>(
+    alloc: Global,
+    listing: &Listing<'_>,
+    fault: Option<Fault>,
+    listener: &mut L,
+    out: &mut W,
+) -> Result<Option<String>, Failed>
+    requires { listing.now.run.until ≤ max_tick }
+    ensures { IsTableWritten listing.now.run.network.now fault (listing_text listing.now)
+        result (W.contents out.old) (W.contents out.new) }
+{
+    let Run { network, until } = listing.run;
     let line = fault_line(alloc, network, fault)?;
     let names = NetworkNames { network };
     let table = Table {
-        rows,
+        rows: listing.rows,
         names: &names,
-        shown: shown.as_slice(),
-        from: tabulation.from,
+        shown: listing.shown,
+        from: listing.from,
     };
     write_table(alloc, network, until, &table, listener, out)?;
     Ok(line)
@@ -119,5 +228,148 @@ fn tabulate_figures<L: Listener, W: Write>(
         from: tabulation.from,
     };
     write_figures(alloc, network, until, &table, listener, out)?;
+    Ok(line)
+}
+
+/// Does the job `table` of [`engine`](crate::engine) on a file's bytes by workers, and answers the line of the run's fault, if it ends in
+/// one.
+///
+/// It fails as the table of [`engine`](crate::engine) says.
+pub(crate) fn table_by_workers<R: Threads + Wait + Clock + Eprint + Sync, W: Write>(
+    rt: &R,
+    alloc: Global,
+    bytes: &[u8],
+    tabulation: &Tabulation<'_>,
+    by: ByWorkers,
+    out: &mut W,
+) -> Result<Option<String>, Failed>
+    ensures { IsTabulatedByWorkers bytes.now by.cancel (tabulation_of tabulation.now) result
+        (W.contents out.old) (W.contents out.new) }
+{
+    let file = file_in(alloc, bytes)?;
+    let plan = Plan {
+        until: tabulation.until,
+        cancel: by.cancel,
+        options: by.setting,
+    };
+    match workers_of(rt, alloc, &file.network, plan.until, plan.options) {
+        Some(workers) => {
+            let NetworkFile { value, network } = file;
+            let made = make(rt, alloc, network, plan, workers)?;
+            let run = MadeRun {
+                records: made.records.as_slice(),
+                fault: made.fault,
+            };
+            tabulate_made(alloc, &value, &made.network, &run, tabulation, out)
+        }
+        None => {
+            let mut teller = Teller::new(rt, plan.until, plan.options.progress);
+            tabulate_file(alloc, &file, tabulation, &mut teller, out)
+        }
+    }
+}
+
+/// Writes the table of a network's run in order, with the names that its file has for its figures.
+fn tabulate_file<L: Listener, W: Write>(
+    alloc: Global,
+    file: &NetworkFile,
+    tabulation: &Tabulation<'_>,
+    listener: &mut L,
+    out: &mut W,
+) -> Result<Option<String>, Failed>
+    ensures { let t = tabulation_of tabulation.now in
+        let n = file.now.network in
+        IsTabulatedOf n (table_with n (labels_said (view file.now.value) n.models) t) t
+        result (W.contents out.old) (W.contents out.new) }
+{
+    match tabulation.of {
+        Tabled::OfRun(rows) => tabulate(alloc, &file.network, rows, tabulation, listener, out),
+        Tabled::OfFigures => tabulate_figures(alloc, file, tabulation, listener, out),
+    }
+}
+
+/// Writes the table of a run that is made, with the names that its network's file has for its figures.
+fn tabulate_made<W: Write>(
+    alloc: Global,
+    value: &Value,
+    network: &Network<AnyModel>,
+    run: &MadeRun<'_>,
+    tabulation: &Tabulation<'_>,
+    out: &mut W,
+) -> Result<Option<String>, Failed>
+    requires small { tabulation.now.until ≤ max_tick }
+    requires made { let net = network_of any_meaning network.now in
+        IsMade (sequential net tabulation.now.until) run.now }
+    ensures { let t = tabulation_of tabulation.now in
+        let n = network.now in
+        IsTabulatedOf n (table_with n (labels_said (view value.now) n.models) t) t
+        result (W.contents out.old) (W.contents out.new) }
+{
+    match tabulation.of {
+        Tabled::OfRun(rows) => tabulate_made_rows(alloc, network, rows, run, tabulation, out),
+        Tabled::OfFigures => tabulate_made_figures(alloc, value, network, run, tabulation, out),
+    }
+}
+
+/// Writes the table of the records of a run that is made.
+fn tabulate_made_rows<W: Write>(
+    alloc: Global,
+    network: &Network<AnyModel>,
+    rows: Rows,
+    run: &MadeRun<'_>,
+    tabulation: &Tabulation<'_>,
+    out: &mut W,
+) -> Result<Option<String>, Failed>
+    requires { let net = network_of any_meaning network.now in
+        IsMade (sequential net tabulation.now.until) run.now }
+    ensures { let t = tabulation_of tabulation.now in
+        let written : List Bool → List ℕ = λ shown.
+        run_table network.now rows shown t.from t.until in
+        IsTabulatedOf network.now written t result (W.contents out.old) (W.contents out.new) }
+{
+    let shown = shown_in(alloc, network, tabulation.only)?;
+    let line = fault_line(alloc, network, run.fault)?;
+    let names = NetworkNames { network };
+    let table = Table {
+        rows,
+        names: &names,
+        shown: shown.as_slice(),
+        from: tabulation.from,
+    };
+    write_table_of(alloc, run.records, &table, out)?;
+    Ok(line)
+}
+
+/// Writes the table of the figures of a run that is made, with the names that its network's file has for them.
+fn tabulate_made_figures<W: Write>(
+    alloc: Global,
+    value: &Value,
+    network: &Network<AnyModel>,
+    run: &MadeRun<'_>,
+    tabulation: &Tabulation<'_>,
+    out: &mut W,
+) -> Result<Option<String>, Failed>
+    requires small { tabulation.now.until ≤ max_tick }
+    requires made { let net = network_of any_meaning network.now in
+        IsMade (sequential net tabulation.now.until) run.now }
+    ensures { let t = tabulation_of tabulation.now in
+        let n = network.now in
+        let labels = labels_said (view value.now) n.models in
+        let written : List Bool → List ℕ = λ shown.
+        figures_table n labels shown t.from t.until in
+        IsTabulatedOf n written t result (W.contents out.old) (W.contents out.new) }
+{
+    network.facts();
+    let shown = shown_in(alloc, network, tabulation.only)?;
+    let labels = labels_in(alloc, value, network)?;
+    let line = fault_line(alloc, network, run.fault)?;
+    let names = NetworkNames { network };
+    let table = FigureTable {
+        names: &names,
+        labels: labels.as_slice(),
+        shown: shown.as_slice(),
+        from: tabulation.from,
+    };
+    write_figures_of(alloc, network, run.records, &table, out)?;
     Ok(line)
 }

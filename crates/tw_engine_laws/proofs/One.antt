@@ -6,7 +6,7 @@ use Rattle.std.specs.Prelude.{Bool, codes}
 use Rattle.tw_any_model.specs.AnyModel.{any_meaning}
 use Rattle.tw_any_model.specs.declared.any_model.AnyModel.{AnyModel}
 use Rattle.tw_any_model.specs.declared.any_model.AnyState.{AnyState}
-use Rattle.tw_engine.specs.Checks.{check_text}
+use Rattle.tw_engine.specs.Checks.{count_text}
 use Rattle.tw_engine.specs.Runs.{fault_text, name_in, run_fault, run_text}
 use Rattle.tw_engine.specs.Views.{run_table}
 use Rattle.tw_figures.specs.declared.seeing.Rows.{Rows}
@@ -64,8 +64,8 @@ counts_text components couplings inputs =
     ++ (decimal couplings ++ (codes " couplings, "
     ++ (decimal inputs ++ codes " inputs\n")))))
 
-pub one_check : (n m : Contents AnyModel) → AreOne n m → check_text n ≡ check_text m
-one_check n m one =
+pub one_count : (n m : Contents AnyModel) → AreOne n m → count_text n ≡ count_text m
+one_count n m one =
     let same = one.same in
     ap (λ k. counts_text k (length n.couplings) (length n.inputs)) (ap length (sym same.models))
     ∙ ap (λ k. counts_text (length m.models) k (length n.inputs)) (sym (length_permutation n.couplings m.couplings same.couplings))

@@ -11,22 +11,24 @@ use Rattle.tw_cli.specs.declared.driving.Driver.TheVariants.{Script, Seed}
 use Rattle.tw_cli.specs.declared.jobs.Job.{Job}
 use Rattle.tw_cli.specs.declared.jobs.Job.TheVariants.{Demo, Check, Dot, Simulate}
 use Rattle.tw_cli.specs.declared.jobs.Task.TheVariants.{Seq, Stats, Table, Draw, Run, Play}
+use Rattle.tw_cli.specs.declared.setting.ByWorkers.{ByWorkers}
 use Rattle.tw_figures.specs.Shown.{shown_of}
 use Rattle.tw_figures.specs.declared.seeing.Tabled.{Tabled}
 use Rattle.tw_figures.specs.declared.seeing.Tabled.TheVariants.{OfRun, OfFigures}
 use Rattle.tw_stats.specs.Written.{report_bytes}
 use Rattle.std.proofs.lemmas.Option.{same_Some}
-use Rattle.tw_engine.specs.Checks.{IsCheck, check_text}
+use Rattle.tw_engine.specs.Checks.{IsCheck, check_text, warnings_in}
 use Rattle.tw_engine.specs.Ends.{Fault}
 use Rattle.tw_engine.specs.Exits.{exit_of, exit_of_rest, exit_of_run, exit_of_view, line_of, status_of}
 use Rattle.tw_engine.specs.Jobs.{Ends, IsPlay, IsScriptedBy}
 use Rattle.tw_engine.specs.Plays.{IsScripted, IsSeeded, committed_text, first}
 use Rattle.tw_engine.specs.Runs.{IsDemo, IsRun, IsRunByWorkers, demo_network, name_in, run_fault, run_text}
-use Rattle.tw_engine.specs.Views.{IsLineOf, IsSummed, IsTabulated, IsTabulatedOf, Summed, Tabulated, file_labels, table_with}
+use Rattle.tw_machine_warnings.specs.Warning.{lines_of}
+use Rattle.tw_engine.specs.Views.{IsLineOf, IsSummed, IsSummedBy, IsTabulated, IsTabulatedBy, IsTabulatedOf, Summed, Tabulated, file_labels, table_with}
 use Rattle.tw_engine.specs.declared.exit.Exit.{Exit}
 use Rattle.tw_engine.specs.declared.failed.Failed.{Failed}
 use Rattle.tw_engine.specs.declared.failed.Failed.TheVariants as failed
-use Rattle.tw_engine_laws.proofs.One.{AreOne, are_one, one_check, one_fault, one_line, one_run, one_table}
+use Rattle.tw_engine_laws.proofs.One.{AreOne, are_one, one_count, one_fault, one_line, one_run, one_table}
 use Rattle.tw_engine_laws.proofs.OnePlay.{draw_one, full_before, play_one}
 use Rattle.tw_engine_laws.proofs.OneSummary.{one_figures, one_summary}
 use Rattle.tw_engine_laws.specs.OneText.{HasFullLine, HasOneText, IsDoneWhole, IsSameEnd, WasFull}
@@ -119,10 +121,12 @@ module _ (means : (bytes : List ℕ) → MeansOne bytes) (law : CouplingsLaw Any
       let same : exit_of_run (Ok fault) ≡ exit_of_run (Ok fault') = ap (λ f. exit_of_run (Ok f)) (done.0 ∙ sym done'.0) in
       same_end exit exit' _ _ new new' is is' (one_out old new new' (run_text demo_network 5) (run_text demo_network 5) done.1 done'.1 refl) (ap status_of same) (ap line_of same)
 
-  check_ends : (done done' : Unit {0}) → exit ≡ exit_of_rest (Ok done) → exit' ≡ exit_of_rest (Ok done')
-      → IsCheck bytes (Ok done) (Some old) (Some new) → IsCheck bytes (Ok done') (Some old) (Some new') → IsSameEnd exit exit' new new'
-  check_ends done done' is is' (n, of_n, out) (m, of_m, out') =
-      whole_end exit exit' new new' is is' (one_out old new new' (check_text n) (check_text m) out out' (one_check n m (one n m of_n of_m)))
+  check_ends : (strict : Bool) (done done' : Unit {0}) → exit ≡ exit_of_rest (Ok done) → exit' ≡ exit_of_rest (Ok done')
+      → IsCheck bytes strict (Ok done) (Some old) (Some new) → IsCheck bytes strict (Ok done') (Some old) (Some new') → IsSameEnd exit exit' new new'
+  check_ends strict done done' is is' (n, of_n, checked) (m, of_m, checked') =
+      let odd = warnings_in bytes in
+      whole_end exit exit' new new' is is' (one_out old new new' (check_text n odd) (check_text m odd) checked.1 checked'.1
+      (ap (λ t. t ++ lines_of odd) (one_count n m (one n m of_n of_m))))
 
   -- what is shown is one
   one_shown : (only : Option (List ℕ)) (n m : Contents AnyModel) → AreOne n m → (shown shown' : List Bool) → shown_of n.names only ≡ Some shown → shown_of m.names only ≡ Some shown' → shown ≡ shown'
@@ -165,6 +169,22 @@ module _ (means : (bytes : List ℕ) → MeansOne bytes) (law : CouplingsLaw Any
       (one_out old new new' _ _ done.1.written done'.1.written
       (one_summary bytes n m of_n same s.from s.until s.json done.1.shown done.1.report done'.1.report done.1.is done'.1.is
       ∙ ap (λ l. report_bytes s.json (name_in m.names) (file_labels bytes m) l done'.1.report) shown)) done.0 done'.0
+
+  -- in order or by workers, who give up before all is written
+  summed_ends : (by : Option ByWorkers) (s : Summed) (line line' : Option (String Global)) → exit ≡ exit_of_view (Ok line) → exit' ≡ exit_of_view (Ok line')
+      → IsSummedBy by bytes s (Ok line) (Some old) (Some new) → IsSummedBy by bytes s (Ok line') (Some old) (Some new') → IsSameEnd exit exit' new new'
+  summed_ends None s line line' is is' done done' = stats_ends s line line' is is' done done'
+  summed_ends (Some by) s line line' is is' (inl done) (inl done') = stats_ends s line line' is is' done done'
+  summed_ends (Some by) s line line' is is' (inr (n, of_n, full)) done' = absurd full.0
+  summed_ends (Some by) s line line' is is' (inl done) (inr (n, of_n, full)) = absurd full.0
+
+  tabled_ends : (by : Option ByWorkers) (only : Option (List ℕ)) (from until : ℕ) (of : Tabled) (line line' : Option (String Global)) → exit ≡ exit_of_view (Ok line) → exit' ≡ exit_of_view (Ok line')
+      → IsTabulatedBy by bytes (record { only = only; from = from; until = until; of = of }) (Ok line) (Some old) (Some new)
+      → IsTabulatedBy by bytes (record { only = only; from = from; until = until; of = of }) (Ok line') (Some old) (Some new') → IsSameEnd exit exit' new new'
+  tabled_ends None only from until of line line' is is' done done' = tabulated_ends only from until of line line' is is' done done'
+  tabled_ends (Some by) only from until of line line' is is' (inl done) (inl done') = tabulated_ends only from until of line line' is is' done done'
+  tabled_ends (Some by) only from until of line line' is is' (inr (n, of_n, full)) done' = absurd full.0
+  tabled_ends (Some by) only from until of line line' is is' (inl done) (inr (n, of_n, full)) = absurd full.0
 
 -- ---- plays
 
@@ -240,26 +260,26 @@ module _ (means : (bytes : List ℕ) → MeansOne bytes) (scripts : ScriptLaw) (
       let e = end_of exit_of_run run_fails (λ end. IsDemo end (Some old) (Some new)) exit done whole in
       let f = end_of exit_of_run run_fails (λ end. IsDemo end (Some old) (Some new')) exit' done' whole' in
       demo_ends means law bytes exit exit' old new new' e.0 f.0 e.1 f.1 e.2 f.2
-  one_text (Check net) bytes script old new new' exit exit' done done' whole whole' =
-      let e = end_of exit_of_rest rest_fails (λ end. IsCheck bytes end (Some old) (Some new)) exit done whole in
-      let f = end_of exit_of_rest rest_fails (λ end. IsCheck bytes end (Some old) (Some new')) exit' done' whole' in
-      check_ends means law bytes exit exit' old new new' e.0 f.0 e.1 f.1 e.2 f.2
+  one_text (Check net strict) bytes script old new new' exit exit' done done' whole whole' =
+      let e = end_of exit_of_rest rest_fails (λ end. IsCheck bytes strict end (Some old) (Some new)) exit done whole in
+      let f = end_of exit_of_rest rest_fails (λ end. IsCheck bytes strict end (Some old) (Some new')) exit' done' whole' in
+      check_ends means law bytes exit exit' old new new' strict e.0 f.0 e.1 f.1 e.2 f.2
   one_text (Dot net) bytes script old new new' exit exit' done done' whole whole' = tt
   one_text (Simulate net until (Seq progress)) bytes script old new new' exit exit' done done' whole whole' =
       let e = end_of exit_of_run run_fails (λ end. IsRun bytes until end (Some old) (Some new)) exit done whole in
       let f = end_of exit_of_run run_fails (λ end. IsRun bytes until end (Some old) (Some new')) exit' done' whole' in
       run_ends means law bytes exit exit' old new new' until e.0 f.0 e.1 f.1 e.2 f.2
-  one_text (Simulate net until (Stats from only json progress)) bytes script old new new' exit exit' done done' whole whole' =
+  one_text (Simulate net until (Stats from only json progress by)) bytes script old new new' exit exit' done done' whole whole' =
       let it : Summed = record { only = option_map (λ o. o.now) only; from = from; until = until; json = json } in
-      let e = end_of exit_of_view view_fails (λ end. IsSummed bytes it end (Some old) (Some new)) exit done whole in
-      let f = end_of exit_of_view view_fails (λ end. IsSummed bytes it end (Some old) (Some new')) exit' done' whole' in
-      stats_ends means law bytes exit exit' old new new' it e.0 f.0 e.1 f.1 e.2 f.2
-  one_text (Simulate net until (Table from only tabled progress)) bytes script old new new' exit exit' done done' whole whole' =
+      let e = end_of exit_of_view view_fails (λ end. IsSummedBy by bytes it end (Some old) (Some new)) exit done whole in
+      let f = end_of exit_of_view view_fails (λ end. IsSummedBy by bytes it end (Some old) (Some new')) exit' done' whole' in
+      summed_ends means law bytes exit exit' old new new' by it e.0 f.0 e.1 f.1 e.2 f.2
+  one_text (Simulate net until (Table from only tabled progress by)) bytes script old new new' exit exit' done done' whole whole' =
       let shown = option_map (λ o. o.now) only in
       let it : Tabulated = record { only = shown; from = from; until = until; of = tabled } in
-      let e = end_of exit_of_view view_fails (λ end. IsTabulated bytes it end (Some old) (Some new)) exit done whole in
-      let f = end_of exit_of_view view_fails (λ end. IsTabulated bytes it end (Some old) (Some new')) exit' done' whole' in
-      tabulated_ends means law bytes exit exit' old new new' shown from until tabled e.0 f.0 e.1 f.1 e.2 f.2
+      let e = end_of exit_of_view view_fails (λ end. IsTabulatedBy by bytes it end (Some old) (Some new)) exit done whole in
+      let f = end_of exit_of_view view_fails (λ end. IsTabulatedBy by bytes it end (Some old) (Some new')) exit' done' whole' in
+      tabled_ends means law bytes exit exit' old new new' by shown from until tabled e.0 f.0 e.1 f.1 e.2 f.2
   one_text (Simulate net until (Draw picture)) bytes script old new new' exit exit' done done' whole whole' = tt
   one_text (Simulate net until (Run cancel setting)) bytes script old new new' exit exit' done done' whole whole' =
       let e = end_of exit_of_run run_fails (λ end. IsRunByWorkers bytes cancel until end (Some old) (Some new)) exit done whole in

@@ -49,15 +49,15 @@ WasFull old new = (text : List ℕ) × (new ≡ old ++ text) × HasFullLine text
 -- a step that would otherwise be made
 abbrev pub AreOneTask : Task → Exit → Exit → List ℕ → List ℕ → List ℕ → Type 0
 AreOneTask (Seq progress) exit exit' old new new' = IsSameEnd exit exit' new new'
-AreOneTask (Stats from only json progress) exit exit' old new new' = IsSameEnd exit exit' new new'
-AreOneTask (Table from only tabled progress) exit exit' old new new' = IsSameEnd exit exit' new new'
+AreOneTask (Stats from only json progress by) exit exit' old new new' = IsSameEnd exit exit' new new'
+AreOneTask (Table from only tabled progress by) exit exit' old new new' = IsSameEnd exit exit' new new'
 AreOneTask (Draw picture) exit exit' old new new' = ⊤
 AreOneTask (Run cancel setting) exit exit' old new new' = IsSameEnd exit exit' new new'
 AreOneTask (Play cancel driver) exit exit' old new new' = WasFull old new ⊎ (WasFull old new' ⊎ IsSameEnd exit exit' new new')
 
 abbrev pub AreOneEnd : Job → Exit → Exit → List ℕ → List ℕ → List ℕ → Type 0
 AreOneEnd Demo exit exit' old new new' = IsSameEnd exit exit' new new'
-AreOneEnd (Check net) exit exit' old new new' = IsSameEnd exit exit' new new'
+AreOneEnd (Check net strict) exit exit' old new new' = IsSameEnd exit exit' new new'
 AreOneEnd (Dot net) exit exit' old new new' = ⊤
 AreOneEnd (Simulate net until task) exit exit' old new new' = AreOneTask task exit exit' old new new'
 

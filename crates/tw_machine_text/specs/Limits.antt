@@ -16,7 +16,7 @@ max_levels = 64
 abbrev pub levels_end : ℕ
 levels_end = 65
 
--- the same of a text as it is written, before it is in the core: `length(t)` of a table is a level and a node more there. No text of which the core is within its limits passes these
+-- the same of a text as it is written, before it is in the core: `length(t)` of a table is a level and a node more there. Where the core of a text is within its limits, so is the text, unless it runs very many procedures that are empty
 abbrev pub written_levels : ℕ
 written_levels = 65
 

@@ -14,11 +14,9 @@ use std::alloc::Global;
 use std::io::Write;
 use tw_atomic::Atomic;
 use tw_listen::{Listener, Reached};
-use tw_msgs::Record;
 use tw_network::Network;
 use tw_rounds::{Advanced, advance, begin};
 use tw_texts::{Names, NotWritten, write_out, write_portion};
-use tw_vtime::Stamp;
 
 /// Simulates a network up to the end tick `until`, and writes this table of the figures of those components that it shows: first
 /// all, with the values with which they come to its first tick, and then each that changed with a transition from there on. It writes
@@ -78,7 +76,7 @@ pub fn write_figures<M: Atomic, N: Names, L: Listener, W: Write>(
                     return Err(NotWritten::OutOfMemory);
                 };
                 seen = seen.saturating_add(outputs.len() as u64);
-                listener.hear(reached(outputs.as_slice(), seen));
+                listener.hear(Reached::after(outputs.as_slice(), seen));
                 outputs.clear();
                 write_portion(&mut lines.text, out)?;
             }
@@ -92,19 +90,5 @@ pub fn write_figures<M: Atomic, N: Names, L: Listener, W: Write>(
                 return write_out(&mut lines.text, out);
             }
         }
-    }
-}
-
-/// How far a run is whose latest round has these records, and which has so many in all.
-fn reached(round: &[Record], records: u64) -> Reached {
-    match round.last() {
-        Some(record) => Reached {
-            at: record.stamp,
-            records,
-        },
-        None => Reached {
-            at: Stamp::START,
-            records,
-        },
     }
 }

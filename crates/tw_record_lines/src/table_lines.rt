@@ -71,7 +71,7 @@ impl<'a, N: Names> TableLines<'a, N> {
     /// Refused for want of memory (4).
     pub(crate) fn take_record(
         &mut self,
-        record: &Record,
+        step: &Record,
         words: &mut Vec<i128>,
     ) -> Result<(), AllocError>
         ensures names { OnOk result (self.new.names.now ≡ self.old.names.now) }
@@ -80,15 +80,15 @@ impl<'a, N: Names> TableLines<'a, N> {
         ensures from { OnOk result (self.new.from ≡ self.old.from) }
         ensures lines { let name_of = N.name_of self.old.names.now in
             OnOk result (self.new.lines.text ≡ self.old.lines.text
-            ++ rows_text self.old.rows name_of (listed self.old.shown.now self.old.from (record.now ∷ []))) }
+            ++ rows_text self.old.rows name_of (listed self.old.shown.now self.old.from (step.now ∷ []))) }
     {
         words.clear();
-        record.words.append_to(words)?;
+        step.words.append_to(words)?;
         self.take(
-            record.component,
-            record.stamp,
-            record.kind,
-            &record.bag,
+            step.component,
+            step.stamp,
+            step.kind,
+            &step.bag,
             words.as_slice(),
         )
     }

@@ -16,7 +16,6 @@ use tw_listen::{Listener, Reached};
 use tw_msgs::{Record, Words};
 use tw_network::Network;
 use tw_rounds::{Advanced, Fault, SeqRefused, Simulation, advance, begin};
-use tw_vtime::Stamp;
 
 /// A run of a network that is made.
 #[derive(Clone, Copy, Debug)]
@@ -139,7 +138,7 @@ fn follow<M: Atomic, L: Listener>(
                 let records = outputs.as_slice();
                 gathered.take_all(records)?;
                 seen = seen.saturating_add(records.len() as u64);
-                listener.hear(reached(records, seen));
+                listener.hear(Reached::after(records, seen));
                 outputs.clear();
             }
             Advanced::End(fault) => {
@@ -147,20 +146,6 @@ fn follow<M: Atomic, L: Listener>(
                 return Ok(fault);
             }
         }
-    }
-}
-
-/// How far a run is whose latest round has these records, and which has so many in all.
-fn reached(round: &[Record], records: u64) -> Reached {
-    match round.last() {
-        Some(record) => Reached {
-            at: record.stamp,
-            records,
-        },
-        None => Reached {
-            at: Stamp::START,
-            records,
-        },
     }
 }
 

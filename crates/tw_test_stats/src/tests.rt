@@ -71,16 +71,16 @@ static RELAYED: Scene = Scene {
 };
 
 /// The views of a network.
-struct Wanted {
-    text: &'static str,
+pub(crate) struct Wanted {
+    pub(crate) text: &'static str,
     json: &'static str,
-    records: &'static str,
+    pub(crate) records: &'static str,
     items: &'static str,
     words: &'static str,
 }
 
 /// What a generator of period 2 and value 5 sends to a tally, until 5: at ticks 2 and 4.
-static GEN_TALLY: Wanted = Wanted {
+pub(crate) static GEN_TALLY: Wanted = Wanted {
     text: "\
 until 5  components 2  records 6  microsteps 1
 

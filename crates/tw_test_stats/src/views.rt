@@ -52,13 +52,13 @@ static LISTS: [Asked; 8] = [
 ];
 
 /// The changes of the figures of these components from a tick on, until tick 5.
-struct Changing {
-    from: u64,
-    shown: (bool, bool),
-    wanted: &'static str,
+pub(crate) struct Changing {
+    pub(crate) from: u64,
+    pub(crate) shown: (bool, bool),
+    pub(crate) wanted: &'static str,
 }
 
-static CHANGES: [Changing; 3] = [
+pub(crate) static CHANGES: [Changing; 3] = [
     Changing {
         from: 0,
         shown: (true, true),
@@ -113,7 +113,7 @@ t          seen             1    5  5.000   -
 ";
 
 /// A generator that sends 5 each second tick, and its tally.
-fn counted(rt: &impl Abort, alloc: Global) -> Network<Model> {
+pub(crate) fn counted(rt: &impl Abort, alloc: Global) -> Network<Model> {
     let first = Model::generator(2, 5).ok().expect(rt, "a generator");
     network(rt, alloc, &COUNTED, first, Model::Tally)
 }

@@ -12,6 +12,7 @@ __all__ = [
     "LimitFault",
     "MemoryRefused",
     "NetworkError",
+    "NetworkWarning",
     "ProgramError",
     "ProgramFailed",
     "ProgramKilled",
@@ -53,6 +54,15 @@ class NetworkError(TwarpError, ValueError):
     def __str__(self) -> str:
         told = ": ".join(part for part in (self.place, self.reason) if part)
         return f"{self.number} {self.name}: {told}" if told else f"{self.number} {self.name}"
+
+
+class NetworkWarning(UserWarning):
+    """What is likely to be a mistake in a network: its place, and what is odd there, in the words of
+    `twarp check`. The network can be simulated.
+
+    >>> issubclass(NetworkWarning, UserWarning)
+    True
+    """
 
 
 class RequestError(TwarpError, ValueError):

@@ -7,10 +7,11 @@ import math
 import operator
 import os
 import re
+import warnings
 from collections.abc import Iterable, Iterator, Mapping
 from typing import Any, NamedTuple, Protocol, SupportsIndex, Union, overload
 
-from .errors import ProgramFailed
+from .errors import NetworkWarning, ProgramFailed
 from .program import answer
 
 __all__ = ["Network", "Size"]
@@ -189,17 +190,20 @@ class Network:
     def check(self) -> Size:
         """What the flat network has, as the program tells; nothing is simulated.
 
-        Raises `NetworkError` with the place of the first fault and its reason.
+        Raises `NetworkError` with the place of the first fault and its reason. What is likely to be a mistake is
+        warned of by a `NetworkWarning` each, in the order of the file.
 
         >>> Network().add("q", "queue", servise=3).check()
         Traceback (most recent call last):
         twarp.errors.NetworkError: 21 BadShape: components[0] "q": no member "servise" in a queue, which takes service
         """
         words = answer(["check", "/dev/stdin"], self._bytes()).out.decode(errors="replace")
-        told = re.fullmatch(r"ok: (\d+) components, (\d+) couplings, (\d+) inputs\n", words)
+        told = re.fullmatch(r"ok: (\d+) components, (\d+) couplings, (\d+) inputs\n((?:warning: .*\n)*)", words)
         if told is None:
             raise ProgramFailed(None, words)
-        return Size(*map(int, told.groups()))
+        for line in told[4].splitlines():
+            warnings.warn(line.removeprefix("warning: "), NetworkWarning, stacklevel=2)
+        return Size(int(told[1]), int(told[2]), int(told[3]))
 
     def dot(self) -> str:
         """The network in the language of Graphviz: components as boxes, coupled models as frames, couplings

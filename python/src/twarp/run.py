@@ -206,8 +206,8 @@ def simulate(
     """A run of a network as it is now, up to the tick `until`: only steps before it are made.
 
     Nothing is computed before it is asked for. `until` is 0 to 1,099,511,627,774. With `workers` (1 to
-    64, or `"auto"`) the records of `trace` come from a run of Time Warp with so many threads; they are
-    the same, and all else is of the sequential run.
+    64, or `"auto"`) it is a run of Time Warp with so many threads: records, figures and tables are the
+    same. Pictures are of the sequential run.
 
     A run in which a component meets a limit ends there: where `on_fault` is `"raise"`, what is asked of
     it raises `LimitFault`, whose `partial` is what there is up to the fault; where it is `"keep"`, that
@@ -309,7 +309,7 @@ class Run:
             stats = self._figured()
         else:
             since = None if start is None else _whole(start, "start")
-            stats = Stats(_figures(self._network, self.until, since, only, self._settings))
+            stats = Stats(_figures(self._network, self.until, since, only, self._made()))
             self._learn(stats.fault)
         self._met(stats.fault, stats)
         return stats
@@ -481,9 +481,13 @@ class Run:
             raised.partial = partial
             raise raised
 
+    def _made(self) -> list[str]:
+        """The options of `stats` and `table` that say which network it is, and who makes the run."""
+        return [*self._settings, *([] if self._workers is None else [f"--workers={self._workers}"])]
+
     def _figured(self) -> Stats:
         if self._stats is None:
-            self._stats = Stats(_figures(self._network, self.until, settings=self._settings))
+            self._stats = Stats(_figures(self._network, self.until, settings=self._made()))
         self._learn(self._stats.fault)
         return self._stats
 
@@ -503,7 +507,7 @@ class Run:
 
     def _changes(self, component: str, figure: str) -> dict[int, int]:
         """The value of a figure after each tick in which it changed."""
-        words = ["table", "/dev/stdin", "--until", str(self.until), *self._settings, "--figures", *_only(component)]
+        words = ["table", "/dev/stdin", "--until", str(self.until), *self._made(), "--figures", *_only(component)]
         rows = csv.reader(io.StringIO(answer(words, self._network).out.decode()))
         return {int(row[0]): int(row[4]) for row in list(rows)[1:] if row[3] == figure}
 
@@ -521,7 +525,7 @@ class Run:
         rows: Optional[int] = None,
         fourth: Literal["kind", "figure"] = "kind",
     ) -> Optional[LimitFault]:
-        words = ["table", "/dev/stdin", "--until", str(self.until), *self._settings, *flags]
+        words = ["table", "/dev/stdin", "--until", str(self.until), *self._made(), *flags]
         names = [name for name, _, _ in self._models]
         return read_table(words, self._network, names, last, take, rows, fourth)
 

@@ -8,11 +8,13 @@ use tw_cli::job;
 const TAKEN: &str = r#"twarp demo
 Demo
 twarp check n.json
-Check { net: NetSource { path: "n.json", settings: Settings { assignments: [], replication: 0 } } }
+Check { net: NetSource { path: "n.json", settings: Settings { assignments: [], replication: 0 } }, strict: false }
 twarp check -- -n.json
-Check { net: NetSource { path: "-n.json", settings: Settings { assignments: [], replication: 0 } } }
+Check { net: NetSource { path: "-n.json", settings: Settings { assignments: [], replication: 0 } }, strict: false }
 twarp check --set a.b=-5 n.json --seed-all 7 --set left.saw.service=18446744073709551615
-Check { net: NetSource { path: "n.json", settings: Settings { assignments: [Assignment { target: "a.b", number: Number(-5) }, Assignment { target: "left.saw.service", number: Number(18446744073709551615) }], replication: 7 } } }
+Check { net: NetSource { path: "n.json", settings: Settings { assignments: [Assignment { target: "a.b", number: Number(-5) }, Assignment { target: "left.saw.service", number: Number(18446744073709551615) }], replication: 7 } }, strict: false }
+twarp check --strict n.json
+Check { net: NetSource { path: "n.json", settings: Settings { assignments: [], replication: 0 } }, strict: true }
 twarp dot n.json
 Dot { net: NetSource { path: "n.json", settings: Settings { assignments: [], replication: 0 } } }
 twarp seq n.json --until 5
@@ -34,25 +36,31 @@ Simulate { net: NetSource { path: "n.json", settings: Settings { assignments: []
 twarp seq --progress n.json --until 5
 Simulate { net: NetSource { path: "n.json", settings: Settings { assignments: [], replication: 0 } }, until: 5, task: Seq { progress: true } }
 twarp stats n.json --until 5
-Simulate { net: NetSource { path: "n.json", settings: Settings { assignments: [], replication: 0 } }, until: 5, task: Stats { from: None, only: None, json: false, progress: false } }
+Simulate { net: NetSource { path: "n.json", settings: Settings { assignments: [], replication: 0 } }, until: 5, task: Stats { from: None, only: None, json: false, progress: false, by: None } }
 twarp stats --json --until=5 --progress n.json
-Simulate { net: NetSource { path: "n.json", settings: Settings { assignments: [], replication: 0 } }, until: 5, task: Stats { from: None, only: None, json: true, progress: true } }
+Simulate { net: NetSource { path: "n.json", settings: Settings { assignments: [], replication: 0 } }, until: 5, task: Stats { from: None, only: None, json: true, progress: true, by: None } }
 twarp stats n.json --from 0 --until 5
-Simulate { net: NetSource { path: "n.json", settings: Settings { assignments: [], replication: 0 } }, until: 5, task: Stats { from: Some(0), only: None, json: false, progress: false } }
+Simulate { net: NetSource { path: "n.json", settings: Settings { assignments: [], replication: 0 } }, until: 5, task: Stats { from: Some(0), only: None, json: false, progress: false, by: None } }
 twarp stats n.json --from=1099511627774 --json --until 5
-Simulate { net: NetSource { path: "n.json", settings: Settings { assignments: [], replication: 0 } }, until: 5, task: Stats { from: Some(1099511627774), only: None, json: true, progress: false } }
+Simulate { net: NetSource { path: "n.json", settings: Settings { assignments: [], replication: 0 } }, until: 5, task: Stats { from: Some(1099511627774), only: None, json: true, progress: false, by: None } }
 twarp stats n.json --only a,b --until 5
-Simulate { net: NetSource { path: "n.json", settings: Settings { assignments: [], replication: 0 } }, until: 5, task: Stats { from: None, only: Some("a,b"), json: false, progress: false } }
+Simulate { net: NetSource { path: "n.json", settings: Settings { assignments: [], replication: 0 } }, until: 5, task: Stats { from: None, only: Some("a,b"), json: false, progress: false, by: None } }
+twarp stats n.json --until 5 --workers 3
+Simulate { net: NetSource { path: "n.json", settings: Settings { assignments: [], replication: 0 } }, until: 5, task: Stats { from: None, only: None, json: false, progress: false, by: Some(ByWorkers { cancel: Aggressive, setting: RunOptions { workers: Count(3), burst: 64, window: 1099511627774, progress: false } }) } }
+twarp stats n.json --until 5 --workers auto --burst 1 --window 0 --cancel lazy --json --progress
+Simulate { net: NetSource { path: "n.json", settings: Settings { assignments: [], replication: 0 } }, until: 5, task: Stats { from: None, only: None, json: true, progress: true, by: Some(ByWorkers { cancel: Lazy, setting: RunOptions { workers: Auto, burst: 1, window: 0, progress: true } }) } }
 twarp table n.json --until 5
-Simulate { net: NetSource { path: "n.json", settings: Settings { assignments: [], replication: 0 } }, until: 5, task: Table { from: 0, only: None, of: OfRun(Records), progress: false } }
+Simulate { net: NetSource { path: "n.json", settings: Settings { assignments: [], replication: 0 } }, until: 5, task: Table { from: 0, only: None, of: OfRun(Records), progress: false, by: None } }
 twarp table n.json --until 5 --items
-Simulate { net: NetSource { path: "n.json", settings: Settings { assignments: [], replication: 0 } }, until: 5, task: Table { from: 0, only: None, of: OfRun(Items), progress: false } }
+Simulate { net: NetSource { path: "n.json", settings: Settings { assignments: [], replication: 0 } }, until: 5, task: Table { from: 0, only: None, of: OfRun(Items), progress: false, by: None } }
 twarp table --words --progress --until 5 -- --items
-Simulate { net: NetSource { path: "--items", settings: Settings { assignments: [], replication: 0 } }, until: 5, task: Table { from: 0, only: None, of: OfRun(Words), progress: true } }
+Simulate { net: NetSource { path: "--items", settings: Settings { assignments: [], replication: 0 } }, until: 5, task: Table { from: 0, only: None, of: OfRun(Words), progress: true, by: None } }
 twarp table n.json --from 7 --until 5 --words
-Simulate { net: NetSource { path: "n.json", settings: Settings { assignments: [], replication: 0 } }, until: 5, task: Table { from: 7, only: None, of: OfRun(Words), progress: false } }
+Simulate { net: NetSource { path: "n.json", settings: Settings { assignments: [], replication: 0 } }, until: 5, task: Table { from: 7, only: None, of: OfRun(Words), progress: false, by: None } }
 twarp table n.json --until 5 --figures --only a
-Simulate { net: NetSource { path: "n.json", settings: Settings { assignments: [], replication: 0 } }, until: 5, task: Table { from: 0, only: Some("a"), of: OfFigures, progress: false } }
+Simulate { net: NetSource { path: "n.json", settings: Settings { assignments: [], replication: 0 } }, until: 5, task: Table { from: 0, only: Some("a"), of: OfFigures, progress: false, by: None } }
+twarp table n.json --until 5 --figures --workers=64 --window=7
+Simulate { net: NetSource { path: "n.json", settings: Settings { assignments: [], replication: 0 } }, until: 5, task: Table { from: 0, only: None, of: OfFigures, progress: false, by: Some(ByWorkers { cancel: Aggressive, setting: RunOptions { workers: Count(64), burst: 64, window: 7, progress: false } }) } }
 twarp draw n.json --until 5
 Simulate { net: NetSource { path: "n.json", settings: Settings { assignments: [], replication: 0 } }, until: 5, task: Draw { picture: Run(View { from: 0, only: None, figures: [], width: 1280, detail: Fitting }) } }
 twarp draw n.json --until 5 --from +2 --only a,b --figure jobs
@@ -132,7 +140,7 @@ fn assert_answer(rt: &impl Abort, alloc: Global, line: &str, wanted: &str) {
 
 #[test]
 fn takes_the_lines_of_each_job(rt: HostRuntime) {
-    assert!(rt; TAKEN.lines().count() == 108);
+    assert!(rt; TAKEN.lines().count() == 116);
     let mut lines = TAKEN.lines();
     while let (Some(line), Some(wanted)) = (lines.next(), lines.next()) {
         assert_answer(&rt, rt.alloc(), line, wanted);

@@ -7,10 +7,16 @@ pub returns-in_err-from-clause-none : goal.returns-in_err-from-clause-none
 returns-in_err-from-clause-none c = rw c.from_residual.ensures (λ t is.
     let rows = rows_of (found_of c.args.options.now) in
     let met : Needs table_letters rows = needs_met (codes "table") rows t is in
-    c.in_err-from.ensures.none met.0 met.2)
+    c.in_err-from.ensures.none met.0 met.3)
 
 pub returns-in_err-of-clause-none : goal.returns-in_err-of-clause-none
 returns-in_err-of-clause-none c = rw c.from_residual-in_err-of.ensures (λ t is.
     let rows = rows_of (found_of c.args.options.now) in
     let met : Needs table_letters rows = needs_met (codes "table") rows t is in
-    c.in_err-of.ensures.none met.1 met.3)
+    c.in_err-of.ensures.none met.1 met.4)
+
+pub returns-in_err-by-clause-none : goal.returns-in_err-by-clause-none
+returns-in_err-by-clause-none c = rw c.from_residual-in_err-by.ensures (λ t is.
+    let rows = rows_of (found_of c.args.options.now) in
+    let met : Needs table_letters rows = needs_met (codes "table") rows t is in
+    c.in_err-by.ensures.none met.2 met.5)

@@ -1,8 +1,5 @@
-use Rattle.tw_cli.proofs.Adding.{grown, grows}
+use Rattle.tw_cli.specs.Lines.{summary_app}
 use Rattle.tw_cli.proofs.commands.stats_command.Goals as goal
 
 pub returns : goal.returns
-returns c =
-    let from = grown _ _ _ _ _ c.in_ok-arg.ensures c.from.ensures c.in_ok-told_command.ensures in
-    let only = grown _ _ _ _ _ c.in_ok-arg-2.ensures c.only.ensures from in
-    grows _ _ _ _ c.arg-3.result c.arg-3.ensures c.json.ensures only
+returns c = c.manned_command.ensures summary_app c.in_ok-summary.ensures

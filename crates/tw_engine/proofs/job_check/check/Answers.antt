@@ -8,5 +8,5 @@ returns-in-Ok g c = c.check_value.ensures c.args.bytes.now c.in-Ok.ensures.value
 -- the bytes are no JSON
 pub returns-in-Err : goal.returns-in-Err
 returns-in-Err g c =
-    checked_fault c.args.bytes.now c.in-Err.fault c.write_fault.result _ _
+    checked_fault c.args.bytes.now c.args.strict c.in-Err.fault c.write_fault.result _ _
     (λ other. no_value c.args.bytes.now c.in-Err.fault (c.in-Err.ensures.first_fault other)) c.write_fault.ensures

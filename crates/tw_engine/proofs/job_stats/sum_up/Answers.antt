@@ -3,13 +3,10 @@ use Rattle.std.proofs.lemmas.List.{length-map}
 use Rattle.serde_json.specs.View.{view}
 use Rattle.tw_any_model.specs.AnyModel.{any_meaning}
 use Rattle.tw_engine.proofs.Passing.{on_err}
-use Rattle.tw_engine.proofs.Viewed.{as_many, none_summed, summed_up}
-use Rattle.tw_engine.specs.Runs.{name_in}
-use Rattle.tw_engine.specs.Views.{IsSummedOf, summary_of}
+use Rattle.tw_engine.proofs.Viewed.{as_many, none_summed, summed_by}
+use Rattle.tw_engine.specs.Views.{IsReportWritten, IsSummedOf, summary_of}
 use Rattle.tw_network.specs.Contents.{network_of}
 use Rattle.tw_stats.specs.Reports.{IsReport}
-use Rattle.tw_stats.specs.Written.{report_bytes}
-use Rattle.std.specs.Io.KnownBytes.{Appends}
 use Rattle.tw_figure_names.specs.Said.{labels_said}
 use Rattle.tw_figures.specs.Labelled.{label}
 use Rattle.tw_engine.proofs.job_stats.sum_up.Goals as goal
@@ -29,16 +26,15 @@ returns-in_err-shown g c =
     on_err (λ end. IsSummedOf n labels s end old old) c.from_residual.result c.in_err-shown.field-0.0 c.from_residual.ensures.1
     (none_summed n labels s c.in_err-shown.field-0.0 old c.in_err-shown.ensures)
 
-pub returns-in-Ok-write_report : goal.returns-in-Ok-write_report
-returns-in-Ok-write_report g c =
+pub returns : goal.returns
+returns g c =
     let n = c.args.file.now.network in
     let s = summary_of c.args.summary.now in
     let old = g.W.Write.contents c.args.out.now in
-    let new = g.W.Write.contents c.write_report.new.out in
-    let shown = c.in_ok-shown.shown.items in
+    let new = g.W.Write.contents c.write_up.new.out in
+    let report = c.in-Ok.report in
     let same = ap (map label) c.as_slice-labels.ensures.value ∙ c.in_ok-labels.ensures in
-    summed_up n (labels_said (view c.args.file.now.value) n.models) s shown c.in-Ok.report c.in_ok-line.line old new c.in_ok-shown.ensures
-    (subst (λ ls. IsReport (network_of any_meaning n) s.from s.until ls c.in-Ok.report) same c.in-Ok.ensures.report)
-    c.in_ok-line.ensures
-    (subst (λ ls. Appends old new (report_bytes s.json (name_in n.names) ls shown c.in-Ok.report)) same
-    (subst (λ l. Appends old new (report_bytes s.json (name_in n.names) (map label c.as_slice-labels.result.now) l c.in-Ok.report)) c.as_slice.ensures.value c.in-Ok-write_report.ensures.written))
+    summed_by n (labels_said (view c.args.file.now.value) n.models) s c.in_ok-shown.shown.items report c.write_up.result old new c.in_ok-shown.ensures
+    (subst (λ ls. IsReport (network_of any_meaning n) s.from s.until ls report) same c.in-Ok.ensures.report)
+    (subst (λ ls. IsReportWritten n ls c.in_ok-shown.shown.items s.json report c.write_up.result old new) same
+    (subst (λ l. IsReportWritten n (map label c.as_slice-labels.result.now) l s.json report c.write_up.result old new) c.as_slice.ensures.value c.write_up.ensures))

@@ -1,12 +1,11 @@
-use Rattle.std.proofs.Common.{List, subst}
+use Rattle.std.proofs.Common.{◌⊎◌, List, subst}
 use Rattle.std.specs.Prelude.{Bool}
-use Rattle.std.specs.Io.KnownBytes.{Appends}
-use Rattle.tw_texts.specs.Refusals.{not_written_refusal}
-use Rattle.tw_texts.specs.Traces.{AppendsBeginning}
+use Rattle.std.specs.Io.KnownBytes.{Keeps}
 use Rattle.tw_engine.proofs.Passing.{on_err}
-use Rattle.tw_engine.proofs.Viewed.{none_tabulated, table_short, tabulated}
-use Rattle.tw_engine.specs.Ends.{failed_of}
-use Rattle.tw_engine.specs.Views.{IsTabulatedOf, run_table, tabulation_of}
+use Rattle.tw_engine.proofs.Viewed.{none_tabulated, tabulated_in_order}
+use Rattle.tw_engine.specs.Ends.{Fails}
+use Rattle.tw_engine.specs.Runs.{IsLate, run_fault}
+use Rattle.tw_engine.specs.Views.{IsTableWritten, IsTabulatedOf, run_table, tabulation_of}
 use Rattle.tw_engine.proofs.job_table.tabulate.Goals as goal
 
 pub returns-in_err-shown : goal.returns-in_err-shown
@@ -19,21 +18,10 @@ returns-in_err-shown g c =
 
 pub returns : goal.returns
 returns g c =
+    let n = c.args.network.now in
     let t = tabulation_of c.args.tabulation.now in
-    let table = λ (l : List Bool). run_table c.args.network.now c.args.rows l t.from t.until in
+    let table = λ (l : List Bool). run_table n c.args.rows l t.from t.until in
     let old = g.W.Write.contents c.args.out.now in
-    let new = g.W.Write.contents c.write_table.new.out in
-    let shown = c.in_ok-shown.shown.items in
-    tabulated c.args.network.now table t shown c.in_ok-fault.fault c.in_ok-line.line old new c.in_ok-shown.ensures c.in_ok-fault.ensures.fault c.in_ok-line.ensures
-    (subst (λ l. Appends old new (table l)) c.as_slice.ensures.value c.in_ok-write_table.ensures.ok)
-
-pub returns-in_err-write_table : goal.returns-in_err-write_table
-returns-in_err-write_table g c =
-    let t = tabulation_of c.args.tabulation.now in
-    let table = λ (l : List Bool). run_table c.args.network.now c.args.rows l t.from t.until in
-    let old = g.W.Write.contents c.args.out.now in
-    let new = g.W.Write.contents c.write_table.new.out in
-    let why = c.in_err-write_table.field-0.0 in
-    on_err (λ end. IsTabulatedOf c.args.network.now table t end old new) c.from_residual-in_err-write_table.result (failed_of (not_written_refusal why)) c.from_residual-in_err-write_table.ensures.1
-    (table_short c.args.network.now table t c.in_ok-shown.shown.items why old new c.in_ok-shown.ensures
-    (λ is. subst (λ l. AppendsBeginning old new (table l)) c.as_slice.ensures.value (c.in_err-write_table.ensures.err is)))
+    let new = g.W.Write.contents c.list.new.out in
+    tabulated_in_order n table t c.in_ok-shown.shown.items c.list.result old new c.in_ok-shown.ensures
+    (subst (λ l. IsTableWritten n (run_fault n t.until) (table l) c.list.result old new ⊎ (Fails c.list.result (IsLate t.until) × Keeps old new)) c.as_slice.ensures.value c.list.ensures)

@@ -1,0 +1,59 @@
+use Rattle.std.proofs.Common.{◌≡◌, ◌∙◌, ap, inl, inr, rules, subst}
+use Rattle.std.specs.Arc.{arc_value}
+use Rattle.serde_json.specs.View.{view}
+use Rattle.tw_any_model.specs.AnyModel.{any_meaning}
+use Rattle.tw_any_model.specs.declared.any_model.AnyModel.{AnyModel}
+use Rattle.tw_engine.proofs.Passing.{on_err}
+use Rattle.tw_engine.proofs.Viewed.{labels_of_bytes, unsummed}
+use Rattle.tw_engine.specs.Runs.{run_fault}
+use Rattle.tw_engine.specs.Views.{IsSummedByWorkers, IsSummedOf, summary_of}
+use Rattle.tw_figure_names.specs.Said.{labels_said}
+use Rattle.tw_network.specs.Contents.{Contents, network_of}
+use Rattle.tw_theory.specs.Simulator.{sequential}
+use Rattle.tw_engine.proofs.job_stats.stats_by_workers.Goals as goal
+
+pub sum_up_made-requires-clause-made : goal.sum_up_made-requires-clause-made
+sum_up_made-requires-clause-made g c =
+    let made = c.in_ok-made-in-Some.made in
+    let whole = c.in_ok-made-in-Some.ensures.whole in
+    let until = c.args.summary.now.until in
+    let same : arc_value made.network ≡ c.deref.result.now = search rules in
+    record {
+      records = c.as_slice.ensures.value ∙ whole.records ∙ ap (λ (n : Contents AnyModel). (sequential (network_of any_meaning n) until).records) same;
+      fault = whole.fault ∙ ap (λ (n : Contents AnyModel). run_fault n until) same;
+    }
+
+pub returns-in_ok-made-in-Some : goal.returns-in_ok-made-in-Some
+returns-in_ok-made-in-Some g c =
+    let n = c.in_ok-file.file.network in
+    let file = view c.in_ok-file.file.value in
+    let s = summary_of c.args.summary.now in
+    let old = g.W.Write.contents c.args.out.now in
+    let new = g.W.Write.contents c.sum_up_made.new.out in
+    let same : c.deref.result.now ≡ arc_value c.in_ok-made-in-Some.made.network = search rules in
+    inl (inr (
+      n,
+      c.in_ok-file.ensures.network,
+      subst (λ ls. IsSummedOf n ls s c.sum_up_made.result old new) (labels_of_bytes c.args.bytes.now file n c.in_ok-file.ensures.value)
+          (subst (λ (m : Contents AnyModel). IsSummedOf m (labels_said file m.models) s c.sum_up_made.result old new) (same ∙ c.in_ok-made-in-Some.ensures.network) c.sum_up_made.ensures),
+    ))
+
+pub returns-in_err-made-in-Some : goal.returns-in_err-made-in-Some
+returns-in_err-made-in-Some g c =
+    let n = c.in_ok-file.file.network in
+    let s = summary_of c.args.summary.now in
+    let old = g.W.Write.contents c.args.out.now in
+    on_err (λ end. IsSummedByWorkers c.args.bytes.now c.args.by.cancel s end old old) c.from_residual-in_err-made-in-Some.result c.in_err-made-in-Some.field-0.0 c.from_residual-in_err-made-in-Some.ensures.1
+    (unsummed c.args.bytes.now n c.in_ok-file.ensures.network c.args.by.cancel s c.in_err-made-in-Some.field-0.0 old c.in_err-made-in-Some.ensures.err)
+
+pub returns-in-None : goal.returns-in-None
+returns-in-None g c =
+    let n = c.in_ok-file.file.network in
+    let old = g.W.Write.contents c.args.out.now in
+    let new = g.W.Write.contents c.sum_up.new.out in
+    inl (inr (
+      n,
+      c.in_ok-file.ensures.network,
+      subst (λ ls. IsSummedOf n ls (summary_of c.args.summary.now) c.sum_up.result old new)
+          (labels_of_bytes c.args.bytes.now (view c.in_ok-file.file.value) n c.in_ok-file.ensures.value) c.sum_up.ensures,
+    ))

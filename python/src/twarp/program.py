@@ -243,9 +243,18 @@ def answer(words: Sequence[str], network: bytes, script: Optional[bytes] = None)
     b'ok: 0 components, 0 couplings, 0 inputs\\n'
     """
     with Process(words, network, script) as process:
-        out = process.out.read()
+        out = _read(process.out)
         status, said = process.end()
     return Answer(out, outcome(status, said, words, network))
+
+
+def _read(pipe: IO[bytes]) -> bytes:
+    """All that comes, to its end. It is read in pieces, so that Python hears a signal between two of them: `read`
+    alone hears none while there is always more to read."""
+    pieces: list[bytes] = []
+    while not pieces or pieces[-1]:
+        pieces.append(os.read(pipe.fileno(), _PIPE))
+    return b"".join(pieces)
 
 
 def outcome(status: int, said: str, words: Sequence[str], network: bytes) -> Optional[LimitFault]:

@@ -2,9 +2,7 @@
 
 from __future__ import annotations
 
-import csv
 import html
-import io
 import json
 import re
 from collections.abc import Generator, Mapping, Sequence
@@ -507,9 +505,14 @@ class Run:
 
     def _changes(self, component: str, figure: str) -> dict[int, int]:
         """The value of a figure after each tick in which it changed."""
-        words = ["table", "/dev/stdin", "--until", str(self.until), *self._made(), "--figures", *_only(component)]
-        rows = csv.reader(io.StringIO(answer(words, self._network).out.decode()))
-        return {int(row[0]): int(row[4]) for row in list(rows)[1:] if row[3] == figure}
+        changes: dict[int, int] = {}
+
+        def take(chunk: _Frame) -> None:
+            own = chunk[chunk["figure"] == figure]
+            changes.update(zip(own["tick"].tolist(), own["value"].tolist()))
+
+        self._read(["--figures", *_only(component)], {"value": self._number()}, take, _ROWS, "figure")
+        return changes
 
     def _table(self, flags: list[str], last: dict[str, str], fourth: Literal["kind", "figure"] = "kind") -> _Frame:
         frames: list[_Frame] = []

@@ -82,31 +82,55 @@ def with_machines(draw):
     for machine in value["models"]:
         if draw.random() < 0.5:
             observed(draw, machine)
-        if machine.get("queues") and draw.random() < 0.3:
+        if "timers" in machine and draw.random() < 0.7:
+            timed(draw, machine)
+        elif machine.get("queues") and draw.random() < 0.3:
             cleared(draw, machine)
         if draw.random() < 0.5:
             drawn(draw, machine)
     return value, draw.choice([5, 20, 40])
 
 
+def lead(where, member, *lines):
+    """These lines stand first in the program of a machine or of a timer."""
+    program = where.get(member, [])
+    where[member] = [*lines, *(program if isinstance(program, list) else [program])]
+
+
+def programs(machine):
+    """Where the programs of a machine stand: those of its timers, if it has them."""
+    own = [(it, "do") for it in machine["timers"]] if "timers" in machine else [(machine, "internal")]
+    return [*own, (machine, "external")]
+
+
+def timed(draw, machine):
+    """A machine with more timers, which its programs start and stop, and with items that it sends at any time."""
+    extra = {"name": "extra", "count": draw.randint(1, 4), "output": [{"port": "which % 3", "value": "now", "when": draw.choice(["which != 1", 1])}]}
+    if draw.random() < 0.5:
+        extra["first"] = draw.randint(0, 4)
+    machine["timers"] = [*machine["timers"], extra]
+    if draw.random() < 0.3:
+        machine["least"] = draw.randint(1, 3)
+    lines = ["start extra[idle(extra)] in 1 + roll(4)", "stop extra[which]", "send which, rest(extra[0])", "start extra[now % 5] in -now % 3 + 1", "if running(extra[1]) { send 17, 0  send 0, which }"]
+    for where, member in programs(machine):
+        lead(where, member, draw.choice(lines), draw.choice(lines))
+
+
 def observed(draw, machine):
     """A machine that observes numbers besides."""
     machine["observations"] = [*machine.get("observations", []), "seen", "other_seen"]
     machine["words"] = [*machine["words"], "seen", "other_seen"][-64:]
-    for member in ("internal", "external"):
-        program = machine.get(member, [])
-        program = program if isinstance(program, list) else [program]
-        name, number = draw.choice(["seen", "other_seen"]), draw.choice(["value", "now - 3", "-elapsed", "4611686018427387904 + left"])
-        machine[member] = [f"observe {name} {number}", *program]
+    for where, member in programs(machine):
+        rest = "now" if "timers" in machine else "left"
+        name, number = draw.choice(["seen", "other_seen"]), draw.choice(["value", "now - 3", "-elapsed", f"4611686018427387904 + {rest}"])
+        lead(where, member, f"observe {name} {number}")
 
 
 def cleared(draw, machine):
     """A machine that clears a queue when its time is up, and sends the places of its values."""
     name, room = draw.choice(list(machine["queues"].items()))
     queue = f"{name}[{draw.choice(['0', '1', 'now % 3'])}]" if isinstance(room, list) else name
-    program = machine.get("internal", [])
-    program = program if isinstance(program, list) else [program]
-    machine["internal"] = [f"if now % {draw.randint(2, 5)} == 0 {{ clear {queue} }}", *program]
+    lead(machine, "internal", f"if now % {draw.randint(2, 5)} == 0 {{ clear {queue} }}")
     sent = {"each": queue, "when": draw.choice(["turn != 1", "turn < 3"]), "port": "turn % 4", "value": "value - turn"}
     machine["output"] = [*machine.get("output", []), sent][-64:]
 
@@ -118,12 +142,10 @@ def drawn(draw, machine):
     machine["words"] = [*machine["words"], "drawn"][-64:]
     tests = ["sample(drawn_from) > 2", "roll(3)", "drawn % 2", "not roll(length(drawn_from))", "drawn > 9"]
     lines = ["drawn += sample(drawn_from)", "repeat 2 { drawn ^= roll(9) }", "draw", "drawn = 0", "drawn -= roll(drawn) * length(drawn_from)"]
-    for member in ("internal", "external"):
-        program = machine.get(member, [])
-        program = program if isinstance(program, list) else [program]
+    for where, member in programs(machine):
         chain = " else ".join(f"if {draw.choice(tests)} {{ {draw.choice(lines)} }}" for _ in range(draw.randint(1, 4)))
         chain += f" else {{ {draw.choice(lines)} }}" if draw.random() < 0.5 else ""
-        machine[member] = [draw.choice(lines), chain, *program]
+        lead(where, member, draw.choice(lines), chain)
 
 
 def network(seed):

@@ -173,6 +173,35 @@ class Machine:
         first = number(machine.get("first", -1))
         if first >= 0:
             self.left = self.brought(first)
+        self.declare_timers()
+
+    def declare_timers(self):
+        """Timers: by name where its first is among all, and its count; of each which entry it is of, its number, and when it is due."""
+        self.places, self.owners, self.due, self.outbox, self.which = {}, [], [], [], 0
+        self.least = self.number(self.machine.get("least", 0))
+        for entry in self.machine.get("timers", []):
+            count = self.number(entry["count"]) if "count" in entry else None
+            first = self.number(entry.get("first", -1))
+            self.places[entry["name"]] = len(self.due), count
+            for number in range(1 if count is None else count):
+                self.owners.append((entry, number))
+                self.due.append(max(first, self.least) if first >= 0 else None)
+        self.settle()
+
+    def settle(self):
+        """Behind a transition of a machine with timers: what it waits for."""
+        if "timers" in self.machine:
+            running = [it for it in self.due if it is not None]
+            self.left = 0 if self.outbox else min(running) - self.time if running else None
+
+    def going(self):
+        """The place of the timer that goes: the first of those that are due soonest."""
+        return self.due.index(min(it for it in self.due if it is not None))
+
+    def timer(self):
+        name = self.take()
+        at, count = self.places[name]
+        return at if count is None else at + self.index(count)
 
     def brought(self, wait):
         wait = max(wait, 0)
@@ -186,7 +215,7 @@ class Machine:
 
     def begin(self, text, **seen):
         self.begin_text(text)
-        self.seen = {"port": 0, "value": 0, "elapsed": 0, "left": 0, "now": self.time, "turn": 0, **seen}
+        self.seen = {"port": 0, "value": 0, "elapsed": 0, "left": 0, "now": self.time, "turn": 0, "which": self.which, **seen}
 
     def peek(self):
         return self.tokens[self.at] if self.at < len(self.tokens) else ""
@@ -308,6 +337,14 @@ class Machine:
                 return len(table)
             self.drawn = True
             return table[self.below(len(table))]
+        if name in ("running", "rest"):
+            due = self.due[self.timer()]
+            self.take(")")
+            return int(due is not None) if name == "running" else -1 if due is None else due - self.seen["now"]
+        if name == "idle":
+            at, count = self.places[self.take()]
+            self.take(")")
+            return next((i for i in range(count) if self.due[at + i] is None), -1)
         if name in ("min", "max", "choose"):
             values = [self.expr()]
             while self.peek() == ",":
@@ -394,6 +431,9 @@ class Machine:
             self.take()
             self.do(self.procedures[self.take()])
             return
+        elif token in ("start", "stop", "send") and "timers" in self.machine:
+            self.take()
+            self.treat(token)
         elif token == "repeat":
             self.take()
             self.repeat()
@@ -402,6 +442,22 @@ class Machine:
         else:
             self.change()
         self.move_on()
+
+    def treat(self, token):
+        """A timer is started or stopped, or an item is to be sent."""
+        if token == "send":
+            port = self.expr()
+            self.take(",")
+            value = self.expr()
+            if len(self.outbox) < 64:
+                self.outbox.append((port, value))
+            return
+        at = self.timer()
+        if token == "stop":
+            self.due[at] = None
+            return
+        self.take("in")
+        self.due[at] = self.seen["now"] + min(max(self.expr(), self.least), MAX_TICK + 1)
 
     def do(self, text):
         """A procedure: its program in the place of the statement."""
@@ -460,8 +516,18 @@ class Machine:
 
     # The model.
     def output(self, elapsed, tick):
+        if self.outbox:
+            return [(port, value) for port, value in self.outbox if 0 <= port <= 15]
+        if "timers" not in self.machine:
+            return self.sent(self.machine.get("output", []), elapsed, tick)
+        entry, self.which = self.owners[self.going()]
+        items = self.sent(entry.get("output", []), elapsed, tick)
+        self.which = 0
+        return items
+
+    def sent(self, entries, elapsed, tick):
         items = []
-        for entry in self.machine.get("output", []):
+        for entry in entries:
             values = [0]
             if "each" in entry:
                 self.begin(entry["each"], elapsed=elapsed, now=tick)
@@ -478,7 +544,17 @@ class Machine:
     def int_(self, elapsed):
         self.time += elapsed
         self.left = None
-        self.program(self.machine.get("internal", ""), elapsed=elapsed)
+        if "timers" not in self.machine:
+            self.program(self.machine.get("internal", ""), elapsed=elapsed)
+        elif self.outbox:
+            self.outbox = []
+        else:
+            at = self.going()
+            self.due[at] = None
+            entry, self.which = self.owners[at]
+            self.program(entry.get("do", ""), elapsed=elapsed)
+            self.which = 0
+        self.settle()
 
     def ext(self, elapsed, bag):
         self.time += elapsed
@@ -488,6 +564,7 @@ class Machine:
         for port, value in bag:
             self.program(self.machine.get("external", ""), port=port, value=value, elapsed=elapsed, left=left)
             elapsed = 0
+        self.settle()
 
     def words(self):
         numbers = []
@@ -556,7 +633,7 @@ def simulate(net, until, write):
     machines = {it["name"]: it for it in net.get("models", [])}
     parts = [BUILT_IN[part["model"]](part) if part["model"] in BUILT_IN else Machine(machines[part["model"]], part) for _, part in atoms]
     last = [0] * len(parts)
-    due = [None if it.left is None else ((it.left, 0) if it.left else (0, 1)) for it in parts]
+    due = [None if it.left is None else (it.left, 0) for it in parts]
     inputs = {}
     for it in net["inputs"]:
         inputs.setdefault(it["tick"], []).append((names.index(it["to"]), it["port"], it["value"]))

@@ -2,7 +2,7 @@
 
 ghost use Rattle.tw_figure_names.specs.EntriesLaw.{EntriesLaw, ObservedLaw};
 ghost use Rattle.tw_figure_names.specs.Law.{FiguresLaw};
-ghost use Rattle.tw_figure_names.specs.MachineLaw.{MachineLaw, ObservationsLaw};
+ghost use Rattle.tw_figure_names.specs.MachineLaw.{MachineLaw, ObservationsLaw, ShownLaw};
 
 /// What the figures of a model tell of a state: they are parts of it, or how many values it holds. It does nothing.
 pub fn figures_law()
@@ -10,9 +10,11 @@ pub fn figures_law()
 {}
 
 /// What the figures of a machine tell of a state: the values of the entries of its `words`, each by that entry's text, and how many
-/// values all queues among them have together; and that the three words from an observation's place on are those of its entry. It does
+/// values all queues among them have together; and that the three words from an observation's place on are those of its entry. So it is
+/// where each entry shows as much whatever a component gives, as it does without timers; no text names the cells of timers. It does
 /// nothing.
 pub fn machine_figures_law()
+    ensures shown { ShownLaw }
     ensures entries { EntriesLaw }
     ensures machine { MachineLaw }
     ensures observed { ObservedLaw }

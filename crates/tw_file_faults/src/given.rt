@@ -5,7 +5,7 @@ use crate::shape::{check_members, check_value};
 use serde_json::Value;
 use std::alloc::Global;
 use tw_machine::limits::{MAX_FILE_NUMBERS, MAX_NUMBERS};
-use tw_machine_declaration::constant;
+use tw_machine_declaration::{constant, due_ticks, earliest};
 use tw_machine_faults::{Machine, Machines, Stop, WHOLE};
 use tw_machine_file::{MachineFault, given_of};
 use tw_machine_text_faults::{described, quoted};
@@ -132,6 +132,10 @@ fn first_wait(alloc: Global, machine: &Machine<'_>, component: &Value) -> Result
         Err(_) => return Ok(0),
     };
     let declaration = &machine.read.declaration;
+    if let Some(timers) = &declaration.timers {
+        let due = due_ticks(alloc, &given, timers)?;
+        return Ok(earliest(&due).unwrap_or(0));
+    }
     let first = match declaration.first {
         Some(first) => constant(&given, first).unwrap_or(0).max(0),
         None => 0,

@@ -25,11 +25,11 @@ use Rattle.tw_machine_declaration.specs.Turns.{written_turns}
 use Rattle.tw_machine_declaration.specs.Work.{queue_room, left, work, counted_turns, statement_work, block_work, tests_work, greatest_work}
 use Rattle.tw_machine_declaration.specs.Members.{all_nodes, output_work, word_work}
 use Rattle.tw_machine_compiler.specs.declared.limits.BadMachine.{BadMachine}
-use Rattle.tw_machine_compiler.specs.declared.limits.BadMachine.TheVariants.{TooManyCells, TooManyQueues, TooMuchRoom, TooManyNumbers, TooManyNodes, TooManyComputations}
+use Rattle.tw_machine_compiler.specs.declared.limits.BadMachine.TheVariants.{TooManyCells, TooManyQueues, TooMuchRoom, TooManyNumbers, TooManyNodes, TooManyLevels, TooManyComputations}
 use Rattle.tw_machine.specs.Seen.{branch}
 use Rattle.tw_machine_compiler.specs.Expressions.{expression, queue}
 use Rattle.tw_machine_compiler.specs.Statements.{cell, assigned, put, acted, treated, turns, statement, block, chosen}
-use Rattle.tw_machine_compiler.specs.Limits.{register_cells, has_few_cells, limit}
+use Rattle.tw_machine_compiler.specs.Limits.{register_cells, has_few_cells, has_few_levels, limit}
 
 work-some : (ss : List Standing) (e : Tree) → 1 ≤ work ss e
 work-some ss (Number n) = omega arith
@@ -121,15 +121,16 @@ record Passed (a b c d e f : Bool) : Type 0 where
   pub internal : e ≡ false
   pub external : f ≡ false
 
-passed : (a b c d e f g : Bool) (rest : Option BadMachine) → (if a then Some TooManyCells else if b then Some TooManyQueues else if c then Some TooMuchRoom else if d then Some TooManyNumbers else if e then Some TooManyNodes else if f then Some TooManyComputations else if g then Some TooManyComputations else rest) ≡ None → Passed a b c d f g
-passed true b c d e f g rest h = absurd (cc h)
-passed false true c d e f g rest h = absurd (cc h)
-passed false false true d e f g rest h = absurd (cc h)
-passed false false false true e f g rest h = absurd (cc h)
-passed false false false false true f g rest h = absurd (cc h)
-passed false false false false false true g rest h = absurd (cc h)
-passed false false false false false false true rest h = absurd (cc h)
-passed false false false false false false false rest h = record { cells = refl; queues = refl; room = refl; numbers = refl; internal = refl; external = refl }
+passed : (a b c d e f g h : Bool) (rest : Option BadMachine) → (if a then Some TooManyCells else if b then Some TooManyQueues else if c then Some TooMuchRoom else if d then Some TooManyNumbers else if e then Some TooManyNodes else if f then Some TooManyLevels else if g then Some TooManyComputations else if h then Some TooManyComputations else rest) ≡ None → Passed a b c d g h
+passed true b c d e f g h rest is = absurd (cc is)
+passed false true c d e f g h rest is = absurd (cc is)
+passed false false true d e f g h rest is = absurd (cc is)
+passed false false false true e f g h rest is = absurd (cc is)
+passed false false false false true f g h rest is = absurd (cc is)
+passed false false false false false true g h rest is = absurd (cc is)
+passed false false false false false false true h rest is = absurd (cc is)
+passed false false false false false false false true rest is = absurd (cc is)
+passed false false false false false false false false rest is = record { cells = refl; queues = refl; room = refl; numbers = refl; internal = refl; external = refl }
 
 few_logged : (m n i e : ℕ) → m ≤ 2 * i → n ≤ 2 * e → nat_lt 262144 i ≡ false → nat_lt 262144 e ≡ false → nat_lt 1048575 (max m n) ≡ false
 few_logged m n i e f g h k = le-ltb 1048575 (max m n) (omega (arith, f, g, ltb-false 262144 i h, ltb-false 262144 e k))
@@ -151,7 +152,7 @@ within_any ss d p e f h =
     let outputs = sum_by (output_work ss) d.outputs in
     let words = sum_by (word_work ss) d.words in
     let rest : Option BadMachine = if nat_lt 262144 outputs then Some TooManyComputations else if nat_lt 262144 words then Some TooManyComputations else None in
-    let q = passed (not (has_few_cells d.names p)) (nat_lt 16 (length p.rooms)) (nat_lt 4096 (sum p.rooms)) (nat_lt 65536 (length p.numbers)) (nat_lt 4096 (all_nodes d)) (nat_lt 262144 (block_work ss d.internal)) (nat_lt 262144 (block_work ss d.external)) rest h in
+    let q = passed (not (has_few_cells d.names p)) (nat_lt 16 (length p.rooms)) (nat_lt 4096 (sum p.rooms)) (nat_lt 65536 (length p.numbers)) (nat_lt 4096 (all_nodes d)) (not (has_few_levels d)) (nat_lt 262144 (block_work ss d.internal)) (nat_lt 262144 (block_work ss d.external)) rest h in
     let internal : needs p.internal ≤ 2 * block_work ss d.internal = rw e (block-needs ss d.internal) in
     let external : needs p.external ≤ 2 * block_work ss d.external = rw f (block-needs ss d.external) in
     let logged = few_logged (needs p.internal) (needs p.external) (block_work ss d.internal) (block_work ss d.external) internal external q.internal q.external in

@@ -14,7 +14,7 @@ use Rattle.tw_machine_declaration.specs.Seen.{Declaration, Given, Value, whole, 
 use Rattle.tw_machine_declaration.specs.Seen as plain
 use Rattle.tw_machine_declaration.specs.declared.names.Standing.{Standing}
 use Rattle.tw_machine_declaration.specs.declared.names.Standing.TheVariants as s
-use Rattle.tw_machine_declaration.specs.Names.{constant, start_of, cells, rooms, given_numbers, numbers, things, observation_span, standing_at, standings_of}
+use Rattle.tw_machine_declaration.specs.Names.{constant, start_of, due_ticks, earliest, cells, rooms, given_numbers, numbers, things, observation_span, standing_at, standings_of}
 use Rattle.tw_machine_compiler.specs.Expressions.{number, expression, queue}
 use Rattle.tw_machine_compiler.specs.Statements.{block}
 
@@ -67,6 +67,14 @@ wait (negsuc n) = None
 abbrev pub ticks : Given → Option Constant → Option ℕ
 ticks given c = option_and_then wait (option_and_then (constant given) c)
 
+-- the first wait; of a machine with timers it is until the first of them is due
+abbrev pub first_by : Given → Option plain.Timers → Option Constant → Option ℕ
+first_by given (Some ts) first = earliest (due_ticks given ts)
+first_by given None first = ticks given first
+
+abbrev pub first_wait : Given → Declaration → Option ℕ
+first_wait given d = first_by given d.timers d.first
+
 abbrev pub program_of : Given → Declaration → ProgramText
 program_of given d =
     let ss = standings_of given d.names in
@@ -74,7 +82,7 @@ program_of given d =
       cells = flat_map (cells given) (things d.names);
       rooms = flat_map (rooms given) (things d.names);
       seed = seed (start_of given d.random);
-      first = ticks given d.first;
+      first = first_wait given d;
       longest = ticks given d.longest;
       numbers = given_numbers given ++ flat_map numbers (things d.names);
       internal = block ss d.internal;

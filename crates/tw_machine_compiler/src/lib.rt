@@ -23,4 +23,6 @@ mod statements;
 
 pub use limits::BadMachine;
 pub use programs::compile;
-pub use tw_machine_declaration::{Constant, Declaration, Given, Named, OutputText, Thing, Value};
+pub use tw_machine_declaration::{
+    Constant, Declaration, Given, Named, OutputText, Thing, Timer, TimerOutput, Timers, Value,
+};

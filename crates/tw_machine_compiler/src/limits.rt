@@ -1,5 +1,7 @@
 //! What is wrong with a machine as it is declared, the first of it.
-ghost use Rattle.std.specs.Prelude.{◌≡◌, ◌≤◌, length, map, min, sum, option_and_then};
+ghost use Rattle.std.specs.Prelude.{◌≡◌, ◌≤◌, length, map, min, sum, option_and_then, option_map};
+ghost use Rattle.std.specs.List.{list_all};
+ghost use Rattle.tw_machine_text.specs.Limits.{levels_end};
 ghost use Rattle.tw_vtime.specs.Stamps.{max_tick};
 ghost use Rattle.tw_machine.specs.Limits.{cells_end, max_queues};
 ghost use Rattle.tw_machine.specs.Program.{text_of};
@@ -13,6 +15,12 @@ ghost use Rattle.tw_machine_compiler.specs.Limits.{
   is_register,
   is_queue,
   is_table,
+  is_counted,
+  is_flat,
+  has_few_levels,
+  test_levels,
+  texts_fault,
+  timers_fault,
   all,
   is_turns,
   turns_fit,
@@ -35,10 +43,12 @@ use tw_machine::limits::{
 };
 use tw_machine::program::Parts;
 use tw_machine_declaration::{
-    Constant, Declaration, Given, Named, Standing, Thing, all_nodes, block_work, constant,
-    outputs_work, words_work, written_turns,
+    Constant, Declaration, Given, MAX_TIMERS, Named, OutputText, Standing, Thing, Timer, Timers,
+    Value, all_nodes, all_timers, block_work, constant, outputs_work, words_work, written_turns,
 };
-use tw_machine_text::{Arms, Block, MAX_NODES, MAX_TURNS, SourceStatement};
+use tw_machine_text::{
+    Arms, Block, MAX_COUNT, MAX_LEVELS, MAX_NODES, MAX_TURNS, SourceStatement, deep, deep_block,
+};
 use tw_vtime::MAX_TICK;
 
 /// Why a machine makes no program: the first fault, in this order, or want of memory. Each but that is refusal 21
@@ -56,6 +66,12 @@ pub enum BadMachine {
     TableCount,
     #[error("the longest wait is 1 to 1,099,511,627,774")]
     Longest,
+    #[error("of a timer with a count there are 1 to 16")]
+    TimerCount,
+    #[error("there are more than 64 timers")]
+    TooManyTimers,
+    #[error("the least time of a timer is 1 to 1,099,511,627,774")]
+    Least,
     #[error("a block is repeated 0 to 64 times")]
     Turns,
     #[error("there are at most 64 outputs")]
@@ -75,6 +91,9 @@ pub enum BadMachine {
     TooManyNumbers,
     #[error("there are more than 4,096 nodes")]
     TooManyNodes,
+    /// Of a machine with timers alone: each text by itself has no more.
+    #[error("blocks and parentheses stand in one another more than 64 levels deep")]
+    TooManyLevels,
     #[error("a run makes more than 262,144 computations")]
     TooManyComputations,
 }
@@ -87,13 +106,13 @@ impl From<AllocError> for BadMachine {
     }
 }
 
-/// Whether the greatest wait is 1 to 1,099,511,627,774, if it is given.
-fn is_longest(given: &Given, longest: Option<Constant>) -> bool
+/// Whether a number of ticks is 1 to 1,099,511,627,774, if it is given.
+fn is_some_ticks(given: &Given, said: Option<Constant>) -> bool
     ensures { result ≡ constant_up_to max_tick
-        (option_and_then (constant (plain.given given.now)) longest) }
+        (option_and_then (constant (plain.given given.now)) said) }
 {
-    match longest {
-        Some(longest) => constant_up_to(MAX_TICK, constant(given, longest)),
+    match said {
+        Some(said) => constant_up_to(MAX_TICK, constant(given, said)),
         None => true,
     }
 }
@@ -201,6 +220,48 @@ fn are_tables(given: &Given, names: &[Named]) -> bool
     true
 }
 
+/// Whether of a timer with a count there are 1 to 16, if that is given.
+fn is_counted(given: &Given, timer: Timer) -> bool
+    ensures { result ≡ is_counted (plain.given given.now) timer }
+{
+    match timer.count {
+        Some(count) => constant_up_to(MAX_COUNT, constant(given, count)),
+        None => true,
+    }
+}
+
+/// Whether this is so of all timers.
+fn are_counted(given: &Given, timers: &[Timer]) -> bool
+    ensures { result ≡ list_all (is_counted (plain.given given.now)) timers.now }
+{
+    for timer in timers {
+        if !is_counted(given, *timer) {
+            return false;
+        }
+    }
+    true
+}
+
+/// The first of a machine's timers that is wrong.
+fn timers_fault(given: &Given, timers: &Option<Timers>) -> Option<BadMachine>
+    ensures { result
+        ≡ timers_fault (plain.given given.now) (option_map plain.timers timers.now) }
+{
+    let Some(timers) = timers else {
+        return None;
+    };
+    if !are_counted(given, timers.each.as_slice()) {
+        return Some(BadMachine::TimerCount);
+    }
+    if all_timers(given, timers.each.as_slice()) as usize > MAX_TIMERS {
+        return Some(BadMachine::TooManyTimers);
+    }
+    if !is_some_ticks(given, timers.least) {
+        return Some(BadMachine::Least);
+    }
+    None
+}
+
 /// Whether a block is repeated 0 to 64 times.
 fn is_turns(written: Option<i128>) -> bool
     ensures { result ≡ is_turns written }
@@ -254,6 +315,27 @@ fn turns_fit_arms(standings: &[Standing], arms: &Arms) -> bool
     }
 }
 
+/// The first of a machine's texts that is wrong.
+fn texts_fault(declaration: &Declaration, standings: &[Standing]) -> Option<BadMachine>
+    ensures { result ≡ texts_fault (plain.declaration declaration.now) standings.now }
+{
+    if !(turns_fit(standings, &declaration.internal)
+        && turns_fit(standings, &declaration.external))
+    {
+        return Some(BadMachine::Turns);
+    }
+    if declaration.outputs.len() > MAX_OUTPUTS {
+        return Some(BadMachine::OutputCount);
+    }
+    if declaration.words.len() < 1 || declaration.words.len() > MAX_WORDS {
+        return Some(BadMachine::WordCount);
+    }
+    if twice(standings, declaration.words.as_slice()) {
+        return Some(BadMachine::WordTwice);
+    }
+    None
+}
+
 /// The first of a machine's members that is wrong.
 pub(crate) fn members_fault(
     given: &Given,
@@ -273,24 +355,13 @@ pub(crate) fn members_fault(
     if !are_tables(given, names) {
         return Some(BadMachine::TableCount);
     }
-    if !is_longest(given, declaration.longest) {
+    if !is_some_ticks(given, declaration.longest) {
         return Some(BadMachine::Longest);
     }
-    if !(turns_fit(standings, &declaration.internal)
-        && turns_fit(standings, &declaration.external))
-    {
-        return Some(BadMachine::Turns);
+    match timers_fault(given, &declaration.timers) {
+        Some(bad) => Some(bad),
+        None => texts_fault(declaration, standings),
     }
-    if declaration.outputs.len() > MAX_OUTPUTS {
-        return Some(BadMachine::OutputCount);
-    }
-    if declaration.words.len() < 1 || declaration.words.len() > MAX_WORDS {
-        return Some(BadMachine::WordCount);
-    }
-    if twice(standings, declaration.words.as_slice()) {
-        return Some(BadMachine::WordTwice);
-    }
-    None
 }
 
 /// How many cells a register has, at most 257.
@@ -324,6 +395,37 @@ fn has_few_cells(names: &[Named], parts: &Parts) -> bool
     register_cells(names) <= MAX_CELLS && parts.cells.len() <= MAX_PROGRAM_CELLS
 }
 
+/// The levels of a condition, at most 65.
+fn test_levels(when: &Option<Value>) -> usize
+    ensures { result ≡ min (test_levels (option_map plain.value when.now)) levels_end }
+{
+    match when {
+        Some(Value::Text(tree)) => deep(tree),
+        _ => 0,
+    }
+}
+
+/// Whether no condition of an output has more than 64 levels.
+fn are_flat(outputs: &[OutputText]) -> bool
+    ensures { result ≡ list_all is_flat (map plain.output outputs.now) }
+{
+    for output in outputs {
+        if test_levels(&output.when) > MAX_LEVELS {
+            return false;
+        }
+    }
+    true
+}
+
+/// Whether no program and no condition has more than 64 levels.
+fn has_few_levels(declaration: &Declaration) -> bool
+    ensures { result ≡ has_few_levels (plain.declaration declaration.now) }
+{
+    deep_block(&declaration.internal) <= MAX_LEVELS
+        && deep_block(&declaration.external) <= MAX_LEVELS
+        && are_flat(declaration.outputs.as_slice())
+}
+
 /// The first limit that is passed.
 pub(crate) fn limit(
     standings: &[Standing],
@@ -346,6 +448,9 @@ pub(crate) fn limit(
     }
     if all_nodes(declaration) > MAX_NODES {
         return Some(BadMachine::TooManyNodes);
+    }
+    if !has_few_levels(declaration) {
+        return Some(BadMachine::TooManyLevels);
     }
     if block_work(standings, &declaration.internal) > MAX_COMPUTATIONS {
         return Some(BadMachine::TooManyComputations);

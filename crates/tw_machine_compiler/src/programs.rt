@@ -13,7 +13,7 @@ ghost use Rattle.tw_machine_declaration.specs.Names.{
 };
 ghost use Rattle.tw_machine.specs.Seen.{seen_output, seen_statement, seen_program, seen_word};
 ghost use Rattle.tw_machine_compiler.specs.Statements.{block};
-ghost use Rattle.tw_machine_compiler.specs.Program.{output, program_of, shown_word};
+ghost use Rattle.tw_machine_compiler.specs.Program.{first_wait, output, program_of, shown_word};
 ghost use Rattle.tw_machine_compiler.specs.Limits.{members_fault, limit, fault_of};
 ghost use Rattle.tw_machine_compiler.specs.declared.limits.BadMachine.TheVariants.{OutOfMemory};
 
@@ -24,7 +24,9 @@ use crate::statements::block;
 use std::alloc::{AllocError, Global};
 use tw_machine::language::{Output, Statement, Word};
 use tw_machine::program::{Parts, Program};
-use tw_machine_declaration::{Declaration, Given, Named, Standing, standings_of};
+use tw_machine_declaration::{
+    Declaration, Given, Named, Standing, due_ticks, earliest, standings_of,
+};
 
 /// What a machine has at the start: the cells of its registers, the rooms of its queues and the numbers of its tables.
 /// The only error is want of memory.
@@ -79,6 +81,24 @@ fn texts_of(
     Ok((outputs, words))
 }
 
+/// The first wait: of a machine with timers until the first is due. The only error is want of memory.
+fn first_wait(
+    alloc: Global,
+    given: &Given,
+    declaration: &Declaration,
+) -> Result<Option<u64>, AllocError>
+    ensures { IfOk result (λ first. first
+        ≡ first_wait (plain.given given.now) (plain.declaration declaration.now)) }
+{
+    match &declaration.timers {
+        Some(timers) => {
+            let due = due_ticks(alloc, given, timers)?;
+            Ok(earliest(&due))
+        }
+        None => Ok(ticks(given, declaration.first)),
+    }
+}
+
 /// The parts of the program that a machine means with these numbers, by what its names stand for. The only error is
 /// want of memory.
 fn parts_of(
@@ -95,11 +115,12 @@ fn parts_of(
     let (cells, rooms, numbers) = starts_of(alloc, given, declaration.names.as_slice())?;
     let (outputs, words) = texts_of(alloc, standings, declaration)?;
     let (internal, external) = blocks_of(alloc, standings, declaration)?;
+    let first = first_wait(alloc, given, declaration)?;
     Ok(Parts {
         cells,
         rooms,
         seed: seed(given, declaration.random),
-        first: ticks(given, declaration.first),
+        first,
         longest: ticks(given, declaration.longest),
         numbers,
         internal,

@@ -1,9 +1,11 @@
 //! What a machine has at the start: the cells of its registers, the rooms of its queues, the numbers of its tables.
-ghost use Rattle.std.specs.Prelude.{◌≡◌, ◌++◌, ◌≤◌, IfOk, OnOk, flat_map, map, replicate};
+ghost use Rattle.std.specs.Prelude.{◌≡◌, ◌++◌, ◌∷◌, [], ◌≤◌, IfOk, OnOk, flat_map, map, replicate};
 ghost use Rattle.tw_machine_declaration.specs.Seen as plain;
 ghost use Rattle.tw_machine_declaration.specs.Names.{
   start_of,
   cells,
+  due_ticks,
+  next_timer,
   rooms,
   given_numbers,
   numbers,
@@ -12,7 +14,9 @@ ghost use Rattle.tw_machine_declaration.specs.Names.{
 
 use std::alloc::{AllocError, Global};
 use tw_machine::limits::OBSERVATION_CELLS;
-use tw_machine_declaration::{Constant, Given, Named, Thing, count_of, room_of, start_of};
+use tw_machine_declaration::{
+    Constant, Given, Named, Thing, Timers, count_of, due_ticks, next_timer, room_of, start_of,
+};
 
 /// Appends what the cells of an array register have at the start.
 fn push_starts(given: &Given, starts: &[Constant], cells: &mut Vec<i64>) -> Result<(), AllocError>
@@ -36,8 +40,43 @@ fn push_rooms(count: u32, room: u16, rooms: &mut Vec<u16>) -> Result<(), AllocEr
     Ok(())
 }
 
+/// Appends when the timers are due.
+fn push_due(
+    alloc: Global,
+    given: &Given,
+    timers: &Timers,
+    cells: &mut Vec<i64>,
+) -> Result<(), AllocError>
+    ensures { OnOk result (cells.new.items
+        ≡ cells.old.items ++ due_ticks (plain.given given.now) (plain.timers timers.now)) }
+{
+    let ticks = due_ticks(alloc, given, timers)?;
+    cells.extend_from_slice(&ticks)?;
+    Ok(())
+}
+
+/// Appends which timer goes first.
+fn push_next(
+    alloc: Global,
+    given: &Given,
+    timers: &Timers,
+    cells: &mut Vec<i64>,
+) -> Result<(), AllocError>
+    ensures { OnOk result (cells.new.items ≡ cells.old.items
+        ++ next_timer (due_ticks (plain.given given.now) (plain.timers timers.now)) ∷ []) }
+{
+    let ticks = due_ticks(alloc, given, timers)?;
+    cells.push(next_timer(&ticks))?;
+    Ok(())
+}
+
 /// Appends the cells of a name.
-fn push_cells(given: &Given, thing: &Thing, out: &mut Vec<i64>) -> Result<(), AllocError>
+fn push_cells(
+    alloc: Global,
+    given: &Given,
+    thing: &Thing,
+    out: &mut Vec<i64>,
+) -> Result<(), AllocError>
     ensures { OnOk result (out.new.items
         ≡ out.old.items ++ cells (plain.given given.now) (plain.thing thing.now)) }
 {
@@ -45,6 +84,8 @@ fn push_cells(given: &Given, thing: &Thing, out: &mut Vec<i64>) -> Result<(), Al
         Thing::Register(start) => out.push(start_of(given, *start))?,
         Thing::RegisterArray(starts) => push_starts(given, starts, out)?,
         Thing::Observation => out.extend_from_slice(&[0; OBSERVATION_CELLS])?,
+        Thing::Due(timers) => push_due(alloc, given, timers, out)?,
+        Thing::Next(timers) => push_next(alloc, given, timers, out)?,
         _ => {}
     }
     Ok(())
@@ -98,7 +139,7 @@ pub(crate) fn all_cells(
 {
     let mut out = Vec::new(alloc);
     for named in names {
-        push_cells(given, &named.thing, &mut out)?;
+        push_cells(alloc, given, &named.thing, &mut out)?;
     }
     Ok(out)
 }

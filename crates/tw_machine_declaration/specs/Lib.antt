@@ -4,3 +4,6 @@ pub mod Functions
 pub mod Turns
 pub mod Work
 pub mod Members
+pub mod Limits
+pub mod Timed
+pub mod TimedViews

@@ -1,12 +1,15 @@
 -- What each name of a machine stands for, once the numbers of a component are put in.
-use Rattle.std.specs.Prelude.{ℕ, ◌+◌, ℤ, pos, min, List, [], ◌∷◌, ◌++◌, map, length, take, sum_by, flat_map, Option, Some, None, slice_get, slice_index_or, unwrap_or, replicate, if◌then◌else◌}
+use Rattle.std.specs.Prelude.{ℕ, ◌+◌, ◌-◌, ℤ, pos, negsuc, min, max, Bool, false, nat_eq, List, [], ◌∷◌, ◌++◌, map, length, take, sum_by, flat_map, Option, Some, None, slice_get, slice_index_or, unwrap_or, option_and_then, replicate, if◌then◌else◌}
 use Rattle.tw_machine.specs.Limits.{cells_end, max_queues, max_room, numbers_end, observation_cells, queues_end}
 use Rattle.tw_machine.specs.Values.{natural}
 use Rattle.tw_machine.specs.declared.language.Span.{Span}
+use Rattle.std.specs.Option.{option_map_or}
 use Rattle.tw_machine_text.specs.Letters.{functions, same_text}
+use Rattle.tw_machine_text.specs.Limits.{max_count}
 use Rattle.tw_machine_declaration.specs.declared.declaration.Constant.{Constant}
 use Rattle.tw_machine_declaration.specs.declared.declaration.Constant.TheVariants as c
-use Rattle.tw_machine_declaration.specs.Seen.{Given, Name, Declares, parameter, list_parameter, register, registers, queue, queues, table, list_table, observation, procedure}
+use Rattle.tw_machine_declaration.specs.declared.declaration.Timer.{Timer}
+use Rattle.tw_machine_declaration.specs.Seen.{Given, Name, Timers, Declares, parameter, list_parameter, register, registers, queue, queues, table, list_table, observation, procedure, timer, timer_array, number, together as all_together, greatest, due, next}
 use Rattle.tw_machine_declaration.specs.declared.names.Places.{Places}
 use Rattle.tw_machine_declaration.specs.declared.names.Standing.{Standing}
 use Rattle.tw_machine_declaration.specs.declared.names.Standing.TheVariants as s
@@ -32,11 +35,63 @@ count_of given c = min (natural (start_of given c)) max_queues
 abbrev pub list_given : Given → ℕ → List ℤ
 list_given given k = slice_index_or given.lists k []
 
+-- ---- timers at the start
+
+-- how many timers are alike; more than 16 are refused
+abbrev pub timer_count : Given → Timer → ℕ
+timer_count given t = option_map_or (λ c. min (natural (start_of given c)) max_count) t.count 1
+
+abbrev pub greatest_index : Given → Timer → ℕ
+greatest_index given t = timer_count given t - 1
+
+-- the least number of ticks for which a timer runs
+abbrev pub least_ticks : Given → Option Constant → ℕ
+least_ticks given least = option_map_or (λ c. natural (start_of given c)) least 0
+
+-- the tick at which a timer is due that is started at the start, -1 where it does not run
+abbrev pub due_first : ℤ → Option ℤ → ℤ
+due_first least (Some (pos n)) = pos (max n (natural least))
+due_first least _ = negsuc 0
+
+-- the ticks at which timers are due, of one with a count so many
+abbrev pub timer_ticks : Given → (least : ℤ) → Timer → List ℤ
+timer_ticks given least t = replicate (timer_count given t) (due_first least (option_and_then (constant given) t.first))
+
+abbrev pub due_ticks : Given → Timers → List ℤ
+due_ticks given ts = flat_map (timer_ticks given (pos (least_ticks given ts.least))) ts.each
+
+-- the least of the ticks at which timers are due, if one runs
+abbrev pub earlier : ℕ → Option ℕ → ℕ
+earlier n (Some m) = min n m
+earlier n None = n
+
+abbrev pub earliest : List ℤ → Option ℕ
+earliest [] = None
+earliest (pos n ∷ ticks) = Some (earlier n (earliest ticks))
+earliest (negsuc n ∷ ticks) = earliest ticks
+
+-- the place, counted on from k, of the first timer that is due at a tick; -1 where none is
+abbrev pub is_tick : ℕ → ℤ → Bool
+is_tick at (pos n) = nat_eq n at
+is_tick at (negsuc n) = false
+
+abbrev pub first_place : (k at : ℕ) → List ℤ → ℤ
+first_place k at [] = negsuc 0
+first_place k at (tick ∷ ticks) = if is_tick at tick then pos k else first_place (k + 1) at ticks
+
+-- the timer that goes next: the first that is due at the least tick, -1 where none runs
+abbrev pub next_timer : List ℤ → ℤ
+next_timer ticks = option_map_or (λ at. first_place 0 at ticks) (earliest ticks) (negsuc 0)
+
+-- ---- what names take
+
 -- what the cells of a register have at the start; those of an observation are how many, their sum, the sum of their squares
 abbrev pub cells : Given → Declares → List ℤ
 cells given (register c) = start_of given c ∷ []
 cells given (registers cs) = map (start_of given) cs
 cells given observation = pos 0 ∷ pos 0 ∷ pos 0 ∷ []
+cells given (due ts) = due_ticks given ts
+cells given (next ts) = next_timer (due_ticks given ts) ∷ []
 cells given _ = []
 
 -- the rooms of the queues that a name declares
@@ -92,6 +147,13 @@ standing_of given at (table ns) = s.Table (record { first = at.numbers; count = 
 standing_of given at (list_table k) = s.Table (record { first = list_place given k; count = min (length (list_given given k)) numbers_end })
 standing_of given at observation = s.Observation at.cells
 standing_of given at (procedure k) = s.Nothing
+standing_of given at (timer before) = s.Nothing
+standing_of given at (timer_array before last) = s.Nothing
+standing_of given at (number c) = given_number (constant given c)
+standing_of given at (all_together ts) = s.Number (pos (min (sum_by (timer_count given) ts) cells_end))
+standing_of given at (greatest t) = s.Number (pos (greatest_index given t))
+standing_of given at (due ts) = s.Cells (record { first = at.cells; count = min (length (due_ticks given ts)) cells_end })
+standing_of given at (next ts) = s.Cell at.cells
 
 -- the cells of an observation, of which the first is at place k
 abbrev pub observation_span : ℕ → Span

@@ -9,10 +9,20 @@ use Rattle.tw_machine_declaration.specs.declared.declaration.Named.{Named}
 use Rattle.tw_machine_declaration.specs.declared.declaration.OutputText.{OutputText}
 use Rattle.tw_machine_declaration.specs.declared.declaration.Thing.{Thing}
 use Rattle.tw_machine_declaration.specs.declared.declaration.Thing.TheVariants as t
+use Rattle.tw_machine_declaration.specs.declared.declaration.Timer.{Timer}
+use Rattle.tw_machine_declaration.specs.declared.declaration.Timers as rust_timers
 use Rattle.tw_machine_declaration.specs.declared.declaration.Value as rust_value
 use Rattle.tw_machine_declaration.specs.declared.declaration.Value.TheVariants as v
 
--- what a machine declares by a name: parameters, tables of lists and procedures by their place among those of their kind
+-- the timers of a machine, in order, and the least number of ticks for which one runs
+pub record Timers : Type 0 where
+  pub each : List Timer
+  pub least : Option Constant
+
+abbrev pub timers : rust_timers.Timers → Timers
+timers ts = record { each = ts.each.items; least = ts.least }
+
+-- what a machine declares by a name: parameters, tables of lists and procedures by their place among those of their kind; a timer by the hidden names that say how many are before it, and, with a count, its greatest index. The last five are hidden
 pub data Declares : Type 0 where
   parameter : (place : ℕ) → Declares
   list_parameter : (place : ℕ) → Declares
@@ -24,6 +34,13 @@ pub data Declares : Type 0 where
   list_table : (place : ℕ) → Declares
   observation : Declares
   procedure : (place : ℕ) → Declares
+  timer : (before : ℕ) → Declares
+  timer_array : (before greatest : ℕ) → Declares
+  number : (c : Constant) → Declares
+  together : (ts : List Timer) → Declares
+  greatest : (t : Timer) → Declares
+  due : (ts : Timers) → Declares
+  next : (ts : Timers) → Declares
 
 abbrev pub thing : Thing → Declares
 thing (t.Parameter k) = parameter k
@@ -36,6 +53,13 @@ thing (t.Table ns) = table ns.items
 thing (t.ListTable k) = list_table k
 thing t.Observation = observation
 thing (t.Procedure k) = procedure k
+thing (t.Timer before) = timer before
+thing (t.TimerArray before last) = timer_array before last
+thing (t.Number c) = number c
+thing (t.Together ts) = together ts.items
+thing (t.Greatest one) = greatest one
+thing (t.Due ts) = due (timers ts)
+thing (t.Next ts) = next (timers ts)
 
 -- a name, and what is declared by it
 abbrev pub Name : Type 0
@@ -63,12 +87,13 @@ pub record Output : Type 0 where
 abbrev pub output : OutputText → Output
 output o = record { port = value o.port; sent = value o.value; when = option_map value o.when; each = option_map program.tree o.each }
 
--- what a machine declares: its names in order, what it starts with, its greatest wait, and what it does, sends and shows
+-- what a machine declares: its names in order, what it starts with, its greatest wait, its timers, and what it does, sends and shows
 pub record Declaration : Type 0 where
   pub names : List Name
   pub random : Constant
   pub first : Option Constant
   pub longest : Option Constant
+  pub timers : Option Timers
   pub internal : Block
   pub external : Block
   pub outputs : List Output
@@ -80,6 +105,7 @@ declaration d = record {
   random = d.random;
   first = d.first;
   longest = d.longest;
+  timers = option_map timers d.timers;
   internal = program.body d.internal;
   external = program.body d.external;
   outputs = map output d.outputs.items;

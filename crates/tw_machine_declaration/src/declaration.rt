@@ -33,6 +33,38 @@ pub enum Thing {
     Observation,
     /// A procedure, at this place among them. Its program stands where it is used.
     Procedure(usize),
+    /// A timer. The name of this number, hidden behind the machine's own, stands for how many timers are before it.
+    Timer(usize),
+    /// A timer with a count: as many alike. The first name stands for how many timers are before it, the second for the
+    /// greatest index.
+    TimerArray(usize, usize),
+    /// Hidden: a number that no component gives.
+    Number(Constant),
+    /// Hidden: how many timers these are together.
+    Together(Vec<Timer>),
+    /// Hidden: the greatest index of a timer, 0 of one without a count.
+    Greatest(Timer),
+    /// Hidden: a cell for each timer, with the tick at which it is due; -1 where it does not run.
+    Due(Timers),
+    /// Hidden: a cell with the place of the timer that goes next; -1 where none runs.
+    Next(Timers),
+}
+
+/// A timer, or so many that are alike.
+#[derive(Clone, Copy, Debug, PartialEq, Eq)]
+pub struct Timer {
+    /// How many, 1 to 16; it is one timer, without an index, where it is left out.
+    pub count: Option<Constant>,
+    /// In how many ticks from the start on it is due. Where it is left out or negative it does not run then.
+    pub first: Option<Constant>,
+}
+
+/// The timers of a machine, in order.
+#[derive(Drop)]
+pub struct Timers {
+    pub each: Vec<Timer>,
+    /// The least number of ticks for which one runs; 0 where it is left out.
+    pub least: Option<Constant>,
 }
 
 /// A name that a machine declares, and what is declared by it.
@@ -59,6 +91,16 @@ pub struct OutputText {
     pub each: Option<SourceExpr>,
 }
 
+/// An output of a timer.
+#[derive(Drop)]
+pub struct TimerOutput {
+    /// The place of the timer among the entries of `timers`.
+    pub timer: usize,
+    /// Whether this has a count.
+    pub counted: bool,
+    pub output: OutputText,
+}
+
 /// A machine. The numbers of names in its trees are those of the texts' reader: 0 to 15 for the functions' names, and
 /// from 16 on for `names`, in this order.
 #[derive(Drop)]
@@ -70,6 +112,9 @@ pub struct Declaration {
     pub first: Option<Constant>,
     /// The greatest wait.
     pub longest: Option<Constant>,
+    /// Its timers. The first wait of a machine that has them is that of the first that is due, and `first` and `longest` are
+    /// left out; their hidden names stand behind all others, and their programs and outputs in the members below.
+    pub timers: Option<Timers>,
     pub internal: Block,
     pub external: Block,
     pub outputs: Vec<OutputText>,

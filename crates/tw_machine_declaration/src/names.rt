@@ -29,6 +29,7 @@ ghost use Rattle.tw_machine_declaration.specs.Names.{
 ghost use Rattle.tw_machine_declaration.specs.declared.names.Standing.TheVariants.{Nothing};
 
 use crate::declaration::{Constant, Given, Named, Thing};
+use crate::starts::{all_timers, greatest_index};
 use std::alloc::{AllocError, Global};
 use tw_machine::language::Span;
 use tw_machine::limits::{
@@ -39,9 +40,9 @@ use tw_machine_text::{FUNCTIONS, same_text};
 /// What a name stands for.
 #[derive(Clone, Copy, Debug, PartialEq, Eq)]
 pub enum Standing {
-    /// A list, a procedure, or a function's name that nothing else has.
+    /// A list, a procedure, a timer, or a function's name that nothing else has.
     Nothing,
-    /// The number of a parameter.
+    /// The number of a parameter, or one that no component gives.
     Number(i64),
     /// A parameter of which nothing is given.
     Unknown,
@@ -133,11 +134,11 @@ fn cell_count(given: &Given, thing: &Thing) -> u32
         ≡ min (length (cells (plain.given given.now) (plain.thing thing.now))) cells_end }
     ensures small { result ≤ cells_end }
 {
-    let _ = given;
     match thing {
-        Thing::Register(_) => 1,
+        Thing::Register(_) | Thing::Next(_) => 1,
         Thing::RegisterArray(starts) => starts.len().min(CELLS_END) as u32,
         Thing::Observation => OBSERVATION_CELLS as u32,
+        Thing::Due(timers) => all_timers(given, timers.each.as_slice()),
         _ => 0,
     }
 }
@@ -243,8 +244,8 @@ fn standing_of(given: &Given, at: Places, thing: &Thing) -> Standing
     match thing {
         Thing::Parameter(place) => given_number(given.numbers.get(*place).copied()),
         Thing::ListParameter(_) => Standing::Nothing,
-        Thing::Register(_) => Standing::Cell(at.cells),
-        Thing::RegisterArray(_) => Standing::Cells(Span {
+        Thing::Register(_) | Thing::Next(_) => Standing::Cell(at.cells),
+        Thing::RegisterArray(_) | Thing::Due(_) => Standing::Cells(Span {
             first: at.cells,
             count: cell_count(given, thing),
         }),
@@ -265,7 +266,10 @@ fn standing_of(given: &Given, at: Places, thing: &Thing) -> Standing
             count: list_count(given, *place),
         }),
         Thing::Observation => Standing::Observation(at.cells),
-        Thing::Procedure(_) => Standing::Nothing,
+        Thing::Procedure(_) | Thing::Timer(_) | Thing::TimerArray(..) => Standing::Nothing,
+        Thing::Number(number) => given_number(constant(given, *number)),
+        Thing::Together(timers) => Standing::Number(all_timers(given, timers.as_slice()) as i64),
+        Thing::Greatest(timer) => Standing::Number(greatest_index(given, *timer)),
     }
 }
 

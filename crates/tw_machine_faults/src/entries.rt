@@ -6,6 +6,7 @@ use crate::names::{
 };
 use serde_json::Value;
 use std::alloc::{AllocError, Global};
+use tw_file_members::items_in;
 use tw_machine::limits::{MAX_CELLS, MAX_NUMBERS, MAX_OBSERVATIONS, MAX_QUEUES, MAX_ROOM};
 use tw_machine_text_faults::{Nearest, described, quoted};
 
@@ -30,7 +31,7 @@ pub(crate) fn parameters_fault(
         let Some(text) = name.as_str() else {
             return Ok(Some(format!(in alloc; "parameters[{i}] is {found}, not a text")?));
         };
-        if let Some(reason) = bad_parameter(alloc, text)? {
+        if let Some(reason) = bad_parameter(alloc, machine, text)? {
             return Ok(Some(format!(in alloc; "parameters[{i}]: {reason}")?));
         }
         if first_text(names, text) < i {
@@ -105,13 +106,13 @@ pub(crate) fn section_fault(
 }
 
 /// Why a name may not be declared here.
-fn name_fault(
+pub(crate) fn name_fault(
     alloc: Global,
     machine: &Value,
     member: &str,
     name: &str,
 ) -> Result<Option<String>, AllocError> {
-    if let Some(reason) = bad_name(alloc, name)? {
+    if let Some(reason) = bad_name(alloc, machine, name)? {
         return Ok(Some(reason));
     }
     let shown = quoted(alloc, name)?;
@@ -127,7 +128,28 @@ fn name_fault(
             return Ok(Some(format!(in alloc; "{shown} is the name of {what} too")?));
         }
     }
-    Ok(None)
+    let Some(what) = named_before(machine, member, name) else {
+        return Ok(None);
+    };
+    Ok(Some(format!(in alloc; "{shown} is the name of {what} too")?))
+}
+
+/// What has a name before a member behind the tables: an observation, or a procedure.
+fn named_before(machine: &Value, member: &str, name: &str) -> Option<&'static str> {
+    let is_behind = matches!(member, "procedures" | "timers");
+    let observations = observations_of(machine);
+    if is_behind && first_text(observations, name) < observations.len() {
+        return Some("an observation");
+    }
+    if member != "timers" {
+        return None;
+    }
+    for pair in items_in(machine, "procedures") {
+        if pair.get(0).and_then(Value::as_str) == Some(name) {
+            return Some("a procedure");
+        }
+    }
+    None
 }
 
 /// What is wrong with the names of procedures.

@@ -9,6 +9,7 @@
 //!   limits with these.
 //! - `names`: the names that a machine declares.
 //! - `entries`: faults of parameters, registers, queues and tables; [`WHOLE`], the words for a whole number.
+//! - `timers`: faults of timers.
 //! - `members`: faults of outputs and words. `limits`: the limit that a machine passes.
 //! - `values`: [`name_of`], the name of a component or a machine.
 //! - `stop`: [`Stop`], why a walk over a file ends before its end.
@@ -20,6 +21,7 @@ mod machines;
 mod members;
 mod names;
 mod stop;
+mod timers;
 mod values;
 
 pub use entries::WHOLE;

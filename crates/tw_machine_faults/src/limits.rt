@@ -1,17 +1,18 @@
 //! The limit that a machine passes, in words.
 
 use crate::machines::Machine;
-use crate::members::member_text;
+use crate::members::{member_text, timer_place};
 use std::alloc::{AllocError, Global};
 use tw_machine::limits::{
     MAX_CELLS, MAX_COMPUTATIONS, MAX_NUMBERS, MAX_QUEUES, MAX_ROOM, MAX_ROOMS,
 };
 use tw_machine_compiler::{BadMachine, Constant, Given, Thing};
 use tw_machine_declaration::{
-    block_work, constant, count_of, outputs_work, room_of, standings_of, words_work,
+    MAX_TIMERS, all_timers, block_work, constant, count_of, outputs_work, room_of, standings_of,
+    words_work,
 };
 use tw_machine_file::{FileMachine, Part};
-use tw_machine_text::{MAX_NODES, MAX_TURNS};
+use tw_machine_text::{MAX_COUNT, MAX_NODES, MAX_TURNS};
 use tw_machine_text_faults::{quoted, words_of};
 use tw_vtime::MAX_TICK;
 
@@ -56,6 +57,12 @@ pub(crate) fn limit_fault(
             ));
             format!(in alloc; "tables have {numbers} numbers together, at most {MAX_NUMBERS}")
         }
+        BadMachine::TimerCount => timer_count_fault(alloc, given, machine, bad),
+        BadMachine::TooManyTimers => {
+            let timers = timers_together(given, read);
+            format!(in alloc; "{timers} timers, at most {MAX_TIMERS}")
+        }
+        BadMachine::Least => least_fault(alloc, given, read, bad),
         BadMachine::TooManyNodes => {
             format!(in alloc; "more than {MAX_NODES} nodes in programs, outputs and words together")
         }
@@ -185,6 +192,55 @@ fn longest_fault(
     format!(in alloc; "{bad}")
 }
 
+/// The least time of a timer, out of its range.
+fn least_fault(
+    alloc: Global,
+    given: &Given,
+    machine: &FileMachine,
+    bad: BadMachine,
+) -> Result<String, AllocError> {
+    let least = machine
+        .declaration
+        .timers
+        .as_ref()
+        .and_then(|timers| timers.least);
+    if let Some(least) = least {
+        if let Some(words) = given_words(alloc, given, least, MAX_TICK as i64)? {
+            return format!(in alloc; "least is {words}");
+        }
+    }
+    format!(in alloc; "{bad}")
+}
+
+/// The first timer whose count is out of its range.
+fn timer_count_fault(
+    alloc: Global,
+    given: &Given,
+    machine: &Machine<'_>,
+    bad: BadMachine,
+) -> Result<String, AllocError> {
+    let Some(timers) = &machine.read.declaration.timers else {
+        return format!(in alloc; "{bad}");
+    };
+    for (i, timer) in timers.each.iter().enumerate() {
+        if let Some(count) = timer.count {
+            if let Some(words) = given_words(alloc, given, count, MAX_COUNT as i64)? {
+                let place = timer_place(alloc, machine.value, i)?;
+                return format!(in alloc; "{place}.count is {words}");
+            }
+        }
+    }
+    format!(in alloc; "{bad}")
+}
+
+/// How many timers a machine has together.
+fn timers_together(given: &Given, machine: &FileMachine) -> u32 {
+    match &machine.declaration.timers {
+        Some(timers) => all_timers(given, timers.each.as_slice()),
+        None => 0,
+    }
+}
+
 /// The first block that is repeated too often, or a negative number of times.
 fn turns_fault(
     alloc: Global,
@@ -192,24 +248,47 @@ fn turns_fault(
     machine: &Machine<'_>,
     bad: BadMachine,
 ) -> Result<String, AllocError> {
+    let timers = match &machine.read.declaration.timers {
+        Some(timers) => timers.each.len(),
+        None => 0,
+    };
     for part in &[Part::Internal, Part::External] {
-        let said = member_text(alloc, machine.value, *part)?;
-        let mut is_repeated = false;
-        for word in &words_of(alloc, said.text.as_str())? {
-            if is_repeated {
-                let name = word.text.as_str();
-                if let Some(words) = turns_words(alloc, given, machine.read, name)? {
-                    let place = said.place.as_str();
-                    let (line, column) = (word.place.line, word.place.column);
-                    return format!(in alloc;
-                        "{place}, line {line}, column {column}: {name} is {words}"
-                    );
-                }
-            }
-            is_repeated = word.text.as_str() == "repeat";
+        if let Some(line) = turns_fault_in(alloc, given, machine, *part)? {
+            return Ok(line);
+        }
+    }
+    for i in 0..timers {
+        if let Some(line) = turns_fault_in(alloc, given, machine, Part::TimerProgram(i))? {
+            return Ok(line);
         }
     }
     format!(in alloc; "{bad}")
+}
+
+/// The same in one program.
+fn turns_fault_in(
+    alloc: Global,
+    given: &Given,
+    machine: &Machine<'_>,
+    part: Part,
+) -> Result<Option<String>, AllocError> {
+    let said = member_text(alloc, machine.value, part)?;
+    let mut is_repeated = false;
+    for word in &words_of(alloc, said.text.as_str())? {
+        if is_repeated {
+            let name = word.text.as_str();
+            if let Some(words) = turns_words(alloc, given, machine.read, name)? {
+                let place = said.place.as_str();
+                let (line, column) = (word.place.line, word.place.column);
+                let line = format!(in alloc;
+                    "{place}, line {line}, column {column}: {name} is {words}"
+                )?;
+                return Ok(Some(line));
+            }
+        }
+        is_repeated = word.text.as_str() == "repeat";
+    }
+    Ok(None)
 }
 
 /// The words for a parameter by which a block is repeated.

@@ -5,9 +5,10 @@ use crate::entries::{
     section_fault,
 };
 use crate::limits::{limit_fault, own_numbers};
-use crate::members::{entry_fault, member_text, word_again};
-use crate::names::{declared_in, is_list, parameter_names};
+use crate::members::{entry_fault, member_text, outputs_fault, word_again};
+use crate::names::{declared_in, is_list, is_timed, parameter_names};
 use crate::stop::Stop;
+use crate::timers::{timer_lines_fault, timers_fault};
 use crate::values::name_of;
 use serde_json::Value;
 use std::alloc::{AllocError, Global};
@@ -21,7 +22,7 @@ use tw_models::is_kind_name;
 use tw_vtime::MAX_TICK;
 
 /// The members of a machine.
-const MEMBERS: [&str; 14] = [
+const MEMBERS: [&str; 16] = [
     "name",
     "parameters",
     "registers",
@@ -32,6 +33,8 @@ const MEMBERS: [&str; 14] = [
     "procedures",
     "first",
     "longest",
+    "timers",
+    "least",
     "internal",
     "external",
     "output",
@@ -187,7 +190,9 @@ fn machine_place(alloc: Global, i: usize, model: &Value) -> Result<String, Alloc
 fn wrong_text(alloc: Global, model: &Value, part: Part, at: Place) -> Result<String, AllocError> {
     let said = member_text(alloc, model, part)?;
     let names = declared_in(alloc, model)?;
-    let reason = reason(alloc, names.as_slice(), said.member, said.text.as_str(), at)?;
+    let timed = is_timed(model);
+    let text = said.text.as_str();
+    let reason = reason(alloc, names.as_slice(), timed, said.member, text, at)?;
     let (line, column) = (at.line, at.column);
     let place = said.place.as_str();
     format!(in alloc; "{place}, line {line}, column {column}: {reason}")
@@ -223,19 +228,58 @@ fn wrong(
             )?;
             Some(line)
         }
-        Part::First => constant_fault(alloc, model, "first", None)?,
-        Part::Longest => constant_fault(alloc, model, "longest", Some(MAX_TICK as i64))?,
-        Part::Internal => lines_fault(alloc, model, "internal")?,
-        Part::External => lines_fault(alloc, model, "external")?,
-        Part::Output => count_fault(alloc, model, "output", 0)?,
-        Part::Words => count_fault(alloc, model, "words", 1)?,
-        Part::Word(i) if why == Why::Twice => Some(word_again(alloc, model, i)?),
-        _ => entry_fault(alloc, model, part)?,
+        _ => behind_names(alloc, model, part, why)?,
     };
     match found {
         Some(line) => Ok(line),
         None => String::from_str(alloc, "a part of the machine has not its form"),
     }
+}
+
+/// Why a part behind the names of procedures has not its form.
+fn behind_names(
+    alloc: Global,
+    model: &Value,
+    part: Part,
+    why: Why,
+) -> Result<Option<String>, AllocError> {
+    if why == Why::Unknown {
+        if let Some(line) = stray_fault(alloc, part)? {
+            return Ok(Some(line));
+        }
+    }
+    match part {
+        Part::First => constant_fault(alloc, model, "first", None),
+        Part::Longest => constant_fault(alloc, model, "longest", Some(MAX_TICK as i64)),
+        Part::Timers
+        | Part::Timer(_)
+        | Part::TimerName(_)
+        | Part::TimerCount(_)
+        | Part::TimerFirst(_) => timers_fault(alloc, model),
+        Part::TimerProgram(i) => timer_lines_fault(alloc, model, i),
+        Part::Least => constant_fault(alloc, model, "least", Some(MAX_TICK as i64)),
+        Part::Internal => lines_fault(alloc, model, "internal"),
+        Part::External => lines_fault(alloc, model, "external"),
+        Part::Output(sender) => outputs_fault(alloc, model, sender),
+        Part::Words => count_fault(alloc, model, "words", 1),
+        Part::Word(i) if why == Why::Twice => Ok(Some(word_again(alloc, model, i)?)),
+        _ => entry_fault(alloc, model, part),
+    }
+}
+
+/// What is said of a member that stands beside timers, where none may, or without them.
+fn stray_fault(alloc: Global, part: Part) -> Result<Option<String>, AllocError> {
+    let member = match part {
+        Part::First => "first",
+        Part::Longest => "longest",
+        Part::Internal => "internal",
+        Part::Output(_) => "output",
+        Part::Least => {
+            return Ok(Some(String::from_str(alloc, "least stands beside timers alone")?));
+        }
+        _ => return Ok(None),
+    };
+    Ok(Some(format!(in alloc; "a machine with timers has no {member}")?))
 }
 
 /// What is wrong with the machine itself: it is no object, or has a member that none has.
@@ -330,11 +374,20 @@ fn constant_fault(
     }
 }
 
-/// What is wrong with a program that is no text and no list of texts.
+/// What is wrong with a member that is a program.
 fn lines_fault(alloc: Global, model: &Value, member: &str) -> Result<Option<String>, AllocError> {
-    let Some(value) = model.get(member) else {
-        return Ok(None);
-    };
+    match model.get(member) {
+        Some(value) => program_fault(alloc, member, value),
+        None => Ok(None),
+    }
+}
+
+/// What is wrong with a program at a place that is no text and no list of texts.
+pub(crate) fn program_fault(
+    alloc: Global,
+    member: &str,
+    value: &Value,
+) -> Result<Option<String>, AllocError> {
     let Some(lines) = value.as_array() else {
         let found = described(alloc, value)?;
         let line = format!(in alloc; "{member} is {found}, neither a text nor a list of texts")?;

@@ -4,7 +4,8 @@ use crate::entries::WHOLE;
 use serde_json::Value;
 use std::alloc::{AllocError, Global};
 use tw_file_members::items_in;
-use tw_machine_file::Part;
+use tw_machine::limits::MAX_OUTPUTS;
+use tw_machine_file::{Part, Sender};
 use tw_machine_text::Member;
 use tw_machine_text_faults::{described, quoted};
 
@@ -27,10 +28,11 @@ pub(crate) fn member_text(alloc: Global, machine: &Value, part: Part) -> Result<
         Part::Internal => program_text(alloc, machine, "internal"),
         Part::External => program_text(alloc, machine, "external"),
         Part::Procedure(i) => procedure_text(alloc, machine, i),
-        Part::Port(i) => output_text(alloc, machine, i, "port", Member::Value),
-        Part::Value(i) => output_text(alloc, machine, i, "value", Member::Value),
-        Part::When(i) => output_text(alloc, machine, i, "when", Member::Value),
-        Part::Each(i) => output_text(alloc, machine, i, "each", Member::Each),
+        Part::TimerProgram(i) => timer_text(alloc, machine, i),
+        Part::Port(by, i) => output_text(alloc, machine, by, i, "port", Member::Value),
+        Part::Value(by, i) => output_text(alloc, machine, by, i, "value", Member::Value),
+        Part::When(by, i) => output_text(alloc, machine, by, i, "when", Member::Value),
+        Part::Each(by, i) => output_text(alloc, machine, by, i, "each", Member::Each),
         Part::Word(i) => Ok(Said {
             place: format!(in alloc; "words[{i}]")?,
             text: text_of(alloc, items_in(machine, "words").get(i))?,
@@ -61,6 +63,76 @@ fn procedure_text(alloc: Global, machine: &Value, i: usize) -> Result<Said, Allo
     })
 }
 
+/// The timer at a place.
+pub(crate) fn timer_at(machine: &Value, i: usize) -> Option<&Value> {
+    items_in(machine, "timers").get(i)
+}
+
+/// The place of a timer, by its name.
+pub(crate) fn timer_place(alloc: Global, machine: &Value, i: usize) -> Result<String, AllocError> {
+    let name = timer_at(machine, i).and_then(|timer| timer.get("name"));
+    match name.and_then(Value::as_str) {
+        Some(name) => format!(in alloc; "timers.{name}"),
+        None => format!(in alloc; "timers[{i}]"),
+    }
+}
+
+/// The program of a timer, its lines joined.
+fn timer_text(alloc: Global, machine: &Value, i: usize) -> Result<Said, AllocError> {
+    let place = timer_place(alloc, machine, i)?;
+    let program = timer_at(machine, i).and_then(|timer| timer.get("do"));
+    Ok(Said {
+        place: format!(in alloc; "{place}.do")?,
+        text: joined(alloc, program)?,
+        member: None,
+    })
+}
+
+/// The outputs of a machine, or of one of its timers.
+fn outputs_of(machine: &Value, by: Sender) -> &[Value] {
+    match by {
+        Sender::Machine => items_in(machine, "output"),
+        Sender::Timer(i) => match timer_at(machine, i) {
+            Some(timer) => items_in(timer, "output"),
+            None => &[],
+        },
+    }
+}
+
+/// The place of the outputs of a machine, or of one of its timers.
+fn outputs_place(alloc: Global, machine: &Value, by: Sender) -> Result<String, AllocError> {
+    match by {
+        Sender::Machine => String::from_str(alloc, "output"),
+        Sender::Timer(i) => {
+            let place = timer_place(alloc, machine, i)?;
+            format!(in alloc; "{place}.output")
+        }
+    }
+}
+
+/// What is wrong with a list of outputs: it is none, or too long.
+pub(crate) fn outputs_fault(
+    alloc: Global,
+    machine: &Value,
+    by: Sender,
+) -> Result<Option<String>, AllocError> {
+    let place = outputs_place(alloc, machine, by)?;
+    let owner = match by {
+        Sender::Machine => Some(machine),
+        Sender::Timer(i) => timer_at(machine, i),
+    };
+    let Some(value) = owner.and_then(|owner| owner.get("output")) else {
+        return Ok(None);
+    };
+    if !value.is_array() {
+        let found = described(alloc, value)?;
+        return Ok(Some(format!(in alloc; "{place} is {found}, not a list")?));
+    }
+    let count = outputs_of(machine, by).len();
+    let line = format!(in alloc; "{place} has {count} entries, 0 to {MAX_OUTPUTS}")?;
+    Ok(Some(line))
+}
+
 /// A text, or the lines of a list.
 fn joined(alloc: Global, value: Option<&Value>) -> Result<String, AllocError> {
     let mut text = text_of(alloc, value)?;
@@ -80,15 +152,17 @@ fn joined(alloc: Global, value: Option<&Value>) -> Result<String, AllocError> {
 fn output_text(
     alloc: Global,
     machine: &Value,
+    by: Sender,
     i: usize,
     name: &str,
     member: Member,
 ) -> Result<Said, AllocError> {
-    let value = items_in(machine, "output")
+    let value = outputs_of(machine, by)
         .get(i)
         .and_then(|entry| entry.get(name));
+    let place = outputs_place(alloc, machine, by)?;
     Ok(Said {
-        place: format!(in alloc; "output[{i}].{name}")?,
+        place: format!(in alloc; "{place}[{i}].{name}")?,
         text: text_of(alloc, value)?,
         member: Some(member),
     })
@@ -106,11 +180,11 @@ pub(crate) fn entry_fault(
     part: Part,
 ) -> Result<Option<String>, AllocError> {
     match part {
-        Part::Entry(i) => output_fault(alloc, machine, i),
-        Part::Port(i) => sent_fault(alloc, machine, i, "port"),
-        Part::Value(i) => sent_fault(alloc, machine, i, "value"),
-        Part::When(i) => sent_fault(alloc, machine, i, "when"),
-        Part::Each(i) => sent_fault(alloc, machine, i, "each"),
+        Part::Entry(by, i) => output_fault(alloc, machine, by, i),
+        Part::Port(by, i) => sent_fault(alloc, machine, by, i, "port"),
+        Part::Value(by, i) => sent_fault(alloc, machine, by, i, "value"),
+        Part::When(by, i) => sent_fault(alloc, machine, by, i, "when"),
+        Part::Each(by, i) => sent_fault(alloc, machine, by, i, "each"),
         Part::Word(i) => match items_in(machine, "words").get(i) {
             Some(word) => {
                 let found = described(alloc, word)?;
@@ -124,19 +198,25 @@ pub(crate) fn entry_fault(
 }
 
 /// What is wrong with an output: it is no object, or has a member that none has.
-fn output_fault(alloc: Global, machine: &Value, i: usize) -> Result<Option<String>, AllocError> {
-    let Some(entry) = items_in(machine, "output").get(i) else {
+fn output_fault(
+    alloc: Global,
+    machine: &Value,
+    by: Sender,
+    i: usize,
+) -> Result<Option<String>, AllocError> {
+    let place = outputs_place(alloc, machine, by)?;
+    let Some(entry) = outputs_of(machine, by).get(i) else {
         return Ok(None);
     };
     let Some(members) = entry.as_object() else {
         let found = described(alloc, entry)?;
-        return Ok(Some(format!(in alloc; "output[{i}] is {found}, not an object")?));
+        return Ok(Some(format!(in alloc; "{place}[{i}] is {found}, not an object")?));
     };
     for name in members.keys() {
         if !MEMBERS.contains(&name.as_str()) {
             let name = quoted(alloc, name.as_str())?;
             let line = format!(in alloc;
-                "output[{i}]: no member {name} in an output, which takes port, value, when, each"
+                "{place}[{i}]: no member {name} in an output, which takes port, value, when, each"
             )?;
             return Ok(Some(line));
         }
@@ -148,21 +228,23 @@ fn output_fault(alloc: Global, machine: &Value, i: usize) -> Result<Option<Strin
 fn sent_fault(
     alloc: Global,
     machine: &Value,
+    by: Sender,
     i: usize,
     name: &str,
 ) -> Result<Option<String>, AllocError> {
-    let value = items_in(machine, "output")
+    let place = outputs_place(alloc, machine, by)?;
+    let value = outputs_of(machine, by)
         .get(i)
         .and_then(|entry| entry.get(name));
     let Some(value) = value else {
-        let line = format!(in alloc; "output[{i}]: \"{name}\" is missing in an output")?;
+        let line = format!(in alloc; "{place}[{i}]: \"{name}\" is missing in an output")?;
         return Ok(Some(line));
     };
     let found = described(alloc, value)?;
     let line = if name == "each" {
-        format!(in alloc; "output[{i}].{name} is {found}, not a text")?
+        format!(in alloc; "{place}[{i}].{name} is {found}, not a text")?
     } else {
-        format!(in alloc; "output[{i}].{name} is {found}, neither a text nor {WHOLE}")?
+        format!(in alloc; "{place}[{i}].{name} is {found}, neither a text nor {WHOLE}")?
     };
     Ok(Some(line))
 }

@@ -56,7 +56,26 @@ pub(crate) fn declared_in(alloc: Global, machine: &Value) -> Result<Vec<Declared
             add(alloc, &mut declared, name, Kind::Procedure(place))?;
         }
     }
+    add_timers(alloc, &mut declared, machine)?;
     Ok(declared)
+}
+
+/// Adds the names of the timers.
+fn add_timers(
+    alloc: Global,
+    declared: &mut Vec<Declared>,
+    machine: &Value,
+) -> Result<(), AllocError> {
+    for timer in items_in(machine, "timers") {
+        if let Some(name) = timer.get("name").and_then(Value::as_str) {
+            let kind = match timer.get("count") {
+                Some(_) => Kind::TimerArray(0, 0),
+                None => Kind::Timer(0),
+            };
+            add(alloc, declared, name, kind)?;
+        }
+    }
+    Ok(())
 }
 
 /// Adds the names of a member: those of lists are of a kind of their own.
@@ -134,10 +153,20 @@ pub(crate) fn is_parameter(machine: &Value, name: &str) -> bool {
     false
 }
 
-/// Why a name may not be one, if it may not.
-pub(crate) fn bad_name(alloc: Global, name: &str) -> Result<Option<String>, AllocError> {
+/// Whether a machine has the member `timers`.
+pub(crate) fn is_timed(machine: &Value) -> bool {
+    machine.get("timers").is_some()
+}
+
+/// Why a name may not be one in this machine, if it may not.
+pub(crate) fn bad_name(
+    alloc: Global,
+    machine: &Value,
+    name: &str,
+) -> Result<Option<String>, AllocError> {
     let shown = quoted(alloc, name)?;
-    if is_reserved(name.as_bytes()) {
+    let is_taken = is_timed(machine) && matches!(name, "which" | "start" | "stop" | "send");
+    if is_taken || is_reserved(name.as_bytes()) {
         return Ok(Some(format!(in alloc; "{shown} is a word of the language, and no name")?));
     }
     if !is_made(name) {
@@ -150,13 +179,17 @@ pub(crate) fn bad_name(alloc: Global, name: &str) -> Result<Option<String>, Allo
 }
 
 /// Why a name may be none of a parameter, if it may not.
-pub(crate) fn bad_parameter(alloc: Global, name: &str) -> Result<Option<String>, AllocError> {
+pub(crate) fn bad_parameter(
+    alloc: Global,
+    machine: &Value,
+    name: &str,
+) -> Result<Option<String>, AllocError> {
     if MEMBERS.contains(&name) {
         let shown = quoted(alloc, name)?;
         let line = format!(in alloc; "{shown} is a member of components, and no parameter")?;
         return Ok(Some(line));
     }
-    bad_name(alloc, name)
+    bad_name(alloc, machine, name)
 }
 
 /// Whether a name is made as those of registers are.

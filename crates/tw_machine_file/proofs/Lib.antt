@@ -1,4 +1,5 @@
 pub mod Languages
 pub mod Loops
 pub mod OneMachineMore
+pub mod Passed
 pub mod Saying

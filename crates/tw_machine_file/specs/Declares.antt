@@ -1,5 +1,5 @@
 -- What a machine declares: its parameters, the members `registers`, `queues` and `tables`, whose members are names, and its observations.
-use Rattle.std.specs.Prelude.{◌++◌, ◌∷◌, [], ◌+◌, ◌==◌, ◌||◌, ℕ, List, Bool, true, false, Option, Some, None, Result, Ok, Err, codes, length, map, nat_le, option_and_then, option_map, if◌then◌else◌}
+use Rattle.std.specs.Prelude.{◌++◌, ◌∷◌, [], ◌+◌, ◌==◌, ◌||◌, ℕ, List, Bool, true, false, Option, Some, None, is_some, Result, Ok, Err, codes, length, map, nat_le, option_and_then, option_map, if◌then◌else◌}
 use Rattle.std.specs.Option.{option_map_or}
 use Rattle.serde_json.specs.Data.{Data, Items, no_items, item, Members, no_members, member}
 use Rattle.serde_json.specs.Find.{get, as_array, as_object, as_str, at}
@@ -66,12 +66,12 @@ new_name part may before name =
     if may then (if is_among (texts before) name then Err (wrong part why.Twice) else Ok name) else Err (wrong part why.Name)
 
 abbrev pub with_name : Scope → Name → Scope
-with_name s n = record { names = s.names ++ n ∷ []; numbers = s.numbers; lists = s.lists }
+with_name s n = record s { names = s.names ++ n ∷ [] }
 
 -- one member: its name, and then what it declares
 abbrev pub declare : Section → Scope → List ℕ → Data → Result Scope Fault
 declare at s name d =
-    once (new_name (part_of at) (is_name name) s.names name) (λ name. made (λ thing. with_name s (name, thing)) (thing_of at s d))
+    once (new_name (part_of at) (is_name s.timed name) s.names name) (λ name. made (λ thing. with_name s (name, thing)) (thing_of at s d))
 
 abbrev pub declare_all : Section → Scope → Members → Result Scope Fault
 declare_all at s no_members = Ok s
@@ -97,11 +97,11 @@ is_list tables name = option_map_or (names_list name) (option_and_then as_object
 
 -- a parameter is the next of those that are numbers, or of the lists
 abbrev pub with_parameter : Bool → Scope → List ℕ → Scope
-with_parameter true s name = record { names = s.names ++ (name, list_parameter (length s.lists)) ∷ []; numbers = s.numbers; lists = s.lists ++ name ∷ [] }
-with_parameter false s name = record { names = s.names ++ (name, parameter (length s.numbers)) ∷ []; numbers = s.numbers ++ name ∷ []; lists = s.lists }
+with_parameter true s name = record s { names = s.names ++ (name, list_parameter (length s.lists)) ∷ []; lists = s.lists ++ name ∷ [] }
+with_parameter false s name = record s { names = s.names ++ (name, parameter (length s.numbers)) ∷ []; numbers = s.numbers ++ name ∷ [] }
 
 abbrev pub parameter_named : Option Data → Scope → List ℕ → Result Scope Fault
-parameter_named tables s name = made (with_parameter (is_list tables name) s) (new_name part.Parameters (is_own_name name) s.names name)
+parameter_named tables s name = made (with_parameter (is_list tables name) s) (new_name part.Parameters (is_own_name s.timed name) s.names name)
 
 abbrev pub parameter_of : Option Data → Scope → Data → Result Scope Fault
 parameter_of tables s d = once (expected part.Parameters why.Shape (as_str d)) (parameter_named tables s)
@@ -110,18 +110,18 @@ abbrev pub parameters_of : Option Data → Scope → Items → Result Scope Faul
 parameters_of tables s no_items = Ok s
 parameters_of tables s (item d ds) = once (parameter_of tables s d) (λ next. parameters_of tables next ds)
 
-abbrev pub nothing_declared : Scope
-nothing_declared = record { names = []; numbers = []; lists = [] }
+abbrev pub nothing_declared : (timed : Bool) → Scope
+nothing_declared timed = record { names = []; numbers = []; lists = []; timed = timed; timers = [] }
 
 -- the member `parameters`, if there is one
-abbrev pub parameters_in : Option Data → Option Data → Result Scope Fault
-parameters_in tables None = Ok nothing_declared
-parameters_in tables (Some d) = once (expected part.Parameters why.Shape (as_array d)) (parameters_of tables nothing_declared)
+abbrev pub parameters_in : (timed : Bool) → Option Data → Option Data → Result Scope Fault
+parameters_in timed tables None = Ok (nothing_declared timed)
+parameters_in timed tables (Some d) = once (expected part.Parameters why.Shape (as_array d)) (parameters_of tables (nothing_declared timed))
 
 -- ---- observations
 
 abbrev pub observation_named : Scope → List ℕ → Result Scope Fault
-observation_named s name = made (λ name. with_name s (name, observation)) (new_name part.Observations (is_name name) s.names name)
+observation_named s name = made (λ name. with_name s (name, observation)) (new_name part.Observations (is_name s.timed name) s.names name)
 
 abbrev pub observation_of : Scope → Data → Result Scope Fault
 observation_of s d = once (expected part.Observations why.Shape (as_str d)) (observation_named s)
@@ -154,7 +154,7 @@ pair_of d = pair_by d (as_array d)
 
 -- one more behind so many
 abbrev pub procedure_named : ℕ → Scope → List ℕ → Result Scope Fault
-procedure_named k s name = made (λ name. with_name s (name, procedure k)) (new_name part.Procedures (is_name name) s.names name)
+procedure_named k s name = made (λ name. with_name s (name, procedure k)) (new_name part.Procedures (is_name s.timed name) s.names name)
 
 abbrev pub procedures_named : ℕ → Scope → Items → Result Scope Fault
 procedures_named k s no_items = Ok s
@@ -170,7 +170,7 @@ procedures_in s (Some d) = once (expected part.Procedures why.Shape (as_array d)
 -- parameters, registers, queues, tables and observations, in this order
 abbrev pub scope_of : Data → Result Scope Fault
 scope_of d =
-    once (parameters_in (get (codes "tables") d) (get (codes "parameters") d)) (λ s.
+    once (parameters_in (is_some (get (codes "timers") d)) (get (codes "tables") d) (get (codes "parameters") d)) (λ s.
     once (declared_in section.Registers s (get (codes "registers") d)) (λ s.
     once (declared_in section.Queues s (get (codes "queues") d)) (λ s.
     once (declared_in section.Tables s (get (codes "tables") d)) (λ s.

@@ -70,6 +70,7 @@ declared_source = record {
     random = c.Parameter 0;
     first = Some (c.Number (pos 1));
     longest = None;
+    timers = None;
     internal = Then (Then (Then Empty (Assign (Name (own 2)) Add (Number 1)) false) (Wait (Indexed (own 3) (RandomBelow (Number 20)))) true) Draw false;
     external = Empty;
     outputs = record { port = whole (pos 0); sent = tree (Binary Plus (Name (own 2)) (Number 1)); when = None; each = None } ∷ [];

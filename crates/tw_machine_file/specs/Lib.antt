@@ -9,9 +9,14 @@ pub mod Machine
 pub mod Machines
 pub mod Names
 pub mod Outputs
+pub mod Procedures
 pub mod Said
 pub mod Seen
 pub mod Texts
+pub mod Timed
+pub mod TimedViews
+pub mod Timers
+pub mod TimerExamples
 pub mod Used
 pub mod Values
 pub mod Words

@@ -19,13 +19,21 @@ abbrev pub is_letter : List ℕ → Bool
 is_letter [] = false
 is_letter (c ∷ cs) = not (is_digit c)
 
+-- the words that no name is in a machine with timers
+abbrev pub timed_words : List (List ℕ)
+timed_words = codes "which" ∷ codes "start" ∷ codes "stop" ∷ codes "send" ∷ []
+
+-- a word of the language that no name may be
+abbrev pub is_taken : (timed : Bool) → List ℕ → Bool
+is_taken timed text = is_reserved text || (timed && is_among timed_words text)
+
 -- a letter or `_`, then letters, digits and `_`, at most 32; no word of the language
-abbrev pub is_name : List ℕ → Bool
-is_name text = is_letter text && list_all is_word text && nat_le (length text) max_name && not (is_reserved text)
+abbrev pub is_name : (timed : Bool) → List ℕ → Bool
+is_name timed text = is_letter text && list_all is_word text && nat_le (length text) max_name && not (is_taken timed text)
 
 -- of a parameter: no member of a component either
-abbrev pub is_own_name : List ℕ → Bool
-is_own_name text = is_name text && not (is_among component_members text)
+abbrev pub is_own_name : (timed : Bool) → List ℕ → Bool
+is_own_name timed text = is_name timed text && not (is_among component_members text)
 
 abbrev pub is_word_or_dash : ℕ → Bool
 is_word_or_dash c = is_word c || c == 45

@@ -1,17 +1,18 @@
 -- A machine of a file without where its parts lie in memory.
-use Rattle.std.specs.Prelude.{ℕ, List, Option, map, string_bytes}
+use Rattle.std.specs.Prelude.{ℕ, Bool, List, Option, map, string_bytes}
 use Rattle.tw_machine_text.specs.Tree.{Block}
 use Rattle.tw_machine_text.specs.Views.{body}
 use Rattle.tw_machine_text.specs.declared.kinds.Kind.{Kind}
 use Rattle.tw_machine_text.specs.declared.kinds.Kind.TheVariants as kind
-use Rattle.tw_machine_declaration.specs.Seen.{Declaration, Declares, Name, Output, Value, parameter, list_parameter, register, registers, queue, queues, table, list_table, observation, procedure, declaration, name, output, value}
+use Rattle.tw_machine_declaration.specs.Seen.{Declaration, Declares, Name, Output, Value, parameter, list_parameter, register, registers, queue, queues, table, list_table, observation, procedure, timer, timer_array, number, together, greatest, due, next, declaration, name, output, value}
 use Rattle.tw_machine_declaration.specs.declared.declaration.Constant.{Constant}
+use Rattle.tw_machine_declaration.specs.declared.declaration.Timer.{Timer}
 use Rattle.tw_machine_file.specs.declared.declarations.Scope as rust
 use Rattle.tw_machine_file.specs.declared.machine.FileMachine.{FileMachine}
 use Rattle.tw_machine_file.specs.declared.machine.Starts as rust_starts
 use Rattle.tw_machine_file.specs.declared.machine.Texts as rust_texts
 
--- what something is that a name declares, for the texts' reader
+-- what something is that a name declares, for the texts' reader; no text names what is hidden
 abbrev pub kind_of : Declares → Kind
 kind_of (parameter k) = kind.Parameter
 kind_of (list_parameter k) = kind.ListParameter
@@ -23,25 +24,35 @@ kind_of (table ns) = kind.Table
 kind_of (list_table k) = kind.Table
 kind_of observation = kind.Observation
 kind_of (procedure k) = kind.Procedure k
+kind_of (timer before) = kind.Timer before
+kind_of (timer_array before last) = kind.TimerArray before last
+kind_of (number c) = kind.Nothing
+kind_of (together ts) = kind.Nothing
+kind_of (greatest t) = kind.Nothing
+kind_of (due ts) = kind.Nothing
+kind_of (next ts) = kind.Nothing
 
--- what is declared so far: all names in order, and of these the parameters that are numbers and those that are lists
+-- what is declared so far: all names in order, and of these the parameters that are numbers, those that are lists, and the timers; whether the machine has a member `timers`
 pub record Scope : Type 0 where
   pub names : List Name
   pub numbers : List (List ℕ)
   pub lists : List (List ℕ)
+  pub timed : Bool
+  pub timers : List Timer
 
 abbrev pub scope : rust.Scope → Scope
-scope s = record { names = map name s.names.items; numbers = map string_bytes s.numbers.items; lists = map string_bytes s.lists.items }
+scope s = record { names = map name s.names.items; numbers = map string_bytes s.numbers.items; lists = map string_bytes s.lists.items; timed = s.timed; timers = s.timers.items }
 
--- what a machine does, sends and shows
+-- what a machine does, sends and shows, and whether it sends at any time
 pub record Texts : Type 0 where
+  pub sends : Bool
   pub internal : Block
   pub external : Block
   pub outputs : List Output
   pub words : List Value
 
 abbrev pub texts : rust_texts.Texts → Texts
-texts t = record { internal = body t.internal; external = body t.external; outputs = map output t.outputs.items; words = map value t.words.items }
+texts t = record { sends = t.sends; internal = body t.internal; external = body t.external; outputs = map output t.outputs.items; words = map value t.words.items }
 
 -- what a machine starts with, and its greatest wait
 pub record Starts : Type 0 where

@@ -6,7 +6,6 @@ use Rattle.serde_json.specs.Find.{as_array, as_str}
 use Rattle.tw_machine_text.specs.Tree.{Block, Empty, Tree}
 use Rattle.tw_machine_text.specs.Kinds.{kinds_of}
 use Rattle.tw_machine_text.specs.TextViews.{names_of, declarations}
-use Rattle.tw_machine_text.specs.declared.kinds.Declared.{Declared}
 use Rattle.tw_machine_text.specs.declared.kinds.Kind.{Kind}
 use Rattle.tw_machine_text.specs.declared.kinds.Member.{Member}
 use Rattle.tw_machine_text.specs.declared.kinds.Timing.{Timing}
@@ -14,6 +13,7 @@ use Rattle.tw_machine_declaration.specs.Seen.{Value, whole, tree}
 use Rattle.tw_machine_file.specs.Constants.{whole_of}
 use Rattle.tw_machine_file.specs.Fault.{Fault, text, once, made, expected}
 use Rattle.tw_machine_file.specs.Said.{program_said, tree_said}
+use Rattle.tw_machine_file.specs.declared.texts.Language as lent
 use Rattle.tw_machine_file.specs.declared.fault.Part.{Part}
 use Rattle.tw_machine_file.specs.declared.fault.Why.TheVariants as why
 
@@ -72,5 +72,5 @@ value_in l part member d = value_by l part member d (whole_of d)
 
 -- ---- the same of names that are lent to the texts' reader
 
-unfoldable pub language_of : List Declared → Language
-language_of declared = record { names = names_of declared; timing = None; kinds = kinds_of (declarations declared) }
+unfoldable pub language_of : lent.Language → Language
+language_of l = record { names = names_of l.declared.now; timing = l.timing; kinds = kinds_of (declarations l.declared.now) }

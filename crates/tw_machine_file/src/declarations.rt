@@ -1,6 +1,6 @@
 //! What a machine declares: parameters, registers, queues, tables and observations.
-ghost use Rattle.std.specs.Prelude.{◌≡◌, [], IfOk, map, option_and_then};
-ghost use Rattle.serde_json.specs.Find.{as_array, as_str, at};
+ghost use Rattle.std.specs.Prelude.{◌≡◌, [], IfOk, codes, is_some, map, option_and_then};
+ghost use Rattle.serde_json.specs.Find.{as_array, as_str, at, get};
 ghost use Rattle.serde_json.specs.View.{view, items_view, members_view};
 ghost use Rattle.tw_machine_text.specs.Text.{position};
 ghost use Rattle.tw_machine_declaration.specs.Seen.{name, thing};
@@ -16,15 +16,19 @@ use crate::values::{are_few, has_items, is_long, items_of};
 use serde_json::{Map, Value};
 use std::alloc::{AllocError, Global};
 use tw_machine::limits::{MAX_CELLS, MAX_NUMBERS, MAX_OBSERVATIONS, MAX_QUEUES, MAX_ROOM};
-use tw_machine_compiler::{Constant, Named, Thing};
+use tw_machine_compiler::{Constant, Named, Thing, Timer};
 use tw_machine_text::same_text;
 
-/// What is declared so far: all names in order, and of these the parameters that are numbers and those that are lists.
+/// What is declared so far: all names in order, and of these the parameters that are numbers, those that are lists, and
+/// the timers.
 #[derive(Drop)]
 pub(crate) struct Scope {
     pub names: Vec<Named>,
     pub numbers: Vec<String>,
     pub lists: Vec<String>,
+    /// Whether the machine has the member `timers`.
+    pub timed: bool,
+    pub timers: Vec<Timer>,
 }
 
 /// A member of a machine whose members are names.
@@ -152,7 +156,12 @@ fn is_declared(names: &[Named], text: &[u8]) -> bool
 }
 
 /// Looks at a name: whether it may be one, as is said, and has not come before.
-fn new_name(part: Part, may: bool, names: &[Named], text: &str) -> Result<(), MachineFault>
+pub(crate) fn new_name(
+    part: Part,
+    may: bool,
+    names: &[Named],
+    text: &str,
+) -> Result<(), MachineFault>
     ensures ok { Gives result (λ _. text.now) (new_name part may (map name names.now) text.now) }
     ensures err { FailsBy result (new_name part may (map name names.now) text.now) }
 {
@@ -177,7 +186,7 @@ fn declare(
     ensures err { FailsBy result (declare section (scope so_far) text.now (view value.now)) }
 {
     let mut so_far = so_far;
-    let may = is_name(text.as_bytes());
+    let may = is_name(so_far.timed, text.as_bytes());
     new_name(section.part(), may, so_far.names.as_slice(), text)?;
     let thing = thing_of(alloc, section, &so_far, value)?;
     let name = String::from_str(alloc, text)?;
@@ -289,7 +298,7 @@ fn parameter_named(
         (scope so_far) text.now) }
     ensures err { FailsBy result (parameter_named (data_of tables.entry) (scope so_far) text.now) }
 {
-    let may = is_own_name(text.as_bytes());
+    let may = is_own_name(so_far.timed, text.as_bytes());
     new_name(Part::Parameters, may, so_far.names.as_slice(), text)?;
     let is_list = is_list(tables, text.as_bytes());
     Ok(with_parameter(alloc, is_list, so_far, text)?)
@@ -314,18 +323,21 @@ fn parameter_of(
 
 fn parameters_of(
     alloc: Global,
+    timed: bool,
     tables: Option<&Value>,
     values: &[Value],
 ) -> Result<Scope, MachineFault>
-    ensures ok { Gives result scope (parameters_of (data_of tables.entry) nothing_declared
+    ensures ok { Gives result scope (parameters_of (data_of tables.entry) (nothing_declared timed)
         (items_view values.now)) }
-    ensures err { FailsBy result (parameters_of (data_of tables.entry) nothing_declared
+    ensures err { FailsBy result (parameters_of (data_of tables.entry) (nothing_declared timed)
         (items_view values.now)) }
 {
     let mut all = Scope {
         names: Vec::new(alloc),
         numbers: Vec::new(alloc),
         lists: Vec::new(alloc),
+        timed,
+        timers: Vec::new(alloc),
     };
     for value in values {
         all = parameter_of(alloc, tables, all, value)?;
@@ -335,19 +347,22 @@ fn parameters_of(
 
 fn parameters_in(
     alloc: Global,
+    timed: bool,
     tables: Option<&Value>,
     member: Option<&Value>,
 ) -> Result<Scope, MachineFault>
-    ensures ok { Gives result scope (parameters_in (data_of tables.entry) (data_of member.entry)) }
-    ensures err { FailsBy result (parameters_in (data_of tables.entry) (data_of member.entry)) }
+    ensures ok { Gives result scope (parameters_in timed (data_of tables.entry)
+        (data_of member.entry)) }
+    ensures err { FailsBy result (parameters_in timed (data_of tables.entry)
+        (data_of member.entry)) }
 {
     let Some(value) = member else {
-        return parameters_of(alloc, tables, &[]);
+        return parameters_of(alloc, timed, tables, &[]);
     };
     let Some(values) = items_of(value) else {
         return Err(MachineFault::Wrong(Part::Parameters, Why::Shape));
     };
-    parameters_of(alloc, tables, values)
+    parameters_of(alloc, timed, tables, values)
 }
 
 /// One observation more.
@@ -356,7 +371,7 @@ fn observation_named(alloc: Global, so_far: Scope, text: &str) -> Result<Scope, 
     ensures err { FailsBy result (observation_named (scope so_far) text.now) }
 {
     let mut so_far = so_far;
-    let may = is_name(text.as_bytes());
+    let may = is_name(so_far.timed, text.as_bytes());
     new_name(Part::Observations, may, so_far.names.as_slice(), text)?;
     let name = String::from_str(alloc, text)?;
     so_far.names.push(Named {
@@ -451,7 +466,7 @@ fn procedure_named(
     ensures err { FailsBy result (procedure_named place (scope so_far) text.now) }
 {
     let mut so_far = so_far;
-    let may = is_name(text.as_bytes());
+    let may = is_name(so_far.timed, text.as_bytes());
     new_name(Part::Procedures, may, so_far.names.as_slice(), text)?;
     let name = String::from_str(alloc, text)?;
     so_far.names.push(Named {
@@ -491,13 +506,21 @@ pub(crate) fn procedures_in(
     }
 }
 
-/// All names of a machine but its procedures', in this order: its parameters, registers, queues, tables and observations.
+/// Whether a machine has the member `timers`.
+fn has_timers(value: &Value) -> bool
+    ensures { result ≡ is_some (get (codes "timers") (view value.now)) }
+{
+    value.get("timers").is_some()
+}
+
+/// All names of a machine but those of its procedures and timers, in this order: its parameters, registers, queues, tables and observations.
 pub(crate) fn scope_of(alloc: Global, value: &Value) -> Result<Scope, MachineFault>
     ensures ok { Gives result scope (scope_of (view value.now)) }
     ensures err { FailsBy result (scope_of (view value.now)) }
 {
+    let timed = has_timers(value);
     let tables = value.get("tables");
-    let all = parameters_in(alloc, tables, value.get("parameters"))?;
+    let all = parameters_in(alloc, timed, tables, value.get("parameters"))?;
     let all = declared_in(alloc, Section::Registers, all, value.get("registers"))?;
     let all = declared_in(alloc, Section::Queues, all, value.get("queues"))?;
     let all = declared_in(alloc, Section::Tables, all, tables)?;

@@ -17,6 +17,7 @@ ghost use Rattle.tw_machine_file.specs.Examples.{
   ReservedRegister,
   Source,
 };
+ghost use Rattle.tw_machine_file.specs.TimerExamples.{EndWritten, InternalWritten, TestWritten};
 
 /// What a value declares, and what is the first thing that is wrong with eight others.
 pub fn machines()
@@ -45,4 +46,11 @@ pub fn components()
 /// gives.
 pub fn limits()
     ensures { Limited }
+{}
+
+/// What a machine with timers does, and when its outputs are sent, is what the language says by texts.
+pub fn timers()
+    ensures end { EndWritten }
+    ensures internal { InternalWritten }
+    ensures test { TestWritten }
 {}

@@ -8,6 +8,15 @@ use thiserror::Error;
 use tw_machine_compiler::BadMachine;
 use tw_machine_text::Place;
 
+/// What an output stands with.
+#[derive(Clone, Copy, Debug, PartialEq, Eq)]
+pub enum Sender {
+    /// The machine.
+    Machine,
+    /// The timer at this place.
+    Timer(usize),
+}
+
 /// A part of a machine, or of a component of one. Entries are numbered from 0.
 #[derive(Clone, Copy, Debug, PartialEq, Eq)]
 pub enum Part {
@@ -26,20 +35,33 @@ pub enum Part {
     Procedure(usize),
     First,
     Longest,
+    /// The whole of `timers`.
+    Timers,
+    /// The timer at this place.
+    Timer(usize),
+    /// The name of a timer.
+    TimerName(usize),
+    /// The member `count` of a timer.
+    TimerCount(usize),
+    /// The member `first` of a timer.
+    TimerFirst(usize),
+    /// The member `do` of a timer.
+    TimerProgram(usize),
+    Least,
     Internal,
     External,
-    /// The whole of `output`.
-    Output,
+    /// The whole of `output`, of the machine or of a timer.
+    Output(Sender),
     /// An entry of `output`.
-    Entry(usize),
+    Entry(Sender, usize),
     /// The member `port` of an entry of `output`.
-    Port(usize),
+    Port(Sender, usize),
     /// The member `value` of an entry of `output`.
-    Value(usize),
+    Value(Sender, usize),
     /// The member `when` of an entry of `output`.
-    When(usize),
+    When(Sender, usize),
     /// The member `each` of an entry of `output`.
-    Each(usize),
+    Each(Sender, usize),
     /// The whole of `words`.
     Words,
     /// An entry of `words`.
@@ -57,7 +79,7 @@ pub enum Part {
 pub enum Why {
     /// It has to be there.
     Missing,
-    /// It has a member that it may not have.
+    /// It has a member that it may not have, or is one.
     Unknown,
     /// It is of another type.
     Shape,

@@ -1,39 +1,43 @@
 //! A machine of its JSON value.
-ghost use Rattle.std.specs.Prelude.{[], codes, map};
+ghost use Rattle.std.specs.Prelude.{◌≡◌, IfOk, codes, map, option_map};
 ghost use Rattle.serde_json.specs.Find.{get};
-ghost use Rattle.serde_json.specs.View.{view, items_view};
-ghost use Rattle.tw_machine_text.specs.Views.{body};
+ghost use Rattle.serde_json.specs.View.{view};
+ghost use Rattle.tw_machine_declaration.specs.Seen as plain;
 ghost use Rattle.tw_machine_file.specs.Answers.{Gives, FailsBy, data_of, names_in};
 ghost use Rattle.tw_machine_file.specs.Machine.{
+  all_names,
   first_in,
   head_of,
-  language,
   longest_in,
+  machine_made,
   machine_of,
   name_of,
   new_name,
   random_in,
-  procedure_of,
-  procedures_of,
-  procedures_said,
   starts_of,
+  texts_in,
   texts_of,
+  timers_of,
 };
-ghost use Rattle.tw_machine_file.specs.Seen.{machine, scope, starts, texts};
+ghost use Rattle.tw_machine_file.specs.Seen.{machine, scope, starts as seen_starts, texts as seen_texts};
 ghost use Rattle.tw_machine_file.specs.Texts.{language_of};
 
 use crate::constants::{constant, count};
 use crate::declarations::{Scope, procedures_in, scope_of};
-use crate::fault::{MachineFault, Part, Why};
+use crate::fault::{MachineFault, Part, Sender, Why};
 use crate::names::{is_machine_name, is_named};
 use crate::outputs::outputs_in;
-use crate::texts::{declared_of, program_in};
-use crate::values::{are_among, items_of};
+use crate::procedures::procedures_said;
+use crate::texts::{Language, declared_of, program_in};
+use crate::timed::timed_texts;
+use crate::timers::{least_in, timers_in};
+use crate::values::are_among;
 use crate::words::words_in;
 use serde_json::Value;
-use std::alloc::Global;
-use tw_machine_compiler::{Constant, Declaration, OutputText, Value as Said};
-use tw_machine_text::{Block, Declared};
+use std::alloc::{AllocError, Global};
+use tw_machine_compiler::{Constant, Declaration, Named, OutputText, Timer, Timers, Value as Said};
+use tw_machine_declaration::hide_timers;
+use tw_machine_text::Block;
 use tw_vtime::MAX_TICK;
 
 /// A machine of a file.
@@ -58,6 +62,8 @@ pub(crate) struct Starts {
 /// What a machine does, sends and shows.
 #[derive(Drop)]
 pub(crate) struct Texts {
+    /// Whether it sends at any time.
+    pub sends: bool,
     pub internal: Block,
     pub external: Block,
     pub outputs: Vec<OutputText>,
@@ -65,7 +71,7 @@ pub(crate) struct Texts {
 }
 
 /// The members of a machine.
-const MEMBERS: [&[u8]; 14] = [
+const MEMBERS: [&[u8]; 16] = [
     b"name",
     b"parameters",
     b"registers",
@@ -76,6 +82,8 @@ const MEMBERS: [&[u8]; 14] = [
     b"procedures",
     b"first",
     b"longest",
+    b"timers",
+    b"least",
     b"internal",
     b"external",
     b"output",
@@ -136,33 +144,54 @@ fn random_in(numbers: &[String], member: Option<&Value>) -> Result<Constant, Mac
     }
 }
 
-fn first_in(numbers: &[String], member: Option<&Value>) -> Result<Option<Constant>, MachineFault>
-    ensures ok { Gives result (λ c. c) (first_in (names_in numbers.now) (data_of member.entry)) }
-    ensures err { FailsBy result (first_in (names_in numbers.now) (data_of member.entry)) }
+/// The first wait, which no machine with timers says.
+fn first_in(
+    timed: bool,
+    numbers: &[String],
+    member: Option<&Value>,
+) -> Result<Option<Constant>, MachineFault>
+    ensures ok { Gives result
+        (λ c. c) (first_in timed (names_in numbers.now) (data_of member.entry)) }
+    ensures err { FailsBy result (first_in timed (names_in numbers.now) (data_of member.entry)) }
 {
     match member {
+        Some(_) if timed => Err(MachineFault::Wrong(Part::First, Why::Unknown)),
         Some(value) => Ok(Some(constant(Part::First, numbers, value)?)),
         None => Ok(None),
     }
 }
 
-fn longest_in(numbers: &[String], member: Option<&Value>) -> Result<Option<Constant>, MachineFault>
-    ensures ok { Gives result (λ c. c) (longest_in (names_in numbers.now) (data_of member.entry)) }
-    ensures err { FailsBy result (longest_in (names_in numbers.now) (data_of member.entry)) }
+/// The greatest wait, which no machine with timers says.
+fn longest_in(
+    timed: bool,
+    numbers: &[String],
+    member: Option<&Value>,
+) -> Result<Option<Constant>, MachineFault>
+    ensures ok { Gives result
+        (λ c. c) (longest_in timed (names_in numbers.now) (data_of member.entry)) }
+    ensures err { FailsBy result (longest_in timed (names_in numbers.now) (data_of member.entry)) }
 {
     match member {
+        Some(_) if timed => Err(MachineFault::Wrong(Part::Longest, Why::Unknown)),
         Some(value) => Ok(Some(count(Part::Longest, MAX_TICK, numbers, value)?)),
         None => Ok(None),
     }
 }
 
 /// The members behind `random` that are constants.
-fn constants_of(numbers: &[String], random: Constant, value: &Value) -> Result<Starts, MachineFault>
-    ensures ok { Gives result starts (starts_of (view value.now) (names_in numbers.now) random) }
-    ensures err { FailsBy result (starts_of (view value.now) (names_in numbers.now) random) }
+fn constants_of(
+    timed: bool,
+    numbers: &[String],
+    random: Constant,
+    value: &Value,
+) -> Result<Starts, MachineFault>
+    ensures ok { Gives result seen_starts (starts_of (view value.now) timed (names_in numbers.now)
+        random) }
+    ensures err { FailsBy result (starts_of (view value.now) timed (names_in numbers.now)
+        random) }
 {
-    let first = first_in(numbers, value.get("first"))?;
-    let longest = longest_in(numbers, value.get("longest"))?;
+    let first = first_in(timed, numbers, value.get("first"))?;
+    let longest = longest_in(timed, numbers, value.get("longest"))?;
     Ok(Starts {
         random,
         first,
@@ -172,10 +201,12 @@ fn constants_of(numbers: &[String], random: Constant, value: &Value) -> Result<S
 
 /// What a machine of these names starts with.
 fn starts_of(all: &Scope, random: Constant, value: &Value) -> Result<Starts, MachineFault>
-    ensures ok { Gives result starts (starts_of (view value.now) (scope all.now).numbers random) }
-    ensures err { FailsBy result (starts_of (view value.now) (scope all.now).numbers random) }
+    ensures ok { Gives result seen_starts (starts_of (view value.now) (scope all.now).timed
+        (scope all.now).numbers random) }
+    ensures err { FailsBy result (starts_of (view value.now) (scope all.now).timed
+        (scope all.now).numbers random) }
 {
-    constants_of(&all.numbers, random, value)
+    constants_of(all.timed, &all.numbers, random, value)
 }
 
 /// The seed of a machine of these names.
@@ -188,89 +219,30 @@ fn seed_of(all: &Scope, value: &Value) -> Result<Constant, MachineFault>
     random_in(&all.numbers, value.get("random"))
 }
 
-/// The program of the procedure at this place, which may use those before it.
-fn procedure_of(
-    alloc: Global,
-    declared: &[Declared],
-    place: usize,
-    before: &[Block],
-    value: &Value,
-) -> Result<Block, MachineFault>
-    ensures ok { Gives result body (procedure_of (language_of declared.now)
-        place (map body before.now) (view value.now)) }
-    ensures err { FailsBy result (procedure_of (language_of declared.now)
-        place (map body before.now) (view value.now)) }
-{
-    program_in(
-        alloc,
-        declared,
-        before,
-        Part::Procedure(place),
-        value.get(1),
-    )
-}
-
-fn procedures_of(
-    alloc: Global,
-    declared: &[Declared],
-    values: &[Value],
-) -> Result<Vec<Block>, MachineFault>
-    ensures ok { Gives result (λ ps. map body ps.items)
-        (procedures_of (language_of declared.now) 0 [] (items_view values.now)) }
-    ensures err { FailsBy result
-        (procedures_of (language_of declared.now) 0 [] (items_view values.now)) }
-{
-    let mut procedures = Vec::new(alloc);
-    for (place, value) in values.iter().enumerate() {
-        let program = procedure_of(alloc, declared, place, &procedures, value)?;
-        procedures.push(program)?;
-    }
-    Ok(procedures)
-}
-
-/// The programs of the member `procedures`.
-fn procedures_said(
-    alloc: Global,
-    declared: &[Declared],
-    member: Option<&Value>,
-) -> Result<Vec<Block>, MachineFault>
-    ensures ok { Gives result (λ ps. map body ps.items)
-        (procedures_said (language_of declared.now) (data_of member.entry)) }
-    ensures err { FailsBy result
-        (procedures_said (language_of declared.now) (data_of member.entry)) }
-{
-    let Some(value) = member else {
-        return Ok(Vec::new(alloc));
-    };
-    match items_of(value) {
-        Some(values) => procedures_of(alloc, declared, values),
-        None => Err(MachineFault::Wrong(Part::Procedures, Why::Shape)),
-    }
-}
-
 /// What is said by these names.
-fn texts_of(alloc: Global, declared: &[Declared], value: &Value) -> Result<Texts, MachineFault>
-    ensures ok { Gives result texts (texts_of (view value.now) (language_of declared.now)) }
-    ensures err { FailsBy result (texts_of (view value.now) (language_of declared.now)) }
+fn texts_of(alloc: Global, language: &Language<'_>, value: &Value) -> Result<Texts, MachineFault>
+    ensures ok { Gives result seen_texts (texts_of (view value.now) (language_of language.now)) }
+    ensures err { FailsBy result (texts_of (view value.now) (language_of language.now)) }
 {
-    let procedures = procedures_said(alloc, declared, value.get("procedures"))?;
+    let procedures = procedures_said(alloc, language, value.get("procedures"))?;
     let internal = program_in(
         alloc,
-        declared,
+        language,
         &procedures,
         Part::Internal,
         value.get("internal"),
     )?;
     let external = program_in(
         alloc,
-        declared,
+        language,
         &procedures,
         Part::External,
         value.get("external"),
     )?;
-    let outputs = outputs_in(alloc, declared, value.get("output"))?;
-    let words = words_in(alloc, declared, value.get("words"))?;
+    let outputs = outputs_in(alloc, language, Sender::Machine, value.get("output"))?;
+    let words = words_in(alloc, language, value.get("words"))?;
     Ok(Texts {
+        sends: false,
         internal,
         external,
         outputs,
@@ -280,19 +252,92 @@ fn texts_of(alloc: Global, declared: &[Declared], value: &Value) -> Result<Texts
 
 /// What is said in the language of a machine of these names.
 fn texts_in(alloc: Global, all: &Scope, value: &Value) -> Result<Texts, MachineFault>
-    ensures ok { Gives result texts (texts_of (view value.now) (language (scope all.now).names)) }
-    ensures err { FailsBy result (texts_of (view value.now) (language (scope all.now).names)) }
+    ensures ok { Gives result seen_texts (texts_in (scope all.now) (view value.now)) }
+    ensures err { FailsBy result (texts_in (scope all.now) (view value.now)) }
 {
     let declared = declared_of(alloc, &all.names)?;
-    texts_of(alloc, &declared, value)
+    if all.timed {
+        timed_texts(alloc, &declared, all.timer_names(), value)
+    } else {
+        let plain = Language {
+            declared: &declared,
+            timing: None,
+        };
+        texts_of(alloc, &plain, value)
+    }
+}
+
+/// The timers of a machine of these names, if it has the member.
+fn timers_of(timed: bool, each: Vec<Timer>, least: Option<Constant>) -> Option<Timers>
+    ensures { option_map plain.timers result ≡ timers_of timed each.items least }
+{
+    if timed {
+        Some(Timers { each, least })
+    } else {
+        None
+    }
+}
+
+/// All names of a machine: those that it declares, and those that its timers have behind them.
+fn all_names(
+    alloc: Global,
+    names: Vec<Named>,
+    timers: &Option<Timers>,
+    sends: bool,
+) -> Result<Vec<Named>, AllocError>
+    ensures { IfOk result (λ all. map plain.name all.items
+        ≡ all_names (map plain.name names.items) (option_map plain.timers timers.now) sends) }
+{
+    match timers {
+        Some(timers) => {
+            let mut names = names;
+            hide_timers(alloc, &mut names, timers, sends)?;
+            Ok(names)
+        }
+        None => Ok(names),
+    }
+}
+
+/// The machine of this name, of what it declares and says.
+fn machine_made(
+    alloc: Global,
+    name: &str,
+    all: Scope,
+    starts: Starts,
+    least: Option<Constant>,
+    texts: Texts,
+) -> Result<FileMachine, AllocError>
+    ensures { IfOk result (λ m. machine m
+        ≡ machine_made name.now (scope all) (seen_starts starts) least (seen_texts texts)) }
+{
+    let timers = timers_of(all.timed, all.timers, least);
+    let names = all_names(alloc, all.names, &timers, texts.sends)?;
+    let name = String::from_str(alloc, name)?;
+    Ok(FileMachine {
+        name,
+        declaration: Declaration {
+            names,
+            random: starts.random,
+            first: starts.first,
+            longest: starts.longest,
+            timers,
+            internal: texts.internal,
+            external: texts.external,
+            outputs: texts.outputs,
+            words: texts.words,
+        },
+        numbers: all.numbers,
+        lists: all.lists,
+    })
 }
 
 /// The machine that an object of `models` declares, behind machines of these names.
 ///
 /// The first fault in the order of its members is answered ([`MachineFault`], refusal 21): the value is no object; its
 /// name, which none before has; a member that no machine has; then parameters, registers, queues, tables, observations,
-/// random, the names of procedures, first, longest, the procedures' programs, internal, external, output (of an entry its members, then port, value, when, each) and words. In
-/// registers, queues and tables the order is that of the value's names, and of each its name comes before what it
+/// random, the names of procedures, first, longest, timers (of each its members, name, count, first), least, the
+/// procedures' programs, internal, external, of each timer its program and its output, output (of an entry its members, then
+/// port, value, when, each) and words. A machine with timers has none of first, longest, internal and output. In registers, queues and tables the order is that of the value's names, and of each its name comes before what it
 /// declares. Want of memory (4) may come at any point instead. After any of them nothing is left. What hangs on the
 /// numbers of a component, and the limits of the whole machine, is not looked at; a text has at most 4,096 nodes and 64
 /// levels by itself. The place in a text is meant to be that of the first word that cannot stand there.
@@ -309,21 +354,8 @@ pub fn machine_of(
     let random = seed_of(&scope, value)?;
     let scope = procedures_in(alloc, scope, value.get("procedures"))?;
     let starts = starts_of(&scope, random, value)?;
+    let scope = timers_in(alloc, scope, value.get("timers"))?;
+    let least = least_in(&scope, value.get("least"))?;
     let texts = texts_in(alloc, &scope, value)?;
-    let name = String::from_str(alloc, name)?;
-    Ok(FileMachine {
-        name,
-        declaration: Declaration {
-            names: scope.names,
-            random: starts.random,
-            first: starts.first,
-            longest: starts.longest,
-            internal: texts.internal,
-            external: texts.external,
-            outputs: texts.outputs,
-            words: texts.words,
-        },
-        numbers: scope.numbers,
-        lists: scope.lists,
-    })
+    Ok(machine_made(alloc, name, scope, starts, least, texts)?)
 }

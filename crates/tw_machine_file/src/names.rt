@@ -9,6 +9,7 @@ ghost use Rattle.tw_machine_file.specs.Names.{
   is_machine_name,
   is_name,
   is_own_name,
+  is_taken,
   is_word_or_dash,
 };
 
@@ -17,6 +18,9 @@ use tw_models::is_kind_name;
 
 /// The members of a component that are no parameters.
 const MEMBERS: [&[u8]; 4] = [b"name", b"model", b"components", b"couplings"];
+
+/// The words that no name is in a machine with timers.
+const TIMED_WORDS: [&[u8]; 4] = [b"which", b"start", b"stop", b"send"];
 
 fn is_word_or_dash(c: u8) -> bool
     ensures { result ≡ is_word_or_dash c }
@@ -68,18 +72,25 @@ fn is_letter(text: &[u8]) -> bool
     }
 }
 
-/// Whether it may be the name of a parameter, a register, a queue or a table.
-pub(crate) fn is_name(text: &[u8]) -> bool
-    ensures { result ≡ is_name text.now }
+/// Whether a text is a word of the language that no name may be, in a machine with timers or without.
+fn is_taken(timed: bool, text: &[u8]) -> bool
+    ensures { result ≡ is_taken timed text.now }
 {
-    is_letter(text) && are_words(text) && text.len() <= MAX_NAME && !is_reserved(text)
+    is_reserved(text) || (timed && is_among(&TIMED_WORDS, text))
 }
 
-/// Whether it may be the name of a parameter.
-pub(crate) fn is_own_name(text: &[u8]) -> bool
-    ensures { result ≡ is_own_name text.now }
+/// Whether it may be the name of a parameter, a register, a queue or a table of such a machine.
+pub(crate) fn is_name(timed: bool, text: &[u8]) -> bool
+    ensures { result ≡ is_name timed text.now }
 {
-    is_name(text) && !is_among(&MEMBERS, text)
+    is_letter(text) && are_words(text) && text.len() <= MAX_NAME && !is_taken(timed, text)
+}
+
+/// Whether it may be the name of a parameter of such a machine.
+pub(crate) fn is_own_name(timed: bool, text: &[u8]) -> bool
+    ensures { result ≡ is_own_name timed text.now }
+{
+    is_name(timed, text) && !is_among(&MEMBERS, text)
 }
 
 /// Whether it may be the name of a machine.

@@ -25,11 +25,20 @@ use serde_json::Value;
 use std::alloc::{AllocError, Global};
 use tw_machine_compiler::{Named, Thing, Value as Said};
 use tw_machine_text::{
-    Block, Declared, Kind, MAX_NODES, Member, SourceExpr, TextRefused, kinds_of, read_member,
-    read_program,
+    Block, Declared, Kind, MAX_NODES, Member, SourceExpr, TextRefused, Timing, kinds_of,
+    read_member, read_program,
 };
 
-/// What a thing is, for the texts' reader.
+/// What a machine's texts may speak of.
+#[derive(Clone, Copy)]
+pub(crate) struct Language<'a> {
+    /// The names that may stand in them.
+    pub declared: &'a [Declared],
+    /// Of a machine with timers the names behind these, and the timer that a text is of.
+    pub timing: Option<Timing>,
+}
+
+/// What a thing is, for the texts' reader. No text names a hidden one.
 fn kind_of(declared: &Thing) -> Kind
     ensures { result ≡ kind_of (thing declared.now) }
 {
@@ -44,6 +53,13 @@ fn kind_of(declared: &Thing) -> Kind
         Thing::ListTable(_) => Kind::Table,
         Thing::Observation => Kind::Observation,
         Thing::Procedure(place) => Kind::Procedure(*place),
+        Thing::Timer(before) => Kind::Timer(*before),
+        Thing::TimerArray(before, last) => Kind::TimerArray(*before, *last),
+        Thing::Number(_)
+        | Thing::Together(_)
+        | Thing::Greatest(_)
+        | Thing::Due(_)
+        | Thing::Next(_) => Kind::Nothing,
     }
 }
 
@@ -62,10 +78,10 @@ pub(crate) fn declared_of(alloc: Global, names: &[Named]) -> Result<Vec<Declared
 }
 
 /// What each name stands for, by its number.
-pub(crate) fn kinds_in(alloc: Global, declared: &[Declared]) -> Result<Vec<Kind>, AllocError>
-    ensures { IfOk result (λ v. v.items ≡ (language_of declared.now).kinds) }
+pub(crate) fn kinds_in(alloc: Global, language: &Language<'_>) -> Result<Vec<Kind>, AllocError>
+    ensures { IfOk result (λ v. v.items ≡ (language_of language.now).kinds) }
 {
-    kinds_of(alloc, declared)
+    kinds_of(alloc, language.declared)
 }
 
 /// A first line, and the lines behind it.
@@ -114,17 +130,24 @@ fn text_of(alloc: Global, value: &Value) -> Result<Option<String>, AllocError>
 /// The program that a text says.
 fn program(
     alloc: Global,
-    declared: &[Declared],
+    language: &Language<'_>,
     procedures: &[Block],
     part: Part,
     text: &str,
 ) -> Result<Block, MachineFault>
-    ensures ok { Gives result body (program_text (language_of declared.now)
+    ensures ok { Gives result body (program_text (language_of language.now)
         (map body procedures.now) part text.now) }
-    ensures err { FailsBy result (program_text (language_of declared.now)
+    ensures err { FailsBy result (program_text (language_of language.now)
         (map body procedures.now) part text.now) }
 {
-    match read_program(alloc, declared, None, procedures, text, MAX_NODES) {
+    match read_program(
+        alloc,
+        language.declared,
+        language.timing,
+        procedures,
+        text,
+        MAX_NODES,
+    ) {
         Ok(read) => Ok(read.block),
         Err(TextRefused::OutOfMemory) => Err(MachineFault::OutOfMemory),
         Err(TextRefused::Wrong(place)) => Err(MachineFault::Text(part, place)),
@@ -134,15 +157,22 @@ fn program(
 /// The expression, queue or array register that a text says.
 fn expression(
     alloc: Global,
-    declared: &[Declared],
+    language: &Language<'_>,
     part: Part,
     member: Member,
     text: &str,
 ) -> Result<SourceExpr, MachineFault>
-    ensures ok { Gives result tree (tree_text (language_of declared.now) part member text.now) }
-    ensures err { FailsBy result (tree_text (language_of declared.now) part member text.now) }
+    ensures ok { Gives result tree (tree_text (language_of language.now) part member text.now) }
+    ensures err { FailsBy result (tree_text (language_of language.now) part member text.now) }
 {
-    match read_member(alloc, member, declared, None, text, MAX_NODES) {
+    match read_member(
+        alloc,
+        member,
+        language.declared,
+        language.timing,
+        text,
+        MAX_NODES,
+    ) {
         Ok(read) => Ok(read.tree),
         Err(TextRefused::OutOfMemory) => Err(MachineFault::OutOfMemory),
         Err(TextRefused::Wrong(place)) => Err(MachineFault::Text(part, place)),
@@ -150,23 +180,23 @@ fn expression(
 }
 
 /// The program of a member, which does nothing where there is none.
-pub fn program_in(
+pub(crate) fn program_in(
     alloc: Global,
-    declared: &[Declared],
+    language: &Language<'_>,
     procedures: &[Block],
     part: Part,
     member: Option<&Value>,
 ) -> Result<Block, MachineFault>
-    ensures ok { Gives result body (program_in (language_of declared.now)
+    ensures ok { Gives result body (program_in (language_of language.now)
         (map body procedures.now) part (data_of member.entry)) }
-    ensures err { FailsBy result (program_in (language_of declared.now)
+    ensures err { FailsBy result (program_in (language_of language.now)
         (map body procedures.now) part (data_of member.entry)) }
 {
     let Some(value) = member else {
         return Ok(Block::Empty);
     };
     match text_of(alloc, value)? {
-        Some(text) => program(alloc, declared, procedures, part, text.as_str()),
+        Some(text) => program(alloc, language, procedures, part, text.as_str()),
         None => Err(MachineFault::Wrong(part, Why::Shape)),
     }
 }
@@ -174,17 +204,17 @@ pub fn program_in(
 /// The text of a member.
 pub(crate) fn tree_in(
     alloc: Global,
-    declared: &[Declared],
+    language: &Language<'_>,
     part: Part,
     member: Member,
     value: &Value,
 ) -> Result<SourceExpr, MachineFault>
-    ensures ok { Gives result tree (tree_in (language_of declared.now) part member
+    ensures ok { Gives result tree (tree_in (language_of language.now) part member
         (view value.now)) }
-    ensures err { FailsBy result (tree_in (language_of declared.now) part member (view value.now)) }
+    ensures err { FailsBy result (tree_in (language_of language.now) part member (view value.now)) }
 {
     match value.as_str() {
-        Some(text) => expression(alloc, declared, part, member, text),
+        Some(text) => expression(alloc, language, part, member, text),
         None => Err(MachineFault::Wrong(part, Why::Shape)),
     }
 }
@@ -192,19 +222,19 @@ pub(crate) fn tree_in(
 /// A whole number, or a text.
 pub(crate) fn value_in(
     alloc: Global,
-    declared: &[Declared],
+    language: &Language<'_>,
     part: Part,
     member: Member,
     written: &Value,
 ) -> Result<Said, MachineFault>
-    ensures ok { Gives result value (value_in (language_of declared.now) part member
+    ensures ok { Gives result value (value_in (language_of language.now) part member
         (view written.now)) }
-    ensures err { FailsBy result (value_in (language_of declared.now) part member
+    ensures err { FailsBy result (value_in (language_of language.now) part member
         (view written.now)) }
 {
     match written.as_i64() {
         Some(number) => Ok(Said::Number(number)),
-        None => Ok(Said::Text(tree_in(alloc, declared, part, member, written)?)),
+        None => Ok(Said::Text(tree_in(alloc, language, part, member, written)?)),
     }
 }
 

@@ -17,13 +17,13 @@ ghost use Rattle.tw_machine_file.specs.Words.{
 };
 
 use crate::fault::{MachineFault, Part, Why};
-use crate::texts::{kinds_in, value_in};
+use crate::texts::{Language, kinds_in, value_in};
 use crate::values::{is_long, items_of};
 use serde_json::Value;
 use std::alloc::Global;
 use tw_machine::limits::MAX_WORDS;
 use tw_machine_compiler::Value as Said;
-use tw_machine_text::{Declared, Kind, Member, SourceExpr, is_shown};
+use tw_machine_text::{Kind, Member, SourceExpr, is_shown};
 
 /// Whether two indices are one number.
 fn is_same_number(a: &SourceExpr, b: &SourceExpr) -> bool
@@ -82,19 +82,19 @@ fn is_among_words(kinds: &[Kind], word: &Said, before: &[Said]) -> bool
 /// A word that shows no queue and no array register again.
 fn word_of(
     alloc: Global,
-    declared: &[Declared],
+    language: &Language<'_>,
     kinds: &[Kind],
     index: usize,
     before: &[Said],
     written: &Value,
 ) -> Result<Said, MachineFault>
-    requires { kinds.now ≡ (language_of declared.now).kinds }
-    ensures ok { Gives result value (word_of (language_of declared.now) index
+    requires { kinds.now ≡ (language_of language.now).kinds }
+    ensures ok { Gives result value (word_of (language_of language.now) index
         (map value before.now) (view written.now)) }
-    ensures err { FailsBy result (word_of (language_of declared.now) index (map value before.now)
+    ensures err { FailsBy result (word_of (language_of language.now) index (map value before.now)
         (view written.now)) }
 {
-    let word = value_in(alloc, declared, Part::Word(index), Member::Shown, written)?;
+    let word = value_in(alloc, language, Part::Word(index), Member::Shown, written)?;
     if is_among_words(kinds, &word, before) {
         return Err(MachineFault::Wrong(Part::Word(index), Why::Twice));
     }
@@ -104,19 +104,19 @@ fn word_of(
 #[tactic(auto, using(crate::proofs::Loops::behind_none, crate::proofs::Loops::behind_more))]
 fn words_of(
     alloc: Global,
-    declared: &[Declared],
+    language: &Language<'_>,
     values: &[Value],
 ) -> Result<Vec<Said>, MachineFault>
     ensures ok { Gives result
-        (λ v. map value v.items) (words_of (language_of declared.now) 0 []
+        (λ v. map value v.items) (words_of (language_of language.now) 0 []
         (items_view values.now)) }
-    ensures err { FailsBy result (words_of (language_of declared.now) 0 []
+    ensures err { FailsBy result (words_of (language_of language.now) 0 []
         (items_view values.now)) }
 {
-    let kinds = kinds_in(alloc, declared)?;
+    let kinds = kinds_in(alloc, language)?;
     let mut words = Vec::new(alloc);
     for (index, value) in values.iter().enumerate() {
-        let word = word_of(alloc, declared, &kinds, index, words.as_slice(), value)?;
+        let word = word_of(alloc, language, &kinds, index, words.as_slice(), value)?;
         words.push(word)?;
     }
     Ok(words)
@@ -139,15 +139,15 @@ fn some_words(written: &Value) -> Result<&[Value], MachineFault>
 /// The member `words`, which must be there.
 pub(crate) fn words_in(
     alloc: Global,
-    declared: &[Declared],
+    language: &Language<'_>,
     member: Option<&Value>,
 ) -> Result<Vec<Said>, MachineFault>
     ensures ok { IfOk result
-        (λ v. words_in (language_of declared.now) (data_of member.entry) ≡ Ok (map value v.items)) }
-    ensures err { FailsBy result (words_in (language_of declared.now) (data_of member.entry)) }
+        (λ v. words_in (language_of language.now) (data_of member.entry) ≡ Ok (map value v.items)) }
+    ensures err { FailsBy result (words_in (language_of language.now) (data_of member.entry)) }
 {
     match member {
-        Some(written) => words_of(alloc, declared, some_words(written)?),
+        Some(written) => words_of(alloc, language, some_words(written)?),
         None => Err(MachineFault::Wrong(Part::Words, Why::Missing)),
     }
 }

@@ -1,7 +1,7 @@
 -- What the text of a machine means: the program of its declaration, with what a component gives.
 --     means text given      the machine that the value declares, with these numbers put in; or the first fault
 use Rattle.std.specs.Prelude.{ℕ, ℤ, List, [], ◌∷◌, Result}
-use Rattle.serde_json.specs.Data.{Data, unsigned, Items, number, string, array, object, no_items, item, Members, no_members, member}
+use Rattle.serde_json.specs.Data.{Data, unsigned, Items, number, string, array, no_items, item}
 use Rattle.tw_machine.specs.Program.{ProgramText}
 use Rattle.tw_machine_declaration.specs.Seen.{Given}
 use Rattle.tw_machine_file.specs.Fault.{Fault, once}

@@ -103,7 +103,7 @@ fn squared(alloc: Global, e: &SourceExpr) -> Result<SourceExpr, AllocError>
 }
 
 /// One statement more.
-pub(crate) fn then(
+pub fn then(
     alloc: Global,
     before: Block,
     last: SourceStatement,

@@ -108,8 +108,8 @@ fn arms_again(alloc: Global, arms: &Arms) -> Result<Arms, AllocError>
     }
 }
 
-/// The statements of a program behind others.
-fn joined(alloc: Global, before: Block, program: &Block) -> Result<Block, AllocError>
+/// The statements of a program behind others. The only error is want of memory.
+pub fn joined(alloc: Global, before: Block, program: &Block) -> Result<Block, AllocError>
     ensures { IfOk result (λ block. body block ≡ joined (body before) (body program.now)) }
 {
     match program {

@@ -17,7 +17,7 @@ fn below(levels: usize) -> usize
 }
 
 /// The levels of an expression, at most 65.
-pub(crate) fn deep(e: &SourceExpr) -> usize
+pub fn deep(e: &SourceExpr) -> usize
     ensures value { result ≡ min (deep (tree e.now)) levels_end }
     ensures small { result ≤ levels_end }
 {
@@ -55,7 +55,7 @@ fn deep_statement(said: &SourceStatement) -> usize
 
 /// The levels of a program, at most 65.
 #[cycle(levels_of)]
-pub(crate) fn deep_block(program: &Block) -> usize
+pub fn deep_block(program: &Block) -> usize
     ensures value { result ≡ min (deep_block (body program.now)) levels_end }
     ensures small { result ≤ levels_end }
 {

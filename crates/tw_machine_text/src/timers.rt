@@ -139,8 +139,8 @@ pub(crate) fn may_stand_as(
     bound_as(member, kinds, e) && draws_none(e) && in_time(timing.is_some(), e)
 }
 
-/// Two expressions, and what joins them.
-fn binary(
+/// Two expressions, and what joins them. The only error is want of memory.
+pub fn binary(
     alloc: Global,
     operator: Operator,
     a: SourceExpr,
@@ -165,7 +165,8 @@ fn greater(alloc: Global, a: SourceExpr, b: SourceExpr) -> Result<SourceExpr, Al
     Ok(SourceExpr::Call(1, Box::new(alloc, both)?))
 }
 
-fn minus_one(alloc: Global) -> Result<SourceExpr, AllocError>
+/// The number -1. The only error is want of memory.
+pub fn minus_one(alloc: Global) -> Result<SourceExpr, AllocError>
     ensures { IfOk result (λ e. tree e ≡ minus_one) }
 {
     Ok(SourceExpr::Negate(Box::new(alloc, SourceExpr::Number(1))?))

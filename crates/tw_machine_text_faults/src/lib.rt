@@ -5,11 +5,13 @@
 //! the search ends: they are shown by tests, one for each kind of fault.
 //!
 //! - `texts`: [`reason`], why a text goes wrong at a place; `reading`, what may stand behind the words before it.
+//! - `cures`: mistakes that other languages bring, and the cure of each.
 //! - `spelling`: [`words_of`], [`Spelled`], all words of a text, each with its place.
 //! - `nearest`: [`Nearest`], the name that was meant, where one is misspelt.
 //! - `words`: [`quoted`], [`described`], [`listed`], words of which a line is made.
 #![tactic(auto)]
 
+mod cures;
 mod nearest;
 mod reading;
 mod spelling;

@@ -12,6 +12,10 @@ pub(crate) enum First {
     /// A queue or a table.
     Sized,
     Table,
+    /// A timer: one, or one of those that are alike.
+    Timer,
+    /// A timer with a count.
+    Timers,
 }
 
 /// The arguments that a function takes.
@@ -41,6 +45,7 @@ pub(crate) enum Role {
     /// What a statement changes.
     Place,
     Queue,
+    Timer,
     /// A queue of an array in `words`.
     Shown,
 }
@@ -64,6 +69,12 @@ pub(crate) enum Last {
     NoObservation,
     /// A procedure has to come.
     NoProcedure,
+    /// A timer has to come.
+    NoTimer,
+    /// A timer with a count has to come.
+    NoTimers,
+    /// `in` has to come, behind the timer of `start`.
+    NoIn,
     /// The queue of a statement or a function has come, or the observation of a statement.
     Queue,
     /// A name that has an index.
@@ -88,14 +99,18 @@ pub(crate) enum Head {
     Turns,
     /// `put`, before its comma.
     Put,
-    /// `pop` and `clear`, behind whose queue nothing stands.
+    /// `pop`, `clear`, `do` and `stop`, behind whose object nothing stands.
     Lone,
+    /// `start`, before `in`.
+    Start,
     Observe,
 }
 
 /// How far a text has been read.
 #[derive(Drop)]
 pub(crate) struct Reading {
+    /// Whether it is of a machine with timers.
+    pub(crate) timed: bool,
     pub(crate) last: Last,
     pub(crate) head: Head,
     pub(crate) open: Vec<Open>,
@@ -114,8 +129,9 @@ pub(crate) struct Reading {
 
 impl Reading {
     /// Of no words yet.
-    pub(crate) fn new(alloc: Global, member: Option<Member>) -> Reading {
+    pub(crate) fn new(alloc: Global, timed: bool, member: Option<Member>) -> Reading {
         Reading {
+            timed,
             last: match member {
                 None => Last::Statement,
                 Some(Member::Each) => Last::NoQueue,
@@ -184,6 +200,8 @@ impl Reading {
             First::Queue => Last::NoQueue,
             First::Sized => Last::NoSized,
             First::Table => Last::NoTable,
+            First::Timer => Last::NoTimer,
+            First::Timers => Last::NoTimers,
         };
         if called.draws {
             self.begin_draw(called);
@@ -227,6 +245,7 @@ impl Reading {
             }
             Some(Open::Index(Role::Place)) => self.last = Last::Place,
             Some(Open::Index(Role::Queue)) => self.end_queue(),
+            Some(Open::Index(Role::Timer)) => self.end_timer(),
             _ => self.last = Last::Operand,
         }
     }
@@ -245,6 +264,15 @@ impl Reading {
             (Some(Open::Function(..)), _) | (None, Some(_)) => self.last = Last::Operand,
             _ if self.head == Head::Lone => self.end_statement(),
             _ => self.last = Last::Queue,
+        }
+    }
+
+    /// A timer is whole.
+    fn end_timer(&mut self) {
+        match self.open.last() {
+            Some(Open::Function(..)) => self.last = Last::Operand,
+            _ if self.head == Head::Lone => self.end_statement(),
+            _ => self.last = Last::NoIn,
         }
     }
 
@@ -284,6 +312,13 @@ impl Reading {
             }
             "do" if kind_of(declared, word).is_none() => {
                 self.begin_statement(Head::Lone, Last::NoProcedure);
+            }
+            "start" if self.timed => self.begin_statement(Head::Start, Last::NoTimer),
+            "stop" if self.timed => self.begin_statement(Head::Lone, Last::NoTimer),
+            "send" if self.timed => self.begin_statement(Head::Put, Last::Operator),
+            "in" if self.last == Last::NoIn => {
+                self.head = Head::Plain;
+                self.last = Last::Operator;
             }
             "and" | "or" => self.last = Last::Operator,
             "not" => {
@@ -341,11 +376,18 @@ impl Reading {
                     self.end_queue();
                 }
             }
-            Last::NoTable => self.last = Last::Operand,
+            Last::NoTable | Last::NoTimers => self.last = Last::Operand,
+            Last::NoTimer => {
+                if matches!(kind, Some(Kind::TimerArray(..))) {
+                    self.last = Last::Array(Role::Timer);
+                } else {
+                    self.end_timer();
+                }
+            }
             Last::NoObservation => self.last = Last::Queue,
             Last::NoProcedure => self.end_statement(),
             Last::Operator | Last::Queue => {
-                self.called = arguments(word);
+                self.called = self.function(word);
                 self.last = self.after_operand(kind);
             }
             Last::Repeat | Last::ShownIndex => self.last = Last::Operand,
@@ -357,6 +399,14 @@ impl Reading {
                 self.begin_statement(Head::Plain, last);
             }
         }
+    }
+
+    /// The arguments of the function of this name, if it may stand here.
+    fn function(&self, word: &str) -> Option<Called> {
+        if is_of_timers(word) && !self.timed {
+            return None;
+        }
+        arguments(word)
     }
 
     /// How often a node of the statement is counted.
@@ -407,6 +457,8 @@ pub(crate) fn arguments(name: &str) -> Option<Called> {
         "room" | "front" | "last" | "sum" => (1, First::Queue),
         "at" | "place" => (2, First::Queue),
         "sample" => (1, First::Table),
+        "running" | "rest" => (1, First::Timer),
+        "idle" => (1, First::Timers),
         _ => return None,
     };
     let draws = matches!(name, "sample" | "roll");
@@ -417,12 +469,41 @@ pub(crate) fn arguments(name: &str) -> Option<Called> {
     })
 }
 
+/// Whether it is a word only in a machine with timers.
+pub(crate) fn is_of_timers(word: &str) -> bool {
+    matches!(
+        word,
+        "start" | "stop" | "send" | "which" | "running" | "rest" | "idle" | "in"
+    )
+}
+
 /// Whether a word is a run of letters and digits.
 pub(crate) fn is_name(word: &str) -> bool {
     match word.chars().next() {
         Some(letter) => is_word(letter),
         None => false,
     }
+}
+
+/// Whether a word begins as a number.
+pub(crate) fn is_number(word: &str) -> bool {
+    match word.chars().next() {
+        Some(letter) => letter.is_ascii_digit(),
+        None => false,
+    }
+}
+
+/// Whether a statement can begin here.
+pub(crate) fn can_begin_statement(reading: &Reading) -> bool {
+    let is_inside = match reading.open.last() {
+        Some(Open::Block(..)) | None => false,
+        Some(_) => true,
+    };
+    let is_behind_operand = reading.last == Last::Operand
+        && reading.member.is_none()
+        && (reading.head == Head::Plain || reading.head == Head::Observe)
+        && !is_inside;
+    reading.last == Last::Statement || is_behind_operand
 }
 
 /// Whether a word is a node.

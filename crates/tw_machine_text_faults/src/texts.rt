@@ -1,7 +1,11 @@
 //! What is wrong in a machine's text, in words.
 
+use crate::cures::{Wrong, cure_of, is_change};
 use crate::nearest::Nearest;
-use crate::reading::{Called, First, Head, Last, Open, Reading, Role, arguments, is_name, kind_of};
+use crate::reading::{
+    Called, First, Head, Last, Open, Reading, Role, arguments, can_begin_statement, is_name,
+    is_number, is_of_timers, kind_of,
+};
 use crate::spelling::{Spelled, words_of};
 use crate::words::quoted;
 use std::alloc::{AllocError, Global};
@@ -12,6 +16,8 @@ use tw_machine_text::{
 
 /// The greatest number that a text may have.
 const MAX_NUMBER: &str = "9223372036854775807";
+
+const NOT_DECLARED: &str = "what a statement sets is declared in \"registers\"";
 
 const TOO_MANY_NODES: &str = "more than 4096 nodes";
 
@@ -24,18 +30,19 @@ fn is_whole(reading: &Reading) -> bool {
     reading.open.is_empty() && (reading.last == Last::Statement || is_behind_operand)
 }
 
-/// Why a text goes wrong at a place: a program, or the text of such a member.
+/// Why a text goes wrong at a place: a program, or the text of such a member, of a machine with timers or without.
 ///
 /// Refused where a growth of memory is.
 pub fn reason(
     alloc: Global,
     declared: &[Declared],
+    timed: bool,
     member: Option<Member>,
     text: &str,
     place: Place,
 ) -> Result<String, AllocError> {
     let words = words_of(alloc, text)?;
-    let mut reading = Reading::new(alloc, member);
+    let mut reading = Reading::new(alloc, timed, member);
     let mut wrong = None;
     for (i, word) in words.iter().enumerate() {
         if is_before(word, place) {
@@ -55,25 +62,26 @@ pub fn reason(
         let wanted = wanted(&reading);
         return format!(in alloc; "the text ends too early: expected {wanted}");
     };
-    let word = text_at(words.as_slice(), i);
-    let next = text_at(words.as_slice(), i.saturating_add(1));
-    if let Some(reason) = no_word(alloc, word)? {
+    let wrong = Wrong::new(words.as_slice(), i);
+    let word = wrong.word;
+    let cure = cure_of(alloc, &reading, &wrong, kind_of(declared, word))?;
+    if let Some(reason) = no_word(alloc, word, cure)? {
         return Ok(reason);
     }
     if let Some(limit) = limit(&reading, word) {
         return String::from_str(alloc, limit);
     }
-    if is_name(word) && !is_number(word) && !is_known(declared, word) {
-        return unknown(alloc, declared, &reading, word, next);
+    if is_name(word) && !is_number(word) && !is_known(declared, timed, word) {
+        return unknown(alloc, declared, &reading, &wrong, cure);
     }
-    out_of_place(alloc, declared, &reading, word, next)
+    out_of_place(alloc, declared, &reading, &wrong, cure)
 }
 
-/// The text of the word at a place in a list.
-fn text_at(words: &[Spelled], i: usize) -> &str {
-    match words.get(i) {
-        Some(word) => word.text.as_str(),
-        None => "",
+/// A cure as it stands behind a line; nothing where there is none.
+fn advice(alloc: Global, cure: Option<&str>) -> Result<String, AllocError> {
+    match cure {
+        Some(cure) => format!(in alloc; "; {cure}"),
+        None => Ok(String::new(alloc)),
     }
 }
 
@@ -83,22 +91,15 @@ fn is_before(word: &Spelled, place: Place) -> bool {
         || (word.place.line == place.line && word.place.column < place.column)
 }
 
-/// Whether a word begins as a number.
-fn is_number(word: &str) -> bool {
-    match word.chars().next() {
-        Some(letter) => letter.is_ascii_digit(),
-        None => false,
-    }
-}
-
 /// Why a word is none of the language, if it is none.
-fn no_word(alloc: Global, word: &str) -> Result<Option<String>, AllocError> {
+fn no_word(alloc: Global, word: &str, cure: Option<&str>) -> Result<Option<String>, AllocError> {
     let shown = quoted(alloc, word)?;
     if is_number(word) {
         return no_number(alloc, word, shown.as_str());
     }
     if !is_name(word) && !is_sign(word.as_bytes()) {
-        return Ok(Some(format!(in alloc; "the language has no sign {shown}")?));
+        let advice = advice(alloc, cure)?;
+        return Ok(Some(format!(in alloc; "the language has no sign {shown}{advice}")?));
     }
     Ok(None)
 }
@@ -161,34 +162,27 @@ fn is_too_deep(reading: &Reading, word: &str) -> bool {
 }
 
 /// Whether a name is declared, or one of the language.
-fn is_known(declared: &[Declared], word: &str) -> bool {
+fn is_known(declared: &[Declared], timed: bool, word: &str) -> bool {
     kind_of(declared, word).is_some()
         || is_reserved(word.as_bytes())
-        || is_contextual(word)
-        || is_function(word)
+        || is_contextual(timed, word)
+        || is_function(timed, word)
+        || (timed && word == "in")
 }
 
-/// Whether it begins a statement in a machine that has no such name.
-fn is_contextual(word: &str) -> bool {
+/// Whether it is a word of the language in a machine that has no such name.
+fn is_contextual(timed: bool, word: &str) -> bool {
     for (text, _) in &CONTEXTUAL {
         if *text == word {
-            return !is_of_timers(word);
+            return timed || !is_of_timers(word);
         }
     }
     false
 }
 
 /// Whether it is a function.
-fn is_function(word: &str) -> bool {
-    FUNCTIONS.contains(&word) && !is_of_timers(word)
-}
-
-/// Whether it is a word only in a machine with timers.
-fn is_of_timers(word: &str) -> bool {
-    matches!(
-        word,
-        "start" | "stop" | "send" | "which" | "running" | "rest" | "idle" | "in"
-    )
+fn is_function(timed: bool, word: &str) -> bool {
+    FUNCTIONS.contains(&word) && word != "in" && (timed || !is_of_timers(word))
 }
 
 /// The line for a name that nothing has.
@@ -196,45 +190,52 @@ fn unknown(
     alloc: Global,
     declared: &[Declared],
     reading: &Reading,
-    word: &str,
-    next: &str,
+    wrong: &Wrong,
+    cure: Option<&str>,
 ) -> Result<String, AllocError> {
-    let shown = quoted(alloc, word)?;
-    let mut nearest = Nearest::new(word);
-    let nothing = match reading.last {
-        _ if can_begin_statement(reading) => {
-            look_at_words(alloc, &mut nearest, false)?;
-            "statement begins with"
-        }
-        Last::NoQueue => "queue is named",
-        Last::NoSized => "queue or table is named",
-        Last::NoTable => "table is named",
-        Last::NoObservation => "observation is named",
-        Last::NoProcedure => "procedure is named",
-        Last::Repeat => "parameter is named",
-        Last::Operator | Last::Queue if next == "(" => "function is named",
-        Last::Operator | Last::Queue => "register, parameter or table is named",
-        _ => return out_of_place(alloc, declared, reading, word, next),
+    let Some(nothing) = nothing(reading, wrong.behind) else {
+        return out_of_place(alloc, declared, reading, wrong, cure);
     };
+    let shown = quoted(alloc, wrong.word)?;
+    let mut nearest = Nearest::new(wrong.word);
+    if can_begin_statement(reading) && !is_change(wrong.behind) {
+        look_at_language(alloc, &mut nearest, reading)?;
+    }
     look_at_names(alloc, &mut nearest, declared, reading.last)?;
+    let is_operand = matches!(reading.last, Last::Operator | Last::Queue) && wrong.behind != "(";
+    if cure.is_some() && !(is_operand && nearest.is_found()) {
+        let advice = advice(alloc, cure)?;
+        return format!(in alloc; "no {nothing} {shown}{advice}");
+    }
+    look_at_language(alloc, &mut nearest, reading)?;
+    if !nearest.is_found() && can_begin_statement(reading) && is_change(wrong.behind) {
+        return format!(in alloc; "no {nothing} {shown}; {NOT_DECLARED}");
+    }
     let question = nearest.question(alloc)?;
     format!(in alloc; "no {nothing} {shown}{question}")
 }
 
-/// Whether a statement can begin here.
-fn can_begin_statement(reading: &Reading) -> bool {
-    let is_inside = match reading.open.last() {
-        Some(Open::Block(..)) | None => false,
-        Some(_) => true,
-    };
-    let is_behind_operand = reading.last == Last::Operand
-        && reading.member.is_none()
-        && (reading.head == Head::Plain || reading.head == Head::Observe)
-        && !is_inside;
-    reading.last == Last::Statement || is_behind_operand
+/// What an unknown name with another word behind it is not, if that can be told.
+fn nothing(reading: &Reading, behind: &str) -> Option<&'static str> {
+    if can_begin_statement(reading) {
+        return Some("statement begins with");
+    }
+    match reading.last {
+        Last::NoQueue => Some("queue is named"),
+        Last::NoSized => Some("queue or table is named"),
+        Last::NoTable => Some("table is named"),
+        Last::NoObservation => Some("observation is named"),
+        Last::NoProcedure => Some("procedure is named"),
+        Last::NoTimer => Some("timer is named"),
+        Last::NoTimers => Some("timer with a count is named"),
+        Last::Repeat => Some("parameter is named"),
+        Last::Operator | Last::Queue if behind == "(" => Some("function is named"),
+        Last::Operator | Last::Queue => Some("register, parameter or table is named"),
+        _ => None,
+    }
 }
 
-/// Looks at the names that could stand here.
+/// Looks at the names of the machine that could stand here.
 fn look_at_names<'b>(
     alloc: Global,
     nearest: &mut Nearest<'_, 'b>,
@@ -246,17 +247,29 @@ fn look_at_names<'b>(
             nearest.look(alloc, one.name.as_str())?;
         }
     }
-    if last == Last::Operator || last == Last::Queue {
-        look_at_functions(alloc, nearest)?;
-        look_at_words(alloc, nearest, true)?;
+    Ok(())
+}
+
+/// Looks at the names and words of the language that could stand here.
+fn look_at_language(
+    alloc: Global,
+    nearest: &mut Nearest,
+    reading: &Reading,
+) -> Result<(), AllocError> {
+    let timed = reading.timed;
+    if can_begin_statement(reading) {
+        look_at_words(alloc, nearest, timed, false)?;
+    } else if matches!(reading.last, Last::Operator | Last::Queue) {
+        look_at_functions(alloc, nearest, timed)?;
+        look_at_words(alloc, nearest, timed, true)?;
     }
     Ok(())
 }
 
 /// Looks at the functions.
-fn look_at_functions(alloc: Global, nearest: &mut Nearest) -> Result<(), AllocError> {
+fn look_at_functions(alloc: Global, nearest: &mut Nearest, timed: bool) -> Result<(), AllocError> {
     for function in &FUNCTIONS {
-        if !is_of_timers(function) {
+        if timed || !is_of_timers(function) {
             nearest.look(alloc, function)?;
         }
     }
@@ -264,9 +277,10 @@ fn look_at_functions(alloc: Global, nearest: &mut Nearest) -> Result<(), AllocEr
 }
 
 /// Looks at the words of the language: those that stand for a number, or all others.
-fn look_at_words<'b>(
+fn look_at_words(
     alloc: Global,
-    nearest: &mut Nearest<'_, 'b>,
+    nearest: &mut Nearest,
+    timed: bool,
     numbers: bool,
 ) -> Result<(), AllocError> {
     for (text, word) in &RESERVED {
@@ -274,11 +288,10 @@ fn look_at_words<'b>(
             nearest.look(alloc, text)?;
         }
     }
-    if !numbers {
-        for (text, _) in &CONTEXTUAL {
-            if !is_of_timers(text) {
-                nearest.look(alloc, text)?;
-            }
+    for (text, word) in &CONTEXTUAL {
+        let is_there = timed || !is_of_timers(text);
+        if is_there && matches!(word, Word::Known(_)) == numbers {
+            nearest.look(alloc, text)?;
         }
     }
     Ok(())
@@ -292,6 +305,8 @@ fn may_stand(last: Last, kind: Kind) -> bool {
         Last::NoTable => kind == Kind::Table,
         Last::NoObservation => kind == Kind::Observation,
         Last::NoProcedure => matches!(kind, Kind::Procedure(_)),
+        Last::NoTimer => matches!(kind, Kind::Timer(_) | Kind::TimerArray(..)),
+        Last::NoTimers => matches!(kind, Kind::TimerArray(..)),
         Last::Repeat => kind == Kind::Parameter,
         Last::Operator | Last::Queue => matches!(
             kind,
@@ -306,9 +321,10 @@ fn out_of_place(
     alloc: Global,
     declared: &[Declared],
     reading: &Reading,
-    word: &str,
-    next: &str,
+    wrong: &Wrong,
+    cure: Option<&str>,
 ) -> Result<String, AllocError> {
+    let (word, next) = (wrong.word, wrong.behind);
     let shown = quoted(alloc, word)?;
     let kind = kind_of(declared, word);
     let names_queue = reading.last == Last::NoQueue || reading.last == Last::NoSized;
@@ -322,7 +338,7 @@ fn out_of_place(
     if is_drawing(word) && next == "(" && is_operand {
         return no_draw(alloc, reading, shown.as_str());
     }
-    let more = more_of(reading, word, kind);
+    let more = more_of(alloc, reading, word, kind, cure)?;
     if is_name(word) && !is_number(word) && can_begin_statement(reading) {
         return format!(in alloc; "no statement begins with {shown}{more}");
     }
@@ -350,22 +366,41 @@ fn no_draw(alloc: Global, reading: &Reading, shown: &str) -> Result<String, Allo
 }
 
 /// What is to be said of a word that cannot stand here.
-fn more_of(reading: &Reading, word: &str, kind: Option<Kind>) -> &'static str {
+fn more_of(
+    alloc: Global,
+    reading: &Reading,
+    word: &str,
+    kind: Option<Kind>,
+    cure: Option<&str>,
+) -> Result<String, AllocError> {
     if let Some(kind) = kind {
-        return kind_words(kind);
+        let (named, advice) = (kind_words(kind), advice(alloc, cure)?);
+        return format!(in alloc; "{named}{advice}");
     }
+    match (remark(reading, word), cure) {
+        (Some(remark), _) => String::from_str(alloc, remark),
+        (None, Some(_)) => advice(alloc, cure),
+        (None, None) if is_function(reading.timed, word) => String::from_str(alloc, ", a function"),
+        (None, None) => Ok(String::new(alloc)),
+    }
+}
+
+/// What is to be said of a word of the language that cannot stand here.
+fn remark(reading: &Reading, word: &str) -> Option<&'static str> {
     let behind_operand = reading.last == Last::Operand;
     match word {
-        "=" if reading.head == Head::Block => "; whether two numbers are equal is ==",
-        "[" => "; what stands before it has no index",
+        "[" => Some("; what stands before it has no index"),
         "<" | "<=" | ">" | ">=" | "==" | "!=" if behind_operand => {
-            "; a comparison of a comparison wants parentheses"
+            Some("; a comparison of a comparison wants parentheses")
         }
-        "not" if reading.last == Last::Operator => "; it wants parentheses here",
-        "else" => "; it stands behind the block of an if",
-        "}" => "; no block is open here",
-        _ if is_function(word) => ", a function",
-        _ => "",
+        "not" if reading.last == Last::Operator => Some("; it wants parentheses here"),
+        "else" => Some("; it stands behind the block of an if"),
+        "}" => Some("; no block is open here"),
+        "wait" | "passivate" if reading.timed => {
+            Some("; a machine with timers starts and stops these")
+        }
+        "left" if reading.timed => Some("; a machine with timers has rest for each of these"),
+        _ => None,
     }
 }
 
@@ -401,6 +436,9 @@ fn wanted(reading: &Reading) -> &'static str {
         Last::NoTable => "a table",
         Last::NoObservation => "an observation",
         Last::NoProcedure => "a procedure that stands before",
+        Last::NoTimer => "a timer",
+        Last::NoTimers => "a timer with a count",
+        Last::NoIn => "in and a number of ticks",
         Last::Array(Role::Shown) => "[ and a number",
         Last::Array(_) => "[ and an index",
         Last::Function(_) => "( and arguments",

@@ -15,6 +15,7 @@ declared names internal port = record {
   random = c.Number (pos 0);
   first = Some (c.Number (pos 1));
   longest = None;
+  timers = None;
   internal = internal;
   external = Empty;
   outputs = record { port = whole (pos port); sent = whole (pos 1); when = None; each = None } ∷ [];

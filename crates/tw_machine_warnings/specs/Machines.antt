@@ -7,7 +7,7 @@ use Rattle.serde_json.specs.Data.{Data}
 use Rattle.tw_machine_text.specs.Kinds.{is_empty}
 use Rattle.tw_machine_text.specs.Letters.{own_names}
 use Rattle.tw_machine_text.specs.Tree.{Block}
-use Rattle.tw_machine_declaration.specs.Seen.{Declaration, Name, Output, Value}
+use Rattle.tw_machine_declaration.specs.Seen.{Declaration, Name, Output, Timers, Value}
 use Rattle.tw_machine_declaration.specs.declared.declaration.Constant.{Constant}
 use Rattle.tw_machine_declaration.specs.declared.declaration.Constant.TheVariants as c
 use Rattle.tw_machine_file.specs.Seen.{Machine}
@@ -20,6 +20,22 @@ use Rattle.tw_machine_warnings.specs.Names.{index_warnings, name_warnings}
 use Rattle.tw_machine_warnings.specs.Sought.{in_block}
 use Rattle.tw_machine_warnings.specs.Texts.{does_machine, has_zero, has_zero_output, has_zero_word, in_output, in_value, is_past, program, sending, shown}
 use Rattle.tw_machine_warnings.specs.Warning.{Warning, where_so}
+
+-- ---- members
+
+-- what timers do and send stands together in the core of the language, and so does what is odd about it
+abbrev pub is_given : Option Timers → Bool
+is_given (Some ts) = true
+is_given None = false
+
+abbrev pub has_timers : Declaration → Bool
+has_timers d = is_given d.timers
+
+abbrev pub acting_member : Bool → List ℕ
+acting_member timed = if timed then codes "timers" else codes "internal"
+
+abbrev pub sending_member : Bool → List ℕ
+sending_member timed = if timed then codes "timers" else codes "output"
 
 -- ---- programs
 
@@ -54,10 +70,14 @@ word_warnings place draws v names =
 abbrev pub entry_place : List ℕ → ℕ → List ℕ
 entry_place place i = place ++ (codes "[" ++ (decimal i ++ codes "]"))
 
-abbrev pub outputs_warnings : List ℕ → Bool → List Name → ℕ → List Output → List Warning
-outputs_warnings place draws names i [] = []
-outputs_warnings place draws names i (o ∷ os) =
-    output_warnings (entry_place place i) draws o names ++ outputs_warnings place draws names (i + 1) os
+-- of timers it is not told
+abbrev pub sent_place : Bool → List ℕ → ℕ → List ℕ
+sent_place timed place i = if timed then place else entry_place place i
+
+abbrev pub outputs_warnings : List ℕ → Bool → Bool → List Name → ℕ → List Output → List Warning
+outputs_warnings place timed draws names i [] = []
+outputs_warnings place timed draws names i (o ∷ os) =
+    output_warnings (sent_place timed place i) draws o names ++ outputs_warnings place timed draws names (i + 1) os
 
 abbrev pub words_warnings : List ℕ → Bool → List Name → ℕ → List Value → List Warning
 words_warnings place draws names i [] = []
@@ -84,10 +104,12 @@ abbrev pub has_first : Option Constant → Bool
 has_first (Some c) = may_wait c
 has_first None = false
 
--- without a first wait only `external` can make it step; with one it steps once
+-- without a first wait only `external` can make it step; with one it steps once; a machine with timers steps by these
 abbrev pub step_warnings : List ℕ → Declaration → List Warning
 step_warnings place d =
-    if has_first d.first
+    if has_timers d
+    then []
+    else if has_first d.first
     then where_so (acts d && not (does_machine doing.Waits d)) place kind.StepsOnce
     else where_so (acts d && not (does doing.Waits d.external)) place kind.NeverSteps
 
@@ -100,14 +122,14 @@ abbrev pub member_warnings : List ℕ → Bool → Block → List Name → List 
 member_warnings place has_zero b names member = program_warnings (member_place place member) has_zero b names
 
 abbrev pub sent_warnings : List ℕ → Declaration → List Warning
-sent_warnings place d = outputs_warnings (member_place place (codes "output")) (does_machine doing.Draws d) d.names 0 d.outputs
+sent_warnings place d = outputs_warnings (member_place place (sending_member (has_timers d))) (has_timers d) (does_machine doing.Draws d) d.names 0 d.outputs
 
 abbrev pub shown_warnings : List ℕ → Declaration → List Warning
 shown_warnings place d = words_warnings (member_place place (codes "words")) (does_machine doing.Draws d) d.names 0 d.words
 
 abbrev pub texts_warnings : List ℕ → Declaration → List Warning
 texts_warnings place d =
-    member_warnings place (has_zero d.internal) d.internal d.names (codes "internal")
+    member_warnings place (has_zero d.internal) d.internal d.names (acting_member (has_timers d))
     ++ (member_warnings place false d.external d.names (codes "external")
     ++ (sent_warnings place d
     ++ shown_warnings place d))

@@ -5,7 +5,8 @@ use Rattle.std.specs.Prelude.{◌+◌, ◌==◌, ◌++◌, [], ◌∷◌, ℕ, �
 use Rattle.std.specs.List.{list_any}
 use Rattle.tw_machine_text.specs.Letters.{functions}
 use Rattle.tw_machine_text.specs.Text.{position}
-use Rattle.tw_machine_declaration.specs.Seen.{Declaration, Declares, Name, parameter, list_parameter, register, registers, queue, queues, table, list_table, observation, procedure}
+use Rattle.tw_machine_declaration.specs.Seen.{Declaration, Declares, Name, parameter, list_parameter, register, registers, queue, queues, table, list_table, observation, procedure, timer, timer_array, number as plain_number, together, greatest, due, next}
+use Rattle.tw_machine_declaration.specs.declared.declaration.Timer.{Timer}
 use Rattle.tw_machine_declaration.specs.declared.declaration.Constant.{Constant}
 use Rattle.tw_machine_declaration.specs.declared.declaration.Constant.TheVariants as c
 use Rattle.tw_machine_warnings.specs.declared.deeds.Doing.TheVariants as doing
@@ -29,12 +30,17 @@ abbrev pub is_some_parameter : ℕ → Option Constant → Bool
 is_some_parameter k (Some c) = is_parameter k c
 is_some_parameter k None = false
 
--- what starts with it, or has it for a room or a count
+-- a timer's count, or when it is first due
+abbrev pub timer_uses : ℕ → Timer → Bool
+timer_uses k t = is_some_parameter k t.count || is_some_parameter k t.first
+
+-- what starts with it, or has it for a room or a count; of timers their ticks
 abbrev pub thing_uses : ℕ → Declares → Bool
 thing_uses k (register c) = is_parameter k c
 thing_uses k (registers cs) = list_any (is_parameter k) cs
 thing_uses k (queue c) = is_parameter k c
 thing_uses k (queues n c) = is_parameter k n || is_parameter k c
+thing_uses k (due ts) = list_any (timer_uses k) ts.each || is_some_parameter k ts.least
 thing_uses k _ = false
 
 abbrev pub constant_uses : ℕ → Declaration → Bool
@@ -53,7 +59,7 @@ is_set d c = does_machine (doing.Sets c) d
 abbrev pub held_warnings : Declaration → Called → List ℕ → List Warning
 held_warnings d by place = if is_read d by then where_so (not (is_set d by)) place kind.NotSet else where_so true place kind.NotRead
 
--- a list is read by the table that has its name; observations are shown or not, procedures are put in
+-- a list is read by the table that has its name; observations are shown or not, procedures are put in; of timers and what is hidden nothing is said
 abbrev pub thing_warnings : Declaration → Called → List ℕ → Declares → List Warning
 thing_warnings d by place (parameter k) = where_so (not (is_read d by || constant_uses k d)) place kind.NotRead
 thing_warnings d by place (list_parameter k) = []
@@ -65,6 +71,13 @@ thing_warnings d by place (table ns) = where_so (not (is_read d by)) place kind.
 thing_warnings d by place (list_table k) = where_so (not (is_read d by)) place kind.NotRead
 thing_warnings d by place observation = []
 thing_warnings d by place (procedure k) = []
+thing_warnings d by place (timer before) = []
+thing_warnings d by place (timer_array before last) = []
+thing_warnings d by place (plain_number c) = []
+thing_warnings d by place (together ts) = []
+thing_warnings d by place (greatest t) = []
+thing_warnings d by place (due ts) = []
+thing_warnings d by place (next ts) = []
 
 -- a name behind the place that it stands in
 abbrev pub name_place : List ℕ → List ℕ → List ℕ

@@ -5,9 +5,11 @@ ghost use Rattle.tw_machine_text.specs.Views.{body};
 ghost use Rattle.tw_machine_declaration.specs.Seen as plain;
 ghost use Rattle.tw_machine_file.specs.Seen.{machine};
 ghost use Rattle.tw_machine_warnings.specs.Machines.{
+  acting_member,
   acts,
   all_where,
   has_first,
+  has_timers,
   machine_place,
   machine_warnings,
   machines_warnings,
@@ -15,6 +17,7 @@ ghost use Rattle.tw_machine_warnings.specs.Machines.{
   member_place,
   member_warnings,
   named_warnings,
+  sending_member,
   sent_warnings,
   shown_warnings,
   texts_warnings,
@@ -60,7 +63,28 @@ fn has_first(first: Option<Constant>) -> bool
     }
 }
 
-/// Adds that a machine never steps by itself, or only once.
+/// Whether it is a machine with timers.
+fn has_timers(declaration: &Declaration) -> bool
+    ensures { result ≡ has_timers (plain.declaration declaration.now) }
+{
+    declaration.timers.is_some()
+}
+
+/// The member that has what a machine does by itself.
+fn acting_member(timed: bool) -> &'static str
+    ensures { result.now ≡ acting_member timed }
+{
+    if timed { "timers" } else { "internal" }
+}
+
+/// The member that has what it sends.
+fn sending_member(timed: bool) -> &'static str
+    ensures { result.now ≡ sending_member timed }
+{
+    if timed { "timers" } else { "output" }
+}
+
+/// Adds that a machine never steps by itself, or only once; one with timers steps by these.
 fn add_step(
     alloc: Global,
     warnings: &mut Vec<Warning>,
@@ -71,6 +95,9 @@ fn add_step(
         ≡ map warning warnings.old.items
         ++ step_warnings place.now (plain.declaration declaration.now)) }
 {
+    if has_timers(declaration) {
+        return Ok(());
+    }
     if has_first(declaration.first) {
         let is_so = acts(declaration) && !does_machine(Doing::Waits, declaration);
         add_where(alloc, warnings, is_so, place, Kind::StepsOnce)
@@ -115,11 +142,20 @@ fn add_sent(
     ensures { OnOk result (map warning warnings.new.items ≡ map warning warnings.old.items
         ++ sent_warnings place.now (plain.declaration declaration.now)) }
 {
-    let place = member_place(alloc, place, "output")?;
+    let timed = has_timers(declaration);
+    let place = member_place(alloc, place, sending_member(timed))?;
     let draws = does_machine(Doing::Draws, declaration);
     let names = declaration.names.as_slice();
     let outputs = declaration.outputs.as_slice();
-    add_outputs(alloc, warnings, place.as_str(), draws, outputs, names)
+    add_outputs(
+        alloc,
+        warnings,
+        place.as_str(),
+        timed,
+        draws,
+        outputs,
+        names,
+    )
 }
 
 /// Adds what is odd about what a machine shows.
@@ -152,7 +188,8 @@ fn add_texts(
     let names = declaration.names.as_slice();
     let internal = &declaration.internal;
     let zero = has_zero(internal);
-    add_member(alloc, warnings, place, zero, internal, names, "internal")?;
+    let member = acting_member(has_timers(declaration));
+    add_member(alloc, warnings, place, zero, internal, names, member)?;
     let external = &declaration.external;
     add_member(alloc, warnings, place, false, external, names, "external")?;
     add_sent(alloc, warnings, place, declaration)?;

@@ -23,6 +23,7 @@ ghost use Rattle.tw_machine_warnings.specs.Names.{
   places_of,
   thing_uses,
   thing_warnings,
+  timer_uses,
 };
 ghost use Rattle.tw_machine_warnings.specs.Texts.{text};
 ghost use Rattle.tw_machine_warnings.specs.Warning.{warning};
@@ -32,7 +33,7 @@ use crate::sought::{Called, Sought};
 use crate::texts::{Text, does_machine, in_machine, in_text};
 use crate::warning::{Kind, Warning, add_where};
 use std::alloc::{AllocError, Global};
-use tw_machine_declaration::{Constant, Declaration, Named, Thing};
+use tw_machine_declaration::{Constant, Declaration, Named, Thing, Timer};
 use tw_machine_text::{FUNCTIONS, OWN_NAMES, same_text};
 
 /// The number of a function in a list.
@@ -91,7 +92,25 @@ fn is_among(place: usize, constants: &[Constant]) -> bool
     false
 }
 
-/// Whether a parameter is a start, a room or a count.
+/// Whether a parameter is a timer's count, or says when it is first due.
+fn timer_uses(place: usize, timer: Timer) -> bool
+    ensures { result ≡ timer_uses place timer }
+{
+    is_some_parameter(place, timer.count) || is_some_parameter(place, timer.first)
+}
+
+fn timers_use(place: usize, timers: &[Timer]) -> bool
+    ensures { result ≡ list_any (timer_uses place) timers.now }
+{
+    for timer in timers {
+        if timer_uses(place, *timer) {
+            return true;
+        }
+    }
+    false
+}
+
+/// Whether a parameter is a start, a room or a count, or says when a timer is due.
 fn thing_uses(place: usize, thing: &Thing) -> bool
     ensures { result ≡ thing_uses place (plain.thing thing.now) }
 {
@@ -101,6 +120,9 @@ fn thing_uses(place: usize, thing: &Thing) -> bool
         Thing::Queue(room) => is_parameter(place, *room),
         Thing::QueueArray(count, room) => {
             is_parameter(place, *count) || is_parameter(place, *room)
+        }
+        Thing::Due(timers) => {
+            timers_use(place, &timers.each) || is_some_parameter(place, timers.least)
         }
         _ => false,
     }
@@ -184,7 +206,16 @@ fn add_thing(
             let is_so = !is_read(declaration, called);
             add_where(alloc, warnings, is_so, place, Kind::NotRead)
         }
-        Thing::ListParameter(_) | Thing::Observation | Thing::Procedure(_) => Ok(()),
+        Thing::ListParameter(_)
+        | Thing::Observation
+        | Thing::Procedure(_)
+        | Thing::Timer(_)
+        | Thing::TimerArray(..)
+        | Thing::Number(_)
+        | Thing::Together(_)
+        | Thing::Greatest(_)
+        | Thing::Due(_)
+        | Thing::Next(_) => Ok(()),
     }
 }
 

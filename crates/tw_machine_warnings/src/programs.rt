@@ -8,6 +8,7 @@ ghost use Rattle.tw_machine_warnings.specs.Machines.{
   output_warnings,
   outputs_warnings,
   program_warnings,
+  sent_place,
   word_warnings,
   words_warnings,
 };
@@ -114,22 +115,34 @@ fn entry_place(alloc: Global, place: &str, index: usize) -> Result<String, Alloc
     format!(in alloc; "{place}[{index}]")
 }
 
-/// Adds what is odd about what is sent.
+/// The place of an entry of what is sent; of timers it is not told.
+fn sent_place(alloc: Global, timed: bool, place: &str, index: usize) -> Result<String, AllocError>
+    ensures { IfOk result (λ t. string_bytes t ≡ sent_place timed place.now index) }
+{
+    if timed {
+        String::from_str(alloc, place)
+    } else {
+        entry_place(alloc, place, index)
+    }
+}
+
+/// Adds what is odd about what is sent, by timers or not.
 pub(crate) fn add_outputs(
     alloc: Global,
     warnings: &mut Vec<Warning>,
     place: &str,
+    timed: bool,
     draws: bool,
     entries: &[OutputText],
     names: &[Named],
 ) -> Result<(), AllocError>
     ensures { OnOk result (map warning warnings.new.items
         ≡ map warning warnings.old.items
-        ++ outputs_warnings place.now draws (map plain.name names.now) 0
+        ++ outputs_warnings place.now timed draws (map plain.name names.now) 0
         (map plain.output entries.now)) }
 {
     for (index, entry) in entries.iter().enumerate() {
-        let place = entry_place(alloc, place, index)?;
+        let place = sent_place(alloc, timed, place, index)?;
         add_output(alloc, warnings, place.as_str(), draws, entry, names)?;
     }
     Ok(())

@@ -10,7 +10,7 @@ use Rattle.tw_machine_file.specs.Seen.{Scope, scope}
 use Rattle.tw_machine_file.specs.declared.fault.Part.TheVariants.{Parameters}
 use Rattle.tw_machine_file.proofs.declarations.parameter_named.Goals as goal
 
-one_more : (tables : Option Data) (s next : Scope) (text : List ℕ) (listed may : Bool) (names : List Name) → may ≡ is_own_name text → names ≡ s.names → new_name Parameters may names text ≡ Ok text
+one_more : (tables : Option Data) (s next : Scope) (text : List ℕ) (listed may : Bool) (names : List Name) → may ≡ is_own_name s.timed text → names ≡ s.names → new_name Parameters may names text ≡ Ok text
     → listed ≡ is_list tables text → with_parameter listed s text ≡ next → parameter_named tables s text ≡ Ok next
 one_more tables s next text listed may names allowed before new is with =
     ap (made (with_parameter (is_list tables text) s)) (ap (λ b. new_name Parameters b s.names text) (sym allowed) ∙ ap (λ ns. new_name Parameters may ns text) (sym before) ∙ new)
@@ -19,7 +19,7 @@ one_more tables s next text listed may names allowed before new is with =
 pub returns-clause-ok : goal.returns-clause-ok
 returns-clause-ok c =
     one_more (option_map (λ v. view v.now) c.args.tables) (scope c.args.so_far) (scope c.in_ok-with_parameter.field-0) c.args.text.now c.is_list-is_list.result c.is_own_name-may.result (map name c.as_slice.result.now)
-    (c.is_own_name-may.ensures ∙ ap is_own_name c.as_bytes.ensures.value)
+    (c.is_own_name-may.ensures ∙ ap (is_own_name c.args.so_far.timed) c.as_bytes.ensures.value)
     (ap (map name) c.as_slice.ensures.value)
     c.in_ok-new_name.ensures.ok
     (c.is_list-is_list.ensures ∙ ap (is_list (option_map (λ v. view v.now) c.args.tables)) c.as_bytes-2.ensures.value)

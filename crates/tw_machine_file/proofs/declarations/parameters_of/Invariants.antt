@@ -9,4 +9,4 @@ use Rattle.tw_machine_file.proofs.declarations.parameters_of.Given as goal
 abbrev pub invariant-loop-value : goal.invariant-loop-value
 invariant-loop-value l =
     parameters_of (option_map (λ v. view v.now) l.tables) (scope l.all) (items_view (drop l.value-index l.values))
-    ≡ parameters_of (option_map (λ v. view v.now) l.tables) nothing_declared (items_view l.values)
+    ≡ parameters_of (option_map (λ v. view v.now) l.tables) (nothing_declared l.timed) (items_view l.values)

@@ -21,10 +21,10 @@ read l i before d v kinds again same is shown =
 
 pub returns-then-is_among_words-clause-err : goal.returns-then-is_among_words-clause-err
 returns-then-is_among_words-clause-err c = λ _.
-    read (language_of c.args.declared.now) c.args.index (map value c.args.before.now) (view c.args.written.now) (value c.in_ok-word.word) c.args.kinds.now c.is_among_words.result c.requires c.in_ok-word.ensures.ok c.is_among_words.ensures
+    read (language_of c.args.language.now) c.args.index (map value c.args.before.now) (view c.args.written.now) (value c.in_ok-word.word) c.args.kinds.now c.is_among_words.result c.requires c.in_ok-word.ensures.ok c.is_among_words.ensures
     ∙ ap (λ (b : Bool). provided (not b) (wrong (Word c.args.index) Twice) (value c.in_ok-word.word)) c.if-is_among_words.true
 
 pub returns-clause-ok : goal.returns-clause-ok
 returns-clause-ok c =
-    read (language_of c.args.declared.now) c.args.index (map value c.args.before.now) (view c.args.written.now) (value c.in_ok-word.word) c.args.kinds.now c.is_among_words.result c.requires c.in_ok-word.ensures.ok c.is_among_words.ensures
+    read (language_of c.args.language.now) c.args.index (map value c.args.before.now) (view c.args.written.now) (value c.in_ok-word.word) c.args.kinds.now c.is_among_words.result c.requires c.in_ok-word.ensures.ok c.is_among_words.ensures
     ∙ ap (λ (b : Bool). provided (not b) (wrong (Word c.args.index) Twice) (value c.in_ok-word.word)) c.if-is_among_words.false

@@ -9,5 +9,5 @@ use Rattle.tw_machine_file.proofs.words.words_of.Given as goal
 -- what has come, and what is to come
 abbrev pub invariant-loop-index : goal.invariant-loop-index
 invariant-loop-index l =
-    behind (map value l.words.items) (words_of (language_of l.declared) l.index (map value l.words.items) (items_view (drop l.index l.values)))
-    ≡ words_of (language_of l.declared) 0 [] (items_view l.values)
+    behind (map value l.words.items) (words_of (language_of l.language) l.index (map value l.words.items) (items_view (drop l.index l.values)))
+    ≡ words_of (language_of l.language) 0 [] (items_view l.values)

@@ -230,6 +230,6 @@ fn by_workers<R: Threads + Wait + Clock + Eprint + Sync, W: Write>(
             };
             Exit::of_view(table_by_workers(rt, alloc, bytes, &tabulation, *by, out))
         }
-        _ => unreachable!(),
+        Task::Seq { .. } | Task::Draw { .. } | Task::Play { .. } => unreachable!(),
     }
 }

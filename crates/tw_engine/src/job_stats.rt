@@ -1,11 +1,12 @@
 //! The job `stats`: counts, figures and observations of a run, in order or by workers.
 
-ghost use Rattle.std.specs.Prelude.{◌≤◌, map};
+ghost use Rattle.std.specs.Prelude.{◌≡◌, ◌≤◌, Some, map};
 ghost use Rattle.serde_json.specs.View.{view};
 ghost use Rattle.tw_any_model.specs.AnyModel.{any_meaning};
 ghost use Rattle.tw_figure_names.specs.Said.{labels_said};
 ghost use Rattle.tw_engine.specs.Views.{IsReportWritten, IsSummed, IsSummedByWorkers, IsSummedOf, summary_of};
 ghost use Rattle.tw_figures.specs.Labelled.{label};
+ghost use Rattle.tw_figures.specs.Shown.{shown_of};
 ghost use Rattle.tw_network.specs.Contents.{network_of};
 ghost use Rattle.tw_stats.specs.Gathering.{BeforeEnd, IsMade};
 ghost use Rattle.tw_theory.specs.Simulator.{sequential};
@@ -62,23 +63,26 @@ pub fn stats<L: Listener, W: Write>(
         (W.contents out.old) (W.contents out.new) }
 {
     let file = file_in(alloc, bytes)?;
-    sum_up(alloc, &file, summary, listener, out)
+    let shown = shown_in(alloc, &file.network, summary.only)?;
+    sum_up(alloc, &file, shown.as_slice(), summary, listener, out)
 }
 
-/// Writes the counts, the figures and the observations of a network's run, with the names that its file has for them.
+/// Writes the counts, the figures and the observations of a network's run, of the components that are shown, with the names that its
+/// file has for them.
 fn sum_up<L: Listener, W: Write>(
     alloc: Global,
     file: &NetworkFile,
+    shown: &[bool],
     summary: &Summary<'_>,
     listener: &mut L,
     out: &mut W,
 ) -> Result<Option<String>, Failed>
+    requires { shown_of file.now.network.names (summary_of summary.now).only ≡ Some shown.now }
     ensures { let n = file.now.network in
         IsSummedOf n (labels_said (view file.now.value) n.models) (summary_of summary.now)
         result (W.contents out.old) (W.contents out.new) }
 {
     let network = &file.network;
-    let shown = shown_in(alloc, network, summary.only)?;
     let labels = labels_in(alloc, &file.value, network)?;
     let labels = labels.as_slice();
     let report = match report_of(
@@ -94,7 +98,7 @@ fn sum_up<L: Listener, W: Write>(
     };
     let layout = Layout {
         json: summary.json,
-        shown: shown.as_slice(),
+        shown,
     };
     write_up(alloc, network, labels, &layout, &report, out)
 }
@@ -137,6 +141,8 @@ pub(crate) fn stats_by_workers<R: Threads + Wait + Clock + Eprint + Sync, W: Wri
         (W.contents out.old) (W.contents out.new) }
 {
     let file = file_in(alloc, bytes)?;
+    let shown = shown_in(alloc, &file.network, summary.only)?;
+    let shown = shown.as_slice();
     let plan = Plan {
         until: summary.until,
         cancel: by.cancel,
@@ -150,24 +156,27 @@ pub(crate) fn stats_by_workers<R: Threads + Wait + Clock + Eprint + Sync, W: Wri
                 records: made.records.as_slice(),
                 fault: made.fault,
             };
-            sum_up_made(alloc, &value, &made.network, &run, summary, out)
+            sum_up_made(alloc, &value, &made.network, &run, shown, summary, out)
         }
         None => {
             let mut teller = Teller::new(rt, plan.until, plan.options.progress);
-            sum_up(alloc, &file, summary, &mut teller, out)
+            sum_up(alloc, &file, shown, summary, &mut teller, out)
         }
     }
 }
 
-/// Writes the counts, the figures and the observations of a run that is made, with the names that its network's file has for them.
+/// Writes the counts, the figures and the observations of a run that is made, of the components that are shown, with the names that its
+/// network's file has for them.
 fn sum_up_made<W: Write>(
     alloc: Global,
     value: &Value,
     network: &Network<AnyModel>,
     run: &MadeRun<'_>,
+    shown: &[bool],
     summary: &Summary<'_>,
     out: &mut W,
 ) -> Result<Option<String>, Failed>
+    requires shown { shown_of network.now.names (summary_of summary.now).only ≡ Some shown.now }
     requires small { summary.now.until ≤ max_tick }
     requires made { let net = network_of any_meaning network.now in
         IsMade (sequential net summary.now.until) run.now }
@@ -175,13 +184,12 @@ fn sum_up_made<W: Write>(
         IsSummedOf n (labels_said (view value.now) n.models) (summary_of summary.now)
         result (W.contents out.old) (W.contents out.new) }
 {
-    let shown = shown_in(alloc, network, summary.only)?;
     let labels = labels_in(alloc, value, network)?;
     let labels = labels.as_slice();
     let report = report_of_made(alloc, network, labels, summary.from, summary.until, run)?;
     let layout = Layout {
         json: summary.json,
-        shown: shown.as_slice(),
+        shown,
     };
     write_up(alloc, network, labels, &layout, &report, out)
 }

@@ -1,10 +1,11 @@
 //! The job `table`: the records of a run, or how its figures changed, as comma-separated values; in order or by workers.
 
-ghost use Rattle.std.specs.Prelude.{◌≡◌, ◌≤◌, Bool, IfSome, List, ℕ};
+ghost use Rattle.std.specs.Prelude.{◌≡◌, ◌≤◌, Bool, IfSome, List, Some, ℕ};
 ghost use Rattle.serde_json.specs.View.{view};
 ghost use Rattle.tw_any_model.specs.AnyModel.{any_meaning};
 ghost use Rattle.tw_engine.specs.Views.{IsListed, IsTableHeld, IsTableWritten, IsTabulated, IsTabulatedByWorkers, IsTabulatedOf, figures_table, listing_text, run_table, table_with, tabulation_of};
 ghost use Rattle.tw_figure_names.specs.Said.{labels_said};
+ghost use Rattle.tw_figures.specs.Shown.{shown_of};
 ghost use Rattle.tw_network.specs.Contents.{network_of};
 ghost use Rattle.tw_stats.specs.Gathering.{IsMade};
 ghost use Rattle.tw_theory.specs.Simulator.{sequential};
@@ -70,11 +71,21 @@ pub fn table<L: Listener, W: Write>(
     match tabulation.of {
         Tabled::OfRun(rows) => {
             let network = network_in(alloc, bytes)?;
-            tabulate(alloc, &network, rows, tabulation, listener, out)
+            let shown = shown_in(alloc, &network, tabulation.only)?;
+            tabulate(
+                alloc,
+                &network,
+                rows,
+                shown.as_slice(),
+                tabulation,
+                listener,
+                out,
+            )
         }
         Tabled::OfFigures => {
             let file = file_in(alloc, bytes)?;
-            tabulate_figures(alloc, &file, tabulation, listener, out)
+            let shown = shown_in(alloc, &file.network, tabulation.only)?;
+            tabulate_figures(alloc, &file, shown.as_slice(), tabulation, listener, out)
         }
     }
 }
@@ -88,28 +99,29 @@ pub(crate) struct Listing<'a> {
     pub(crate) from: u64,
 }
 
-/// Writes the table of the records of a network's run.
+/// Writes the table of the records of a network's run, of the components that are shown.
 fn tabulate<L: Listener, W: Write>(
     alloc: Global,
     network: &Network<AnyModel>,
     rows: Rows,
+    shown: &[bool],
     tabulation: &Tabulation<'_>,
     listener: &mut L,
     out: &mut W,
 ) -> Result<Option<String>, Failed>
+    requires { shown_of network.now.names (tabulation_of tabulation.now).only ≡ Some shown.now }
     ensures { let t = tabulation_of tabulation.now in
         let written : List Bool → List ℕ = λ shown.
         run_table network.now rows shown t.from t.until in
         IsTabulatedOf network.now written t result (W.contents out.old) (W.contents out.new) }
 {
-    let shown = shown_in(alloc, network, tabulation.only)?;
     let listing = Listing {
         run: Run {
             network,
             until: tabulation.until,
         },
         rows,
-        shown: shown.as_slice(),
+        shown,
         from: tabulation.from,
     };
     list(alloc, &listing, listener, out)
@@ -198,14 +210,17 @@ fn write_streamed<L: Listener, W: Write>(
     Ok(line)
 }
 
-/// Writes the table of the figures of a network's run, with the names that its file has for them. The fault is worked out first.
+/// Writes the table of the figures of a network's run, of the components that are shown, with the names that its file has for them. The
+/// fault is worked out first.
 fn tabulate_figures<L: Listener, W: Write>(
     alloc: Global,
     file: &NetworkFile,
+    shown: &[bool],
     tabulation: &Tabulation<'_>,
     listener: &mut L,
     out: &mut W,
 ) -> Result<Option<String>, Failed>
+    requires { shown_of file.now.network.names (tabulation_of tabulation.now).only ≡ Some shown.now }
     ensures { let t = tabulation_of tabulation.now in
         let n = file.now.network in
         let labels = labels_said (view file.now.value) n.models in
@@ -214,7 +229,6 @@ fn tabulate_figures<L: Listener, W: Write>(
         IsTabulatedOf n written t result (W.contents out.old) (W.contents out.new) }
 {
     let network = &file.network;
-    let shown = shown_in(alloc, network, tabulation.only)?;
     let labels = labels_in(alloc, &file.value, network)?;
     let until = tabulation.until;
     let run = Run { network, until };
@@ -224,7 +238,7 @@ fn tabulate_figures<L: Listener, W: Write>(
     let table = FigureTable {
         names: &names,
         labels: labels.as_slice(),
-        shown: shown.as_slice(),
+        shown,
         from: tabulation.from,
     };
     write_figures(alloc, network, until, &table, listener, out)?;
@@ -247,6 +261,8 @@ pub(crate) fn table_by_workers<R: Threads + Wait + Clock + Eprint + Sync, W: Wri
         (W.contents out.old) (W.contents out.new) }
 {
     let file = file_in(alloc, bytes)?;
+    let shown = shown_in(alloc, &file.network, tabulation.only)?;
+    let shown = shown.as_slice();
     let plan = Plan {
         until: tabulation.until,
         cancel: by.cancel,
@@ -260,43 +276,55 @@ pub(crate) fn table_by_workers<R: Threads + Wait + Clock + Eprint + Sync, W: Wri
                 records: made.records.as_slice(),
                 fault: made.fault,
             };
-            tabulate_made(alloc, &value, &made.network, &run, tabulation, out)
+            tabulate_made(alloc, &value, &made.network, &run, shown, tabulation, out)
         }
         None => {
             let mut teller = Teller::new(rt, plan.until, plan.options.progress);
-            tabulate_file(alloc, &file, tabulation, &mut teller, out)
+            tabulate_file(alloc, &file, shown, tabulation, &mut teller, out)
         }
     }
 }
 
-/// Writes the table of a network's run in order, with the names that its file has for its figures.
+/// Writes the table of a network's run in order, of the components that are shown, with the names that its file has for its figures.
 fn tabulate_file<L: Listener, W: Write>(
     alloc: Global,
     file: &NetworkFile,
+    shown: &[bool],
     tabulation: &Tabulation<'_>,
     listener: &mut L,
     out: &mut W,
 ) -> Result<Option<String>, Failed>
+    requires { shown_of file.now.network.names (tabulation_of tabulation.now).only ≡ Some shown.now }
     ensures { let t = tabulation_of tabulation.now in
         let n = file.now.network in
         IsTabulatedOf n (table_with n (labels_said (view file.now.value) n.models) t) t
         result (W.contents out.old) (W.contents out.new) }
 {
     match tabulation.of {
-        Tabled::OfRun(rows) => tabulate(alloc, &file.network, rows, tabulation, listener, out),
-        Tabled::OfFigures => tabulate_figures(alloc, file, tabulation, listener, out),
+        Tabled::OfRun(rows) => tabulate(
+            alloc,
+            &file.network,
+            rows,
+            shown,
+            tabulation,
+            listener,
+            out,
+        ),
+        Tabled::OfFigures => tabulate_figures(alloc, file, shown, tabulation, listener, out),
     }
 }
 
-/// Writes the table of a run that is made, with the names that its network's file has for its figures.
+/// Writes the table of a run that is made, of the components that are shown, with the names that its network's file has for its figures.
 fn tabulate_made<W: Write>(
     alloc: Global,
     value: &Value,
     network: &Network<AnyModel>,
     run: &MadeRun<'_>,
+    shown: &[bool],
     tabulation: &Tabulation<'_>,
     out: &mut W,
 ) -> Result<Option<String>, Failed>
+    requires shown { shown_of network.now.names (tabulation_of tabulation.now).only ≡ Some shown.now }
     requires small { tabulation.now.until ≤ max_tick }
     requires made { let net = network_of any_meaning network.now in
         IsMade (sequential net tabulation.now.until) run.now }
@@ -306,49 +334,56 @@ fn tabulate_made<W: Write>(
         result (W.contents out.old) (W.contents out.new) }
 {
     match tabulation.of {
-        Tabled::OfRun(rows) => tabulate_made_rows(alloc, network, rows, run, tabulation, out),
-        Tabled::OfFigures => tabulate_made_figures(alloc, value, network, run, tabulation, out),
+        Tabled::OfRun(rows) => tabulate_made_rows(
+            alloc, network, rows, run, shown, tabulation, out,
+        ),
+        Tabled::OfFigures => tabulate_made_figures(
+            alloc, value, network, run, shown, tabulation, out,
+        ),
     }
 }
 
-/// Writes the table of the records of a run that is made.
+/// Writes the table of the records of a run that is made, of the components that are shown.
 fn tabulate_made_rows<W: Write>(
     alloc: Global,
     network: &Network<AnyModel>,
     rows: Rows,
     run: &MadeRun<'_>,
+    shown: &[bool],
     tabulation: &Tabulation<'_>,
     out: &mut W,
 ) -> Result<Option<String>, Failed>
-    requires { let net = network_of any_meaning network.now in
+    requires shown { shown_of network.now.names (tabulation_of tabulation.now).only ≡ Some shown.now }
+    requires made { let net = network_of any_meaning network.now in
         IsMade (sequential net tabulation.now.until) run.now }
     ensures { let t = tabulation_of tabulation.now in
         let written : List Bool → List ℕ = λ shown.
         run_table network.now rows shown t.from t.until in
         IsTabulatedOf network.now written t result (W.contents out.old) (W.contents out.new) }
 {
-    let shown = shown_in(alloc, network, tabulation.only)?;
     let line = fault_line(alloc, network, run.fault)?;
     let names = NetworkNames { network };
     let table = Table {
         rows,
         names: &names,
-        shown: shown.as_slice(),
+        shown,
         from: tabulation.from,
     };
     write_table_of(alloc, run.records, &table, out)?;
     Ok(line)
 }
 
-/// Writes the table of the figures of a run that is made, with the names that its network's file has for them.
+/// Writes the table of the figures of a run that is made, of the components that are shown, with the names that its network's file has for them.
 fn tabulate_made_figures<W: Write>(
     alloc: Global,
     value: &Value,
     network: &Network<AnyModel>,
     run: &MadeRun<'_>,
+    shown: &[bool],
     tabulation: &Tabulation<'_>,
     out: &mut W,
 ) -> Result<Option<String>, Failed>
+    requires shown { shown_of network.now.names (tabulation_of tabulation.now).only ≡ Some shown.now }
     requires small { tabulation.now.until ≤ max_tick }
     requires made { let net = network_of any_meaning network.now in
         IsMade (sequential net tabulation.now.until) run.now }
@@ -360,14 +395,13 @@ fn tabulate_made_figures<W: Write>(
         IsTabulatedOf n written t result (W.contents out.old) (W.contents out.new) }
 {
     network.facts();
-    let shown = shown_in(alloc, network, tabulation.only)?;
     let labels = labels_in(alloc, value, network)?;
     let line = fault_line(alloc, network, run.fault)?;
     let names = NetworkNames { network };
     let table = FigureTable {
         names: &names,
         labels: labels.as_slice(),
-        shown: shown.as_slice(),
+        shown,
         from: tabulation.from,
     };
     write_figures_of(alloc, network, run.records, &table, out)?;

@@ -4,9 +4,9 @@ use Rattle.serde_json.specs.View.{view}
 use Rattle.tw_any_model.specs.AnyModel.{any_meaning}
 use Rattle.tw_any_model.specs.declared.any_model.AnyModel.{AnyModel}
 use Rattle.tw_engine.proofs.Passing.{on_err}
-use Rattle.tw_engine.proofs.Viewed.{labels_of_bytes, unsummed}
+use Rattle.tw_engine.proofs.Viewed.{labels_of_bytes, none_summed, unsummed}
 use Rattle.tw_engine.specs.Runs.{run_fault}
-use Rattle.tw_engine.specs.Views.{IsSummedByWorkers, IsSummedOf, summary_of}
+use Rattle.tw_engine.specs.Views.{IsSummedByWorkers, IsSummedOf, file_labels, summary_of}
 use Rattle.tw_figure_names.specs.Said.{labels_said}
 use Rattle.tw_network.specs.Contents.{Contents, network_of}
 use Rattle.tw_theory.specs.Simulator.{sequential}
@@ -22,6 +22,15 @@ sum_up_made-requires-clause-made g c =
       records = c.as_slice.ensures.value ∙ whole.records ∙ ap (λ (n : Contents AnyModel). (sequential (network_of any_meaning n) until).records) same;
       fault = whole.fault ∙ ap (λ (n : Contents AnyModel). run_fault n until) same;
     }
+
+pub returns-in_err-shown : goal.returns-in_err-shown
+returns-in_err-shown g c =
+    let n = c.in_ok-file.file.network in
+    let s = summary_of c.args.summary.now in
+    let bytes = c.args.bytes.now in
+    let old = g.W.Write.contents c.args.out.now in
+    on_err (λ end. IsSummedByWorkers bytes c.args.by.cancel s end old old) c.from_residual-in_err-shown.result c.in_err-shown.field-0.0 c.from_residual-in_err-shown.ensures.1
+    (inl (inr (n, c.in_ok-file.ensures.network, none_summed n (file_labels bytes n) s c.in_err-shown.field-0.0 old c.in_err-shown.ensures)))
 
 pub returns-in_ok-made-in-Some : goal.returns-in_ok-made-in-Some
 returns-in_ok-made-in-Some g c =

@@ -2,12 +2,31 @@
 use Rattle.std.proofs.Common.{ℕ, List, inr, subst}
 use Rattle.std.specs.Prelude.{Bool}
 use Rattle.serde_json.specs.View.{view}
-use Rattle.tw_engine.proofs.Viewed.{labels_of_bytes, of_figures}
-use Rattle.tw_engine.specs.Views.{IsTabulatedOf, figures_table, file_labels, tabulation_of}
+use Rattle.tw_engine.proofs.Passing.{on_err}
+use Rattle.tw_engine.proofs.Viewed.{labels_of_bytes, none_tabulated, of_figures}
+use Rattle.tw_engine.specs.Views.{IsTabulated, IsTabulatedOf, figures_table, file_labels, table_with, tabulation_of}
 use Rattle.tw_engine.proofs.job_table.table.Goals as goal
 
-pub returns-in_ok-file-in-OfFigures : goal.returns-in_ok-file-in-OfFigures
-returns-in_ok-file-in-OfFigures g c =
+pub returns-in_err-shown-in-OfRun : goal.returns-in_err-shown-in-OfRun
+returns-in_err-shown-in-OfRun g c =
+    let n = c.in_ok-network-in-OfRun.network in
+    let t = tabulation_of c.args.tabulation.now in
+    let bytes = c.args.bytes.now in
+    let old = g.W.Write.contents c.args.out.now in
+    on_err (λ end. IsTabulated bytes t end old old) c.from_residual-in_err-shown-in-OfRun.result c.in_err-shown-in-OfRun.field-0.0 c.from_residual-in_err-shown-in-OfRun.ensures.1
+    (inr (n, c.in_ok-network-in-OfRun.ensures.ok, none_tabulated n (table_with n (file_labels bytes n) t) t c.in_err-shown-in-OfRun.field-0.0 old c.in_err-shown-in-OfRun.ensures))
+
+pub returns-in_err-shown-in-OfFigures : goal.returns-in_err-shown-in-OfFigures
+returns-in_err-shown-in-OfFigures g c =
+    let n = c.in_ok-file-in-OfFigures.file.network in
+    let t = tabulation_of c.args.tabulation.now in
+    let bytes = c.args.bytes.now in
+    let old = g.W.Write.contents c.args.out.now in
+    on_err (λ end. IsTabulated bytes t end old old) c.from_residual-in_err-shown-in-OfFigures.result c.in_err-shown-in-OfFigures.field-0.0 c.from_residual-in_err-shown-in-OfFigures.ensures.1
+    (inr (n, c.in_ok-file-in-OfFigures.ensures.network, none_tabulated n (table_with n (file_labels bytes n) t) t c.in_err-shown-in-OfFigures.field-0.0 old c.in_err-shown-in-OfFigures.ensures))
+
+pub returns-in_ok-shown-in-OfFigures : goal.returns-in_ok-shown-in-OfFigures
+returns-in_ok-shown-in-OfFigures g c =
     let n = c.in_ok-file-in-OfFigures.file.network in
     let t = tabulation_of c.args.tabulation.now in
     let bytes = c.args.bytes.now in

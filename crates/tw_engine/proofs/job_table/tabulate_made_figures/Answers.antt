@@ -4,7 +4,7 @@ use Rattle.std.specs.Prelude.{Bool}
 use Rattle.serde_json.specs.View.{view}
 use Rattle.tw_any_model.specs.AnyModel.{any_meaning}
 use Rattle.tw_engine.proofs.Passing.{on_err}
-use Rattle.tw_engine.proofs.Viewed.{none_tabulated, table_short, tabulated}
+use Rattle.tw_engine.proofs.Viewed.{table_short, tabulated}
 use Rattle.tw_engine.specs.Ends.{failed_of}
 use Rattle.tw_engine.specs.Runs.{name_in}
 use Rattle.tw_engine.specs.Views.{IsTabulatedOf, figures_table, tabulation_of}
@@ -24,15 +24,6 @@ pub write_figures_of-requires : goal.write_figures_of-requires
 write_figures_of-requires g c =
     subst IsSteady (sym c.requires.made.records) (run_steady (network_of any_meaning c.args.network.now) c.args.tabulation.now.until c.facts.ensures.network c.requires.small)
 
-pub returns-in_err-shown : goal.returns-in_err-shown
-returns-in_err-shown g c =
-    let n = c.args.network.now in
-    let t = tabulation_of c.args.tabulation.now in
-    let table = λ (l : List Bool). figures_table n (labels_said (view c.args.value.now) n.models) l t.from t.until in
-    let old = g.W.Write.contents c.args.out.now in
-    on_err (λ end. IsTabulatedOf n table t end old old) c.from_residual.result c.in_err-shown.field-0.0 c.from_residual.ensures.1
-    (none_tabulated n table t c.in_err-shown.field-0.0 old c.in_err-shown.ensures)
-
 pub returns : goal.returns
 returns g c =
     let n = c.args.network.now in
@@ -42,12 +33,11 @@ returns g c =
     let starts = start_words (network_of any_meaning n) in
     let old = g.W.Write.contents c.args.out.now in
     let new = g.W.Write.contents c.write_figures_of.new.out in
-    let shown = c.in_ok-shown.shown.items in
+    let shown = c.args.shown.now in
     let same = ap (map label) c.as_slice.ensures.value ∙ c.in_ok-labels.ensures in
-    tabulated n table t shown c.args.run.now.fault c.in_ok-line.line old new c.in_ok-shown.ensures c.requires.made.fault c.in_ok-line.ensures
+    tabulated n table t shown c.args.run.now.fault c.in_ok-line.line old new c.requires.shown c.requires.made.fault c.in_ok-line.ensures
     (subst (λ ls. Appends old new (figures_table n ls shown t.from t.until)) same
-    (subst (λ l. Appends old new (figures_table n (map label c.as_slice.result.now) l t.from t.until)) c.as_slice-2.ensures.value
-    (subst (λ (rs : List Record). Appends old new (figures_text (table_of (name_in n.names) c.as_slice.result.now c.as_slice-2.result.now t.from) starts rs)) c.requires.made.records c.in_ok-write_figures_of.ensures.ok)))
+    (subst (λ (rs : List Record). Appends old new (figures_text (table_of (name_in n.names) c.as_slice.result.now shown t.from) starts rs)) c.requires.made.records c.in_ok-write_figures_of.ensures.ok))
 
 pub returns-in_err-write_figures_of : goal.returns-in_err-write_figures_of
 returns-in_err-write_figures_of g c =
@@ -59,10 +49,9 @@ returns-in_err-write_figures_of g c =
     let old = g.W.Write.contents c.args.out.now in
     let new = g.W.Write.contents c.write_figures_of.new.out in
     let why = c.in_err-write_figures_of.field-0.0 in
-    let shown = c.in_ok-shown.shown.items in
+    let shown = c.args.shown.now in
     let same = ap (map label) c.as_slice.ensures.value ∙ c.in_ok-labels.ensures in
     on_err (λ end. IsTabulatedOf n table t end old new) c.from_residual-in_err-write_figures_of.result (failed_of (not_written_refusal why)) c.from_residual-in_err-write_figures_of.ensures.1
-    (table_short n table t shown why old new c.in_ok-shown.ensures
+    (table_short n table t shown why old new c.requires.shown
     (λ is. subst (λ ls. AppendsBeginning old new (figures_table n ls shown t.from t.until)) same
-    (subst (λ l. AppendsBeginning old new (figures_table n (map label c.as_slice.result.now) l t.from t.until)) c.as_slice-2.ensures.value
-    (subst (λ (rs : List Record). AppendsBeginning old new (figures_text (table_of (name_in n.names) c.as_slice.result.now c.as_slice-2.result.now t.from) starts rs)) c.requires.made.records (c.in_err-write_figures_of.ensures.err is)))))
+    (subst (λ (rs : List Record). AppendsBeginning old new (figures_text (table_of (name_in n.names) c.as_slice.result.now shown t.from) starts rs)) c.requires.made.records (c.in_err-write_figures_of.ensures.err is))))

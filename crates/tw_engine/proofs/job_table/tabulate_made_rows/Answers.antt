@@ -2,7 +2,7 @@ use Rattle.std.proofs.Common.{List, subst}
 use Rattle.std.specs.Prelude.{Bool}
 use Rattle.std.specs.Io.KnownBytes.{Appends}
 use Rattle.tw_engine.proofs.Passing.{on_err}
-use Rattle.tw_engine.proofs.Viewed.{none_tabulated, table_short, tabulated}
+use Rattle.tw_engine.proofs.Viewed.{table_short, tabulated}
 use Rattle.tw_engine.specs.Ends.{failed_of}
 use Rattle.tw_engine.specs.Runs.{name_in}
 use Rattle.tw_engine.specs.Views.{IsTabulatedOf, run_table, tabulation_of}
@@ -12,14 +12,6 @@ use Rattle.tw_texts.specs.Refusals.{not_written_refusal}
 use Rattle.tw_texts.specs.Traces.{AppendsBeginning}
 use Rattle.tw_engine.proofs.job_table.tabulate_made_rows.Goals as goal
 
-pub returns-in_err-shown : goal.returns-in_err-shown
-returns-in_err-shown g c =
-    let t = tabulation_of c.args.tabulation.now in
-    let table = λ (l : List Bool). run_table c.args.network.now c.args.rows l t.from t.until in
-    let old = g.W.Write.contents c.args.out.now in
-    on_err (λ end. IsTabulatedOf c.args.network.now table t end old old) c.from_residual.result c.in_err-shown.field-0.0 c.from_residual.ensures.1
-    (none_tabulated c.args.network.now table t c.in_err-shown.field-0.0 old c.in_err-shown.ensures)
-
 pub returns : goal.returns
 returns g c =
     let n = c.args.network.now in
@@ -27,10 +19,9 @@ returns g c =
     let table = λ (l : List Bool). run_table n c.args.rows l t.from t.until in
     let old = g.W.Write.contents c.args.out.now in
     let new = g.W.Write.contents c.write_table_of.new.out in
-    let shown = c.in_ok-shown.shown.items in
-    tabulated n table t shown c.args.run.now.fault c.in_ok-line.line old new c.in_ok-shown.ensures c.requires.fault c.in_ok-line.ensures
-    (subst (λ (rs : List Record). Appends old new (table_text c.args.rows (name_in n.names) (listed shown t.from rs))) c.requires.records
-    (subst (λ l. Appends old new (table_text c.args.rows (name_in n.names) (listed l t.from c.args.run.now.records.now))) c.as_slice.ensures.value c.in_ok-write_table_of.ensures.ok))
+    let shown = c.args.shown.now in
+    tabulated n table t shown c.args.run.now.fault c.in_ok-line.line old new c.requires.shown c.requires.made.fault c.in_ok-line.ensures
+    (subst (λ (rs : List Record). Appends old new (table_text c.args.rows (name_in n.names) (listed shown t.from rs))) c.requires.made.records c.in_ok-write_table_of.ensures.ok)
 
 pub returns-in_err-write_table_of : goal.returns-in_err-write_table_of
 returns-in_err-write_table_of g c =
@@ -40,8 +31,7 @@ returns-in_err-write_table_of g c =
     let old = g.W.Write.contents c.args.out.now in
     let new = g.W.Write.contents c.write_table_of.new.out in
     let why = c.in_err-write_table_of.field-0.0 in
-    let shown = c.in_ok-shown.shown.items in
+    let shown = c.args.shown.now in
     on_err (λ end. IsTabulatedOf n table t end old new) c.from_residual-in_err-write_table_of.result (failed_of (not_written_refusal why)) c.from_residual-in_err-write_table_of.ensures.1
-    (table_short n table t shown why old new c.in_ok-shown.ensures
-    (λ is. subst (λ (rs : List Record). AppendsBeginning old new (table_text c.args.rows (name_in n.names) (listed shown t.from rs))) c.requires.records
-    (subst (λ l. AppendsBeginning old new (table_text c.args.rows (name_in n.names) (listed l t.from c.args.run.now.records.now))) c.as_slice.ensures.value (c.in_err-write_table_of.ensures.err is))))
+    (table_short n table t shown why old new c.requires.shown
+    (λ is. subst (λ (rs : List Record). AppendsBeginning old new (table_text c.args.rows (name_in n.names) (listed shown t.from rs))) c.requires.made.records (c.in_err-write_table_of.ensures.err is)))

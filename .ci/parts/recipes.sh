@@ -9,3 +9,10 @@ done >"$out" 2>"$err"
 printf '%s\n' "3 166.099 +- 32.7042" "4 27.3618 +- 7.09565" >"$room/wanted"
 cmp --silent "$out" "$room/wanted" && [ ! -s "$err" ] && grep -qx "3 166.099 +- 32.7042" docs/GUIDE.md && grep -qx "4 27.3618 +- 7.09565" docs/GUIDE.md
 count "the waits of callers by three agents and by four" 0 0 $?
+
+# The model of docs/FROM-SIMPY.md: nothing is odd about it, and what `stats` writes of it is on the page.
+sed -n '/^```json$/,/^```$/p' docs/FROM-SIMPY.md | sed '1d;$d' >"$room/shop.json"
+"$program" check "$room/shop.json" --strict >"$out" 2>"$err" && "$program" stats "$room/shop.json" --until 1000000 --only desk >"$out" 2>>"$err"
+ended=$?
+[ ! -s "$err" ] && grep -qxF -e "$(tail -n 1 "$out")" docs/FROM-SIMPY.md
+count "the model of docs/FROM-SIMPY.md" 0 "$ended" $?

@@ -157,11 +157,17 @@ pub trait Atomic: Drop {
         ensures { IfOk result (λ copy. copy ≡ state.now) };
 
     /// Each transition keeps a state valid.
-    ghost stays_valid: { (m : Self) (turn : Turn) (s : Self.State) (elapsed : ℕ) (bag : Bag) → CanTurn (valid m) (meaning m) turn s elapsed bag → valid m (turned (meaning m) turn s elapsed bag) };
+    ghost stays_valid: { (m : Self) (turn : Turn) (s : Self.State) (elapsed : ℕ) (bag : Bag)
+        → CanTurn (valid m) (meaning m) turn s elapsed bag
+        → valid m (turned (meaning m) turn s elapsed bag) };
 
     /// An output has at most 64 items, on ports 0 to 15, with values that fit.
-    ghost output_fits: { (m : Self) (s : Self.State) → valid m s → (length ((meaning m).out s) ≤ 64) × FitsOutput ((meaning m).out s) };
+    ghost output_fits: { (m : Self) (s : Self.State) → valid m s
+        → (length ((meaning m).out s) ≤ 64) × FitsOutput ((meaning m).out s) };
 
     /// Taking back after a transition gives the old state.
-    ghost reverses: { (m : Self) (turn : Turn) (s : Self.State) (elapsed : ℕ) (bag : Bag) → CanTurn (valid m) (meaning m) turn s elapsed bag → undone m turn (turned (meaning m) turn s elapsed bag) elapsed bag (residue_of m turn s elapsed bag) ≡ s };
+    ghost reverses: { (m : Self) (turn : Turn) (s : Self.State) (elapsed : ℕ) (bag : Bag)
+        → CanTurn (valid m) (meaning m) turn s elapsed bag
+        → undone m turn (turned (meaning m) turn s elapsed bag) elapsed bag
+        (residue_of m turn s elapsed bag) ≡ s };
 }

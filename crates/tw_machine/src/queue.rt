@@ -100,12 +100,12 @@ impl Queue {
         self.values.insert(at, value).unwrap();
     }
 
-    /// Takes the value at a place out, and answers it.
-    pub fn remove(&mut self, at: usize) -> i64
+    /// Takes the value at a place out.
+    pub fn remove(&mut self, at: usize)
         requires { at < length self.old.items }
         ensures { self.new ≡ refilled self.old (remove self.old.items at) }
     {
-        self.values.remove(at)
+        self.values.remove(at);
     }
 
     /// Takes so many values from the front, or those that there are. It takes no memory.

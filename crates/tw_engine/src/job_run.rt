@@ -15,6 +15,7 @@ use crate::job_seq::simulate;
 use crate::names::NetworkNames;
 use crate::reading::{Run, network_in};
 use crate::telling::Teller;
+use serde_json::Value;
 use std::alloc::Global;
 use std::io::Write;
 use std::sync::{Arc, Wait};
@@ -27,6 +28,7 @@ use tw_exec::Executive;
 use tw_msgs::Record;
 use tw_network::Network;
 use tw_process::Cancel;
+use tw_stats::MadeRun;
 use tw_texts::write_trace;
 use tw_vtime::{MAX_TICK, Refusal};
 use tw_workers::Setting;
@@ -49,6 +51,17 @@ pub(crate) struct Made {
     pub(crate) records: Vec<Record>,
     /// The limit fault that ended it.
     pub(crate) fault: Option<Fault>,
+}
+
+/// A run that is made, of the network of a file.
+#[derive(Clone, Copy)]
+pub(crate) struct FileRun<'a> {
+    /// What the file says.
+    pub(crate) value: &'a Value,
+    /// The network that this means.
+    pub(crate) network: &'a Network<AnyModel>,
+    /// The run of it.
+    pub(crate) run: MadeRun<'a>,
 }
 
 /// Does the job `run` of [`engine`](crate::engine) on a file's bytes, and answers the fault that the trace ends in, if it ends in one.

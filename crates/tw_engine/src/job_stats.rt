@@ -15,12 +15,11 @@ ghost use Rattle.tw_vtime.specs.Stamps.{max_tick};
 use crate::choosing::workers_of;
 use crate::failed::Failed;
 use crate::faults::fault_line;
-use crate::job_run::{Plan, make};
+use crate::job_run::{FileRun, Plan, make};
 use crate::names::NetworkNames;
 use crate::reading::{NetworkFile, file_in};
 use crate::shown::shown_in;
 use crate::telling::Teller;
-use serde_json::Value;
 use std::alloc::Global;
 use std::io::Write;
 use std::sync::Wait;
@@ -156,7 +155,12 @@ pub(crate) fn stats_by_workers<R: Threads + Wait + Clock + Eprint + Sync, W: Wri
                 records: made.records.as_slice(),
                 fault: made.fault,
             };
-            sum_up_made(alloc, &value, &made.network, &run, shown, summary, out)
+            let made = FileRun {
+                value: &value,
+                network: &made.network,
+                run,
+            };
+            sum_up_made(alloc, &made, shown, summary, out)
         }
         None => {
             let mut teller = Teller::new(rt, plan.until, plan.options.progress);
@@ -169,21 +173,22 @@ pub(crate) fn stats_by_workers<R: Threads + Wait + Clock + Eprint + Sync, W: Wri
 /// network's file has for them.
 fn sum_up_made<W: Write>(
     alloc: Global,
-    value: &Value,
-    network: &Network<AnyModel>,
-    run: &MadeRun<'_>,
+    made: &FileRun<'_>,
     shown: &[bool],
     summary: &Summary<'_>,
     out: &mut W,
 ) -> Result<Option<String>, Failed>
-    requires shown { shown_of network.now.names (summary_of summary.now).only ≡ Some shown.now }
+    requires shown { let n = made.now.network.now in
+        shown_of n.names (summary_of summary.now).only ≡ Some shown.now }
     requires small { summary.now.until ≤ max_tick }
-    requires made { let net = network_of any_meaning network.now in
-        IsMade (sequential net summary.now.until) run.now }
-    ensures { let n = network.now in
-        IsSummedOf n (labels_said (view value.now) n.models) (summary_of summary.now)
+    requires made { let net = network_of any_meaning made.now.network.now in
+        IsMade (sequential net summary.now.until) made.now.run }
+    ensures { let n = made.now.network.now in
+        IsSummedOf n (labels_said (view made.now.value.now) n.models) (summary_of summary.now)
         result (W.contents out.old) (W.contents out.new) }
 {
+    let FileRun { value, network, .. } = *made;
+    let run = &made.run;
     let labels = labels_in(alloc, value, network)?;
     let labels = labels.as_slice();
     let report = report_of_made(alloc, network, labels, summary.from, summary.until, run)?;

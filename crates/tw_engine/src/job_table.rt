@@ -14,12 +14,11 @@ ghost use Rattle.tw_vtime.specs.Stamps.{max_tick};
 use crate::choosing::workers_of;
 use crate::failed::Failed;
 use crate::faults::{fault_line, fault_of};
-use crate::job_run::{Plan, make};
+use crate::job_run::{FileRun, Plan, make};
 use crate::names::NetworkNames;
 use crate::reading::{NetworkFile, Run, file_in, network_in};
 use crate::shown::shown_in;
 use crate::telling::Teller;
-use serde_json::Value;
 use std::alloc::Global;
 use std::io::Write;
 use std::sync::Wait;
@@ -72,22 +71,29 @@ pub fn table<L: Listener, W: Write>(
         Tabled::OfRun(rows) => {
             let network = network_in(alloc, bytes)?;
             let shown = shown_in(alloc, &network, tabulation.only)?;
-            tabulate(
-                alloc,
-                &network,
-                rows,
-                shown.as_slice(),
+            let asked = Asked {
                 tabulation,
-                listener,
-                out,
-            )
+                shown: shown.as_slice(),
+            };
+            tabulate(alloc, &network, rows, &asked, listener, out)
         }
         Tabled::OfFigures => {
             let file = file_in(alloc, bytes)?;
             let shown = shown_in(alloc, &file.network, tabulation.only)?;
-            tabulate_figures(alloc, &file, shown.as_slice(), tabulation, listener, out)
+            let asked = Asked {
+                tabulation,
+                shown: shown.as_slice(),
+            };
+            tabulate_figures(alloc, &file, &asked, listener, out)
         }
     }
+}
+
+/// What of a network's run stands in a table, and which components this shows.
+#[derive(Clone, Copy)]
+struct Asked<'a> {
+    tabulation: &'a Tabulation<'a>,
+    shown: &'a [bool],
 }
 
 /// A table of records: of which run, what its lines are of, which components it shows, and from which tick on.
@@ -104,13 +110,13 @@ fn tabulate<L: Listener, W: Write>(
     alloc: Global,
     network: &Network<AnyModel>,
     rows: Rows,
-    shown: &[bool],
-    tabulation: &Tabulation<'_>,
+    asked: &Asked<'_>,
     listener: &mut L,
     out: &mut W,
 ) -> Result<Option<String>, Failed>
-    requires { shown_of network.now.names (tabulation_of tabulation.now).only ≡ Some shown.now }
-    ensures { let t = tabulation_of tabulation.now in
+    requires { let t = tabulation_of asked.now.tabulation.now in
+        shown_of network.now.names t.only ≡ Some asked.now.shown.now }
+    ensures { let t = tabulation_of asked.now.tabulation.now in
         let written : List Bool → List ℕ = λ shown.
         run_table network.now rows shown t.from t.until in
         IsTabulatedOf network.now written t result (W.contents out.old) (W.contents out.new) }
@@ -118,11 +124,11 @@ fn tabulate<L: Listener, W: Write>(
     let listing = Listing {
         run: Run {
             network,
-            until: tabulation.until,
+            until: asked.tabulation.until,
         },
         rows,
-        shown,
-        from: tabulation.from,
+        shown: asked.shown,
+        from: asked.tabulation.from,
     };
     list(alloc, &listing, listener, out)
 }
@@ -215,13 +221,13 @@ fn write_streamed<L: Listener, W: Write>(
 fn tabulate_figures<L: Listener, W: Write>(
     alloc: Global,
     file: &NetworkFile,
-    shown: &[bool],
-    tabulation: &Tabulation<'_>,
+    asked: &Asked<'_>,
     listener: &mut L,
     out: &mut W,
 ) -> Result<Option<String>, Failed>
-    requires { shown_of file.now.network.names (tabulation_of tabulation.now).only ≡ Some shown.now }
-    ensures { let t = tabulation_of tabulation.now in
+    requires { let t = tabulation_of asked.now.tabulation.now in
+        shown_of file.now.network.names t.only ≡ Some asked.now.shown.now }
+    ensures { let t = tabulation_of asked.now.tabulation.now in
         let n = file.now.network in
         let labels = labels_said (view file.now.value) n.models in
         let written : List Bool → List ℕ = λ shown.
@@ -230,7 +236,7 @@ fn tabulate_figures<L: Listener, W: Write>(
 {
     let network = &file.network;
     let labels = labels_in(alloc, &file.value, network)?;
-    let until = tabulation.until;
+    let until = asked.tabulation.until;
     let run = Run { network, until };
     let fault = fault_of(alloc, &run, listener)?;
     let line = fault_line(alloc, network, fault)?;
@@ -238,8 +244,8 @@ fn tabulate_figures<L: Listener, W: Write>(
     let table = FigureTable {
         names: &names,
         labels: labels.as_slice(),
-        shown,
-        from: tabulation.from,
+        shown: asked.shown,
+        from: asked.tabulation.from,
     };
     write_figures(alloc, network, until, &table, listener, out)?;
     Ok(line)
@@ -263,6 +269,7 @@ pub(crate) fn table_by_workers<R: Threads + Wait + Clock + Eprint + Sync, W: Wri
     let file = file_in(alloc, bytes)?;
     let shown = shown_in(alloc, &file.network, tabulation.only)?;
     let shown = shown.as_slice();
+    let asked = Asked { tabulation, shown };
     let plan = Plan {
         until: tabulation.until,
         cancel: by.cancel,
@@ -276,11 +283,16 @@ pub(crate) fn table_by_workers<R: Threads + Wait + Clock + Eprint + Sync, W: Wri
                 records: made.records.as_slice(),
                 fault: made.fault,
             };
-            tabulate_made(alloc, &value, &made.network, &run, shown, tabulation, out)
+            let made = FileRun {
+                value: &value,
+                network: &made.network,
+                run,
+            };
+            tabulate_made(alloc, &made, &asked, out)
         }
         None => {
             let mut teller = Teller::new(rt, plan.until, plan.options.progress);
-            tabulate_file(alloc, &file, shown, tabulation, &mut teller, out)
+            tabulate_file(alloc, &file, &asked, &mut teller, out)
         }
     }
 }
@@ -289,85 +301,72 @@ pub(crate) fn table_by_workers<R: Threads + Wait + Clock + Eprint + Sync, W: Wri
 fn tabulate_file<L: Listener, W: Write>(
     alloc: Global,
     file: &NetworkFile,
-    shown: &[bool],
-    tabulation: &Tabulation<'_>,
+    asked: &Asked<'_>,
     listener: &mut L,
     out: &mut W,
 ) -> Result<Option<String>, Failed>
-    requires { shown_of file.now.network.names (tabulation_of tabulation.now).only ≡ Some shown.now }
-    ensures { let t = tabulation_of tabulation.now in
+    requires { let t = tabulation_of asked.now.tabulation.now in
+        shown_of file.now.network.names t.only ≡ Some asked.now.shown.now }
+    ensures { let t = tabulation_of asked.now.tabulation.now in
         let n = file.now.network in
         IsTabulatedOf n (table_with n (labels_said (view file.now.value) n.models) t) t
         result (W.contents out.old) (W.contents out.new) }
 {
-    match tabulation.of {
-        Tabled::OfRun(rows) => tabulate(
-            alloc,
-            &file.network,
-            rows,
-            shown,
-            tabulation,
-            listener,
-            out,
-        ),
-        Tabled::OfFigures => tabulate_figures(alloc, file, shown, tabulation, listener, out),
+    match asked.tabulation.of {
+        Tabled::OfRun(rows) => tabulate(alloc, &file.network, rows, asked, listener, out),
+        Tabled::OfFigures => tabulate_figures(alloc, file, asked, listener, out),
     }
 }
 
 /// Writes the table of a run that is made, of the components that are shown, with the names that its network's file has for its figures.
 fn tabulate_made<W: Write>(
     alloc: Global,
-    value: &Value,
-    network: &Network<AnyModel>,
-    run: &MadeRun<'_>,
-    shown: &[bool],
-    tabulation: &Tabulation<'_>,
+    made: &FileRun<'_>,
+    asked: &Asked<'_>,
     out: &mut W,
 ) -> Result<Option<String>, Failed>
-    requires shown { shown_of network.now.names (tabulation_of tabulation.now).only ≡ Some shown.now }
-    requires small { tabulation.now.until ≤ max_tick }
-    requires made { let net = network_of any_meaning network.now in
-        IsMade (sequential net tabulation.now.until) run.now }
-    ensures { let t = tabulation_of tabulation.now in
-        let n = network.now in
-        IsTabulatedOf n (table_with n (labels_said (view value.now) n.models) t) t
+    requires shown { let t = tabulation_of asked.now.tabulation.now in
+        shown_of made.now.network.now.names t.only ≡ Some asked.now.shown.now }
+    requires small { asked.now.tabulation.now.until ≤ max_tick }
+    requires made { let net = network_of any_meaning made.now.network.now in
+        IsMade (sequential net asked.now.tabulation.now.until) made.now.run }
+    ensures { let t = tabulation_of asked.now.tabulation.now in
+        let n = made.now.network.now in
+        IsTabulatedOf n (table_with n (labels_said (view made.now.value.now) n.models) t) t
         result (W.contents out.old) (W.contents out.new) }
 {
-    match tabulation.of {
-        Tabled::OfRun(rows) => tabulate_made_rows(
-            alloc, network, rows, run, shown, tabulation, out,
-        ),
-        Tabled::OfFigures => tabulate_made_figures(
-            alloc, value, network, run, shown, tabulation, out,
-        ),
+    match asked.tabulation.of {
+        Tabled::OfRun(rows) => tabulate_made_rows(alloc, made, rows, asked, out),
+        Tabled::OfFigures => tabulate_made_figures(alloc, made, asked, out),
     }
 }
 
 /// Writes the table of the records of a run that is made, of the components that are shown.
 fn tabulate_made_rows<W: Write>(
     alloc: Global,
-    network: &Network<AnyModel>,
+    made: &FileRun<'_>,
     rows: Rows,
-    run: &MadeRun<'_>,
-    shown: &[bool],
-    tabulation: &Tabulation<'_>,
+    asked: &Asked<'_>,
     out: &mut W,
 ) -> Result<Option<String>, Failed>
-    requires shown { shown_of network.now.names (tabulation_of tabulation.now).only ≡ Some shown.now }
-    requires made { let net = network_of any_meaning network.now in
-        IsMade (sequential net tabulation.now.until) run.now }
-    ensures { let t = tabulation_of tabulation.now in
-        let written : List Bool → List ℕ = λ shown.
-        run_table network.now rows shown t.from t.until in
-        IsTabulatedOf network.now written t result (W.contents out.old) (W.contents out.new) }
+    requires shown { let t = tabulation_of asked.now.tabulation.now in
+        shown_of made.now.network.now.names t.only ≡ Some asked.now.shown.now }
+    requires made { let net = network_of any_meaning made.now.network.now in
+        IsMade (sequential net asked.now.tabulation.now.until) made.now.run }
+    ensures { let t = tabulation_of asked.now.tabulation.now in
+        let n = made.now.network.now in
+        let written : List Bool → List ℕ = λ shown. run_table n rows shown t.from t.until in
+        IsTabulatedOf n written t result (W.contents out.old) (W.contents out.new) }
 {
+    let run = &made.run;
+    let network = made.network;
     let line = fault_line(alloc, network, run.fault)?;
     let names = NetworkNames { network };
     let table = Table {
         rows,
         names: &names,
-        shown,
-        from: tabulation.from,
+        shown: asked.shown,
+        from: asked.tabulation.from,
     };
     write_table_of(alloc, run.records, &table, out)?;
     Ok(line)
@@ -376,24 +375,24 @@ fn tabulate_made_rows<W: Write>(
 /// Writes the table of the figures of a run that is made, of the components that are shown, with the names that its network's file has for them.
 fn tabulate_made_figures<W: Write>(
     alloc: Global,
-    value: &Value,
-    network: &Network<AnyModel>,
-    run: &MadeRun<'_>,
-    shown: &[bool],
-    tabulation: &Tabulation<'_>,
+    made: &FileRun<'_>,
+    asked: &Asked<'_>,
     out: &mut W,
 ) -> Result<Option<String>, Failed>
-    requires shown { shown_of network.now.names (tabulation_of tabulation.now).only ≡ Some shown.now }
-    requires small { tabulation.now.until ≤ max_tick }
-    requires made { let net = network_of any_meaning network.now in
-        IsMade (sequential net tabulation.now.until) run.now }
-    ensures { let t = tabulation_of tabulation.now in
-        let n = network.now in
-        let labels = labels_said (view value.now) n.models in
+    requires shown { let t = tabulation_of asked.now.tabulation.now in
+        shown_of made.now.network.now.names t.only ≡ Some asked.now.shown.now }
+    requires small { asked.now.tabulation.now.until ≤ max_tick }
+    requires made { let net = network_of any_meaning made.now.network.now in
+        IsMade (sequential net asked.now.tabulation.now.until) made.now.run }
+    ensures { let t = tabulation_of asked.now.tabulation.now in
+        let n = made.now.network.now in
+        let labels = labels_said (view made.now.value.now) n.models in
         let written : List Bool → List ℕ = λ shown.
         figures_table n labels shown t.from t.until in
         IsTabulatedOf n written t result (W.contents out.old) (W.contents out.new) }
 {
+    let FileRun { value, network, .. } = *made;
+    let run = &made.run;
     network.facts();
     let labels = labels_in(alloc, value, network)?;
     let line = fault_line(alloc, network, run.fault)?;
@@ -401,8 +400,8 @@ fn tabulate_made_figures<W: Write>(
     let table = FigureTable {
         names: &names,
         labels: labels.as_slice(),
-        shown,
-        from: tabulation.from,
+        shown: asked.shown,
+        from: asked.tabulation.from,
     };
     write_figures_of(alloc, network, run.records, &table, out)?;
     Ok(line)

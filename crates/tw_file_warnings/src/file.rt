@@ -5,6 +5,7 @@ ghost use Rattle.tw_machine_file.specs.Seen.{machine};
 ghost use Rattle.tw_machine_warnings.specs.Warning.{warning};
 ghost use Rattle.tw_file_warnings.specs.Warnings.{machines_said, warnings_by, warnings_of};
 
+use crate::places::PlacedModel;
 use crate::ports::add_level;
 use crate::starts::{ROOM, add_same, starts_in};
 use serde_json::Value;
@@ -40,7 +41,13 @@ fn warnings_by(
     let starts = starts_in(alloc, machines, file)?;
     add_machines(alloc, &mut warnings, file, machines)?;
     add_same(alloc, &mut warnings, &starts)?;
-    add_level(alloc, &mut warnings, machines, ROOM, "", "", file)?;
+    let whole = PlacedModel {
+        path: "",
+        prefix: "",
+        model: file,
+        room: ROOM,
+    };
+    add_level(alloc, &mut warnings, machines, whole)?;
     Ok(warnings)
 }
 

@@ -16,6 +16,18 @@ use serde_json::Value;
 use std::alloc::{AllocError, Global};
 use tw_file_members::text_in;
 
+/// A model of a file, the file itself or a coupled model in it.
+#[derive(Clone, Copy)]
+pub(crate) struct PlacedModel<'a> {
+    /// What stands before the places in it.
+    pub path: &'a str,
+    /// What stands before the names in it.
+    pub prefix: &'a str,
+    pub model: &'a Value,
+    /// How many levels are looked at.
+    pub room: usize,
+}
+
 /// The place of a component of a model.
 pub(crate) fn component_place(
     alloc: Global,

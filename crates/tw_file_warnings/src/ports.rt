@@ -34,7 +34,8 @@ ghost use Rattle.tw_file_warnings.specs.Ports.{
 };
 
 use crate::places::{
-    component_named, component_place, count_item, coupling_place, path_in, prefix_in, text_item,
+    PlacedModel, component_named, component_place, count_item, coupling_place, path_in, prefix_in,
+    text_item,
 };
 use crate::starts::machine_at;
 use serde_json::Value;
@@ -334,19 +335,18 @@ pub(crate) fn add_level(
     alloc: Global,
     warnings: &mut Vec<Warning>,
     machines: &[FileMachine],
-    room: usize,
-    path: &str,
-    prefix: &str,
-    model: &Value,
+    level: PlacedModel<'_>,
 ) -> Result<(), AllocError>
     ensures { OnOk result (map warning warnings.new.items ≡ map warning warnings.old.items
-        ++ level_warnings (map machine machines.now) room path.now prefix.now (view model.now)) }
+        ++ level_warnings (map machine machines.now) level.entry.room level.entry.path.now
+        level.entry.prefix.now (view level.entry.model.now)) }
 {
-    if room == 0 {
+    if level.room == 0 {
         return Ok(());
     }
-    add_components(alloc, warnings, machines, room - 1, path, prefix, model)?;
-    add_couplings(alloc, warnings, machines, path, model)
+    let room = level.room - 1;
+    add_components(alloc, warnings, machines, PlacedModel { room, ..level })?;
+    add_couplings(alloc, warnings, machines, level.path, level.model)
 }
 
 /// Adds what is odd about the components of a model.
@@ -355,22 +355,18 @@ fn add_components(
     alloc: Global,
     warnings: &mut Vec<Warning>,
     machines: &[FileMachine],
-    room: usize,
-    path: &str,
-    prefix: &str,
-    model: &Value,
+    level: PlacedModel<'_>,
 ) -> Result<(), AllocError>
     ensures { OnOk result (map warning warnings.new.items ≡ map warning warnings.old.items
-        ++ of_each (λ i c. loose_warnings (map machine machines.now) (view model.now)
-        (component_place path.now prefix.now i c) c
-        ++ level_warnings (map machine machines.now) room (path_in path.now i)
-        (prefix_in prefix.now c) c) 0 (items_in (codes "components") (view model.now))) }
+        ++ of_each (λ i c. loose_warnings (map machine machines.now) (view level.entry.model.now)
+        (component_place level.entry.path.now level.entry.prefix.now i c) c
+        ++ level_warnings (map machine machines.now) level.entry.room
+        (path_in level.entry.path.now i) (prefix_in level.entry.prefix.now c) c) 0
+        (items_in (codes "components") (view level.entry.model.now))) }
 {
-    let components = items_in(model, "components");
+    let components = items_in(level.model, "components");
     for (index, component) in components.iter().enumerate() {
-        add_component(
-            alloc, warnings, machines, room, path, prefix, model, index, component,
-        )?;
+        add_component(alloc, warnings, machines, level, index, component)?;
     }
     Ok(())
 }
@@ -381,30 +377,34 @@ fn add_component(
     alloc: Global,
     warnings: &mut Vec<Warning>,
     machines: &[FileMachine],
-    room: usize,
-    path: &str,
-    prefix: &str,
-    model: &Value,
+    level: PlacedModel<'_>,
     index: usize,
     component: &Value,
 ) -> Result<(), AllocError>
     ensures { OnOk result (map warning warnings.new.items ≡ map warning warnings.old.items
-        ++ (loose_warnings (map machine machines.now) (view model.now)
-        (component_place path.now prefix.now index (view component.now)) (view component.now)
-        ++ level_warnings (map machine machines.now) room (path_in path.now index)
-        (prefix_in prefix.now (view component.now)) (view component.now))) }
+        ++ (loose_warnings (map machine machines.now) (view level.entry.model.now)
+        (component_place level.entry.path.now level.entry.prefix.now index (view component.now))
+        (view component.now)
+        ++ level_warnings (map machine machines.now) level.entry.room
+        (path_in level.entry.path.now index)
+        (prefix_in level.entry.prefix.now (view component.now)) (view component.now))) }
 {
-    let place = component_place(alloc, path, prefix, index, component)?;
-    add_loose(alloc, warnings, machines, model, place.as_str(), component)?;
-    let path = path_in(alloc, path, index)?;
-    let prefix = prefix_in(alloc, prefix, component)?;
-    add_level(
+    let place = component_place(alloc, level.path, level.prefix, index, component)?;
+    add_loose(
         alloc,
         warnings,
         machines,
-        room,
-        path.as_str(),
-        prefix.as_str(),
+        level.model,
+        place.as_str(),
         component,
-    )
+    )?;
+    let path = path_in(alloc, level.path, index)?;
+    let prefix = prefix_in(alloc, level.prefix, component)?;
+    let inner = PlacedModel {
+        path: path.as_str(),
+        prefix: prefix.as_str(),
+        model: component,
+        room: level.room,
+    };
+    add_level(alloc, warnings, machines, inner)
 }

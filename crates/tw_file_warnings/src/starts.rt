@@ -1,8 +1,9 @@
 //! Components whose random numbers start alike.
-ghost use Rattle.std.specs.Prelude.{◌≡◌, ◌++◌, [], IfOk, OnOk, map, option_map, string_bytes};
+ghost use Rattle.std.specs.Prelude.{◌≡◌, ◌++◌, [], IfOk, OnOk, codes, map, option_map, string_bytes};
 ghost use Rattle.std.specs.List.{list_any};
-ghost use Rattle.serde_json.specs.View.{view, items_view};
+ghost use Rattle.serde_json.specs.View.{view};
 ghost use Rattle.tw_machine_file.specs.Seen.{machine};
+ghost use Rattle.tw_file_members.specs.Members.{items_in};
 ghost use Rattle.tw_file_members.specs.Tables.{machine_at};
 ghost use Rattle.tw_machine_warnings.specs.Warning.{warning};
 ghost use Rattle.tw_file_warnings.specs.Places.{of_each, component_place, path_in, prefix_in};
@@ -16,7 +17,7 @@ ghost use Rattle.tw_file_warnings.specs.Starts.{
 };
 ghost use Rattle.tw_file_warnings.specs.StartViews.{start};
 
-use crate::places::{component_place, path_in, prefix_in};
+use crate::places::{PlacedModel, component_place, path_in, prefix_in};
 use serde_json::Value;
 use std::alloc::{AllocError, Global};
 use tw_file_members::{items_in, machine_named, text_at, value_at};
@@ -96,42 +97,37 @@ fn add_within(
     alloc: Global,
     starts: &mut Vec<Start>,
     machines: &[FileMachine],
-    room: usize,
-    path: &str,
-    prefix: &str,
-    model: &Value,
+    level: PlacedModel<'_>,
 ) -> Result<(), AllocError>
     ensures { OnOk result (map start starts.new.items ≡ map start starts.old.items
-        ++ starts_within (map machine machines.now) room path.now prefix.now (view model.now)) }
+        ++ starts_within (map machine machines.now) level.entry.room level.entry.path.now
+        level.entry.prefix.now (view level.entry.model.now)) }
 {
-    if room == 0 {
+    if level.room == 0 {
         return Ok(());
     }
-    let components = items_in(model, "components");
-    add_all(alloc, starts, machines, room - 1, path, prefix, components)
+    let room = level.room - 1;
+    add_all(alloc, starts, machines, PlacedModel { room, ..level })
 }
 
-/// Adds those of components, and of those in them.
+/// Adds those of the components of a model, and of those in them, of no more levels than there is room for.
 #[cycle(starts)]
 fn add_all(
     alloc: Global,
     starts: &mut Vec<Start>,
     machines: &[FileMachine],
-    room: usize,
-    path: &str,
-    prefix: &str,
-    components: &[Value],
+    level: PlacedModel<'_>,
 ) -> Result<(), AllocError>
     ensures { OnOk result (map start starts.new.items ≡ map start starts.old.items
         ++ of_each (λ i c. own_start (map machine machines.now)
-        (component_place path.now prefix.now i c) c
-        ++ starts_within (map machine machines.now) room (path_in path.now i)
-        (prefix_in prefix.now c) c) 0 (items_view components.now)) }
+        (component_place level.entry.path.now level.entry.prefix.now i c) c
+        ++ starts_within (map machine machines.now) level.entry.room
+        (path_in level.entry.path.now i) (prefix_in level.entry.prefix.now c) c) 0
+        (items_in (codes "components") (view level.entry.model.now))) }
 {
+    let components = items_in(level.model, "components");
     for (index, component) in components.iter().enumerate() {
-        add_component(
-            alloc, starts, machines, room, path, prefix, index, component,
-        )?;
+        add_component(alloc, starts, machines, level, index, component)?;
     }
     Ok(())
 }
@@ -142,31 +138,29 @@ fn add_component(
     alloc: Global,
     starts: &mut Vec<Start>,
     machines: &[FileMachine],
-    room: usize,
-    path: &str,
-    prefix: &str,
+    level: PlacedModel<'_>,
     index: usize,
     component: &Value,
 ) -> Result<(), AllocError>
     ensures { OnOk result (map start starts.new.items ≡ map start starts.old.items
         ++ (own_start (map machine machines.now)
-        (component_place path.now prefix.now index (view component.now)) (view component.now)
-        ++ starts_within (map machine machines.now) room (path_in path.now index)
-        (prefix_in prefix.now (view component.now)) (view component.now))) }
+        (component_place level.entry.path.now level.entry.prefix.now index (view component.now))
+        (view component.now)
+        ++ starts_within (map machine machines.now) level.entry.room
+        (path_in level.entry.path.now index)
+        (prefix_in level.entry.prefix.now (view component.now)) (view component.now))) }
 {
-    let place = component_place(alloc, path, prefix, index, component)?;
+    let place = component_place(alloc, level.path, level.prefix, index, component)?;
     add_own(starts, machines, place, component)?;
-    let path = path_in(alloc, path, index)?;
-    let prefix = prefix_in(alloc, prefix, component)?;
-    add_within(
-        alloc,
-        starts,
-        machines,
-        room,
-        path.as_str(),
-        prefix.as_str(),
-        component,
-    )
+    let path = path_in(alloc, level.path, index)?;
+    let prefix = prefix_in(alloc, level.prefix, component)?;
+    let inner = PlacedModel {
+        path: path.as_str(),
+        prefix: prefix.as_str(),
+        model: component,
+        room: level.room,
+    };
+    add_within(alloc, starts, machines, inner)
 }
 
 /// Whether one of these is at this constant.
@@ -207,6 +201,12 @@ pub(crate) fn starts_in(
         ≡ starts_within (map machine machines.now) 64 [] [] (view file.now)) }
 {
     let mut starts = Vec::new(alloc);
-    add_within(alloc, &mut starts, machines, ROOM, "", "", file)?;
+    let whole = PlacedModel {
+        path: "",
+        prefix: "",
+        model: file,
+        room: ROOM,
+    };
+    add_within(alloc, &mut starts, machines, whole)?;
     Ok(starts)
 }

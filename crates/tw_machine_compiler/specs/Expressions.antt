@@ -54,6 +54,7 @@ named _ = zero_expr
 -- a name with its index
 abbrev pub indexed : Standing → Expr → Expr
 indexed (s.Cells span) index = one (unary.Cell span) index
+indexed (s.Due span) index = one (unary.Cell span) index
 indexed (s.Table span) index = one (unary.Table span) index
 indexed _ index = zero_expr
 

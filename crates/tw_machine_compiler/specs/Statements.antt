@@ -31,9 +31,10 @@ abbrev pub cell_named : Standing → Target
 cell_named (s.Cell k) = Single k
 cell_named _ = no_target
 
--- a cell of an array register, or of an observation
+-- a cell of an array register, of an observation, or of the ticks at which timers are due
 abbrev pub cell_indexed : Standing → Expr → Target
 cell_indexed (s.Cells span) index = Among span index
+cell_indexed (s.Due span) index = Among span index
 cell_indexed (s.Observation k) index = Among (observation_span k) index
 cell_indexed _ index = no_target
 

@@ -65,7 +65,7 @@ fn indexed(alloc: Global, standing: Standing, index: Expr) -> Result<Expr, Alloc
     ensures { IfOk result (λ e. seen e ≡ indexed standing (seen index)) }
 {
     match standing {
-        Standing::Cells(span) => one(alloc, Unary::Cell(span), index),
+        Standing::Cells(span) | Standing::Due(span) => one(alloc, Unary::Cell(span), index),
         Standing::Table(span) => one(alloc, Unary::Table(span), index),
         _ => Ok(zero()),
     }

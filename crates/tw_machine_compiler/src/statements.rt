@@ -36,12 +36,12 @@ fn cell_named(standing: Standing) -> Target
     }
 }
 
-/// A cell of an array register, or of an observation.
+/// A cell of an array register, of an observation, or of the ticks at which timers are due.
 fn cell_indexed(standing: Standing, index: Expr) -> Target
     ensures { seen_target result ≡ cell_indexed standing (seen index) }
 {
     match standing {
-        Standing::Cells(span) => Target::Indexed(span, index),
+        Standing::Cells(span) | Standing::Due(span) => Target::Indexed(span, index),
         Standing::Observation(first) => Target::Indexed(observation_span(first), index),
         _ => Target::Single(u32::MAX),
     }

@@ -30,7 +30,7 @@ ghost use Rattle.tw_machine_text.specs.Views.{tree, told, body, chain, parted, T
 use crate::counting::{nodes, nodes_block};
 use crate::drawn::{core_tree, draws, draws_in, draws_last};
 use crate::expanding::{expanded, nodes_of};
-use crate::kinds::{Kind, Timing};
+use crate::kinds::{Kind, Names, Timing};
 use crate::levels::{deep, deep_block};
 use crate::limits::MAX_LEVELS;
 use crate::refused::Refused;
@@ -358,8 +358,7 @@ fn is_within_tree(e: &SourceExpr, many: usize) -> bool
 /// What a written program comes to, if that is within the limits; else the text is wrong at this place.
 pub(crate) fn desugared(
     alloc: Global,
-    timing: Option<Timing>,
-    kinds: &[Kind],
+    names: Names<'_>,
     procedures: &[Block],
     written: &Block,
     many: usize,
@@ -367,8 +366,10 @@ pub(crate) fn desugared(
 ) -> Result<Block, Refused>
     requires { many ≤ max_nodes }
     ensures { Tells body result (limited max_levels many
-        (desugared_block timing kinds.now (map body procedures.now) (body written.now))) }
+        (desugared_block names.entry.timing names.entry.kinds.now (map body procedures.now)
+        (body written.now))) }
 {
+    let Names { kinds, timing, .. } = names;
     let behind = desugared_behind(alloc, kinds, false, written)?;
     let parts = timed(alloc, timing, kinds, behind)?;
     if nodes_of(kinds, procedures, &parts) > many {

@@ -73,6 +73,16 @@ pub struct Declared {
     pub kind: Kind,
 }
 
+/// The names that a text may use.
+#[derive(Clone, Copy)]
+pub(crate) struct Names<'a> {
+    pub declared: &'a [Declared],
+    /// What each stands for, by its number: the functions' names first.
+    pub kinds: &'a [Kind],
+    /// Of a machine with timers the names behind these, and the timer that the text is of.
+    pub timing: Option<Timing>,
+}
+
 /// What the text of a member is.
 #[derive(Clone, Copy, Debug, PartialEq, Eq)]
 pub enum Member {

@@ -11,7 +11,7 @@ ghost use Rattle.tw_machine_text.specs.Views.{body, told, tree, Tells};
 ghost use Rattle.tw_machine_text.specs.declared.words.Word.TheVariants.{Wait};
 
 use crate::desugaring::{desugared, desugared_tree};
-use crate::kinds::{Declared, Kind, Member, Timing};
+use crate::kinds::{Member, Names};
 use crate::lexing::{Words, lex};
 use crate::limits::WRITTEN_NODES;
 use crate::parsing::parse;
@@ -22,13 +22,10 @@ use crate::watching::Setting;
 use crate::words::Word;
 use std::alloc::{AllocError, Global};
 
-/// The program of a text, in which the functions and these names may stand. What each name stands for is said for the
-/// functions' names first. A program has no more than so many nodes.
-pub fn read(
+/// The program of a text, in which the functions and these names may stand. A program has no more than so many nodes.
+pub(crate) fn read(
     alloc: Global,
-    declared: &[Declared],
-    timing: Option<Timing>,
-    kinds: &[Kind],
+    names: Names<'_>,
     procedures: &[Block],
     text: &[u8],
     many: usize,
@@ -36,14 +33,19 @@ pub fn read(
     requires { many ≤ max_nodes }
     // What is read is what the text means.
     ensures found { IfOk result
-        (λ program. Reads max_levels many (names_of declared.now) timing kinds.now
-        (map body procedures.now) text.now (body program)) }
+        (λ program. Reads max_levels many (names_of names.entry.declared.now) names.entry.timing
+        names.entry.kinds.now (map body procedures.now) text.now (body program)) }
     // A text that means a program is read as it, unless memory runs out.
     ensures only { (program : Tree)
-        → Reads max_levels many (names_of declared.now) timing kinds.now
-        (map body procedures.now) text.now program
+        → Reads max_levels many (names_of names.entry.declared.now) names.entry.timing
+        names.entry.kinds.now (map body procedures.now) text.now program
         → Tells body result (Some program) }
 {
+    let Names {
+        declared,
+        kinds,
+        timing,
+    } = names;
     let Ok(words) = lex(alloc, declared, text) else {
         return Err(Refused::OutOfMemory);
     };
@@ -63,7 +65,7 @@ pub fn read(
         Ok(written) => {
             let place = words.place(first.unwrap_or(words.words.len()));
             if words.complete && may_stand(timing, kinds, procedures.len(), &written) {
-                desugared(alloc, timing, kinds, procedures, &written, many, place)
+                desugared(alloc, names, procedures, &written, many, place)
             } else {
                 Err(Refused::Wrong(place))
             }
@@ -124,21 +126,26 @@ fn behind_wait(alloc: Global, words: &[Word]) -> Result<Vec<Word>, AllocError>
 pub(crate) fn read_tree(
     alloc: Global,
     member: Member,
-    declared: &[Declared],
-    timing: Option<Timing>,
-    kinds: &[Kind],
+    names: Names<'_>,
     text: &[u8],
     many: usize,
 ) -> Result<SourceExpr, Refused>
     requires { many ≤ max_nodes }
     // What is read is what the text is.
     ensures found { IfOk result
-        (λ e. ReadsTree max_levels many member (names_of declared.now) timing kinds.now text.now (tree e)) }
+        (λ e. ReadsTree max_levels many member (names_of names.entry.declared.now)
+        names.entry.timing names.entry.kinds.now text.now (tree e)) }
     // A text that is one is read as it, unless memory runs out.
     ensures only { (e : Spelled)
-        → ReadsTree max_levels many member (names_of declared.now) timing kinds.now text.now e
+        → ReadsTree max_levels many member (names_of names.entry.declared.now)
+        names.entry.timing names.entry.kinds.now text.now e
         → Tells tree result (Some e) }
 {
+    let Names {
+        declared,
+        kinds,
+        timing,
+    } = names;
     let Ok(words) = lex(alloc, declared, text) else {
         return Err(Refused::OutOfMemory);
     };

@@ -8,7 +8,7 @@ ghost use Rattle.tw_machine_text.specs.Views.{body, tree, IsReadAs};
 ghost use Rattle.tw_machine_text.specs.declared.refused.Refused.{Refused};
 
 use crate::counting::{nodes, nodes_block};
-use crate::kinds::{Declared, Member, Timing, kinds_of};
+use crate::kinds::{Declared, Member, Names, Timing, kinds_of};
 use crate::place::place_at;
 use crate::read::{read, read_tree};
 use crate::refusal::TextRefused;
@@ -69,15 +69,12 @@ pub fn read_program(
     ensures place { IfErr result (IsInText text.now) }
 {
     let kinds = kinds_of(alloc, declared)?;
-    match read(
-        alloc,
+    let names = Names {
         declared,
+        kinds: &kinds,
         timing,
-        &kinds,
-        procedures,
-        text.as_bytes(),
-        left,
-    ) {
+    };
+    match read(alloc, names, procedures, text.as_bytes(), left) {
         Ok(block) => {
             let nodes = nodes_block(&block);
             Ok(Program { block, nodes })
@@ -106,15 +103,12 @@ pub fn read_member(
     ensures place { IfErr result (IsInText text.now) }
 {
     let kinds = kinds_of(alloc, declared)?;
-    match read_tree(
-        alloc,
-        member,
+    let names = Names {
         declared,
+        kinds: &kinds,
         timing,
-        &kinds,
-        text.as_bytes(),
-        left,
-    ) {
+    };
+    match read_tree(alloc, member, names, text.as_bytes(), left) {
         Ok(tree) => {
             let nodes = nodes(&tree);
             Ok(Expression { tree, nodes })

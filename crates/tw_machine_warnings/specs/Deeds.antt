@@ -1,10 +1,12 @@
--- What a program does somewhere: it draws, it waits, it puts something into a register or a queue.
+-- What a program does somewhere: it draws, it waits, it puts something into a register or a queue, it starts a timer.
 --     does d b      it has a statement that does so, in a block of it too
 --     waits_twice b      of two `wait`s in one block the first is in vain
-use Rattle.std.specs.Prelude.{Bool, true, false, ◌&&◌, ◌||◌}
+use Rattle.std.specs.Prelude.{ℕ, ◌==◌, Bool, true, false, not, ◌&&◌, ◌||◌}
+use Rattle.tw_machine_text.specs.declared.words.Operator.TheVariants.{Plus}
+use Rattle.tw_machine_text.specs.declared.words.SourceChange.TheVariants.{Set}
 use Rattle.tw_machine_text.specs.declared.words.Verb.{Verb}
 use Rattle.tw_machine_text.specs.declared.words.Verb.TheVariants.{Push, Insert, Remove, Put, Observe}
-use Rattle.tw_machine_text.specs.Tree.{Tree, Name, Indexed, SourceStatement, Assign, Act, Draw, Wait, If, IfElse, Repeat, Block, Empty, Then, Arms, One, More}
+use Rattle.tw_machine_text.specs.Tree.{Tree, Name, Indexed, Binary, SourceStatement, Assign, Act, Draw, Wait, If, IfElse, Repeat, Block, Empty, Then, Arms, One, More}
 use Rattle.tw_machine_warnings.specs.declared.sought.Called.{Called}
 use Rattle.tw_machine_warnings.specs.declared.deeds.Doing.{Doing}
 use Rattle.tw_machine_warnings.specs.declared.deeds.Doing.TheVariants as d
@@ -42,12 +44,31 @@ is_set_of c (Assign p change e) = is_of c p
 is_set_of c (Act v q e) = puts v && is_of c q
 is_set_of c _ = false
 
+-- the place of a timer among all: the name that stands for how many are before it, and, with a count, its index behind that
+abbrev pub is_before : ℕ → Tree → Bool
+is_before before (Name n) = n == before
+is_before before _ = false
+
+abbrev pub is_place : ℕ → Tree → Bool
+is_place before (Binary Plus a index) = is_before before a
+is_place before e = is_before before e
+
+abbrev pub is_due_of : ℕ → Tree → Bool
+is_due_of before (Indexed n place) = is_place before place
+is_due_of before _ = false
+
+-- the tick at which a timer is due is set by `start`, and to -1 by `stop`
+abbrev pub is_start_of : ℕ → SourceStatement → Bool
+is_start_of before (Assign p Set e) = is_due_of before p && not (is_below_zero e)
+is_start_of before _ = false
+
 -- a statement, apart from its blocks
 abbrev pub is_deed : Doing → SourceStatement → Bool
 is_deed d.Draws s = is_draw s
 is_deed d.Waits s = is_wait s
 is_deed d.WaitsBack s = is_wait_back s
 is_deed (d.Sets c) s = is_set_of c s
+is_deed (d.Starts before) s = is_start_of before s
 
 abbrev mutual
   pub does_statement : Doing → SourceStatement → Bool

@@ -1,4 +1,5 @@
 pub mod Sought
+pub mod Starts
 pub mod Deeds
 pub mod Texts
 pub mod Warning

@@ -1,15 +1,13 @@
 -- The warnings of the machines of a file: machines in order, of each its names in order, its programs, what it sends, what it shows, and then the whole.
 --     machine_warnings place d      of a machine
 --     machines_warnings file i ms      of those that a component of the file uses, of which the first has place i
-use Rattle.std.specs.Prelude.{◌+◌, ◌++◌, [], ◌∷◌, ℕ, pos, negsuc, List, Bool, true, false, not, ◌&&◌, codes, Option, Some, None, if◌then◌else◌}
+use Rattle.std.specs.Prelude.{◌+◌, ◌++◌, [], ◌∷◌, ℕ, List, Bool, true, false, not, ◌&&◌, codes, Option, Some, None, if◌then◌else◌}
 use Rattle.std.specs.Fmt.{decimal}
 use Rattle.serde_json.specs.Data.{Data}
 use Rattle.tw_machine_text.specs.Kinds.{is_empty}
 use Rattle.tw_machine_text.specs.Letters.{own_names}
 use Rattle.tw_machine_text.specs.Tree.{Block}
 use Rattle.tw_machine_declaration.specs.Seen.{Declaration, Name, Output, Timers, Value}
-use Rattle.tw_machine_declaration.specs.declared.declaration.Constant.{Constant}
-use Rattle.tw_machine_declaration.specs.declared.declaration.Constant.TheVariants as c
 use Rattle.tw_machine_file.specs.Seen.{Machine}
 use Rattle.tw_machine_file.specs.Used.{is_used}
 use Rattle.tw_machine_warnings.specs.declared.deeds.Doing.TheVariants as doing
@@ -18,6 +16,7 @@ use Rattle.tw_machine_warnings.specs.declared.warning.Kind.TheVariants as kind
 use Rattle.tw_machine_warnings.specs.Deeds.{does, waits_twice}
 use Rattle.tw_machine_warnings.specs.Names.{index_warnings, name_warnings}
 use Rattle.tw_machine_warnings.specs.Sought.{in_block}
+use Rattle.tw_machine_warnings.specs.Starts.{has_first}
 use Rattle.tw_machine_warnings.specs.Texts.{does_machine, has_zero, has_zero_output, has_zero_word, in_output, in_value, is_past, program, sending, shown}
 use Rattle.tw_machine_warnings.specs.Warning.{Warning, where_so}
 
@@ -94,16 +93,6 @@ is_none _ = false
 abbrev pub acts : Declaration → Bool
 acts d = not (is_empty d.internal && is_none d.outputs)
 
--- a first wait that is not negative, as far as its number stands in the machine
-abbrev pub may_wait : Constant → Bool
-may_wait (c.Number (pos n)) = true
-may_wait (c.Number (negsuc n)) = false
-may_wait (c.Parameter k) = true
-
-abbrev pub has_first : Option Constant → Bool
-has_first (Some c) = may_wait c
-has_first None = false
-
 -- without a first wait only `external` can make it step; with one it steps once; a machine with timers steps by these
 abbrev pub step_warnings : List ℕ → Declaration → List Warning
 step_warnings place d =
@@ -117,9 +106,12 @@ step_warnings place d =
 abbrev pub member_place : List ℕ → List ℕ → List ℕ
 member_place place member = place ++ (codes ": " ++ member)
 
--- a program that is a member
-abbrev pub member_warnings : List ℕ → Bool → Block → List Name → List ℕ → List Warning
-member_warnings place has_zero b names member = program_warnings (member_place place member) has_zero b names
+-- what it does by itself, and when items come
+abbrev pub internal_warnings : List ℕ → Declaration → List Warning
+internal_warnings place d = program_warnings (member_place place (acting_member (has_timers d))) (has_zero d.internal) d.internal d.names
+
+abbrev pub external_warnings : List ℕ → Declaration → List Warning
+external_warnings place d = program_warnings (member_place place (codes "external")) false d.external d.names
 
 abbrev pub sent_warnings : List ℕ → Declaration → List Warning
 sent_warnings place d = outputs_warnings (member_place place (sending_member (has_timers d))) (has_timers d) (does_machine doing.Draws d) d.names 0 d.outputs
@@ -129,8 +121,8 @@ shown_warnings place d = words_warnings (member_place place (codes "words")) (do
 
 abbrev pub texts_warnings : List ℕ → Declaration → List Warning
 texts_warnings place d =
-    member_warnings place (has_zero d.internal) d.internal d.names (acting_member (has_timers d))
-    ++ (member_warnings place false d.external d.names (codes "external")
+    internal_warnings place d
+    ++ (external_warnings place d
     ++ (sent_warnings place d
     ++ shown_warnings place d))
 

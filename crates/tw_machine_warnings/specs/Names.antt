@@ -13,6 +13,7 @@ use Rattle.tw_machine_warnings.specs.declared.deeds.Doing.TheVariants as doing
 use Rattle.tw_machine_warnings.specs.declared.sought.Called.{Called}
 use Rattle.tw_machine_warnings.specs.declared.sought.Sought.TheVariants as s
 use Rattle.tw_machine_warnings.specs.declared.warning.Kind.TheVariants as kind
+use Rattle.tw_machine_warnings.specs.Starts.{never_runs}
 use Rattle.tw_machine_warnings.specs.Texts.{Text, does_machine, in_machine, in_text}
 use Rattle.tw_machine_warnings.specs.Warning.{Warning, where_so}
 
@@ -59,7 +60,7 @@ is_set d c = does_machine (doing.Sets c) d
 abbrev pub held_warnings : Declaration → Called → List ℕ → List Warning
 held_warnings d by place = if is_read d by then where_so (not (is_set d by)) place kind.NotSet else where_so true place kind.NotRead
 
--- a list is read by the table that has its name; observations are shown or not, procedures are put in; of timers and what is hidden nothing is said
+-- a list is read by the table that has its name; observations are shown or not, procedures are put in; a timer runs; of what is hidden nothing is said
 abbrev pub thing_warnings : Declaration → Called → List ℕ → Declares → List Warning
 thing_warnings d by place (parameter k) = where_so (not (is_read d by || constant_uses k d)) place kind.NotRead
 thing_warnings d by place (list_parameter k) = []
@@ -71,8 +72,8 @@ thing_warnings d by place (table ns) = where_so (not (is_read d by)) place kind.
 thing_warnings d by place (list_table k) = where_so (not (is_read d by)) place kind.NotRead
 thing_warnings d by place observation = []
 thing_warnings d by place (procedure k) = []
-thing_warnings d by place (timer before) = []
-thing_warnings d by place (timer_array before last) = []
+thing_warnings d by place (timer before) = where_so (never_runs d before) place kind.NeverRuns
+thing_warnings d by place (timer_array before last) = where_so (never_runs d before) place kind.NeverRuns
 thing_warnings d by place (plain_number c) = []
 thing_warnings d by place (together ts) = []
 thing_warnings d by place (greatest t) = []

@@ -5,10 +5,14 @@ ghost use Rattle.tw_machine_warnings.specs.Deeds.{
   does,
   does_arms,
   does_statement,
+  is_before,
   is_deed,
   is_draw,
+  is_due_of,
   is_of,
+  is_place,
   is_set_of,
+  is_start_of,
   is_wait,
   is_wait_back,
   puts,
@@ -19,7 +23,7 @@ ghost use Rattle.tw_machine_warnings.specs.Deeds.{
 };
 
 use crate::sought::{Called, is_below_zero, is_called};
-use tw_machine_text::{Arms, Block, SourceExpr, SourceStatement, Verb};
+use tw_machine_text::{Arms, Block, Operator, SourceChange, SourceExpr, SourceStatement, Verb};
 
 /// What a program does.
 #[derive(Clone, Copy, Debug, PartialEq, Eq)]
@@ -30,6 +34,8 @@ pub(crate) enum Doing {
     WaitsBack,
     /// It sets a register, or puts a value into a queue.
     Sets(Called),
+    /// It starts a timer, by the name of how many are before it.
+    Starts(usize),
 }
 
 /// Whether a place or a queue is this one, or one of this array.
@@ -83,6 +89,47 @@ fn is_set_of(called: Called, said: &SourceStatement) -> bool
     }
 }
 
+fn is_before(before: usize, place: &SourceExpr) -> bool
+    ensures { result ≡ is_before before (tree place.now) }
+{
+    match place {
+        SourceExpr::Name(name) => *name == before,
+        _ => false,
+    }
+}
+
+/// Whether this is the place of a timer among all: how many are before it, and, with a count, its index behind that.
+fn is_place(before: usize, place: &SourceExpr) -> bool
+    ensures { result ≡ is_place before (tree place.now) }
+{
+    match place {
+        SourceExpr::Binary(Operator::Plus, first, _) => is_before(before, first),
+        _ => is_before(before, place),
+    }
+}
+
+/// Whether this is the tick at which a timer is due.
+fn is_due_of(before: usize, place: &SourceExpr) -> bool
+    ensures { result ≡ is_due_of before (tree place.now) }
+{
+    match place {
+        SourceExpr::Indexed(_, index) => is_place(before, index),
+        _ => false,
+    }
+}
+
+/// Whether a statement starts a timer; `stop` sets -1.
+fn is_start_of(before: usize, said: &SourceStatement) -> bool
+    ensures { result ≡ is_start_of before (told said.now) }
+{
+    match said {
+        SourceStatement::Assign(place, SourceChange::Set, to) => {
+            is_due_of(before, place) && !is_below_zero(to)
+        }
+        _ => false,
+    }
+}
+
 /// Whether a statement does it, apart from its blocks.
 fn is_deed(deed: Doing, said: &SourceStatement) -> bool
     ensures { result ≡ is_deed deed (told said.now) }
@@ -92,6 +139,7 @@ fn is_deed(deed: Doing, said: &SourceStatement) -> bool
         Doing::Waits => is_wait(said),
         Doing::WaitsBack => is_wait_back(said),
         Doing::Sets(called) => is_set_of(called, said),
+        Doing::Starts(before) => is_start_of(before, said),
     }
 }
 

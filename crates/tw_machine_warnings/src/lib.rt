@@ -6,7 +6,8 @@
 //!
 //! - `warning`: [`Warning`] and its [`Kind`]; [`Kind::words`]; [`lines_of`], the lines of many.
 //! - `sought`: what is looked for in expressions and programs.
-//! - `deeds`: what a program does somewhere: it draws, waits, sets.
+//! - `deeds`: what a program does somewhere: it draws, waits, sets, starts a timer.
+//! - `starts`: what starts by itself: a machine by its first wait, a timer by `first` or `start`.
 //! - `texts`: the texts of a machine.
 //! - `names`: what is nowhere read or set, and indexes outside.
 //! - `programs`: programs, what is sent, what is shown.
@@ -20,6 +21,7 @@ mod machines;
 mod names;
 mod programs;
 mod sought;
+mod starts;
 mod texts;
 mod warning;
 

@@ -1,21 +1,18 @@
 //! The warnings of the machines of a file.
 ghost use Rattle.std.specs.Prelude.{◌≡◌, ◌++◌, IfOk, OnOk, map, string_bytes};
 ghost use Rattle.serde_json.specs.View.{view};
-ghost use Rattle.tw_machine_text.specs.Views.{body};
 ghost use Rattle.tw_machine_declaration.specs.Seen as plain;
 ghost use Rattle.tw_machine_file.specs.Seen.{machine};
 ghost use Rattle.tw_machine_warnings.specs.Machines.{
   acting_member,
   acts,
   all_where,
-  has_first,
-  has_timers,
+  external_warnings,
+  internal_warnings,
   machine_place,
   machine_warnings,
   machines_warnings,
-  may_wait,
   member_place,
-  member_warnings,
   named_warnings,
   sending_member,
   sent_warnings,
@@ -29,11 +26,12 @@ ghost use Rattle.tw_machine_warnings.specs.Warning.{warning};
 use crate::deeds::{Doing, does};
 use crate::names::add_names;
 use crate::programs::{add_outputs, add_program, add_words};
-use crate::texts::{does_machine, has_zero};
+use crate::starts::has_first;
+use crate::texts::{does_machine, has_timers, has_zero};
 use crate::warning::{Kind, Warning, add_where};
 use serde_json::Value;
 use std::alloc::{AllocError, Global};
-use tw_machine_declaration::{Constant, Declaration, Named};
+use tw_machine_declaration::Declaration;
 use tw_machine_file::{FileMachine, is_used};
 use tw_machine_text::Block;
 
@@ -42,32 +40,6 @@ fn acts(declaration: &Declaration) -> bool
     ensures { result ≡ acts (plain.declaration declaration.now) }
 {
     !(matches!(declaration.internal, Block::Empty) && declaration.outputs.is_empty())
-}
-
-fn may_wait(first: Constant) -> bool
-    ensures { result ≡ may_wait first }
-{
-    match first {
-        Constant::Number(ticks) => ticks >= 0,
-        Constant::Parameter(_) => true,
-    }
-}
-
-/// Whether there is a first wait that is not negative, as far as its number stands in the machine.
-fn has_first(first: Option<Constant>) -> bool
-    ensures { result ≡ has_first first }
-{
-    match first {
-        Some(first) => may_wait(first),
-        None => false,
-    }
-}
-
-/// Whether it is a machine with timers.
-fn has_timers(declaration: &Declaration) -> bool
-    ensures { result ≡ has_timers (plain.declaration declaration.now) }
-{
-    declaration.timers.is_some()
 }
 
 /// The member that has what a machine does by itself.
@@ -114,22 +86,37 @@ fn member_place(alloc: Global, place: &str, member: &str) -> Result<String, Allo
     format!(in alloc; "{place}: {member}")
 }
 
-/// Adds what is odd about a program that is this member.
-fn add_member(
+/// Adds what is odd about what a machine does by itself.
+fn add_internal(
     alloc: Global,
     warnings: &mut Vec<Warning>,
     place: &str,
-    has_zero: bool,
-    program: &Block,
-    names: &[Named],
-    member: &str,
+    declaration: &Declaration,
 ) -> Result<(), AllocError>
     ensures { OnOk result (map warning warnings.new.items ≡ map warning warnings.old.items
-        ++ member_warnings place.now has_zero (body program.now)
-        (map plain.name names.now) member.now) }
+        ++ internal_warnings place.now (plain.declaration declaration.now)) }
 {
-    let place = member_place(alloc, place, member)?;
-    add_program(alloc, warnings, place.as_str(), has_zero, program, names)
+    let place = member_place(alloc, place, acting_member(has_timers(declaration)))?;
+    let names = declaration.names.as_slice();
+    let program = &declaration.internal;
+    let zero = has_zero(program);
+    add_program(alloc, warnings, place.as_str(), zero, program, names)
+}
+
+/// Adds what is odd about what a machine does when items come.
+fn add_external(
+    alloc: Global,
+    warnings: &mut Vec<Warning>,
+    place: &str,
+    declaration: &Declaration,
+) -> Result<(), AllocError>
+    ensures { OnOk result (map warning warnings.new.items ≡ map warning warnings.old.items
+        ++ external_warnings place.now (plain.declaration declaration.now)) }
+{
+    let place = member_place(alloc, place, "external")?;
+    let names = declaration.names.as_slice();
+    let program = &declaration.external;
+    add_program(alloc, warnings, place.as_str(), false, program, names)
 }
 
 /// Adds what is odd about what a machine sends.
@@ -142,20 +129,8 @@ fn add_sent(
     ensures { OnOk result (map warning warnings.new.items ≡ map warning warnings.old.items
         ++ sent_warnings place.now (plain.declaration declaration.now)) }
 {
-    let timed = has_timers(declaration);
-    let place = member_place(alloc, place, sending_member(timed))?;
-    let draws = does_machine(Doing::Draws, declaration);
-    let names = declaration.names.as_slice();
-    let outputs = declaration.outputs.as_slice();
-    add_outputs(
-        alloc,
-        warnings,
-        place.as_str(),
-        timed,
-        draws,
-        outputs,
-        names,
-    )
+    let place = member_place(alloc, place, sending_member(has_timers(declaration)))?;
+    add_outputs(alloc, warnings, place.as_str(), declaration)
 }
 
 /// Adds what is odd about what a machine shows.
@@ -185,13 +160,8 @@ fn add_texts(
     ensures { OnOk result (map warning warnings.new.items ≡ map warning warnings.old.items
         ++ texts_warnings place.now (plain.declaration declaration.now)) }
 {
-    let names = declaration.names.as_slice();
-    let internal = &declaration.internal;
-    let zero = has_zero(internal);
-    let member = acting_member(has_timers(declaration));
-    add_member(alloc, warnings, place, zero, internal, names, member)?;
-    let external = &declaration.external;
-    add_member(alloc, warnings, place, false, external, names, "external")?;
+    add_internal(alloc, warnings, place, declaration)?;
+    add_external(alloc, warnings, place, declaration)?;
     add_sent(alloc, warnings, place, declaration)?;
     add_shown(alloc, warnings, place, declaration)
 }

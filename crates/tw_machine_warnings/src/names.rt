@@ -30,6 +30,7 @@ ghost use Rattle.tw_machine_warnings.specs.Warning.{warning};
 
 use crate::deeds::Doing;
 use crate::sought::{Called, Sought};
+use crate::starts::never_runs;
 use crate::texts::{Text, does_machine, in_machine, in_text};
 use crate::warning::{Kind, Warning, add_where};
 use std::alloc::{AllocError, Global};
@@ -206,11 +207,13 @@ fn add_thing(
             let is_so = !is_read(declaration, called);
             add_where(alloc, warnings, is_so, place, Kind::NotRead)
         }
+        Thing::Timer(before) | Thing::TimerArray(before, _) => {
+            let is_so = never_runs(declaration, *before);
+            add_where(alloc, warnings, is_so, place, Kind::NeverRuns)
+        }
         Thing::ListParameter(_)
         | Thing::Observation
         | Thing::Procedure(_)
-        | Thing::Timer(_)
-        | Thing::TimerArray(..)
         | Thing::Number(_)
         | Thing::Together(_)
         | Thing::Greatest(_)
@@ -224,25 +227,6 @@ fn name_place(alloc: Global, place: &str, name: &str) -> Result<String, AllocErr
     ensures { IfOk result (λ t. string_bytes t ≡ name_place place.now name.now) }
 {
     format!(in alloc; "{place}, \"{name}\"")
-}
-
-/// Adds what is odd about a thing of this name and number.
-fn add_named(
-    alloc: Global,
-    warnings: &mut Vec<Warning>,
-    declaration: &Declaration,
-    number: usize,
-    place: &str,
-    name: &str,
-    thing: &Thing,
-) -> Result<(), AllocError>
-    ensures { OnOk result (map warning warnings.new.items ≡ map warning warnings.old.items
-        ++ thing_warnings (plain.declaration declaration.now) (called number name.now)
-        (name_place place.now name.now) (plain.thing thing.now)) }
-{
-    let place = name_place(alloc, place, name)?;
-    let called = called(number, name);
-    add_thing(alloc, warnings, declaration, called, place.as_str(), thing)
 }
 
 /// Adds what is odd about one name of this number.
@@ -260,13 +244,14 @@ fn add_name(
         (name_place place.now (plain.name named.now).0) (plain.name named.now).1) }
 {
     let name = named.name.as_str();
-    add_named(
+    let place = name_place(alloc, place, name)?;
+    let called = called(number, name);
+    add_thing(
         alloc,
         warnings,
         declaration,
-        number,
-        place,
-        name,
+        called,
+        place.as_str(),
         &named.thing,
     )
 }
@@ -377,25 +362,6 @@ fn add_places(
     add_chance(alloc, warnings, said, called, place, numbers)
 }
 
-/// The same of a thing of this name and number.
-fn add_places_named(
-    alloc: Global,
-    warnings: &mut Vec<Warning>,
-    said: Text<'_>,
-    number: usize,
-    place: &str,
-    name: &str,
-    thing: &Thing,
-) -> Result<(), AllocError>
-    ensures { OnOk result (map warning warnings.new.items ≡ map warning warnings.old.items
-        ++ place_warnings (text said.entry) (called number name.now)
-        (name_place place.now name.now) (plain.thing thing.now)) }
-{
-    let place = name_place(alloc, place, name)?;
-    let called = called(number, name);
-    add_places(alloc, warnings, said, called, place.as_str(), thing)
-}
-
 /// Adds what is odd about the places of one name of this number in a text.
 fn add_index(
     alloc: Global,
@@ -410,7 +376,9 @@ fn add_index(
         (name_place place.now (plain.name named.now).0) (plain.name named.now).1) }
 {
     let name = named.name.as_str();
-    add_places_named(alloc, warnings, said, number, place, name, &named.thing)
+    let place = name_place(alloc, place, name)?;
+    let called = called(number, name);
+    add_places(alloc, warnings, said, called, place.as_str(), &named.thing)
 }
 
 /// Adds what is odd about the places of these names in a text.

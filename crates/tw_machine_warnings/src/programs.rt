@@ -4,6 +4,7 @@ ghost use Rattle.tw_machine_text.specs.Views.{body};
 ghost use Rattle.tw_machine_declaration.specs.Seen as plain;
 ghost use Rattle.tw_machine_warnings.specs.Machines.{
   entry_place,
+  has_timers,
   never_draws,
   output_warnings,
   outputs_warnings,
@@ -12,15 +13,19 @@ ghost use Rattle.tw_machine_warnings.specs.Machines.{
   word_warnings,
   words_warnings,
 };
+ghost use Rattle.tw_machine_warnings.specs.Texts.{does_machine};
 ghost use Rattle.tw_machine_warnings.specs.Warning.{warning};
+ghost use Rattle.tw_machine_warnings.specs.declared.deeds.Doing.TheVariants.{Draws};
 
 use crate::deeds::{Doing, does, waits_twice};
 use crate::names::add_indexes;
 use crate::sought::{Sought, in_block};
-use crate::texts::{Text, has_zero_output, has_zero_word, in_output, in_value, is_past};
+use crate::texts::{
+    Text, does_machine, has_timers, has_zero_output, has_zero_word, in_output, in_value, is_past,
+};
 use crate::warning::{Kind, Warning, add_where};
 use std::alloc::{AllocError, Global};
-use tw_machine_declaration::{Named, OutputText, Value};
+use tw_machine_declaration::{Declaration, Named, OutputText, Value};
 use tw_machine_text::Block;
 
 /// Whether a random number is read, and the program never draws.
@@ -126,21 +131,23 @@ fn sent_place(alloc: Global, timed: bool, place: &str, index: usize) -> Result<S
     }
 }
 
-/// Adds what is odd about what is sent, by timers or not.
+/// Adds what is odd about what a machine sends, by timers or not, at the place of that member.
 pub(crate) fn add_outputs(
     alloc: Global,
     warnings: &mut Vec<Warning>,
     place: &str,
-    timed: bool,
-    draws: bool,
-    entries: &[OutputText],
-    names: &[Named],
+    declaration: &Declaration,
 ) -> Result<(), AllocError>
-    ensures { OnOk result (map warning warnings.new.items
-        ≡ map warning warnings.old.items
-        ++ outputs_warnings place.now timed draws (map plain.name names.now) 0
-        (map plain.output entries.now)) }
+    ensures { OnOk result (map warning warnings.new.items ≡ map warning warnings.old.items
+        ++ outputs_warnings place.now (has_timers (plain.declaration declaration.now))
+        (does_machine Draws (plain.declaration declaration.now))
+        (map plain.name declaration.now.names.items) 0
+        (map plain.output declaration.now.outputs.items)) }
 {
+    let timed = has_timers(declaration);
+    let draws = does_machine(Doing::Draws, declaration);
+    let names = declaration.names.as_slice();
+    let entries = declaration.outputs.as_slice();
     for (index, entry) in entries.iter().enumerate() {
         let place = sent_place(alloc, timed, place, index)?;
         add_output(alloc, warnings, place.as_str(), draws, entry, names)?;

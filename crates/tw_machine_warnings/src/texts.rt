@@ -3,6 +3,7 @@ ghost use Rattle.std.specs.Prelude.{◌≡◌, ◌||◌, map, option_map};
 ghost use Rattle.std.specs.List.{list_any};
 ghost use Rattle.tw_machine_text.specs.Views.{body, tree};
 ghost use Rattle.tw_machine_declaration.specs.Seen as plain;
+ghost use Rattle.tw_machine_warnings.specs.Machines.{has_timers};
 ghost use Rattle.tw_machine_warnings.specs.Texts.{
   does_machine,
   has_zero,
@@ -122,6 +123,13 @@ pub(crate) fn does_machine(deed: Doing, declaration: &Declaration) -> bool
     ensures { result ≡ does_machine deed (plain.declaration declaration.now) }
 {
     does(deed, &declaration.internal) || does(deed, &declaration.external)
+}
+
+/// Whether it is a machine with timers.
+pub(crate) fn has_timers(declaration: &Declaration) -> bool
+    ensures { result ≡ has_timers (plain.declaration declaration.now) }
+{
+    declaration.timers.is_some()
 }
 
 /// Whether `value` or `left` stands in a program that runs for no item.

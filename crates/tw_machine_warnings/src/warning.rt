@@ -27,6 +27,8 @@ pub enum Kind {
     NeverSteps,
     /// One that steps by itself once, by its first wait, and then never.
     StepsOnce,
+    /// A timer without a first tick that nothing starts.
+    NeverRuns,
     /// Two `wait`s in one block.
     TwoWaits,
     /// A `wait` by a number that is negative.
@@ -71,6 +73,7 @@ impl Kind {
             Kind::StepsOnce => {
                 "it steps by itself once alone: it has no \"wait\" in internal and external"
             }
+            Kind::NeverRuns => "it never runs: it has no \"first\", and nothing starts it",
             Kind::TwoWaits => "one \"wait\" stands behind another, and the last counts",
             Kind::NegativeWait => "a \"wait\" by a negative number is one by 0",
             Kind::SilentPort => "on this port nothing is ever sent",

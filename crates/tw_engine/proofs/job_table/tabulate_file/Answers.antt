@@ -9,7 +9,7 @@ use Rattle.tw_engine.proofs.job_table.tabulate_file.Goals as goal
 pub returns-in-OfRun : goal.returns-in-OfRun
 returns-in-OfRun g c =
     let n = c.args.file.now.network in
-    let t = tabulation_of c.args.tabulation.now in
+    let t = tabulation_of c.args.asked.now.tabulation.now in
     let labels = labels_said (view c.args.file.now.value) n.models in
     let old = g.W.Write.contents c.args.out.now in
     let new = g.W.Write.contents c.tabulate.new.out in
@@ -18,7 +18,7 @@ returns-in-OfRun g c =
 pub returns-in-OfFigures : goal.returns-in-OfFigures
 returns-in-OfFigures g c =
     let n = c.args.file.now.network in
-    let t = tabulation_of c.args.tabulation.now in
+    let t = tabulation_of c.args.asked.now.tabulation.now in
     let labels = labels_said (view c.args.file.now.value) n.models in
     let old = g.W.Write.contents c.args.out.now in
     let new = g.W.Write.contents c.tabulate_figures.new.out in

@@ -22,34 +22,34 @@ use Rattle.tw_engine.proofs.job_table.tabulate_made_figures.Goals as goal
 
 pub write_figures_of-requires : goal.write_figures_of-requires
 write_figures_of-requires g c =
-    subst IsSteady (sym c.requires.made.records) (run_steady (network_of any_meaning c.args.network.now) c.args.tabulation.now.until c.facts.ensures.network c.requires.small)
+    subst IsSteady (sym c.requires.made.records) (run_steady (network_of any_meaning c.args.made.now.network.now) c.args.asked.now.tabulation.now.until c.facts.ensures.network c.requires.small)
 
 pub returns : goal.returns
 returns g c =
-    let n = c.args.network.now in
-    let t = tabulation_of c.args.tabulation.now in
-    let said = labels_said (view c.args.value.now) n.models in
+    let n = c.args.made.now.network.now in
+    let t = tabulation_of c.args.asked.now.tabulation.now in
+    let said = labels_said (view c.args.made.now.value.now) n.models in
     let table = λ (l : List Bool). figures_table n said l t.from t.until in
     let starts = start_words (network_of any_meaning n) in
     let old = g.W.Write.contents c.args.out.now in
     let new = g.W.Write.contents c.write_figures_of.new.out in
-    let shown = c.args.shown.now in
+    let shown = c.args.asked.now.shown.now in
     let same = ap (map label) c.as_slice.ensures.value ∙ c.in_ok-labels.ensures in
-    tabulated n table t shown c.args.run.now.fault c.in_ok-line.line old new c.requires.shown c.requires.made.fault c.in_ok-line.ensures
+    tabulated n table t shown c.args.made.now.run.fault c.in_ok-line.line old new c.requires.shown c.requires.made.fault c.in_ok-line.ensures
     (subst (λ ls. Appends old new (figures_table n ls shown t.from t.until)) same
     (subst (λ (rs : List Record). Appends old new (figures_text (table_of (name_in n.names) c.as_slice.result.now shown t.from) starts rs)) c.requires.made.records c.in_ok-write_figures_of.ensures.ok))
 
 pub returns-in_err-write_figures_of : goal.returns-in_err-write_figures_of
 returns-in_err-write_figures_of g c =
-    let n = c.args.network.now in
-    let t = tabulation_of c.args.tabulation.now in
-    let said = labels_said (view c.args.value.now) n.models in
+    let n = c.args.made.now.network.now in
+    let t = tabulation_of c.args.asked.now.tabulation.now in
+    let said = labels_said (view c.args.made.now.value.now) n.models in
     let table = λ (l : List Bool). figures_table n said l t.from t.until in
     let starts = start_words (network_of any_meaning n) in
     let old = g.W.Write.contents c.args.out.now in
     let new = g.W.Write.contents c.write_figures_of.new.out in
     let why = c.in_err-write_figures_of.field-0.0 in
-    let shown = c.args.shown.now in
+    let shown = c.args.asked.now.shown.now in
     let same = ap (map label) c.as_slice.ensures.value ∙ c.in_ok-labels.ensures in
     on_err (λ end. IsTabulatedOf n table t end old new) c.from_residual-in_err-write_figures_of.result (failed_of (not_written_refusal why)) c.from_residual-in_err-write_figures_of.ensures.1
     (table_short n table t shown why old new c.requires.shown

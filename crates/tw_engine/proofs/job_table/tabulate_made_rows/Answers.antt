@@ -14,24 +14,24 @@ use Rattle.tw_engine.proofs.job_table.tabulate_made_rows.Goals as goal
 
 pub returns : goal.returns
 returns g c =
-    let n = c.args.network.now in
-    let t = tabulation_of c.args.tabulation.now in
+    let n = c.args.made.now.network.now in
+    let t = tabulation_of c.args.asked.now.tabulation.now in
     let table = λ (l : List Bool). run_table n c.args.rows l t.from t.until in
     let old = g.W.Write.contents c.args.out.now in
     let new = g.W.Write.contents c.write_table_of.new.out in
-    let shown = c.args.shown.now in
-    tabulated n table t shown c.args.run.now.fault c.in_ok-line.line old new c.requires.shown c.requires.made.fault c.in_ok-line.ensures
+    let shown = c.args.asked.now.shown.now in
+    tabulated n table t shown c.args.made.now.run.fault c.in_ok-line.line old new c.requires.shown c.requires.made.fault c.in_ok-line.ensures
     (subst (λ (rs : List Record). Appends old new (table_text c.args.rows (name_in n.names) (listed shown t.from rs))) c.requires.made.records c.in_ok-write_table_of.ensures.ok)
 
 pub returns-in_err-write_table_of : goal.returns-in_err-write_table_of
 returns-in_err-write_table_of g c =
-    let n = c.args.network.now in
-    let t = tabulation_of c.args.tabulation.now in
+    let n = c.args.made.now.network.now in
+    let t = tabulation_of c.args.asked.now.tabulation.now in
     let table = λ (l : List Bool). run_table n c.args.rows l t.from t.until in
     let old = g.W.Write.contents c.args.out.now in
     let new = g.W.Write.contents c.write_table_of.new.out in
     let why = c.in_err-write_table_of.field-0.0 in
-    let shown = c.args.shown.now in
+    let shown = c.args.asked.now.shown.now in
     on_err (λ end. IsTabulatedOf n table t end old new) c.from_residual-in_err-write_table_of.result (failed_of (not_written_refusal why)) c.from_residual-in_err-write_table_of.ensures.1
     (table_short n table t shown why old new c.requires.shown
     (λ is. subst (λ (rs : List Record). AppendsBeginning old new (table_text c.args.rows (name_in n.names) (listed shown t.from rs))) c.requires.made.records (c.in_err-write_table_of.ensures.err is)))

@@ -12,10 +12,10 @@ use Rattle.tw_file_warnings.proofs.ports.+levels.Goals as goal
 pub add_components-loop-index-preserved : goal.add_components-loop-index-preserved
 add_components-loop-index-preserved t c =
     let ms = map machine c.args.machines.now in
-    let d = view c.args.model.now in
-    let path = c.args.path.now in
-    let prefix = c.args.prefix.now in
-    let f : ℕ → Data → List Warning = λ i k. loose_warnings ms d (component_place path prefix i k) k ++ level_warnings ms c.args.room (path_in path i) (prefix_in prefix k) k in
+    let d = view c.args.level.model.now in
+    let path = c.args.level.path.now in
+    let prefix = c.args.level.prefix.now in
+    let f : ℕ → Data → List Warning = λ i k. loose_warnings ms d (component_place path prefix i k) k ++ level_warnings ms c.args.level.room (path_in path i) (prefix_in prefix k) k in
     let vs = c.items_in-components.result.now in
     let i = c.loop-index.index in
     let v = c.index-components-index.result in

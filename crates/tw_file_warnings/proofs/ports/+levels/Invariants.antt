@@ -7,20 +7,20 @@ use Rattle.tw_file_warnings.specs.Ports.{level_warnings, loose_warnings}
 use Rattle.tw_file_warnings.proofs.ports.+levels.Given as goal
 
 abbrev pub decreases-add_level : goal.decreases-add_level
-decreases-add_level l = 3 * l.room
+decreases-add_level l = 3 * l.level.room
 
 abbrev pub decreases-add_components : goal.decreases-add_components
-decreases-add_components l = 3 * l.room + 2
+decreases-add_components l = 3 * l.level.room + 2
 
 abbrev pub decreases-add_component : goal.decreases-add_component
-decreases-add_component l = 3 * l.room + 1
+decreases-add_component l = 3 * l.level.room + 1
 
 -- what has come, and what is to come
 abbrev pub invariant-add_components-loop-index : goal.invariant-add_components-loop-index
 invariant-add_components-loop-index l =
     map warning l.warnings.items
-    ++ of_each (λ i c. loose_warnings (map machine l.machines) (view l.model) (component_place l.path l.prefix i c) c
-    ++ level_warnings (map machine l.machines) l.room (path_in l.path i) (prefix_in l.prefix c) c) l.index (items_view (drop l.index l.components))
+    ++ of_each (λ i c. loose_warnings (map machine l.machines) (view l.level.model.now) (component_place l.level.path.now l.level.prefix.now i c) c
+    ++ level_warnings (map machine l.machines) l.level.room (path_in l.level.path.now i) (prefix_in l.level.prefix.now c) c) l.index (items_view (drop l.index l.components))
     ≡ map warning l.fn.warnings.items
-    ++ of_each (λ i c. loose_warnings (map machine l.machines) (view l.model) (component_place l.path l.prefix i c) c
-    ++ level_warnings (map machine l.machines) l.room (path_in l.path i) (prefix_in l.prefix c) c) 0 (items_view l.components)
+    ++ of_each (λ i c. loose_warnings (map machine l.machines) (view l.level.model.now) (component_place l.level.path.now l.level.prefix.now i c) c
+    ++ level_warnings (map machine l.machines) l.level.room (path_in l.level.path.now i) (prefix_in l.level.prefix.now c) c) 0 (items_view l.components)

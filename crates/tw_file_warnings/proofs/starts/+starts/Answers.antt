@@ -12,10 +12,10 @@ use Rattle.tw_file_warnings.proofs.starts.+starts.Goals as goal
 pub add_all-loop-index-preserved : goal.add_all-loop-index-preserved
 add_all-loop-index-preserved t c =
     let ms = map machine c.args.machines.now in
-    let path = c.args.path.now in
-    let prefix = c.args.prefix.now in
-    let f : ℕ → Data → List Start = λ i k. own_start ms (component_place path prefix i k) k ++ starts_within ms c.args.room (path_in path i) (prefix_in prefix k) k in
-    let vs = c.args.components.now in
+    let path = c.args.level.path.now in
+    let prefix = c.args.level.prefix.now in
+    let f : ℕ → Data → List Start = λ i k. own_start ms (component_place path prefix i k) k ++ starts_within ms c.args.level.room (path_in path i) (prefix_in prefix k) k in
+    let vs = c.items_in-components.result.now in
     let i = c.loop-index.index in
     let v = c.index-components-index.result in
     let said = map start c.loop-index.starts.items in

@@ -15,7 +15,7 @@ use Rattle.tw_machine_declaration.specs.Seen.{Given, Name, Value}
 use Rattle.tw_machine_file.specs.Machines.{nothing_given}
 use Rattle.tw_figure_names.specs.Entries.{Entry, cell_name, entries_of, figures_of, is_queue, numbers_by, observations_of, queue_texts, shown_by}
 use Rattle.tw_figure_names.specs.EntriesLaw.{Fits, entries_in, held, numbers_told, three, values_told, words_in}
-use Rattle.tw_figure_names.specs.MachineLaw.{HasCells, MachineLaw, ObservationsLaw, ShowsSame, shown, showings}
+use Rattle.tw_figure_names.specs.MachineLaw.{HasCells, MachineLaw, ObservationsLaw, shown, showings}
 use Rattle.tw_figure_names.specs.Texts.{text_of}
 use Rattle.tw_figure_names.specs.declared.entries.Shown.{Shown}
 use Rattle.tw_figure_names.specs.declared.entries.Shown.TheVariants.{Number, Cells, Observed, Values}
@@ -43,13 +43,13 @@ fits_as p s text word shows has same = λ plain.
     shows_extent p s word has (ap (λ e. e.0) same ∙ n.0 ∙ plain) ∙ ap (λ e. e.1) same ∙ sym n.1
 
 -- all entries of these words, and all words of a state
-all_fit : (given : Given) (names : List Name) (p : ProgramText) (s : State) (vs : List Value) (texts : Items) → Each (ShowsSame given names) vs → Each (HasCells s) (map (shown_word (standings_of given names)) vs)
+all_fit : (given : Given) (names : List Name) (p : ProgramText) (s : State) (vs : List Value) (texts : Items) → Each (HasCells s) (map (shown_word (standings_of given names)) vs)
     → Each Fits (zip (entries_of (standings_of nothing_given names) vs texts) (map (shown p s) (map (shown_word (standings_of given names)) vs)))
-all_fit given names p s [] texts same has = tt
-all_fit given names p s (v ∷ vs) no_items same has = tt
-all_fit given names p s (v ∷ vs) (item d texts) same has = (
-  fits_as p s (text_of d) (shown_word (standings_of given names) v) (shown_by (standings_of nothing_given names) v) has.0 (same_extent given names v same.0),
-  all_fit given names p s vs texts same.1 has.1,
+all_fit given names p s [] texts has = tt
+all_fit given names p s (v ∷ vs) no_items has = tt
+all_fit given names p s (v ∷ vs) (item d texts) has = (
+  fits_as p s (text_of d) (shown_word (standings_of given names) v) (shown_by (standings_of nothing_given names) v) has.0 (same_extent given names v),
+  all_fit given names p s vs texts has.1,
 )
 
 all_words : (given : Given) (names : List Name) (p : ProgramText) (s : State) (vs : List Value) (texts : Items) → items_len texts ≡ length vs
@@ -67,20 +67,20 @@ all_entries given names p s (v ∷ vs) no_items many = absurd (omega arith)
 all_entries given names p s (v ∷ vs) (item d texts) many = ap (λ (es : List Entry). (text_of d, shown_by (standings_of nothing_given names) v) ∷ es) (all_entries given names p s vs texts (omega arith))
 
 pub machine_law : MachineLaw
-machine_law given d texts s many same has =
+machine_law given d texts s many has =
     let p = program_of given d in
     let es = entries_of (standings_of nothing_given d.names) d.words texts in
     let xs = showings p s es in
     let of = all_entries given d.names p s d.words texts many in
     (λ i. map (λ f. (f.0, value_of f.1 (sym (all_words given d.names p s d.words texts many) i))) (figures_of (sym of i)))
-    ∙ entries_law xs (all_fit given d.names p s d.words texts same has)
+    ∙ entries_law xs (all_fit given d.names p s d.words texts has)
     ∙ ap (λ (es : List Entry). numbers_told xs ++ values_told (held xs) (queue_texts es)) of
 
 pub observations_law : ObservationsLaw
-observations_law given d texts s many same has =
+observations_law given d texts s many has =
     let p = program_of given d in
     let es = entries_of (standings_of nothing_given d.names) d.words texts in
     let xs = showings p s es in
     let of = all_entries given d.names p s d.words texts many in
     (λ i. map (λ o. (o.0, three o.1 (sym (all_words given d.names p s d.words texts many) i))) (observations_of (sym of i)))
-    ∙ observed_law xs (all_fit given d.names p s d.words texts same has)
+    ∙ observed_law xs (all_fit given d.names p s d.words texts has)

@@ -1,6 +1,5 @@
 -- What a machine's entries show is the same whatever a component gives, and the same as the words of its program.
-use Rattle.std.proofs.Common.{◌≡◌, ◌∙◌, ◌++◌, ◌∷◌, [], ℕ, zero, suc, ℤ, Bool, true, false, List, Option, Some, None, ap, map, refl, slice_get, slice_index_or, sym, true≢false}
-use Rattle.std.specs.List.{AllByRecursion as Each}
+use Rattle.std.proofs.Common.{◌≡◌, ◌∙◌, ◌++◌, ◌∷◌, [], ℕ, zero, suc, ℤ, Bool, true, false, List, Option, Some, None, ap, map, refl, slice_get, slice_index_or, sym}
 use Rattle.std.proofs.lemmas.List.{map-append}
 use Rattle.tw_machine.specs.declared.language.Expr.{Expr}
 use Rattle.tw_machine.specs.declared.language.Word.{Word}
@@ -15,7 +14,7 @@ use Rattle.tw_machine_declaration.specs.declared.names.Standing.{Standing}
 use Rattle.tw_machine_declaration.specs.declared.names.Standing.TheVariants as s
 use Rattle.tw_machine_file.specs.Machines.{nothing_given}
 use Rattle.tw_figure_names.specs.Entries.{shown_by, shown_indexed, shown_plain}
-use Rattle.tw_figure_names.specs.MachineLaw.{HasNoDue, ShownLaw, ShowsSame, is_due}
+use Rattle.tw_figure_names.specs.MachineLaw.{ShownLaw}
 use Rattle.tw_figure_names.specs.declared.entries.Shown.{Shown}
 use Rattle.tw_figure_names.specs.declared.entries.Shown.TheVariants.{Number, Cells, Observed, Values}
 
@@ -39,6 +38,7 @@ named (s.Number n) e = refl
 named s.Unknown e = refl
 named (s.Cell k) e = refl
 named (s.Cells span) e = refl
+named (s.Due span) e = refl
 named (s.Queue k room) e = refl
 named (s.Queues span room) e = refl
 named (s.Table span) e = refl
@@ -50,6 +50,7 @@ numbered (s.Number n) i e = refl
 numbered s.Unknown i e = refl
 numbered (s.Cell k) i e = refl
 numbered (s.Cells span) i e = refl
+numbered (s.Due span) i e = refl
 numbered (s.Queue k room) i e = refl
 numbered (s.Queues span room) i e = refl
 numbered (s.Table span) i e = refl
@@ -71,28 +72,28 @@ number_kinds : (o : Option ℤ) → kinds (given_number o) ≡ (Number, Number)
 number_kinds (Some n) = refl
 number_kinds None = refl
 
-same_standing : (g h : Given) (at : _) (bt : _) (thing : Declares) → is_due thing ≡ false → kinds (standing_of g at thing) ≡ kinds (standing_of h bt thing)
-same_standing g h at bt (parameter k) free = number_kinds (slice_get g.numbers k) ∙ sym (number_kinds (slice_get h.numbers k))
-same_standing g h at bt (list_parameter k) free = refl
-same_standing g h at bt (register c) free = refl
-same_standing g h at bt (registers cs) free = refl
-same_standing g h at bt (queue c) free = refl
-same_standing g h at bt (queues n c) free = refl
-same_standing g h at bt (table ns) free = refl
-same_standing g h at bt (list_table k) free = refl
-same_standing g h at bt observation free = refl
-same_standing g h at bt (procedure k) free = refl
-same_standing g h at bt (timer before) free = refl
-same_standing g h at bt (timer_array before last) free = refl
-same_standing g h at bt (number c) free = number_kinds (constant g c) ∙ sym (number_kinds (constant h c))
-same_standing g h at bt (together ts) free = refl
-same_standing g h at bt (greatest t) free = refl
-same_standing g h at bt (due ts) free = absurd (true≢false free)
-same_standing g h at bt (next ts) free = refl
+same_standing : (g h : Given) (at : _) (bt : _) (thing : Declares) → kinds (standing_of g at thing) ≡ kinds (standing_of h bt thing)
+same_standing g h at bt (parameter k) = number_kinds (slice_get g.numbers k) ∙ sym (number_kinds (slice_get h.numbers k))
+same_standing g h at bt (list_parameter k) = refl
+same_standing g h at bt (register c) = refl
+same_standing g h at bt (registers cs) = refl
+same_standing g h at bt (queue c) = refl
+same_standing g h at bt (queues n c) = refl
+same_standing g h at bt (table ns) = refl
+same_standing g h at bt (list_table k) = refl
+same_standing g h at bt observation = refl
+same_standing g h at bt (procedure k) = refl
+same_standing g h at bt (timer before) = refl
+same_standing g h at bt (timer_array before last) = refl
+same_standing g h at bt (number c) = number_kinds (constant g c) ∙ sym (number_kinds (constant h c))
+same_standing g h at bt (together ts) = refl
+same_standing g h at bt (greatest t) = refl
+same_standing g h at bt (due ts) = refl
+same_standing g h at bt (next ts) = refl
 
-same_own : (g h : Given) (at : _) (bt : _) (things : List Declares) → Each (λ thing. is_due thing ≡ false) things → map kinds (own_standings g at things) ≡ map kinds (own_standings h bt things)
-same_own g h at bt [] free = refl
-same_own g h at bt (thing ∷ things) free = λ i. same_standing g h at bt thing free.0 i ∷ same_own g h (taken g at thing) (taken h bt thing) things free.1 i
+same_own : (g h : Given) (at : _) (bt : _) (things : List Declares) → map kinds (own_standings g at things) ≡ map kinds (own_standings h bt things)
+same_own g h at bt [] = refl
+same_own g h at bt (thing ∷ things) = λ i. same_standing g h at bt thing i ∷ same_own g h (taken g at thing) (taken h bt thing) things i
 
 kinds-standing_at : (ss : List Standing) (n : ℕ) → kinds (standing_at ss n) ≡ slice_index_or (map kinds ss) n (Number, Number)
 kinds-standing_at [] n = refl
@@ -107,11 +108,11 @@ same_named : (ss tt : List Standing) (place : List ℕ → ℕ) (names : List (L
 same_named ss tt place [] same = refl
 same_named ss tt place (name ∷ names) same = λ i. same_at ss tt (place name) same i ∷ same_named ss tt place names same i
 
-same_standings : (g h : Given) (names : List Name) → HasNoDue names → map kinds (standings_of g names) ≡ map kinds (standings_of h names)
-same_standings g h names free =
+same_standings : (g h : Given) (names : List Name) → map kinds (standings_of g names) ≡ map kinds (standings_of h names)
+same_standings g h names =
     let own = λ (given : Given). own_standings given (lists_taken given) (things names) in
     let place = λ (function : List ℕ). place_named 0 (texts names) function in
-    let same = same_own g h (lists_taken g) (lists_taken h) (things names) free in
+    let same = same_own g h (lists_taken g) (lists_taken h) (things names) in
     map-append kinds (map (λ function. standing_at (own g) (place function)) functions) (own g)
     ∙ (λ i. same_named (own g) (own h) place functions same i ++ same i)
     ∙ sym (map-append kinds (map (λ function. standing_at (own h) (place function)) functions) (own h))
@@ -123,8 +124,8 @@ same_by ss tt (tree (t.Indexed n (t.Number i))) same = ap (λ k. k.1) (same_at s
 same_by ss tt (tree e) same = refl
 
 pub shown_law : ShownLaw
-shown_law given names v free = same_by (standings_of given names) (standings_of nothing_given names) v (same_standings given nothing_given names free)
+shown_law given names v = same_by (standings_of given names) (standings_of nothing_given names) v (same_standings given nothing_given names)
 
 -- a word of the program shows as many numbers as the entry
-pub same_extent : (given : Given) (names : List Name) (v : Value) → ShowsSame given names v → word_extent (shown_word (standings_of given names) v) ≡ extent (shown_by (standings_of nothing_given names) v)
-same_extent given names v same = extent-shown_word (standings_of given names) v ∙ ap extent same
+pub same_extent : (given : Given) (names : List Name) (v : Value) → word_extent (shown_word (standings_of given names) v) ≡ extent (shown_by (standings_of nothing_given names) v)
+same_extent given names v = extent-shown_word (standings_of given names) v ∙ ap extent (shown_law given names v)

@@ -1,10 +1,9 @@
 -- What the figures and the observations of a machine are of a state: what the entries of its `words` show of it.
 --     HasCells s w      an array register or an observation that is shown has all its cells in a state
---     ShowsSame given names v      an entry shows as much whatever a component gives
---     ShownLaw      so it is in a machine without timers
+--     ShownLaw      an entry shows as much whatever a component gives
 --     MachineLaw      the figures of a machine are the values of the entries by whose texts they are called
 --     ObservationsLaw      the three words at an observation's place are those that its entry shows
-use Rattle.std.specs.Prelude.{◌≡◌, ◌≤◌, ◌+◌, ◌++◌, ℤ, List, Bool, true, false, length, map}
+use Rattle.std.specs.Prelude.{◌≡◌, ◌≤◌, ◌+◌, ◌++◌, ℤ, List, length, map}
 use Rattle.std.specs.List.{AllByRecursion as Each, zip}
 use Rattle.serde_json.specs.Data.{Items}
 use Rattle.serde_json.specs.Events.{items_len}
@@ -15,8 +14,8 @@ use Rattle.tw_machine.specs.declared.language.Word.{Word}
 use Rattle.tw_machine.specs.declared.language.Word.TheVariants as w
 use Rattle.tw_machine.specs.declared.memory.State.{State}
 use Rattle.tw_machine_compiler.specs.Program.{program_of}
-use Rattle.tw_machine_declaration.specs.Names.{standings_of, things}
-use Rattle.tw_machine_declaration.specs.Seen.{Declaration, Declares, Given, Name, Value, due}
+use Rattle.tw_machine_declaration.specs.Names.{standings_of}
+use Rattle.tw_machine_declaration.specs.Seen.{Declaration, Given, Name, Value}
 use Rattle.tw_machine_file.specs.Machines.{nothing_given}
 use Rattle.tw_figure_names.specs.Entries.{Entry, entries_of, figures_of, observations_of, queue_texts, shown_by}
 use Rattle.tw_figure_names.specs.EntriesLaw.{Showing, held, numbers_told, observed_told, three, values_told}
@@ -34,24 +33,14 @@ shown p s w = word w p.numbers (own_input 0 s.time) s.memory
 abbrev pub showings : ProgramText → State → List Entry → List Showing
 showings p s es = zip es (map (shown p s) p.words)
 
--- the hidden array register of a machine with timers: only its length hangs on what a component gives
-abbrev pub is_due : Declares → Bool
-is_due (due ts) = true
-is_due _ = false
-
-abbrev pub HasNoDue : List Name → Type 0
-HasNoDue names = Each (λ thing. is_due thing ≡ false) (things names)
-
--- an entry shows as much as where nothing is given
-abbrev pub ShowsSame : Given → List Name → Value → Type 0
-ShowsSame given names v = shown_by (standings_of given names) v ≡ shown_by (standings_of nothing_given names) v
-
+-- as much as where nothing is given
 abbrev pub ShownLaw : Type 0
-ShownLaw = (given : Given) (names : List Name) (v : Value) → HasNoDue names → ShowsSame given names v
+ShownLaw = (given : Given) (names : List Name) (v : Value)
+    → shown_by (standings_of given names) v ≡ shown_by (standings_of nothing_given names) v
 
 -- whatever a component gives, in any state that has the cells of the array registers
 abbrev pub MachineLaw : Type 0
-MachineLaw = (given : Given) (d : Declaration) (texts : Items) (s : State) → items_len texts ≡ length d.words → Each (ShowsSame given d.names) d.words
+MachineLaw = (given : Given) (d : Declaration) (texts : Items) (s : State) → items_len texts ≡ length d.words
     → Each (HasCells s) (program_of given d).words
     → let p = program_of given d in
     let es = entries_of (standings_of nothing_given d.names) d.words texts in
@@ -59,7 +48,7 @@ MachineLaw = (given : Given) (d : Declaration) (texts : Items) (s : State) → i
     ≡ numbers_told (showings p s es) ++ values_told (held (showings p s es)) (queue_texts es)
 
 abbrev pub ObservationsLaw : Type 0
-ObservationsLaw = (given : Given) (d : Declaration) (texts : Items) (s : State) → items_len texts ≡ length d.words → Each (ShowsSame given d.names) d.words
+ObservationsLaw = (given : Given) (d : Declaration) (texts : Items) (s : State) → items_len texts ≡ length d.words
     → Each (HasCells s) (program_of given d).words
     → let p = program_of given d in
     let es = entries_of (standings_of nothing_given d.names) d.words texts in

@@ -10,9 +10,8 @@ pub fn figures_law()
 {}
 
 /// What the figures of a machine tell of a state: the values of the entries of its `words`, each by that entry's text, and how many
-/// values all queues among them have together; and that the three words from an observation's place on are those of its entry. So it is
-/// where each entry shows as much whatever a component gives, as it does without timers; no text names the cells of timers. It does
-/// nothing.
+/// values all queues among them have together; and that the three words from an observation's place on are those of its entry. Each
+/// entry shows as much whatever a component gives. It does nothing.
 pub fn machine_figures_law()
     ensures shown { ShownLaw }
     ensures entries { EntriesLaw }

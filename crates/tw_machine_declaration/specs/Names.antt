@@ -152,7 +152,7 @@ standing_of given at (timer_array before last) = s.Nothing
 standing_of given at (number c) = given_number (constant given c)
 standing_of given at (all_together ts) = s.Number (pos (min (sum_by (timer_count given) ts) cells_end))
 standing_of given at (greatest t) = s.Number (pos (greatest_index given t))
-standing_of given at (due ts) = s.Cells (record { first = at.cells; count = min (length (due_ticks given ts)) cells_end })
+standing_of given at (due ts) = s.Due (record { first = at.cells; count = min (length (due_ticks given ts)) cells_end })
 standing_of given at (next ts) = s.Cell at.cells
 
 -- the cells of an observation, of which the first is at place k

@@ -52,7 +52,7 @@ fn hide_each(alloc: Global, names: &mut Vec<Named>, timers: &[Timer]) -> Result<
     for (place, timer) in timers.iter().enumerate() {
         hide_one(alloc, names, &timers[..place], *timer)?;
     }
-    let all = Vec::from_slice(alloc, &timers[..timers.len()])?;
+    let all = Vec::from_slice(alloc, timers)?;
     hide(alloc, names, " before", Thing::Together(all))
 }
 

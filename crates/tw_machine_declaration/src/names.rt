@@ -50,6 +50,8 @@ pub enum Standing {
     Cell(u32),
     /// The cells of an array register.
     Cells(Span),
+    /// The cells of the ticks at which timers are due. A program reads and sets them as those of an array register; `words` show none.
+    Due(Span),
     /// The queue at this place, and its room.
     Queue(u32, u16),
     /// An array of queues, and the room of each.
@@ -245,7 +247,11 @@ fn standing_of(given: &Given, at: Places, thing: &Thing) -> Standing
         Thing::Parameter(place) => given_number(given.numbers.get(*place).copied()),
         Thing::ListParameter(_) => Standing::Nothing,
         Thing::Register(_) | Thing::Next(_) => Standing::Cell(at.cells),
-        Thing::RegisterArray(_) | Thing::Due(_) => Standing::Cells(Span {
+        Thing::RegisterArray(_) => Standing::Cells(Span {
+            first: at.cells,
+            count: cell_count(given, thing),
+        }),
+        Thing::Due(_) => Standing::Due(Span {
             first: at.cells,
             count: cell_count(given, thing),
         }),

@@ -9,7 +9,7 @@ use Rattle.tw_machine_text.specs.Tree as t
 use Rattle.tw_machine_compiler.specs.Expressions.{expression}
 use Rattle.tw_machine_compiler.specs.Program.{shown_word, word_named, word_numbered}
 use Rattle.tw_machine_declaration.specs.Names.{constant, given_number, lists_taken, own_standings, place_named, standing_at, standing_of, standings_of, taken, texts, things}
-use Rattle.tw_machine_declaration.specs.Seen.{Declares, Given, Name, Value, parameter, list_parameter, register, registers, queue, queues, table, list_table, observation, procedure, timer, timer_array, number, together, greatest, due, next, whole, tree}
+use Rattle.tw_machine_declaration.specs.Seen.{Declares, Given, Name, Value, parameter, list_parameter, register, registers, queue, queues, table, list_table, observation, procedure, timer, timer_array, fixed, field, number, together, greatest, due, next, whole, tree}
 use Rattle.tw_machine_declaration.specs.declared.names.Standing.{Standing}
 use Rattle.tw_machine_declaration.specs.declared.names.Standing.TheVariants as s
 use Rattle.tw_machine_file.specs.Machines.{nothing_given}
@@ -85,6 +85,8 @@ same_standing g h at bt observation = refl
 same_standing g h at bt (procedure k) = refl
 same_standing g h at bt (timer before) = refl
 same_standing g h at bt (timer_array before last) = refl
+same_standing g h at bt (fixed n) = refl
+same_standing g h at bt field = refl
 same_standing g h at bt (number c) = number_kinds (constant g c) ∙ sym (number_kinds (constant h c))
 same_standing g h at bt (together ts) = refl
 same_standing g h at bt (greatest t) = refl

@@ -13,7 +13,7 @@ use Rattle.tw_file_network.specs.Components.{after}
 use Rattle.tw_file_network.specs.Meaning.{meaning_of_value, network_of, shape_of}
 use Rattle.tw_file_network.specs.Shape.{File, file_of, is_format}
 use Rattle.tw_file_network.specs.TreeMeaning.{IsFaultBy, IsFaultOfValue, IsMeaningBy, IsMeaningOfValue, IsTreeFileFault, IsTreeMeaning}
-use Rattle.tw_file_network.specs.TreeShape.{TreeFile, is_machines_format, is_tree_format, machines_at, machines_declared, machines_file_of, machines_file_with, tree_file_of, tree_of}
+use Rattle.tw_file_network.specs.TreeShape.{member_count, TreeFile, is_machines_format, is_tree_format, machines_at, machines_declared, machines_file_of, machines_file_with, tree_file_of, tree_of}
 use Rattle.tw_file_network.specs.declared.refused.FileRefused.{FileRefused}
 use Rattle.tw_file_network.specs.declared.refused.FileRefused.TheVariants.{BadShape, OutOfMemory}
 
@@ -64,8 +64,8 @@ module _ (d : Data) where
       none_said : tree_of d ≡ None
       none_said =
           said false other
-          ∙ ap (λ b. option_and_then (machines_file_with d) (cond (has_members 6 d) (cond b (machines_at d) None) None)) flat
-          ∙ ap (option_and_then (machines_file_with d)) (either_way (has_members 6 d) None)
+          ∙ ap (λ b. option_and_then (machines_file_with d) (cond (has_members (member_count d) d) (cond b (machines_at d) None) None)) flat
+          ∙ ap (option_and_then (machines_file_with d)) (either_way (has_members (member_count d) d) None)
 
       pub no_draft : (e : FileRefused) → shape_of d ≡ Err e → IsFaultOfValue d e
       no_draft e is = subst (λ (o : Option TreeFile). IsFaultBy o d e) (sym none_said) (meant (Err e) is)

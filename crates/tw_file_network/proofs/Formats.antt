@@ -12,7 +12,7 @@ use Rattle.tw_file_network.specs.Components.{after}
 use Rattle.tw_file_network.specs.Meaning.{json_of, meaning_of, meaning_of_value, network_of}
 use Rattle.tw_file_network.specs.Shape.{file_of, is_format}
 use Rattle.tw_file_network.specs.TreeMeaning.{tree_in}
-use Rattle.tw_file_network.specs.TreeShape.{TreeFile, is_machines_format, is_tree_format, machines_declared, machines_file_of, machines_file_with, tree_file_of, tree_of}
+use Rattle.tw_file_network.specs.TreeShape.{member_count, TreeFile, is_machines_format, is_tree_format, machines_declared, machines_file_of, machines_file_with, tree_file_of, tree_of}
 use Rattle.tw_file_network.specs.declared.refused.FileRefused.{FileRefused}
 use Rattle.tw_file_network.specs.declared.refused.FileRefused.TheVariants.{BadShape}
 
@@ -41,7 +41,7 @@ other_name {A} {B} true true (Some t) x y a is = by (bytes_eq t (codes "tw-3")) 
 
 -- a file that declares machines is none of format tw-1
 pub no_flat_file : (d : Data) (machines : List Machine) → machines_declared d ≡ Some machines → file_of d ≡ None
-no_flat_file d machines is = other_name (has_members 6 d) (has_members 5 d) (text_at (codes "format") d) _ _ machines is
+no_flat_file d machines is = other_name (has_members (member_count d) d) (has_members 5 d) (text_at (codes "format") d) _ _ machines is
 
 no_file : (d : Data) (file : TreeFile) → tree_of d ≡ Some file → file_of d ≡ None
 no_file d file is = by (is_tree_format (text_at (codes "format") d)) is

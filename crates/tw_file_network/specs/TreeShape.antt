@@ -2,7 +2,7 @@
 --     tree_file_of d, machines_file_of d      what the value says, where it has the shape of a file of format tw-2, of tw-3
 --     tree_of d      the one or the other
 --     tree_made parts      its parts with their models, or the first parameter at fault, by atom in order
-use Rattle.std.specs.Prelude.{ℕ, List, [], ◌∷◌, Bool, map, false, codes, Option, Some, None, option_and_then, option_map, if◌then◌else◌, Result, Ok, zero, suc}
+use Rattle.std.specs.Prelude.{ℕ, ◌+◌, List, [], ◌∷◌, Bool, map, false, codes, Option, Some, None, option_and_then, option_map, if◌then◌else◌, Result, Ok, zero, suc}
 use Rattle.std.specs.Option.{option_map_or, option_or}
 use Rattle.std.specs.Result.{result_ok}
 use Rattle.std.specs.Str.{bytes_eq}
@@ -92,7 +92,14 @@ tree_file_of d =
     else None
     else None
 
--- ---- with machines: the member `models` beside those of format tw-2
+-- ---- with machines: the member `models` beside those of format tw-2, and `fields` and `constants`, which may be left out
+
+abbrev pub count_of_one : Option Data → ℕ
+count_of_one (Some d) = 1
+count_of_one None = 0
+
+abbrev pub member_count : Data → ℕ
+member_count d = 6 + (count_of_one (get (codes "fields") d) + count_of_one (get (codes "constants") d))
 
 abbrev pub is_machines_format : Option (List ℕ) → Bool
 is_machines_format format = option_map_or (λ f. bytes_eq f (codes "tw-3")) format false
@@ -110,7 +117,7 @@ machines_at d = option_and_then (λ models. result_ok (machines_in d models)) (g
 
 -- those of a file of this format
 abbrev pub machines_declared : Data → Option (List Machine)
-machines_declared d = if has_members 6 d then if is_machines_format (text_at (codes "format") d) then machines_at d else None else None
+machines_declared d = if has_members (member_count d) d then if is_machines_format (text_at (codes "format") d) then machines_at d else None else None
 
 abbrev pub machines_file_of : Data → Option TreeFile
 machines_file_of d = option_and_then (machines_file_with d) (machines_declared d)

@@ -1,6 +1,6 @@
 //! What the JSON value of a file of format `tw-2` or `tw-3` says: a tree of components.
 
-ghost use Rattle.std.specs.Prelude.{◌≡◌, ◌≢◌, Some, None, IfOk, IfErr, codes, map, string_bytes};
+ghost use Rattle.std.specs.Prelude.{◌≡◌, ◌≢◌, ◌≤◌, Some, None, IfOk, IfErr, codes, map, option_map, string_bytes};
 ghost use Rattle.serde_json.specs.View.{view, items_view};
 ghost use Rattle.tw_file_network.specs.Answers.{HasNoShape};
 ghost use Rattle.tw_machine_file.specs.Seen.{machine};
@@ -9,11 +9,13 @@ ghost use Rattle.tw_nested.specs.Tree.{part_view, parts_of};
 ghost use Rattle.tw_file_network.specs.Draft.{couplings_view};
 ghost use Rattle.tw_file_network.specs.TreeDraft.{tree_view};
 ghost use Rattle.tw_file_network.specs.TreeShape.{
+  count_of_one,
   is_machines_format,
   is_tree_format,
   links_named,
   machines_declared,
   machines_file_with,
+  member_count,
   part_names,
   part_read,
   parts_read,
@@ -77,6 +79,21 @@ pub(crate) fn has_machines(value: &Value) -> bool
     has_format(value, "tw-3")
 }
 
+/// Whether a member is there, as a count.
+fn count_of_one(member: Option<&Value>) -> usize
+    ensures value { result ≡ count_of_one (option_map (λ v. view v.now) member.entry) }
+    ensures small { result ≤ 1 }
+{
+    if member.is_some() { 1 } else { 0 }
+}
+
+/// How many members a file of format `tw-3` has: `fields` and `constants` may be left out.
+fn member_count(value: &Value) -> usize
+    ensures { result ≡ member_count (view value.now) }
+{
+    6 + (count_of_one(value.get("fields")) + count_of_one(value.get("constants")))
+}
+
 /// The machines of a file of format `tw-3`.
 pub(crate) fn machines_declared(
     alloc: Global,
@@ -86,7 +103,7 @@ pub(crate) fn machines_declared(
         (λ ms. machines_declared (view value.now) ≡ Some (map machine ms.items)) }
     ensures err { HasNoShape result (machines_declared (view value.now)) }
 {
-    if !is_file(value, 6, "tw-3") {
+    if !is_file(value, member_count(value), "tw-3") {
         return Err(FileRefused::BadShape);
     }
     machines_at(alloc, value)

@@ -12,7 +12,7 @@ use Rattle.tw_machine.specs.declared.language.Target.TheVariants as target
 use Rattle.tw_machine_text.specs.declared.words.Builtin.{Builtin}
 use Rattle.tw_machine_text.specs.declared.words.Builtin.TheVariants as builtin
 use Rattle.tw_machine_text.specs.declared.words.Operator.{Operator}
-use Rattle.tw_machine_text.specs.declared.words.Operator.TheVariants.{Comma, Or, And, Equal, NotEqual, Less, LessEqual, Greater, GreaterEqual, Plus, Minus, Times, Divide, Modulo}
+use Rattle.tw_machine_text.specs.declared.words.Operator.TheVariants.{Comma, Colon, Or, And, Equal, NotEqual, Less, LessEqual, Greater, GreaterEqual, Plus, Minus, Times, Divide, Modulo}
 use Rattle.tw_machine_text.specs.Tree.{Tree, Number, Name, Known, Indexed, Call, RandomBelow, Group, Negate, Not, Binary as Joined}
 use Rattle.tw_machine_declaration.specs.declared.functions.Function.{Function}
 use Rattle.tw_machine_declaration.specs.declared.functions.Function.TheVariants.{Measured, Applied}
@@ -71,6 +71,7 @@ queue_indexed _ index = no_target
 -- commas stand between arguments alone
 abbrev pub operation : Operator → Expr → Expr → Expr
 operation Comma a b = zero_expr
+operation Colon a b = zero_expr
 operation Or a b = two binary.Either a b
 operation And a b = two binary.Both a b
 operation Equal a b = two binary.Equal a b

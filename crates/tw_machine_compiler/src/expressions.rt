@@ -76,7 +76,7 @@ fn operation(alloc: Global, operator: Operator, a: Expr, b: Expr) -> Result<Expr
     ensures { IfOk result (λ e. seen e ≡ operation operator (seen a) (seen b)) }
 {
     let binary = match operator {
-        Operator::Comma => {
+        Operator::Comma | Operator::Colon => {
             return Ok(zero());
         }
         Operator::Or => Binary::Either,

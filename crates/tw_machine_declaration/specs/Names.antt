@@ -9,7 +9,7 @@ use Rattle.tw_machine_text.specs.Limits.{max_count}
 use Rattle.tw_machine_declaration.specs.declared.declaration.Constant.{Constant}
 use Rattle.tw_machine_declaration.specs.declared.declaration.Constant.TheVariants as c
 use Rattle.tw_machine_declaration.specs.declared.declaration.Timer.{Timer}
-use Rattle.tw_machine_declaration.specs.Seen.{Given, Name, Timers, Declares, parameter, list_parameter, register, registers, queue, queues, table, list_table, observation, procedure, timer, timer_array, number, together as all_together, greatest, due, next}
+use Rattle.tw_machine_declaration.specs.Seen.{Given, Name, Timers, Declares, parameter, list_parameter, register, registers, queue, queues, table, list_table, observation, procedure, timer, timer_array, fixed, field, number, together as all_together, greatest, due, next}
 use Rattle.tw_machine_declaration.specs.declared.names.Places.{Places}
 use Rattle.tw_machine_declaration.specs.declared.names.Standing.{Standing}
 use Rattle.tw_machine_declaration.specs.declared.names.Standing.TheVariants as s
@@ -149,6 +149,8 @@ standing_of given at observation = s.Observation at.cells
 standing_of given at (procedure k) = s.Nothing
 standing_of given at (timer before) = s.Nothing
 standing_of given at (timer_array before last) = s.Nothing
+standing_of given at (fixed n) = s.Number n
+standing_of given at field = s.Nothing
 standing_of given at (number c) = given_number (constant given c)
 standing_of given at (all_together ts) = s.Number (pos (min (sum_by (timer_count given) ts) cells_end))
 standing_of given at (greatest t) = s.Number (pos (greatest_index given t))

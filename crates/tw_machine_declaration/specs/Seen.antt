@@ -22,7 +22,7 @@ pub record Timers : Type 0 where
 abbrev pub timers : rust_timers.Timers → Timers
 timers ts = record { each = ts.each.items; least = ts.least }
 
--- what a machine declares by a name: parameters, tables of lists and procedures by their place among those of their kind; a timer by the hidden names that say how many are before it, and, with a count, its greatest index. The last five are hidden
+-- what a machine declares by a name: parameters, tables of lists and procedures by their place among those of their kind; a timer by the hidden names that say how many are before it, and, with a count, its greatest index; a number of the file; the name of a field alone. The last five are hidden
 pub data Declares : Type 0 where
   parameter : (place : ℕ) → Declares
   list_parameter : (place : ℕ) → Declares
@@ -36,6 +36,8 @@ pub data Declares : Type 0 where
   procedure : (place : ℕ) → Declares
   timer : (before : ℕ) → Declares
   timer_array : (before greatest : ℕ) → Declares
+  fixed : (n : ℤ) → Declares
+  field : Declares
   number : (c : Constant) → Declares
   together : (ts : List Timer) → Declares
   greatest : (t : Timer) → Declares
@@ -55,6 +57,8 @@ thing t.Observation = observation
 thing (t.Procedure k) = procedure k
 thing (t.Timer before) = timer before
 thing (t.TimerArray before last) = timer_array before last
+thing (t.Constant n) = fixed n
+thing t.Field = field
 thing (t.Number c) = number c
 thing (t.Together ts) = together ts.items
 thing (t.Greatest one) = greatest one

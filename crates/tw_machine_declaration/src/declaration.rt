@@ -38,6 +38,10 @@ pub enum Thing {
     /// A timer with a count: as many alike. The first name stands for how many timers are before it, the second for the
     /// greatest index.
     TimerArray(usize, usize),
+    /// Of the file: this number.
+    Constant(i64),
+    /// Of the file: the name of a field, by which the machine declares nothing.
+    Field,
     /// Hidden: a number that no component gives.
     Number(Constant),
     /// Hidden: how many timers these are together.
@@ -101,8 +105,8 @@ pub struct TimerOutput {
     pub output: OutputText,
 }
 
-/// A machine. The numbers of names in its trees are those of the texts' reader: 0 to 15 for the functions' names, and
-/// from 16 on for `names`, in this order.
+/// A machine. The numbers of names in its trees are those of the texts' reader: 0 to 16 for the functions' names, and
+/// from 17 on for `names`, in this order.
 #[derive(Drop)]
 pub struct Declaration {
     pub names: Vec<Named>,

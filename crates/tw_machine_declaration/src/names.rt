@@ -40,7 +40,7 @@ use tw_machine_text::{FUNCTIONS, same_text};
 /// What a name stands for.
 #[derive(Clone, Copy, Debug, PartialEq, Eq)]
 pub enum Standing {
-    /// A list, a procedure, a timer, or a function's name that nothing else has.
+    /// A list, a procedure, a timer, or a function's or a field's name that nothing else has.
     Nothing,
     /// The number of a parameter, or one that no component gives.
     Number(i64),
@@ -272,7 +272,10 @@ fn standing_of(given: &Given, at: Places, thing: &Thing) -> Standing
             count: list_count(given, *place),
         }),
         Thing::Observation => Standing::Observation(at.cells),
-        Thing::Procedure(_) | Thing::Timer(_) | Thing::TimerArray(..) => Standing::Nothing,
+        Thing::Procedure(_) | Thing::Timer(_) | Thing::TimerArray(..) | Thing::Field => {
+            Standing::Nothing
+        }
+        Thing::Constant(number) => Standing::Number(*number),
         Thing::Number(number) => given_number(constant(given, *number)),
         Thing::Together(timers) => Standing::Number(all_timers(given, timers.as_slice()) as i64),
         Thing::Greatest(timer) => Standing::Number(greatest_index(given, *timer)),

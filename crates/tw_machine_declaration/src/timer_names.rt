@@ -13,7 +13,7 @@ pub struct TimerNames {
     pub first: usize,
     /// How many entries `timers` has, at most 16.
     pub timers: usize,
-    pub ghost small: { first ≤ 2 ^ 63 + 64 },
+    pub ghost small: { first ≤ 2 ^ 63 + 65 },
     pub ghost few: { timers ≤ max_timer_names },
 }
 

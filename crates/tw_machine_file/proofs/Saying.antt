@@ -3,7 +3,7 @@ use Rattle.std.proofs.Common.{◌≡◌, ◌≤◌, ◌∷◌, ℕ, length, List
 use Rattle.std.proofs.lemmas.Bool.{leb-true, le-leb}
 use Rattle.std.proofs.lemmas.Option.{same_Some}
 use Rattle.std.specs.Prelude.{◌&&◌, Option, Some, None, nat_le, option_and_then, option_map, if◌then◌else◌}
-use Rattle.tw_machine_text.specs.declared.kinds.Kind.{Kind}
+use Rattle.tw_machine_text.specs.declared.kinds.Meaning.{Meaning}
 use Rattle.tw_machine_text.specs.declared.kinds.Member.{Member}
 use Rattle.tw_machine_text.specs.declared.kinds.Timing.{Timing}
 use Rattle.tw_machine_text.specs.declared.words.Word.{Word}
@@ -55,7 +55,7 @@ means_spelled many ws p h = rw (le-leb (weigh false ws) many (light 65 many ws p
 
 -- ---- programs
 
-pub program_reads : (names : List (List ℕ)) (timing : Option Timing) (kinds : List Kind) (procedures : List Block) (text : List ℕ) (p : Block) → program_said names timing kinds procedures text ≡ Some p → Reads 64 4096 names timing kinds procedures text p
+pub program_reads : (names : List (List ℕ)) (timing : Option Timing) (kinds : List Meaning) (procedures : List Block) (text : List ℕ) (p : Block) → program_said names timing kinds procedures text ≡ Some p → Reads 64 4096 names timing kinds procedures text p
 unfolding program_said
 program_reads names timing kinds procedures text p h =
     let core = from_some (core_program timing kinds procedures) (option_and_then (standing_program timing kinds (length procedures)) (option_and_then (spelled_program 8192) (words_of names text))) p h in
@@ -73,7 +73,7 @@ program_reads names timing kinds procedures text p h =
       limits = limits.1;
     }
 
-pub reads_program : (names : List (List ℕ)) (timing : Option Timing) (kinds : List Kind) (procedures : List Block) (text : List ℕ) (p : Block) → Reads 64 4096 names timing kinds procedures text p → program_said names timing kinds procedures text ≡ Some p
+pub reads_program : (names : List (List ℕ)) (timing : Option Timing) (kinds : List Meaning) (procedures : List Block) (text : List ℕ) (p : Block) → Reads 64 4096 names timing kinds procedures text p → program_said names timing kinds procedures text ≡ Some p
 unfolding program_said
 reads_program names timing kinds procedures text p h =
     ap (λ (o : Option (List Word)). option_and_then (core_program timing kinds procedures) (option_and_then (standing_program timing kinds (length procedures)) (option_and_then (spelled_program 8192) o))) (words_again names h.words text h.has)
@@ -88,7 +88,7 @@ behind_wait : (o : Option (List Word)) (all : List Word) → option_map (λ (ws 
 behind_wait None all h = absurd (cc)
 behind_wait (Some ws) all h = (ws, refl, sym (same_Some (Wait ∷ ws) all h))
 
-pub tree_reads : (member : Member) (names : List (List ℕ)) (timing : Option Timing) (kinds : List Kind) (text : List ℕ) (e : Tree) → tree_said member names timing kinds text ≡ Some e → ReadsTree 64 4096 member names timing kinds text e
+pub tree_reads : (member : Member) (names : List (List ℕ)) (timing : Option Timing) (kinds : List Meaning) (text : List ℕ) (e : Tree) → tree_said member names timing kinds text ≡ Some e → ReadsTree 64 4096 member names timing kinds text e
 unfolding tree_said
 tree_reads member names timing kinds text e h =
     let waiting = option_map (λ (ws : List Word). Wait ∷ ws) (words_of names text) in
@@ -104,7 +104,7 @@ tree_reads member names timing kinds text e h =
     (subst (λ (q : Tree). may_stand_as timing member kinds q ≡ true) through.1 through.0)
     core.2
 
-pub reads_tree : (member : Member) (names : List (List ℕ)) (timing : Option Timing) (kinds : List Kind) (text : List ℕ) (e : Tree) → ReadsTree 64 4096 member names timing kinds text e → tree_said member names timing kinds text ≡ Some e
+pub reads_tree : (member : Member) (names : List (List ℕ)) (timing : Option Timing) (kinds : List Meaning) (text : List ℕ) (e : Tree) → ReadsTree 64 4096 member names timing kinds text e → tree_said member names timing kinds text ≡ Some e
 unfolding tree_said
 reads_tree member names timing kinds text e h =
     let words = words_again names h.words text h.has in
@@ -118,14 +118,14 @@ reads_tree member names timing kinds text e h =
 -- ---- what the reader answers
 
 -- a text that is refused says nothing
-pub no_program : (names : List (List ℕ)) (timing : Option Timing) (kinds : List Kind) (procedures : List Block) (text : List ℕ) → ((p : Block) → Reads 64 4096 names timing kinds procedures text p → ⊥) → program_said names timing kinds procedures text ≡ None
+pub no_program : (names : List (List ℕ)) (timing : Option Timing) (kinds : List Meaning) (procedures : List Block) (text : List ℕ) → ((p : Block) → Reads 64 4096 names timing kinds procedures text p → ⊥) → program_said names timing kinds procedures text ≡ None
 no_program names timing kinds procedures text none = by (program_said names timing kinds procedures text) refl
   where
     by : (o : Option Block) → program_said names timing kinds procedures text ≡ o → program_said names timing kinds procedures text ≡ None
     by None e = e
     by (Some p) e = absurd (none p (program_reads names timing kinds procedures text p e))
 
-pub no_tree : (member : Member) (names : List (List ℕ)) (timing : Option Timing) (kinds : List Kind) (text : List ℕ) → ((e : Tree) → ReadsTree 64 4096 member names timing kinds text e → ⊥) → tree_said member names timing kinds text ≡ None
+pub no_tree : (member : Member) (names : List (List ℕ)) (timing : Option Timing) (kinds : List Meaning) (text : List ℕ) → ((e : Tree) → ReadsTree 64 4096 member names timing kinds text e → ⊥) → tree_said member names timing kinds text ≡ None
 no_tree member names timing kinds text none = by (tree_said member names timing kinds text) refl
   where
     by : (o : Option Tree) → tree_said member names timing kinds text ≡ o → tree_said member names timing kinds text ≡ None

@@ -9,10 +9,11 @@ use Rattle.tw_machine_text.specs.Letters.{same_text}
 use Rattle.tw_machine_text.specs.Text.{position}
 use Rattle.tw_machine_declaration.specs.Seen.{Declares, Name, parameter, list_parameter, register, registers, queue, queues, table, list_table, observation, procedure}
 use Rattle.tw_machine_declaration.specs.declared.declaration.Constant.{Constant}
-use Rattle.tw_machine_file.specs.Constants.{constant, constants, count, wholes}
+use Rattle.tw_machine_file.specs.Constants.{Numbers, constant, constants, count, wholes}
 use Rattle.tw_machine_file.specs.Fault.{Fault, wrong, once, made, expected, provided}
 use Rattle.tw_machine_file.specs.Names.{is_among, is_name, is_own_name}
 use Rattle.tw_machine_file.specs.Seen.{Scope}
+use Rattle.tw_machine_file.specs.Shared.{SharedNames, constants_left, shared_names}
 use Rattle.tw_machine_file.specs.Values.{is_long}
 use Rattle.tw_machine_file.specs.declared.declarations.Section.{Section}
 use Rattle.tw_machine_file.specs.declared.declarations.Section.TheVariants as section
@@ -23,17 +24,17 @@ use Rattle.tw_machine_file.specs.declared.fault.Why.TheVariants as why
 -- ---- what is declared by a name
 
 -- a register: a constant, or an array of 1 to 64
-abbrev pub register_by : List (List ℕ) → Data → Option Items → Result Declares Fault
+abbrev pub register_by : Numbers → Data → Option Items → Result Declares Fault
 register_by numbers d None = made register (constant part.Registers numbers d)
 register_by numbers d (Some items) =
     if is_long max_cells items then made registers (constants part.Registers numbers items) else Err (wrong part.Registers why.Count)
 
 -- in an array: from 1 to this
-abbrev pub queue_part : ℕ → List (List ℕ) → Option Data → Result Constant Fault
+abbrev pub queue_part : ℕ → Numbers → Option Data → Result Constant Fault
 queue_part most numbers d = once (expected part.Queues why.Shape d) (count part.Queues most numbers)
 
 -- a queue: a room of 1 to 1,024, or an array of a count of 1 to 16 and a room
-abbrev pub queue_by : List (List ℕ) → Data → Option Items → Result Declares Fault
+abbrev pub queue_by : Numbers → Data → Option Items → Result Declares Fault
 queue_by numbers d None = made queue (count part.Queues max_room numbers d)
 queue_by numbers d (Some items) =
     if items_len items == 2
@@ -98,7 +99,7 @@ is_list tables name = option_map_or (names_list name) (option_and_then as_object
 -- a parameter is the next of those that are numbers, or of the lists
 abbrev pub with_parameter : Bool → Scope → List ℕ → Scope
 with_parameter true s name = record s { names = s.names ++ (name, list_parameter (length s.lists)) ∷ []; lists = s.lists ++ name ∷ [] }
-with_parameter false s name = record s { names = s.names ++ (name, parameter (length s.numbers)) ∷ []; numbers = s.numbers ++ name ∷ [] }
+with_parameter false s name = record s { names = s.names ++ (name, parameter (length s.numbers.parameters)) ∷ []; numbers = record s.numbers { parameters = s.numbers.parameters ++ name ∷ [] } }
 
 abbrev pub parameter_named : Option Data → Scope → List ℕ → Result Scope Fault
 parameter_named tables s name = made (with_parameter (is_list tables name) s) (new_name part.Parameters (is_own_name s.timed name) s.names name)
@@ -110,13 +111,21 @@ abbrev pub parameters_of : Option Data → Scope → Items → Result Scope Faul
 parameters_of tables s no_items = Ok s
 parameters_of tables s (item d ds) = once (parameter_of tables s d) (λ next. parameters_of tables next ds)
 
-abbrev pub nothing_declared : (timed : Bool) → Scope
-nothing_declared timed = record { names = []; numbers = []; lists = []; timed = timed; timers = [] }
+-- what a machine has before it declares anything: what the file says for it
+abbrev pub nothing_declared : SharedNames → Data → Scope
+nothing_declared shared d =
+    record {
+      names = shared_names d shared;
+      numbers = record { parameters = []; constants = constants_left d shared.constants };
+      lists = [];
+      timed = is_some (get (codes "timers") d);
+      timers = [];
+    }
 
 -- the member `parameters`, if there is one
-abbrev pub parameters_in : (timed : Bool) → Option Data → Option Data → Result Scope Fault
-parameters_in timed tables None = Ok (nothing_declared timed)
-parameters_in timed tables (Some d) = once (expected part.Parameters why.Shape (as_array d)) (parameters_of tables (nothing_declared timed))
+abbrev pub parameters_in : Scope → Option Data → Option Data → Result Scope Fault
+parameters_in s tables None = Ok s
+parameters_in s tables (Some d) = once (expected part.Parameters why.Shape (as_array d)) (parameters_of tables s)
 
 -- ---- observations
 
@@ -167,10 +176,14 @@ procedures_in s (Some d) = once (expected part.Procedures why.Shape (as_array d)
 
 -- ---- all names
 
--- parameters, registers, queues, tables and observations, in this order
-abbrev pub scope_of : Data → Result Scope Fault
-scope_of d =
-    once (parameters_in (is_some (get (codes "timers") d)) (get (codes "tables") d) (get (codes "parameters") d)) (λ s.
+-- behind what the file says for it its parameters
+abbrev pub parameters_said : SharedNames → Data → Result Scope Fault
+parameters_said shared d = parameters_in (nothing_declared shared d) (get (codes "tables") d) (get (codes "parameters") d)
+
+-- then registers, queues, tables and observations, in this order
+abbrev pub scope_of : SharedNames → Data → Result Scope Fault
+scope_of shared d =
+    once (parameters_said shared d) (λ s.
     once (declared_in section.Registers s (get (codes "registers") d)) (λ s.
     once (declared_in section.Queues s (get (codes "queues") d)) (λ s.
     once (declared_in section.Tables s (get (codes "tables") d)) (λ s.

@@ -12,6 +12,7 @@ use Rattle.tw_machine_compiler.specs.declared.limits.BadMachine.TheVariants as b
 use Rattle.tw_machine_file.specs.Fault.{Fault, wrong, text, limit, once}
 use Rattle.tw_machine_file.specs.Given.{given_of}
 use Rattle.tw_machine_file.specs.Machine.{machine_of}
+use Rattle.tw_machine_file.specs.Shared.{nothing_shared}
 use Rattle.tw_machine_file.specs.Machines.{machines_in, program_in}
 use Rattle.tw_machine_file.specs.Seen.{Machine}
 use Rattle.tw_machine_file.specs.declared.fault.Part.TheVariants as part
@@ -81,45 +82,45 @@ declared_source = record {
 }
 
 pub record Source : Type 0 where
-  pub declares : machine_of [] source ≡ Ok declared_source
+  pub declares : machine_of nothing_shared [] source ≡ Ok declared_source
 
 -- ---- faults
 
 -- a machine without a name
 abbrev pub NoName : Type 0
-NoName = machine_of [] (source_with (codes "made += 1") plain) ≡ Err (wrong part.Name why.Missing)
+NoName = machine_of nothing_shared [] (source_with (codes "made += 1") plain) ≡ Err (wrong part.Name why.Missing)
 
 -- a second machine of its name
 abbrev pub MachineTwice : Type 0
-MachineTwice = machine_of (codes "sink" ∷ codes "source" ∷ []) source ≡ Err (wrong part.Name why.Twice)
+MachineTwice = machine_of nothing_shared (codes "sink" ∷ codes "source" ∷ []) source ≡ Err (wrong part.Name why.Twice)
 
 -- a register named `now`, and one that starts at a list
 abbrev pub ReservedRegister : Type 0
-ReservedRegister = machine_of [] (source_with (codes "made += 1") (with_name (rest_with (member (codes "now") (count 0) no_members) no_members (only (count 0))))) ≡ Err (wrong part.Registers why.Name)
+ReservedRegister = machine_of nothing_shared [] (source_with (codes "made += 1") (with_name (rest_with (member (codes "now") (count 0) no_members) no_members (only (count 0))))) ≡ Err (wrong part.Registers why.Name)
 
 abbrev pub ListAsConstant : Type 0
-ListAsConstant = machine_of [] (source_with (codes "made += 1") (with_name (rest_with (made_at (string (codes "gaps"))) no_members (only (count 0))))) ≡ Err (wrong part.Registers why.Constant)
+ListAsConstant = machine_of nothing_shared [] (source_with (codes "made += 1") (with_name (rest_with (made_at (string (codes "gaps"))) no_members (only (count 0))))) ≡ Err (wrong part.Registers why.Constant)
 
 -- an array of queues with three numbers
 abbrev pub QueueOfThree : Type 0
 QueueOfThree =
-    machine_of [] (source_with (codes "made += 1") (with_name (rest_with (made_at (count 0)) (member (codes "r") (array (item (count 2) (both (count 3) (count 3)))) no_members) (only (count 0)))))
+    machine_of nothing_shared [] (source_with (codes "made += 1") (with_name (rest_with (made_at (count 0)) (member (codes "r") (array (item (count 2) (both (count 3) (count 3)))) no_members) (only (count 0)))))
     ≡ Err (wrong part.Queues why.Shape)
 
 -- a name of two kinds
 abbrev pub NameOfTwoKinds : Type 0
 NameOfTwoKinds =
-    machine_of [] (source_with (codes "made += 1") (with_name (rest_with (made_at (count 0)) (member (codes "made") (count 3) no_members) (only (count 0)))))
+    machine_of nothing_shared [] (source_with (codes "made += 1") (with_name (rest_with (made_at (count 0)) (member (codes "made") (count 3) no_members) (only (count 0)))))
     ≡ Err (wrong part.Queues why.Twice)
 
 -- `made = =`
 abbrev pub OpenProgram : Type 0
-OpenProgram = machine_of [] (source_with (codes "made = =") (with_name plain)) ≡ Err (text part.Internal)
+OpenProgram = machine_of nothing_shared [] (source_with (codes "made = =") (with_name plain)) ≡ Err (text part.Internal)
 
 -- r[1] and r [ 1 ] in words
 abbrev pub QueueTwice : Type 0
 QueueTwice =
-    machine_of [] (source_with (codes "made += 1") (with_name (rest_with (made_at (count 0)) (member (codes "r") (array (both (count 2) (count 3))) no_members) (both (string (codes "r[1]")) (string (codes "r [ 1 ]"))))))
+    machine_of nothing_shared [] (source_with (codes "made += 1") (with_name (rest_with (made_at (count 0)) (member (codes "r") (array (both (count 2) (count 3))) no_members) (both (string (codes "r[1]")) (string (codes "r [ 1 ]"))))))
     ≡ Err (wrong (part.Word 1) why.Twice)
 
 -- ---- what a component gives: `seed` is a number, `gaps` a list
@@ -173,7 +174,7 @@ fault_in component = result_err (machines_in (file_of component) (array (only di
 
 -- what a component of it gives
 abbrev pub fault_with : ℕ → Option Fault
-fault_with p = result_err (once (machine_of [] dice) (λ m. program_in m (thrown p)))
+fault_with p = result_err (once (machine_of nothing_shared [] dice) (λ m. program_in m (thrown p)))
 
 pub record Limited : Type 0 where
   -- where no component uses it, 270,468 computations of one turn are too many

@@ -12,6 +12,8 @@ pub mod Outputs
 pub mod Procedures
 pub mod Said
 pub mod Seen
+pub mod Shared
+pub mod SharedExamples
 pub mod Texts
 pub mod Timed
 pub mod TimedViews

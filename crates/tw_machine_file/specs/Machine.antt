@@ -5,19 +5,20 @@ use Rattle.serde_json.specs.Find.{as_object, as_str, get}
 use Rattle.tw_vtime.specs.Stamps.{max_tick}
 use Rattle.tw_machine_text.specs.Kinds.{kinds_of}
 use Rattle.tw_machine_text.specs.Tree.{Block}
-use Rattle.tw_machine_text.specs.declared.kinds.Kind.{Kind}
+use Rattle.tw_machine_text.specs.declared.kinds.Meaning.{Meaning}
 use Rattle.tw_machine_declaration.specs.Seen.{Declaration, Name, Output, Timers, Value}
 use Rattle.tw_machine_declaration.specs.Timed.{hidden}
 use Rattle.tw_machine_declaration.specs.declared.declaration.Timer.{Timer}
 use Rattle.tw_machine_declaration.specs.declared.declaration.Constant.{Constant}
 use Rattle.tw_machine_declaration.specs.declared.declaration.Constant.TheVariants as c
-use Rattle.tw_machine_file.specs.Constants.{constant, count}
+use Rattle.tw_machine_file.specs.Constants.{Numbers, constant, count}
 use Rattle.tw_machine_file.specs.Declares.{procedures_in, scope_of, texts}
 use Rattle.tw_machine_file.specs.Fault.{Fault, wrong, once, made, expected, provided}
 use Rattle.tw_machine_file.specs.Names.{is_among, is_machine_name}
 use Rattle.tw_machine_file.specs.Outputs.{outputs_in}
 use Rattle.tw_machine_file.specs.Procedures.{procedures_said}
 use Rattle.tw_machine_file.specs.Seen.{Machine, Scope, Starts, Texts, kind_of}
+use Rattle.tw_machine_file.specs.Shared.{FieldSaid, SharedNames, field_named}
 use Rattle.tw_machine_file.specs.Texts.{Language, program_in}
 use Rattle.tw_machine_file.specs.Timed.{language_with, timed_texts}
 use Rattle.tw_machine_file.specs.Timers.{least_in, names_of, timers_in}
@@ -50,18 +51,18 @@ head_of before d =
 -- ---- constants
 
 -- the draw at the start is from 0 where nothing is said
-abbrev pub random_in : List (List ℕ) → Option Data → Result Constant Fault
+abbrev pub random_in : Numbers → Option Data → Result Constant Fault
 random_in numbers None = Ok (c.Number (pos 0))
 random_in numbers (Some d) = constant part.Random numbers d
 
 -- a machine with timers says neither a first wait nor a greatest one
-abbrev pub first_in : (timed : Bool) → List (List ℕ) → Option Data → Result (Option Constant) Fault
+abbrev pub first_in : (timed : Bool) → Numbers → Option Data → Result (Option Constant) Fault
 first_in timed numbers None = Ok None
 first_in true numbers (Some d) = Err (wrong part.First why.Unknown)
 first_in false numbers (Some d) = made Some (constant part.First numbers d)
 
 -- from 1 to the last tick
-abbrev pub longest_in : (timed : Bool) → List (List ℕ) → Option Data → Result (Option Constant) Fault
+abbrev pub longest_in : (timed : Bool) → Numbers → Option Data → Result (Option Constant) Fault
 longest_in timed numbers None = Ok None
 longest_in true numbers (Some d) = Err (wrong part.Longest why.Unknown)
 longest_in false numbers (Some d) = made Some (count part.Longest max_tick numbers d)
@@ -70,7 +71,7 @@ abbrev pub starts_made : Constant → Option Constant → Option Constant → St
 starts_made random first longest = record { random = random; first = first; longest = longest }
 
 -- behind `random` come the names of procedures
-abbrev pub starts_of : Data → (timed : Bool) → List (List ℕ) → Constant → Result Starts Fault
+abbrev pub starts_of : Data → (timed : Bool) → Numbers → Constant → Result Starts Fault
 starts_of d timed numbers random =
     once (first_in timed numbers (get (codes "first") d)) (λ first.
     made (starts_made random first) (longest_in timed numbers (get (codes "longest") d)))
@@ -78,12 +79,12 @@ starts_of d timed numbers random =
 -- ---- texts
 
 -- the names in a machine's texts, each with what it is
-abbrev pub declared : List Name → List (List ℕ × Kind)
-declared names = map (λ n. (n.0, kind_of n.1)) names
+abbrev pub declared : List FieldSaid → List Name → List (List ℕ × Meaning)
+declared fields names = map (λ n. (n.0, record { kind = kind_of n.1; field = field_named fields n.0 })) names
 
 -- of a machine without timers
-unfoldable pub language : List Name → Language
-language names = record { names = texts names; timing = None; kinds = kinds_of (declared names) }
+unfoldable pub language : List FieldSaid → List Name → Language
+language fields names = record { names = texts names; timing = None; kinds = kinds_of (declared fields names) }
 
 abbrev pub texts_made : Block → Block → List Output → List Value → Texts
 texts_made internal external outputs words = record { sends = false; internal = internal; external = external; outputs = outputs; words = words }
@@ -98,12 +99,12 @@ texts_of d l =
     made (texts_made internal external outputs) (words_in l (get (codes "words") d))))))
 
 -- what a machine of these names says
-abbrev pub texts_by : (timed : Bool) → Scope → Data → Result Texts Fault
-texts_by true s d = timed_texts (language_with (declared s.names) (names_of s)) (names_of s) d
-texts_by false s d = texts_of d (language s.names)
+abbrev pub texts_by : (timed : Bool) → List FieldSaid → Scope → Data → Result Texts Fault
+texts_by true fields s d = timed_texts (language_with (declared fields s.names) (names_of s)) (names_of s) d
+texts_by false fields s d = texts_of d (language fields s.names)
 
-abbrev pub texts_in : Scope → Data → Result Texts Fault
-texts_in s d = texts_by s.timed s d
+abbrev pub texts_in : List FieldSaid → Scope → Data → Result Texts Fault
+texts_in fields s d = texts_by s.timed fields s d
 
 -- ---- the machine, by its members in order
 
@@ -133,16 +134,16 @@ declaration_made s starts least texts =
     }
 
 abbrev pub machine_made : List ℕ → Scope → Starts → Option Constant → Texts → Machine
-machine_made name s starts least texts = record { name = name; declaration = declaration_made s starts least texts; numbers = s.numbers; lists = s.lists }
+machine_made name s starts least texts = record { name = name; declaration = declaration_made s starts least texts; numbers = s.numbers.parameters; lists = s.lists }
 
--- behind machines of these names
-abbrev pub machine_of : List (List ℕ) → Data → Result Machine Fault
-machine_of before d =
+-- in a file that says this, behind machines of these names
+abbrev pub machine_of : SharedNames → List (List ℕ) → Data → Result Machine Fault
+machine_of shared before d =
     once (head_of before d) (λ name.
-    once (scope_of d) (λ s.
+    once (scope_of shared d) (λ s.
     once (random_in s.numbers (get (codes "random") d)) (λ random.
     once (procedures_in s (get (codes "procedures") d)) (λ s.
     once (starts_of d s.timed s.numbers random) (λ starts.
     once (timers_in s (get (codes "timers") d)) (λ s.
     once (least_in s (get (codes "least") d)) (λ least.
-    made (machine_made name s starts least) (texts_in s d))))))))
+    made (machine_made name s starts least) (texts_in shared.fields s d))))))))

@@ -1,5 +1,5 @@
 -- All machines of a file, and the program that a component makes of one.
---     machines_in file d      the machines of the member `models` of a file, each behind those before it, or the first fault
+--     machines_in file d      the machines of the member `models` of a file, each behind those before it, with what the file says once, or the first fault
 --     program_in m d      the program of machine m with what the component d gives, or the first fault
 use Rattle.std.specs.Prelude.{◌++◌, ◌∷◌, [], ℕ, List, Option, Some, None, Result, Ok, Err, nat_le, if◌then◌else◌}
 use Rattle.serde_json.specs.Data.{Data, Items, no_items, item}
@@ -15,6 +15,7 @@ use Rattle.tw_machine_file.specs.Fault.{Fault, wrong, limit, once, made, expecte
 use Rattle.tw_machine_file.specs.Given.{given_of}
 use Rattle.tw_machine_file.specs.Machine.{machine_of}
 use Rattle.tw_machine_file.specs.Seen.{Machine}
+use Rattle.tw_machine_file.specs.Shared.{SharedNames, shared_in}
 use Rattle.tw_machine_file.specs.Used.{is_used}
 use Rattle.tw_machine_file.specs.declared.fault.Part.TheVariants as part
 use Rattle.tw_machine_file.specs.declared.fault.Why.TheVariants as why
@@ -48,18 +49,18 @@ abbrev pub held : Data → Machine → Result (Unit {0}) Fault
 held file m = if is_used file m.name then Ok tt else within_limits m.declaration
 
 -- a machine of a file behind machines of these names
-abbrev pub machine_behind : Data → List (List ℕ) → Data → Result Machine Fault
-machine_behind file before d = once (machine_of before d) (λ m. made (λ looked. m) (held file m))
+abbrev pub machine_behind : Data → SharedNames → List (List ℕ) → Data → Result Machine Fault
+machine_behind file shared before d = once (machine_of shared before d) (λ m. made (λ looked. m) (held file m))
 
 -- each behind those before it
-abbrev pub machines_behind : Data → List (List ℕ) → Items → Result (List Machine) Fault
-machines_behind file before no_items = Ok []
-machines_behind file before (item d ds) =
-    once (machine_behind file before d) (λ m. made (λ ms. m ∷ ms) (machines_behind file (before ++ m.name ∷ []) ds))
+abbrev pub machines_behind : Data → SharedNames → List (List ℕ) → Items → Result (List Machine) Fault
+machines_behind file shared before no_items = Ok []
+machines_behind file shared before (item d ds) =
+    once (machine_behind file shared before d) (λ m. made (λ ms. m ∷ ms) (machines_behind file shared (before ++ m.name ∷ []) ds))
 
 -- an array of at most 256
 abbrev pub few : Data → Result Items Fault
 few d = once (expected part.Whole why.Shape (as_array d)) (λ items. provided (nat_le (items_len items) max_machines) (wrong part.Whole why.Count) items)
 
 abbrev pub machines_in : Data → Data → Result (List Machine) Fault
-machines_in file d = once (few d) (machines_behind file [])
+machines_in file d = once (shared_in file) (λ shared. once (few d) (machines_behind file shared []))

@@ -4,9 +4,10 @@ use Rattle.tw_machine_text.specs.Tree.{Block}
 use Rattle.tw_machine_text.specs.Views.{body}
 use Rattle.tw_machine_text.specs.declared.kinds.Kind.{Kind}
 use Rattle.tw_machine_text.specs.declared.kinds.Kind.TheVariants as kind
-use Rattle.tw_machine_declaration.specs.Seen.{Declaration, Declares, Name, Output, Value, parameter, list_parameter, register, registers, queue, queues, table, list_table, observation, procedure, timer, timer_array, number, together, greatest, due, next, declaration, name, output, value}
+use Rattle.tw_machine_declaration.specs.Seen.{Declaration, Declares, Name, Output, Value, parameter, list_parameter, register, registers, queue, queues, table, list_table, observation, procedure, timer, timer_array, fixed, field, number, together, greatest, due, next, declaration, name, output, value}
 use Rattle.tw_machine_declaration.specs.declared.declaration.Constant.{Constant}
 use Rattle.tw_machine_declaration.specs.declared.declaration.Timer.{Timer}
+use Rattle.tw_machine_file.specs.Constants.{Numbers, numbers_in}
 use Rattle.tw_machine_file.specs.declared.declarations.Scope as rust
 use Rattle.tw_machine_file.specs.declared.machine.FileMachine.{FileMachine}
 use Rattle.tw_machine_file.specs.declared.machine.Starts as rust_starts
@@ -26,22 +27,24 @@ kind_of observation = kind.Observation
 kind_of (procedure k) = kind.Procedure k
 kind_of (timer before) = kind.Timer before
 kind_of (timer_array before last) = kind.TimerArray before last
+kind_of (fixed n) = kind.Constant n
+kind_of field = kind.Nothing
 kind_of (number c) = kind.Nothing
 kind_of (together ts) = kind.Nothing
 kind_of (greatest t) = kind.Nothing
 kind_of (due ts) = kind.Nothing
 kind_of (next ts) = kind.Nothing
 
--- what is declared so far: all names in order, and of these the parameters that are numbers, those that are lists, and the timers; whether the machine has a member `timers`
+-- what is declared so far: all names in order, and of these those that stand for numbers, the parameters that are lists, and the timers; whether the machine has a member `timers`
 pub record Scope : Type 0 where
   pub names : List Name
-  pub numbers : List (List ℕ)
+  pub numbers : Numbers
   pub lists : List (List ℕ)
   pub timed : Bool
   pub timers : List Timer
 
 abbrev pub scope : rust.Scope → Scope
-scope s = record { names = map name s.names.items; numbers = map string_bytes s.numbers.items; lists = map string_bytes s.lists.items; timed = s.timed; timers = s.timers.items }
+scope s = record { names = map name s.names.items; numbers = numbers_in s.numbers; lists = map string_bytes s.lists.items; timed = s.timed; timers = s.timers.items }
 
 -- what a machine does, sends and shows, and whether it sends at any time
 pub record Texts : Type 0 where

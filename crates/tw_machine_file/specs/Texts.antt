@@ -6,7 +6,7 @@ use Rattle.serde_json.specs.Find.{as_array, as_str}
 use Rattle.tw_machine_text.specs.Tree.{Block, Empty, Tree}
 use Rattle.tw_machine_text.specs.Kinds.{kinds_of}
 use Rattle.tw_machine_text.specs.TextViews.{names_of, declarations}
-use Rattle.tw_machine_text.specs.declared.kinds.Kind.{Kind}
+use Rattle.tw_machine_text.specs.declared.kinds.Meaning.{Meaning}
 use Rattle.tw_machine_text.specs.declared.kinds.Member.{Member}
 use Rattle.tw_machine_text.specs.declared.kinds.Timing.{Timing}
 use Rattle.tw_machine_declaration.specs.Seen.{Value, whole, tree}
@@ -21,7 +21,7 @@ use Rattle.tw_machine_file.specs.declared.fault.Why.TheVariants as why
 pub record Language : Type 0 where
   pub names : List (List ℕ)
   pub timing : Option Timing
-  pub kinds : List Kind
+  pub kinds : List Meaning
 
 -- what is said, or that the text of this part says nothing
 abbrev pub said : {A : Type 0} → Part → Option A → Result A Fault

@@ -5,7 +5,7 @@ use Rattle.std.specs.Option.{option_map_or}
 use Rattle.serde_json.specs.Data.{Data, Items, no_items, item}
 use Rattle.serde_json.specs.Find.{as_array, get}
 use Rattle.tw_machine_text.specs.Kinds.{kinds_of}
-use Rattle.tw_machine_text.specs.declared.kinds.Kind.{Kind}
+use Rattle.tw_machine_text.specs.declared.kinds.Meaning.{Meaning}
 use Rattle.tw_machine_text.specs.Tree.{Block}
 use Rattle.tw_machine_declaration.specs.Seen.{Output, Value}
 use Rattle.tw_machine_declaration.specs.Timed.{Names, TimerOutput, before_name, ended, internal, outputs, ports_name, pushes, timing}
@@ -26,7 +26,7 @@ absent at None = Ok tt
 absent at (Some d) = Err (wrong at why.Unknown)
 
 -- the language of a machine with timers, whose texts may name these: that of texts of no timer with a count
-unfoldable pub language_with : List (List ℕ × Kind) → Names → Language
+unfoldable pub language_with : List (List ℕ × Meaning) → Names → Language
 language_with declared n = record { names = map (λ d. d.0) declared; timing = Some (timing n None); kinds = kinds_of declared }
 
 -- the name of how many timers are before the one at place k, where this has a count

@@ -3,6 +3,7 @@ use Rattle.std.specs.Prelude.{◌≡◌, ◌++◌, ◌∷◌, [], ℕ, List, Opt
 use Rattle.tw_machine_text.specs.Kinds.{kinds_of}
 use Rattle.tw_machine_text.specs.declared.kinds.Kind.{Kind}
 use Rattle.tw_machine_text.specs.declared.kinds.Kind.TheVariants.{Register, RegisterArray, Parameter, Queue}
+use Rattle.tw_machine_text.specs.declared.kinds.Meaning.{Meaning}
 use Rattle.tw_machine_text.specs.declared.kinds.Member.TheVariants as member
 use Rattle.tw_machine_text.specs.declared.words.Builtin.TheVariants.{Now}
 use Rattle.tw_machine_text.specs.Tree.{Block, Tree, Known, Draw, Passivate, Empty, Then}
@@ -19,11 +20,14 @@ visible =
     (codes "due", RegisterArray) ∷ (codes "next", Register) ∷ (codes "least", Parameter) ∷ (codes "b", Parameter) ∷ (codes "greatest", Parameter) ∷ (codes "b2", Parameter) ∷ (codes "greatest2", Parameter)
     ∷ (codes "all", Parameter) ∷ (codes "ports", Queue) ∷ (codes "values", Queue) ∷ []
 
+abbrev pub meant : List (List ℕ × Meaning)
+meant = map (λ d. (d.0, record { kind = d.1; field = None })) visible
+
 abbrev pub says : List ℕ → Option Block
-says text = program_said (map (λ d. d.0) visible) None (kinds_of visible) [] text
+says text = program_said (map (λ d. d.0) visible) None (kinds_of meant) [] text
 
 abbrev pub tells : List ℕ → Option Tree
-tells text = tree_said member.Value (map (λ d. d.0) visible) None (kinds_of visible) text
+tells text = tree_said member.Value (map (λ d. d.0) visible) None (kinds_of meant) text
 
 -- the end of both programs
 abbrev pub end_text : List ℕ

@@ -10,7 +10,7 @@ use Rattle.tw_machine_declaration.specs.Seen.{Declares, timer, timer_array}
 use Rattle.tw_machine_declaration.specs.Timed.{Names, names_behind, before_name, greatest_name}
 use Rattle.tw_machine_declaration.specs.declared.declaration.Constant.{Constant}
 use Rattle.tw_machine_declaration.specs.declared.declaration.Timer.{Timer}
-use Rattle.tw_machine_file.specs.Constants.{constant, count}
+use Rattle.tw_machine_file.specs.Constants.{Numbers, constant, count}
 use Rattle.tw_machine_file.specs.Declares.{new_name}
 use Rattle.tw_machine_file.specs.Fault.{Fault, wrong, once, made, expected, provided}
 use Rattle.tw_machine_file.specs.Names.{is_name}
@@ -36,12 +36,12 @@ abbrev pub name_of : ℕ → Option Data → Result (List ℕ) Fault
 name_of k d = once (expected (part.TimerName k) why.Missing d) (λ d. expected (part.TimerName k) why.Shape (as_str d))
 
 -- how many are alike, 1 to 16, if that is said
-abbrev pub count_in : ℕ → List (List ℕ) → Option Data → Result (Option Constant) Fault
+abbrev pub count_in : ℕ → Numbers → Option Data → Result (Option Constant) Fault
 count_in k numbers None = Ok None
 count_in k numbers (Some d) = made Some (count (part.TimerCount k) max_count numbers d)
 
 -- in how many ticks of the start it is due, if that is said
-abbrev pub first_in : ℕ → List (List ℕ) → Option Data → Result (Option Constant) Fault
+abbrev pub first_in : ℕ → Numbers → Option Data → Result (Option Constant) Fault
 first_in k numbers None = Ok None
 first_in k numbers (Some d) = made Some (constant (part.TimerFirst k) numbers d)
 
@@ -57,7 +57,7 @@ abbrev pub timer_made : Option Constant → Option Constant → Timer
 timer_made count first = record { count = count; first = first }
 
 -- its count, and when it is first due
-abbrev pub timer_in : ℕ → List (List ℕ) → Data → Result Timer Fault
+abbrev pub timer_in : ℕ → Numbers → Data → Result Timer Fault
 timer_in k numbers d =
     once (count_in k numbers (get (codes "count") d)) (λ count. made (timer_made count) (first_in k numbers (get (codes "first") d)))
 
@@ -86,7 +86,7 @@ timers_in s None = Ok s
 timers_in s (Some d) = once (few_timers d) (λ items. timers_named (names_behind (length s.names + items_len items) (items_len items)) s items)
 
 -- the member `least`, which stands beside `timers` alone
-abbrev pub least_by : (timed : Bool) → List (List ℕ) → Data → Result (Option Constant) Fault
+abbrev pub least_by : (timed : Bool) → Numbers → Data → Result (Option Constant) Fault
 least_by true numbers d = made Some (count part.Least max_tick numbers d)
 least_by false numbers d = Err (wrong part.Least why.Unknown)
 

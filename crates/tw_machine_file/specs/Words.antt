@@ -6,7 +6,7 @@ use Rattle.serde_json.specs.Find.{as_array}
 use Rattle.tw_machine.specs.Limits.{max_words}
 use Rattle.tw_machine_text.specs.Kinds.{is_shown}
 use Rattle.tw_machine_text.specs.Tree.{Tree, Number, Name, Indexed}
-use Rattle.tw_machine_text.specs.declared.kinds.Kind.{Kind}
+use Rattle.tw_machine_text.specs.declared.kinds.Meaning.{Meaning}
 use Rattle.tw_machine_text.specs.declared.kinds.Member.TheVariants as member
 use Rattle.tw_machine_declaration.specs.Seen.{Value, tree}
 use Rattle.tw_machine_file.specs.Fault.{Fault, wrong, once, made, expected, provided}
@@ -26,7 +26,7 @@ is_same_tree (Indexed a i) (Indexed b j) = a == b && is_same_number i j
 is_same_tree _ _ = false
 
 -- whether a queue, an array register or an observation is that of another word
-abbrev pub is_again : List Kind → Value → Value → Bool
+abbrev pub is_again : List Meaning → Value → Value → Bool
 is_again kinds (tree a) (tree b) = is_shown kinds a && is_same_tree a b
 is_again kinds _ _ = false
 

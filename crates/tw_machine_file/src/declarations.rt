@@ -5,13 +5,17 @@ ghost use Rattle.serde_json.specs.View.{view, items_view, members_view};
 ghost use Rattle.tw_machine_text.specs.Text.{position};
 ghost use Rattle.tw_machine_declaration.specs.Seen.{name, thing};
 ghost use Rattle.tw_machine_file.specs.Answers.{Gives, FailsBy, data_of, names_in};
-ghost use Rattle.tw_machine_file.specs.Declares.{declare, declare_all, declared_in, is_list, is_text, names_list, new_name, nothing_declared, few_observations, observation_named, observation_of, observations_in, observations_of, pair_by, pair_name, pair_of, procedure_named, procedures_in, procedures_named, parameter_named, parameter_of, parameters_in, parameters_of, part_of, queue_by, queue_part, register_by, scope_of, table_by, texts, thing_of, with_parameter};
+ghost use Rattle.tw_machine_file.specs.Declares.{declare, declare_all, declared_in, is_list, is_text, names_list, new_name, nothing_declared, few_observations, observation_named, observation_of, observations_in, observations_of, pair_by, pair_name, pair_of, procedure_named, procedures_in, procedures_named, parameter_named, parameter_of, parameters_in, parameters_of, parameters_said, part_of, queue_by, queue_part, register_by, scope_of, table_by, texts, thing_of, with_parameter};
 ghost use Rattle.tw_machine_file.specs.Names.{is_among};
+ghost use Rattle.tw_machine_file.specs.Constants.{numbers_in};
 ghost use Rattle.tw_machine_file.specs.Seen.{scope};
+ghost use Rattle.tw_machine_file.specs.Shared.{shared};
 
-use crate::constants::{constant, constants, count, wholes};
+use crate::constants::{Numbers, constant, constants, count, wholes};
 use crate::fault::{MachineFault, Part, Why};
+use crate::hiding::{constants_left, shared_names};
 use crate::names::{is_name, is_own_name, place_in};
+use crate::shared::SharedNames;
 use crate::values::{are_few, has_items, is_long, items_of};
 use serde_json::{Map, Value};
 use std::alloc::{AllocError, Global};
@@ -19,12 +23,12 @@ use tw_machine::limits::{MAX_CELLS, MAX_NUMBERS, MAX_OBSERVATIONS, MAX_QUEUES, M
 use tw_machine_compiler::{Constant, Named, Thing, Timer};
 use tw_machine_text::same_text;
 
-/// What is declared so far: all names in order, and of these the parameters that are numbers, those that are lists, and
-/// the timers.
+/// What is declared so far: all names in order, and of these those that stand for numbers, the parameters that are lists,
+/// and the timers.
 #[derive(Drop)]
 pub(crate) struct Scope {
     pub names: Vec<Named>,
-    pub numbers: Vec<String>,
+    pub numbers: Numbers,
     pub lists: Vec<String>,
     /// Whether the machine has the member `timers`.
     pub timed: bool,
@@ -51,10 +55,10 @@ impl Section {
     }
 }
 
-fn register(alloc: Global, numbers: &[String], value: &Value) -> Result<Thing, MachineFault>
-    ensures ok { Gives result thing (register_by (names_in numbers.now) (view value.now)
+fn register(alloc: Global, numbers: &Numbers, value: &Value) -> Result<Thing, MachineFault>
+    ensures ok { Gives result thing (register_by (numbers_in numbers.now) (view value.now)
         (as_array (view value.now))) }
-    ensures err { FailsBy result (register_by (names_in numbers.now) (view value.now)
+    ensures err { FailsBy result (register_by (numbers_in numbers.now) (view value.now)
         (as_array (view value.now))) }
 {
     let Some(starts) = items_of(value) else {
@@ -69,13 +73,13 @@ fn register(alloc: Global, numbers: &[String], value: &Value) -> Result<Thing, M
 /// A count in the array of a queue.
 fn queue_part(
     most: u64,
-    numbers: &[String],
+    numbers: &Numbers,
     value: &Value,
     index: usize,
 ) -> Result<Constant, MachineFault>
     ensures ok { Gives result
-        (λ c. c) (queue_part most (names_in numbers.now) (at index (view value.now))) }
-    ensures err { FailsBy result (queue_part most (names_in numbers.now)
+        (λ c. c) (queue_part most (numbers_in numbers.now) (at index (view value.now))) }
+    ensures err { FailsBy result (queue_part most (numbers_in numbers.now)
         (at index (view value.now))) }
 {
     match value.get(index) {
@@ -84,10 +88,10 @@ fn queue_part(
     }
 }
 
-fn queue(numbers: &[String], value: &Value) -> Result<Thing, MachineFault>
-    ensures ok { Gives result thing (queue_by (names_in numbers.now) (view value.now)
+fn queue(numbers: &Numbers, value: &Value) -> Result<Thing, MachineFault>
+    ensures ok { Gives result thing (queue_by (numbers_in numbers.now) (view value.now)
         (as_array (view value.now))) }
-    ensures err { FailsBy result (queue_by (names_in numbers.now) (view value.now)
+    ensures err { FailsBy result (queue_by (numbers_in numbers.now) (view value.now)
         (as_array (view value.now))) }
 {
     let Some(parts) = items_of(value) else {
@@ -137,8 +141,8 @@ fn thing_of(
     ensures err { FailsBy result (thing_of section (scope so_far.now) (view value.now)) }
 {
     match section {
-        Section::Registers => register(alloc, so_far.numbers.as_slice(), value),
-        Section::Queues => queue(so_far.numbers.as_slice(), value),
+        Section::Registers => register(alloc, &so_far.numbers, value),
+        Section::Queues => queue(&so_far.numbers, value),
         Section::Tables => table(alloc, so_far.lists.as_slice(), value),
     }
 }
@@ -281,8 +285,8 @@ fn with_parameter(
         so_far.lists.push(again)?;
         so_far.names.push(Named { name, thing })?;
     } else {
-        let thing = Thing::Parameter(so_far.numbers.len());
-        so_far.numbers.push(again)?;
+        let thing = Thing::Parameter(so_far.numbers.parameters.len());
+        so_far.numbers.parameters.push(again)?;
         so_far.names.push(Named { name, thing })?;
     }
     Ok(so_far)
@@ -323,22 +327,16 @@ fn parameter_of(
 
 fn parameters_of(
     alloc: Global,
-    timed: bool,
     tables: Option<&Value>,
+    so_far: Scope,
     values: &[Value],
 ) -> Result<Scope, MachineFault>
-    ensures ok { Gives result scope (parameters_of (data_of tables.entry) (nothing_declared timed)
+    ensures ok { Gives result scope (parameters_of (data_of tables.entry) (scope so_far)
         (items_view values.now)) }
-    ensures err { FailsBy result (parameters_of (data_of tables.entry) (nothing_declared timed)
+    ensures err { FailsBy result (parameters_of (data_of tables.entry) (scope so_far)
         (items_view values.now)) }
 {
-    let mut all = Scope {
-        names: Vec::new(alloc),
-        numbers: Vec::new(alloc),
-        lists: Vec::new(alloc),
-        timed,
-        timers: Vec::new(alloc),
-    };
+    let mut all = so_far;
     for value in values {
         all = parameter_of(alloc, tables, all, value)?;
     }
@@ -347,22 +345,22 @@ fn parameters_of(
 
 fn parameters_in(
     alloc: Global,
-    timed: bool,
     tables: Option<&Value>,
+    so_far: Scope,
     member: Option<&Value>,
 ) -> Result<Scope, MachineFault>
-    ensures ok { Gives result scope (parameters_in timed (data_of tables.entry)
+    ensures ok { Gives result scope (parameters_in (scope so_far) (data_of tables.entry)
         (data_of member.entry)) }
-    ensures err { FailsBy result (parameters_in timed (data_of tables.entry)
+    ensures err { FailsBy result (parameters_in (scope so_far) (data_of tables.entry)
         (data_of member.entry)) }
 {
     let Some(value) = member else {
-        return parameters_of(alloc, timed, tables, &[]);
+        return Ok(so_far);
     };
     let Some(values) = items_of(value) else {
         return Err(MachineFault::Wrong(Part::Parameters, Why::Shape));
     };
-    parameters_of(alloc, timed, tables, values)
+    parameters_of(alloc, tables, so_far, values)
 }
 
 /// One observation more.
@@ -513,14 +511,45 @@ fn has_timers(value: &Value) -> bool
     value.get("timers").is_some()
 }
 
-/// All names of a machine but those of its procedures and timers, in this order: its parameters, registers, queues, tables and observations.
-pub(crate) fn scope_of(alloc: Global, value: &Value) -> Result<Scope, MachineFault>
-    ensures ok { Gives result scope (scope_of (view value.now)) }
-    ensures err { FailsBy result (scope_of (view value.now)) }
+/// What a machine has before it declares anything: what its file says for it.
+fn nothing_declared(alloc: Global, said: &SharedNames, value: &Value) -> Result<Scope, AllocError>
+    ensures { IfOk result (λ s. scope s ≡ nothing_declared (shared said.now) (view value.now)) }
 {
-    let timed = has_timers(value);
+    let constants = constants_left(alloc, value, &said.constants)?;
+    let names = shared_names(alloc, value, &constants, &said.fields)?;
+    Ok(Scope {
+        names,
+        numbers: Numbers {
+            parameters: Vec::new(alloc),
+            constants,
+        },
+        lists: Vec::new(alloc),
+        timed: has_timers(value),
+        timers: Vec::new(alloc),
+    })
+}
+
+/// Behind the names that its file gives it the parameters of a machine.
+fn parameters_said(alloc: Global, said: &SharedNames, value: &Value) -> Result<Scope, MachineFault>
+    ensures ok { Gives result scope (parameters_said (shared said.now) (view value.now)) }
+    ensures err { FailsBy result (parameters_said (shared said.now) (view value.now)) }
+{
+    let nothing = nothing_declared(alloc, said, value)?;
+    parameters_in(alloc, value.get("tables"), nothing, value.get("parameters"))
+}
+
+/// All names of a machine but those of its procedures and timers, in this order: those that its file gives it, its
+/// parameters, registers, queues, tables and observations.
+pub(crate) fn scope_of(
+    alloc: Global,
+    said: &SharedNames,
+    value: &Value,
+) -> Result<Scope, MachineFault>
+    ensures ok { Gives result scope (scope_of (shared said.now) (view value.now)) }
+    ensures err { FailsBy result (scope_of (shared said.now) (view value.now)) }
+{
     let tables = value.get("tables");
-    let all = parameters_in(alloc, timed, tables, value.get("parameters"))?;
+    let all = parameters_said(alloc, said, value)?;
     let all = declared_in(alloc, Section::Registers, all, value.get("registers"))?;
     let all = declared_in(alloc, Section::Queues, all, value.get("queues"))?;
     let all = declared_in(alloc, Section::Tables, all, tables)?;

@@ -17,6 +17,7 @@ ghost use Rattle.tw_machine_file.specs.Examples.{
   ReservedRegister,
   Source,
 };
+ghost use Rattle.tw_machine_file.specs.SharedExamples.{Hidden, Left, Named, Part, Refused, Says};
 ghost use Rattle.tw_machine_file.specs.TimerExamples.{EndWritten, InternalWritten, TestWritten};
 
 /// What a value declares, and what is the first thing that is wrong with eight others.
@@ -53,4 +54,14 @@ pub fn timers()
     ensures end { EndWritten }
     ensures internal { InternalWritten }
     ensures test { TestWritten }
+{}
+
+/// What files say once, what a machine has of it, and what is wrong with others.
+pub fn shared()
+    ensures says { Says }
+    ensures part { Part }
+    ensures left { Left }
+    ensures hidden { Hidden }
+    ensures named { Named }
+    ensures refused { Refused }
 {}

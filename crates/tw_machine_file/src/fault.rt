@@ -17,9 +17,13 @@ pub enum Sender {
     Timer(usize),
 }
 
-/// A part of a machine, or of a component of one. Entries are numbered from 0.
+/// A part of what a file says once, of a machine, or of a component of one. Entries are numbered from 0.
 #[derive(Clone, Copy, Debug, PartialEq, Eq)]
 pub enum Part {
+    /// The member `fields` of the file.
+    Fields,
+    /// The member `constants` of the file.
+    Constants,
     /// The machine itself, or a member that no machine has.
     Whole,
     Name,
@@ -87,8 +91,8 @@ pub enum Why {
     Name,
     /// A name, a queue, an array register or an observation that has come before.
     Twice,
-    /// Neither a whole number of 64 bits with a sign nor the name of a parameter that is a number; of a table, the name
-    /// of no parameter.
+    /// Neither a whole number of 64 bits with a sign nor the name of a parameter that is a number or of a constant; of a
+    /// table, the name of no parameter.
     Constant,
     /// A number out of its range, or too few or too many entries.
     Count,

@@ -4,6 +4,7 @@ ghost use Rattle.serde_json.specs.Find.{get};
 ghost use Rattle.serde_json.specs.View.{view};
 ghost use Rattle.tw_machine_declaration.specs.Seen as plain;
 ghost use Rattle.tw_machine_file.specs.Answers.{Gives, FailsBy, data_of, names_in};
+ghost use Rattle.tw_machine_file.specs.Constants.{numbers_in};
 ghost use Rattle.tw_machine_file.specs.Machine.{
   all_names,
   first_in,
@@ -20,14 +21,16 @@ ghost use Rattle.tw_machine_file.specs.Machine.{
   timers_of,
 };
 ghost use Rattle.tw_machine_file.specs.Seen.{machine, scope, starts as seen_starts, texts as seen_texts};
+ghost use Rattle.tw_machine_file.specs.Shared.{file_field, shared};
 ghost use Rattle.tw_machine_file.specs.Texts.{language_of};
 
-use crate::constants::{constant, count};
+use crate::constants::{Numbers, constant, count};
 use crate::declarations::{Scope, procedures_in, scope_of};
 use crate::fault::{MachineFault, Part, Sender, Why};
 use crate::names::{is_machine_name, is_named};
 use crate::outputs::outputs_in;
 use crate::procedures::procedures_said;
+use crate::shared::{FileField, SharedNames};
 use crate::texts::{Language, declared_of, program_in};
 use crate::timed::timed_texts;
 use crate::timers::{least_in, timers_in};
@@ -134,9 +137,9 @@ fn head_of<'a>(before: &[String], value: &'a Value) -> Result<&'a str, MachineFa
     Ok(name)
 }
 
-fn random_in(numbers: &[String], member: Option<&Value>) -> Result<Constant, MachineFault>
-    ensures ok { Gives result (λ c. c) (random_in (names_in numbers.now) (data_of member.entry)) }
-    ensures err { FailsBy result (random_in (names_in numbers.now) (data_of member.entry)) }
+fn random_in(numbers: &Numbers, member: Option<&Value>) -> Result<Constant, MachineFault>
+    ensures ok { Gives result (λ c. c) (random_in (numbers_in numbers.now) (data_of member.entry)) }
+    ensures err { FailsBy result (random_in (numbers_in numbers.now) (data_of member.entry)) }
 {
     match member {
         Some(value) => constant(Part::Random, numbers, value),
@@ -147,12 +150,12 @@ fn random_in(numbers: &[String], member: Option<&Value>) -> Result<Constant, Mac
 /// The first wait, which no machine with timers says.
 fn first_in(
     timed: bool,
-    numbers: &[String],
+    numbers: &Numbers,
     member: Option<&Value>,
 ) -> Result<Option<Constant>, MachineFault>
     ensures ok { Gives result
-        (λ c. c) (first_in timed (names_in numbers.now) (data_of member.entry)) }
-    ensures err { FailsBy result (first_in timed (names_in numbers.now) (data_of member.entry)) }
+        (λ c. c) (first_in timed (numbers_in numbers.now) (data_of member.entry)) }
+    ensures err { FailsBy result (first_in timed (numbers_in numbers.now) (data_of member.entry)) }
 {
     match member {
         Some(_) if timed => Err(MachineFault::Wrong(Part::First, Why::Unknown)),
@@ -164,12 +167,12 @@ fn first_in(
 /// The greatest wait, which no machine with timers says.
 fn longest_in(
     timed: bool,
-    numbers: &[String],
+    numbers: &Numbers,
     member: Option<&Value>,
 ) -> Result<Option<Constant>, MachineFault>
     ensures ok { Gives result
-        (λ c. c) (longest_in timed (names_in numbers.now) (data_of member.entry)) }
-    ensures err { FailsBy result (longest_in timed (names_in numbers.now) (data_of member.entry)) }
+        (λ c. c) (longest_in timed (numbers_in numbers.now) (data_of member.entry)) }
+    ensures err { FailsBy result (longest_in timed (numbers_in numbers.now) (data_of member.entry)) }
 {
     match member {
         Some(_) if timed => Err(MachineFault::Wrong(Part::Longest, Why::Unknown)),
@@ -181,13 +184,13 @@ fn longest_in(
 /// The members behind `random` that are constants.
 fn constants_of(
     timed: bool,
-    numbers: &[String],
+    numbers: &Numbers,
     random: Constant,
     value: &Value,
 ) -> Result<Starts, MachineFault>
-    ensures ok { Gives result seen_starts (starts_of (view value.now) timed (names_in numbers.now)
+    ensures ok { Gives result seen_starts (starts_of (view value.now) timed (numbers_in numbers.now)
         random) }
-    ensures err { FailsBy result (starts_of (view value.now) timed (names_in numbers.now)
+    ensures err { FailsBy result (starts_of (view value.now) timed (numbers_in numbers.now)
         random) }
 {
     let first = first_in(timed, numbers, value.get("first"))?;
@@ -250,12 +253,19 @@ fn texts_of(alloc: Global, language: &Language<'_>, value: &Value) -> Result<Tex
     })
 }
 
-/// What is said in the language of a machine of these names.
-fn texts_in(alloc: Global, all: &Scope, value: &Value) -> Result<Texts, MachineFault>
-    ensures ok { Gives result seen_texts (texts_in (scope all.now) (view value.now)) }
-    ensures err { FailsBy result (texts_in (scope all.now) (view value.now)) }
+/// What is said in the language of a machine of these names, in a file of these fields.
+fn texts_in(
+    alloc: Global,
+    fields: &[FileField],
+    all: &Scope,
+    value: &Value,
+) -> Result<Texts, MachineFault>
+    ensures ok { Gives result seen_texts
+        (texts_in (map file_field fields.now) (scope all.now) (view value.now)) }
+    ensures err { FailsBy result
+        (texts_in (map file_field fields.now) (scope all.now) (view value.now)) }
 {
-    let declared = declared_of(alloc, &all.names)?;
+    let declared = declared_of(alloc, fields, &all.names)?;
     if all.timed {
         timed_texts(alloc, &declared, all.timer_names(), value)
     } else {
@@ -265,6 +275,21 @@ fn texts_in(alloc: Global, all: &Scope, value: &Value) -> Result<Texts, MachineF
         };
         texts_of(alloc, &plain, value)
     }
+}
+
+/// What is said in the language of a machine of these names, in a file that says this once.
+fn texts_said(
+    alloc: Global,
+    said: &SharedNames,
+    all: &Scope,
+    value: &Value,
+) -> Result<Texts, MachineFault>
+    ensures ok { Gives result seen_texts
+        (texts_in (shared said.now).fields (scope all.now) (view value.now)) }
+    ensures err { FailsBy result
+        (texts_in (shared said.now).fields (scope all.now) (view value.now)) }
+{
+    texts_in(alloc, said.fields.as_slice(), all, value)
 }
 
 /// The timers of a machine of these names, if it has the member.
@@ -310,9 +335,17 @@ fn machine_made(
     ensures { IfOk result (λ m. machine m
         ≡ machine_made name.now (scope all) (seen_starts starts) least (seen_texts texts)) }
 {
-    let timers = timers_of(all.timed, all.timers, least);
-    let names = all_names(alloc, all.names, &timers, texts.sends)?;
+    let Scope {
+        names,
+        numbers,
+        lists,
+        timed,
+        timers,
+    } = all;
+    let timers = timers_of(timed, timers, least);
+    let names = all_names(alloc, names, &timers, texts.sends)?;
     let name = String::from_str(alloc, name)?;
+    let Numbers { parameters, .. } = numbers;
     Ok(FileMachine {
         name,
         declaration: Declaration {
@@ -326,12 +359,12 @@ fn machine_made(
             outputs: texts.outputs,
             words: texts.words,
         },
-        numbers: all.numbers,
-        lists: all.lists,
+        numbers: parameters,
+        lists,
     })
 }
 
-/// The machine that an object of `models` declares, behind machines of these names.
+/// The machine that an object of `models` declares, in a file that says this once, behind machines of these names.
 ///
 /// The first fault in the order of its members is answered ([`MachineFault`], refusal 21): the value is no object; its
 /// name, which none before has; a member that no machine has; then parameters, registers, queues, tables, observations,
@@ -343,19 +376,22 @@ fn machine_made(
 /// levels by itself. The place in a text is meant to be that of the first word that cannot stand there.
 pub fn machine_of(
     alloc: Global,
+    said: &SharedNames,
     before: &[String],
     value: &Value,
 ) -> Result<FileMachine, MachineFault>
-    ensures ok { Gives result machine (machine_of (names_in before.now) (view value.now)) }
-    ensures err { FailsBy result (machine_of (names_in before.now) (view value.now)) }
+    ensures ok { Gives result machine
+        (machine_of (shared said.now) (names_in before.now) (view value.now)) }
+    ensures err { FailsBy result
+        (machine_of (shared said.now) (names_in before.now) (view value.now)) }
 {
     let name = head_of(before, value)?;
-    let scope = scope_of(alloc, value)?;
+    let scope = scope_of(alloc, said, value)?;
     let random = seed_of(&scope, value)?;
     let scope = procedures_in(alloc, scope, value.get("procedures"))?;
     let starts = starts_of(&scope, random, value)?;
     let scope = timers_in(alloc, scope, value.get("timers"))?;
     let least = least_in(&scope, value.get("least"))?;
-    let texts = texts_in(alloc, &scope, value)?;
+    let texts = texts_said(alloc, said, &scope, value)?;
     Ok(machine_made(alloc, name, scope, starts, least, texts)?)
 }

@@ -16,10 +16,13 @@ ghost use Rattle.tw_machine_file.specs.Machines.{
 };
 ghost use Rattle.tw_machine_file.specs.Seen as seen;
 ghost use Rattle.tw_machine_file.specs.Seen.{machine};
+ghost use Rattle.tw_machine_file.specs.Shared.{shared};
 
 use crate::fault::{MachineFault, Part, Why};
 use crate::given::given_of;
 use crate::machine::{FileMachine, machine_of};
+use crate::reading::shared_in;
+use crate::shared::SharedNames;
 use crate::used::is_used;
 use crate::values::{are_few, items_of};
 use serde_json::Value;
@@ -96,15 +99,16 @@ fn held(alloc: Global, file: &Value, machine: &FileMachine) -> Result<(), Machin
 fn machine_behind(
     alloc: Global,
     file: &Value,
+    said: &SharedNames,
     before: &[String],
     value: &Value,
 ) -> Result<FileMachine, MachineFault>
-    ensures ok { Gives result machine
-        (machine_behind (view file.now) (map string_bytes before.now) (view value.now)) }
-    ensures err { FailsBy result
-        (machine_behind (view file.now) (map string_bytes before.now) (view value.now)) }
+    ensures ok { Gives result machine (machine_behind (view file.now) (shared said.now)
+        (map string_bytes before.now) (view value.now)) }
+    ensures err { FailsBy result (machine_behind (view file.now) (shared said.now)
+        (map string_bytes before.now) (view value.now)) }
 {
-    let machine = machine_of(alloc, before, value)?;
+    let machine = machine_of(alloc, said, before, value)?;
     held(alloc, file, &machine)?;
     Ok(machine)
 }
@@ -114,16 +118,18 @@ fn machine_behind(
 fn machines_behind(
     alloc: Global,
     file: &Value,
+    said: &SharedNames,
     values: &[Value],
 ) -> Result<Vec<FileMachine>, MachineFault>
     ensures ok { Gives result (λ ms. map machine ms.items)
-        (machines_behind (view file.now) [] (items_view values.now)) }
-    ensures err { FailsBy result (machines_behind (view file.now) [] (items_view values.now)) }
+        (machines_behind (view file.now) (shared said.now) [] (items_view values.now)) }
+    ensures err { FailsBy result
+        (machines_behind (view file.now) (shared said.now) [] (items_view values.now)) }
 {
     let mut names = Vec::new(alloc);
     let mut machines = Vec::new(alloc);
     for value in values {
-        let machine = machine_behind(alloc, file, names.as_slice(), value)?;
+        let machine = machine_behind(alloc, file, said, names.as_slice(), value)?;
         names.push(String::from_str(alloc, machine.name.as_str())?)?;
         machines.push(machine)?;
     }
@@ -146,7 +152,7 @@ fn few(models: &Value) -> Result<&[Value], MachineFault>
 
 /// The machines that the member `models` of a file declares: an array of at most 256 of them, in order.
 ///
-/// The first fault is answered ([`MachineFault`], refusal 21): it is no such array; then machines in order, of each
+/// The first fault is answered ([`MachineFault`], refusal 21): what [`shared_in`] refuses; it is no such array; then machines in order, of each
 /// what [`machine_of`] refuses behind those before it, and then, where no component of the file uses it
 /// ([`is_used`]), the first limit that it passes with nothing given for its parameters. A machine that a component
 /// uses is held to its limits by [`program_in`] alone. Want of memory (4) may come at any point instead. After any of
@@ -160,6 +166,7 @@ pub fn machines_in(
         (machines_in (view file.now) (view models.now)) }
     ensures err { FailsBy result (machines_in (view file.now) (view models.now)) }
 {
+    let said = shared_in(alloc, file)?;
     let values = few(models)?;
-    machines_behind(alloc, file, values)
+    machines_behind(alloc, file, &said, values)
 }

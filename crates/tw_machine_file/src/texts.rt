@@ -6,7 +6,9 @@ ghost use Rattle.tw_machine_text.specs.Views.{body, tree};
 ghost use Rattle.tw_machine_declaration.specs.Seen.{name, thing, value};
 ghost use Rattle.tw_machine_file.specs.Answers.{Gives, FailsBy, data_of};
 ghost use Rattle.tw_machine_file.specs.Said.{SaysPrograms, SaysTrees};
+ghost use Rattle.tw_machine_file.specs.Machine.{declared};
 ghost use Rattle.tw_machine_file.specs.Seen.{kind_of};
+ghost use Rattle.tw_machine_file.specs.Shared.{file_field};
 ghost use Rattle.tw_machine_file.specs.Texts.{
   language_of,
   lines,
@@ -20,12 +22,14 @@ ghost use Rattle.tw_machine_file.specs.Texts.{
 };
 
 use crate::fault::{MachineFault, Part, Why};
+use crate::hiding::field_named;
+use crate::shared::FileField;
 use crate::values::items_of;
 use serde_json::Value;
 use std::alloc::{AllocError, Global};
 use tw_machine_compiler::{Named, Thing, Value as Said};
 use tw_machine_text::{
-    Block, Declared, Kind, MAX_NODES, Member, SourceExpr, TextRefused, Timing, kinds_of,
+    Block, Declared, Kind, MAX_NODES, Meaning, Member, SourceExpr, TextRefused, Timing, kinds_of,
     read_member, read_program,
 };
 
@@ -55,7 +59,9 @@ fn kind_of(declared: &Thing) -> Kind
         Thing::Procedure(place) => Kind::Procedure(*place),
         Thing::Timer(before) => Kind::Timer(*before),
         Thing::TimerArray(before, last) => Kind::TimerArray(*before, *last),
-        Thing::Number(_)
+        Thing::Constant(number) => Kind::Constant(*number),
+        Thing::Field
+        | Thing::Number(_)
         | Thing::Together(_)
         | Thing::Greatest(_)
         | Thing::Due(_)
@@ -63,22 +69,29 @@ fn kind_of(declared: &Thing) -> Kind
     }
 }
 
-/// The names that may stand in a machine's texts.
-pub(crate) fn declared_of(alloc: Global, names: &[Named]) -> Result<Vec<Declared>, AllocError>
+/// The names that may stand in the texts of a machine of a file of these fields.
+pub(crate) fn declared_of(
+    alloc: Global,
+    fields: &[FileField],
+    names: &[Named],
+) -> Result<Vec<Declared>, AllocError>
     ensures { IfOk result
-        (λ v. declarations v.items ≡ map (λ n. (n.0, kind_of n.1)) (map name names.now)) }
+        (λ v. declarations v.items ≡ declared (map file_field fields.now) (map name names.now)) }
 {
     let mut declared = Vec::with_capacity(alloc, names.len())?;
     for named in names {
-        let kind = kind_of(&named.thing);
+        let meaning = Meaning {
+            kind: kind_of(&named.thing),
+            field: field_named(fields, named.name.as_bytes()),
+        };
         let name = String::from_str(alloc, named.name.as_str())?;
-        declared.push(Declared { name, kind })?;
+        declared.push(Declared { name, meaning })?;
     }
     Ok(declared)
 }
 
 /// What each name stands for, by its number.
-pub(crate) fn kinds_in(alloc: Global, language: &Language<'_>) -> Result<Vec<Kind>, AllocError>
+pub(crate) fn kinds_in(alloc: Global, language: &Language<'_>) -> Result<Vec<Meaning>, AllocError>
     ensures { IfOk result (λ v. v.items ≡ (language_of language.now).kinds) }
 {
     kinds_of(alloc, language.declared)

@@ -6,7 +6,8 @@ ghost use Rattle.tw_machine_declaration.specs.Limits.{max_timer_names};
 ghost use Rattle.tw_machine_declaration.specs.Seen.{thing};
 ghost use Rattle.tw_machine_declaration.specs.Timed.{names_behind};
 ghost use Rattle.tw_machine_declaration.specs.TimedViews.{named};
-ghost use Rattle.tw_machine_file.specs.Answers.{Gives, FailsBy, data_of, names_in};
+ghost use Rattle.tw_machine_file.specs.Answers.{Gives, FailsBy, data_of};
+ghost use Rattle.tw_machine_file.specs.Constants.{numbers_in};
 ghost use Rattle.tw_machine_file.specs.Seen.{scope};
 ghost use Rattle.tw_machine_file.specs.Timers.{
   count_in,
@@ -25,7 +26,7 @@ ghost use Rattle.tw_machine_file.specs.Timers.{
   with_timer,
 };
 
-use crate::constants::{constant, count};
+use crate::constants::{Numbers, constant, count};
 use crate::declarations::{Scope, new_name};
 use crate::fault::{MachineFault, Part, Why};
 use crate::names::is_name;
@@ -81,12 +82,12 @@ fn name_of<'a>(place: usize, member: Option<&'a Value>) -> Result<&'a str, Machi
 /// How many timers are alike, if that is said.
 fn count_in(
     place: usize,
-    numbers: &[String],
+    numbers: &Numbers,
     member: Option<&Value>,
 ) -> Result<Option<Constant>, MachineFault>
     ensures ok { Gives result
-        (λ c. c) (count_in place (names_in numbers.now) (data_of member.entry)) }
-    ensures err { FailsBy result (count_in place (names_in numbers.now) (data_of member.entry)) }
+        (λ c. c) (count_in place (numbers_in numbers.now) (data_of member.entry)) }
+    ensures err { FailsBy result (count_in place (numbers_in numbers.now) (data_of member.entry)) }
 {
     match member {
         Some(value) => Ok(Some(count(Part::TimerCount(place), MAX_COUNT, numbers, value)?)),
@@ -97,12 +98,12 @@ fn count_in(
 /// In how many ticks of the start a timer is due, if that is said.
 fn first_in(
     place: usize,
-    numbers: &[String],
+    numbers: &Numbers,
     member: Option<&Value>,
 ) -> Result<Option<Constant>, MachineFault>
     ensures ok { Gives result
-        (λ c. c) (first_in place (names_in numbers.now) (data_of member.entry)) }
-    ensures err { FailsBy result (first_in place (names_in numbers.now) (data_of member.entry)) }
+        (λ c. c) (first_in place (numbers_in numbers.now) (data_of member.entry)) }
+    ensures err { FailsBy result (first_in place (numbers_in numbers.now) (data_of member.entry)) }
 {
     match member {
         Some(value) => Ok(Some(constant(Part::TimerFirst(place), numbers, value)?)),
@@ -111,9 +112,9 @@ fn first_in(
 }
 
 /// How many timers are alike, and when they are first due.
-fn timer_in(place: usize, numbers: &[String], value: &Value) -> Result<Timer, MachineFault>
-    ensures ok { Gives result (λ t. t) (timer_in place (names_in numbers.now) (view value.now)) }
-    ensures err { FailsBy result (timer_in place (names_in numbers.now) (view value.now)) }
+fn timer_in(place: usize, numbers: &Numbers, value: &Value) -> Result<Timer, MachineFault>
+    ensures ok { Gives result (λ t. t) (timer_in place (numbers_in numbers.now) (view value.now)) }
+    ensures err { FailsBy result (timer_in place (numbers_in numbers.now) (view value.now)) }
 {
     let count = count_in(place, numbers, value.get("count"))?;
     let first = first_in(place, numbers, value.get("first"))?;
@@ -162,7 +163,7 @@ fn timer_named(
     let place = so_far.timers.len();
     let may = is_name(so_far.timed, text.as_bytes());
     new_name(Part::TimerName(place), may, so_far.names.as_slice(), text)?;
-    let timer = timer_in(place, so_far.numbers.as_slice(), value)?;
+    let timer = timer_in(place, &so_far.numbers, value)?;
     Ok(with_timer(alloc, names, so_far, text, timer)?)
 }
 
@@ -251,8 +252,8 @@ pub(crate) fn least_in(
 {
     match member {
         Some(value) if all.timed => {
-            let numbers = all.numbers.as_slice();
-            Ok(Some(count(Part::Least, MAX_TICK, numbers, value)?))
+            let least = count(Part::Least, MAX_TICK, &all.numbers, value)?;
+            Ok(Some(least))
         }
         Some(_) => Err(MachineFault::Wrong(Part::Least, Why::Unknown)),
         None => Ok(None),

@@ -23,7 +23,7 @@ use serde_json::Value;
 use std::alloc::Global;
 use tw_machine::limits::MAX_WORDS;
 use tw_machine_compiler::Value as Said;
-use tw_machine_text::{Kind, Member, SourceExpr, is_shown};
+use tw_machine_text::{Meaning, Member, SourceExpr, is_shown};
 
 /// Whether two indices are one number.
 fn is_same_number(a: &SourceExpr, b: &SourceExpr) -> bool
@@ -56,7 +56,7 @@ fn is_same_tree(a: &SourceExpr, b: &SourceExpr) -> bool
 }
 
 /// Whether a queue, an array register or an observation is that of another word.
-fn is_again(kinds: &[Kind], a: &Said, b: &Said) -> bool
+fn is_again(kinds: &[Meaning], a: &Said, b: &Said) -> bool
     ensures { result ≡ is_again kinds.now (value a.now) (value b.now) }
 {
     match a {
@@ -68,7 +68,7 @@ fn is_again(kinds: &[Kind], a: &Said, b: &Said) -> bool
     }
 }
 
-fn is_among_words(kinds: &[Kind], word: &Said, before: &[Said]) -> bool
+fn is_among_words(kinds: &[Meaning], word: &Said, before: &[Said]) -> bool
     ensures { result ≡ list_any (is_again kinds.now (value word.now)) (map value before.now) }
 {
     for other in before {
@@ -83,7 +83,7 @@ fn is_among_words(kinds: &[Kind], word: &Said, before: &[Said]) -> bool
 fn word_of(
     alloc: Global,
     language: &Language<'_>,
-    kinds: &[Kind],
+    kinds: &[Meaning],
     index: usize,
     before: &[Said],
     written: &Value,

@@ -7,12 +7,13 @@ use Rattle.tw_machine_declaration.specs.Seen.{Given}
 use Rattle.tw_machine_file.specs.Fault.{Fault, once}
 use Rattle.tw_machine_file.specs.Machine.{machine_of}
 use Rattle.tw_machine_file.specs.Machines.{program_given}
+use Rattle.tw_machine_file.specs.Shared.{nothing_shared}
 
 abbrev pub given : List ℤ → Given
 given numbers = record { numbers = numbers; lists = [] }
 
 abbrev pub means : Data → List ℤ → Result ProgramText Fault
-means text numbers = once (machine_of [] text) (λ m. program_given m.declaration (given numbers))
+means text numbers = once (machine_of nothing_shared [] text) (λ m. program_given m.declaration (given numbers))
 
 -- ---- parts of a text
 

@@ -1,6 +1,6 @@
 -- What is read by the words is read of the text.
 use Rattle.std.proofs.Common.{◌≡◌, ℕ, List, Option, Some, Err, refl, sym, subst}
-use Rattle.tw_machine_text.specs.declared.kinds.Kind.{Kind}
+use Rattle.tw_machine_text.specs.declared.kinds.Meaning.{Meaning}
 use Rattle.tw_machine_text.specs.declared.kinds.Member.{Member}
 use Rattle.tw_machine_text.specs.declared.kinds.Timing.{Timing}
 use Rattle.tw_machine_text.specs.declared.place.Place.{Place}
@@ -13,11 +13,11 @@ use Rattle.tw_machine_text.specs.Tree.{Tree, Block}
 use Rattle.tw_machine_text.specs.Views.{Tells, IsReadAs}
 use Rattle.tw_machine_text.proofs.Readings.{none_some_words}
 
-pub moved : (n : ℕ) (names : List (List ℕ)) (timing : Option Timing) (k l : List Kind) (ps : List Block) (s t : List ℕ) (p : Block) → k ≡ l → s ≡ t → Reads 64 n names timing l ps t p → Reads 64 n names timing k ps s p
-moved n names timing k l ps s t p e f h = subst (λ (x : List Kind). Reads 64 n names timing x ps s p) (sym e) (subst (λ (y : List ℕ). Reads 64 n names timing l ps y p) (sym f) h)
+pub moved : (n : ℕ) (names : List (List ℕ)) (timing : Option Timing) (k l : List Meaning) (ps : List Block) (s t : List ℕ) (p : Block) → k ≡ l → s ≡ t → Reads 64 n names timing l ps t p → Reads 64 n names timing k ps s p
+moved n names timing k l ps s t p e f h = subst (λ (x : List Meaning). Reads 64 n names timing x ps s p) (sym e) (subst (λ (y : List ℕ). Reads 64 n names timing l ps y p) (sym f) h)
 
-pub moved_tree : (n : ℕ) (m : Member) (names : List (List ℕ)) (timing : Option Timing) (k l : List Kind) (s t : List ℕ) (p : Tree) → k ≡ l → s ≡ t → ReadsTree 64 n m names timing l t p → ReadsTree 64 n m names timing k s p
-moved_tree n m names timing k l s t p e f h = subst (λ (x : List Kind). ReadsTree 64 n m names timing x s p) (sym e) (subst (λ (y : List ℕ). ReadsTree 64 n m names timing l y p) (sym f) h)
+pub moved_tree : (n : ℕ) (m : Member) (names : List (List ℕ)) (timing : Option Timing) (k l : List Meaning) (s t : List ℕ) (p : Tree) → k ≡ l → s ≡ t → ReadsTree 64 n m names timing l t p → ReadsTree 64 n m names timing k s p
+moved_tree n m names timing k l s t p e f h = subst (λ (x : List Meaning). ReadsTree 64 n m names timing x s p) (sym e) (subst (λ (y : List ℕ). ReadsTree 64 n m names timing l y p) (sym f) h)
 
 no_memory : (p : Place) → e.Wrong p ≡ e.OutOfMemory → ⊥
 no_memory p h = cc

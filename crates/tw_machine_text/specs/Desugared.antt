@@ -1,6 +1,7 @@
 -- The program that a written one comes to, in the core of the language, where no `do` and no `observe` stands, no `sample`, no `roll`, no `length` of a table, and nothing of timers.
 use Rattle.std.specs.Prelude.{ℕ, ◌+◌, Bool, true, false, ◌&&◌, List, [], ◌∷◌, ◌++◌, Option, Some, None, nat_le, slice_index_or, if◌then◌else◌}
 use Rattle.tw_machine_text.specs.declared.kinds.Kind.{Kind}
+use Rattle.tw_machine_text.specs.declared.kinds.Meaning.{Meaning}
 use Rattle.tw_machine_text.specs.declared.kinds.Kind.TheVariants.{Procedure}
 use Rattle.tw_machine_text.specs.declared.kinds.Timing.{Timing}
 use Rattle.tw_machine_text.specs.Kinds.{stands_for}
@@ -60,7 +61,7 @@ no_else true = Some (begun true)
 no_else false = None
 
 abbrev mutual
-  pub desugared_statement : List Kind → SourceStatement → SourceStatement
+  pub desugared_statement : List Meaning → SourceStatement → SourceStatement
   desugared_statement kinds (Assign p c e) = Assign (core_tree kinds p) c (core_tree kinds e)
   desugared_statement kinds (Act v q e) = Act v (core_tree kinds q) (core_tree kinds e)
   desugared_statement kinds (Treat d q) = Treat d (core_tree kinds q)
@@ -74,11 +75,11 @@ abbrev mutual
   desugared_statement kinds (Repeat count each) = Repeat count (desugared_behind kinds false each)
 
   -- what a program comes to, behind `draw` or nothing
-  pub desugared_behind : List Kind → Bool → Block → Block
+  pub desugared_behind : List Meaning → Bool → Block → Block
   desugared_behind kinds drawing Empty = begun drawing
   desugared_behind kinds drawing (Then b s m) = followed (draws_in s) (desugared_behind kinds drawing b) (desugared_statement kinds s) m
 
-  pub desugared_arms : List Kind → Arms → Chain
+  pub desugared_arms : List Meaning → Arms → Chain
   desugared_arms kinds (One t b) = ([], One (core_tree kinds t) (desugared_behind kinds (draws t) b))
   desugared_arms kinds (More a t b) = further (draws_last a) (desugared_arms kinds a) (core_tree kinds t) (desugared_behind kinds (draws t) b)
 
@@ -95,47 +96,47 @@ procedure_of procedures (Procedure k) = slice_index_or procedures k Empty
 procedure_of procedures _ = Empty
 
 -- a statement behind others: `do NAME` is the program in its place
-abbrev pub placed : List Kind → List Block → Block → SourceStatement → Bool → Block
+abbrev pub placed : List Meaning → List Block → Block → SourceStatement → Bool → Block
 placed kinds procedures b (Treat Do (Name n)) m = joined b (procedure_of procedures (stands_for kinds n))
 placed kinds procedures b s m = Then b s m
 
 abbrev mutual
-  pub expanded_statement : List Kind → List Block → SourceStatement → SourceStatement
+  pub expanded_statement : List Meaning → List Block → SourceStatement → SourceStatement
   expanded_statement kinds procedures (If arms) = If (expanded_arms kinds procedures arms)
   expanded_statement kinds procedures (IfElse arms last) = IfElse (expanded_arms kinds procedures arms) (expanded kinds procedures last)
   expanded_statement kinds procedures (Repeat count each) = Repeat count (expanded kinds procedures each)
   expanded_statement kinds procedures s = s
 
-  pub expanded : List Kind → List Block → Block → Block
+  pub expanded : List Meaning → List Block → Block → Block
   expanded kinds procedures Empty = Empty
   expanded kinds procedures (Then b s m) = placed kinds procedures (expanded kinds procedures b) (expanded_statement kinds procedures s) m
 
-  pub expanded_arms : List Kind → List Block → Arms → Arms
+  pub expanded_arms : List Meaning → List Block → Arms → Arms
   expanded_arms kinds procedures (One t b) = One t (expanded kinds procedures b)
   expanded_arms kinds procedures (More a t b) = More (expanded_arms kinds procedures a) t (expanded kinds procedures b)
 
 -- the whole program
-abbrev pub desugared_block : Option Timing → List Kind → List Block → Block → Block
+abbrev pub desugared_block : Option Timing → List Meaning → List Block → Block → Block
 desugared_block timing kinds procedures program = expanded kinds procedures (timed timing kinds (desugared_behind kinds false program))
 
 -- an expression
-abbrev pub desugared_text : Option Timing → List Kind → Tree → Tree
+abbrev pub desugared_text : Option Timing → List Meaning → Tree → Tree
 desugared_text timing kinds e = timed_text timing kinds (core_tree kinds e)
 
 -- how many nodes it has, counted before it is put together
 abbrev mutual
-  pub nodes_of_statement : List Kind → List Block → SourceStatement → ℕ
+  pub nodes_of_statement : List Meaning → List Block → SourceStatement → ℕ
   nodes_of_statement kinds procedures (Treat Do (Name n)) = nodes_block (procedure_of procedures (stands_for kinds n))
   nodes_of_statement kinds procedures (If arms) = nodes_of_arms kinds procedures arms
   nodes_of_statement kinds procedures (IfElse arms last) = nodes_of_arms kinds procedures arms + nodes_of kinds procedures last
   nodes_of_statement kinds procedures (Repeat count each) = 1 + (nodes count + nodes_of kinds procedures each)
   nodes_of_statement kinds procedures s = nodes_statement s
 
-  pub nodes_of : List Kind → List Block → Block → ℕ
+  pub nodes_of : List Meaning → List Block → Block → ℕ
   nodes_of kinds procedures Empty = 0
   nodes_of kinds procedures (Then b s m) = nodes_of kinds procedures b + nodes_of_statement kinds procedures s
 
-  pub nodes_of_arms : List Kind → List Block → Arms → ℕ
+  pub nodes_of_arms : List Meaning → List Block → Arms → ℕ
   nodes_of_arms kinds procedures (One t b) = 1 + (nodes t + nodes_of kinds procedures b)
   nodes_of_arms kinds procedures (More a t b) = nodes_of_arms kinds procedures a + (nodes t + nodes_of kinds procedures b)
 

@@ -1,7 +1,10 @@
--- What is written of numbers in another way than in the core of the language: `length(t)` of a table, and the numbers that are drawn by themselves, `sample(t)` and `roll(n)`.
-use Rattle.std.specs.Prelude.{ℕ, ◌+◌, Bool, true, false, ◌&&◌, List, nat_eq, nat_le, if◌then◌else◌}
-use Rattle.tw_machine_text.specs.declared.kinds.Kind.{Kind}
-use Rattle.tw_machine_text.specs.Kinds.{is_table_name}
+-- What is written of numbers in another way than in the core of the language: `length(t)` of a table, the numbers that are drawn by themselves, `sample(t)` and `roll(n)`, and fields of values.
+use Rattle.std.specs.Prelude.{ℕ, ◌+◌, Bool, true, false, ◌&&◌, List, Option, Some, None, nat_eq, nat_le, if◌then◌else◌}
+use Rattle.tw_machine_text.specs.declared.kinds.Meaning.{Meaning}
+use Rattle.tw_machine_text.specs.declared.kinds.Field.{Field}
+use Rattle.tw_machine_text.specs.declared.words.Operator.TheVariants.{Comma, Colon, Plus, Times, Divide, Modulo}
+use Rattle.tw_machine_text.specs.Kinds.{field_of, is_table_name}
+use Rattle.tw_machine_text.specs.Letters.{item_number}
 use Rattle.tw_machine_text.specs.Tree.{Tree, Number, Name, Known, Indexed, Call, RandomBelow, Group, Negate, Not, Binary, SourceStatement, Assign, Act, Treat, Draw, Wait, Passivate, Start, Send, If, IfElse, Repeat, Block, Empty, Then, Arms, One, More}
 
 -- ---- in the core
@@ -11,15 +14,32 @@ abbrev pub sampled : Tree → Tree
 sampled (Name t) = Indexed t (RandomBelow (Name t))
 sampled e = e
 
+-- the field of a value is `(e / unit % size)`, with the value in parentheses; a function stays
+abbrev pub called : Option Field → ℕ → Tree → Tree
+called (Some f) n e = Group (Binary Modulo (Binary Divide (Group e) (Number f.unit)) (Number f.size))
+called None n e = Call n e
+
+-- a number in its field's place is `e % size * unit`, with the number in parentheses
+abbrev pub put_at : Option Field → Tree → Tree
+put_at (Some f) e = Binary Times (Binary Modulo (Group e) (Number f.size)) (Number f.unit)
+put_at None e = e
+
+-- fields with their numbers are the sum of these
+abbrev pub packed : List Meaning → Tree → Tree
+packed kinds (Binary Colon (Name n) e) = put_at (field_of kinds n) e
+packed kinds (Binary Colon (Binary Comma before (Name n)) e) = Binary Plus (packed kinds before) (put_at (field_of kinds n) e)
+packed kinds e = e
+
 -- `length(t)` of a table is its name, which stands for how many numbers it has; `sample(t)` is `t[random(length(t))]`, `roll(n)` is `random(n)`
-abbrev pub core_call : List Kind → ℕ → Tree → Tree
+abbrev pub core_call : List Meaning → ℕ → Tree → Tree
 core_call kinds n e =
     if nat_eq n 10 then sampled e
     else if nat_eq n 11 then RandomBelow e
     else if nat_eq n 3 && is_table_name kinds e then e
-    else Call n e
+    else if nat_eq n item_number then Group (packed kinds e)
+    else called (field_of kinds n) n e
 
-abbrev pub core_tree : List Kind → Tree → Tree
+abbrev pub core_tree : List Meaning → Tree → Tree
 core_tree kinds (Number n) = Number n
 core_tree kinds (Name n) = Name n
 core_tree kinds (Known g) = Known g

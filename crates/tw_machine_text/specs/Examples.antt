@@ -1,15 +1,17 @@
 -- Worked examples of how tightly operators bind, and of what is desugared, a to d being the first names that are declared.
-use Rattle.std.specs.Prelude.{◌≡◌, ℕ, List, [], ◌∷◌, ◌++◌, Option, Some, None, true, false, replicate}
-use Rattle.tw_machine_text.specs.declared.words.Operator.TheVariants.{Comma, Or, And, Equal, Less, GreaterEqual, Plus, Minus, Times}
+use Rattle.std.specs.Prelude.{◌≡◌, ℕ, List, [], ◌∷◌, ◌++◌, Option, Some, None, true, false, map, replicate}
+use Rattle.tw_machine_text.specs.declared.words.Operator.TheVariants.{Comma, Colon, Or, And, Equal, Less, GreaterEqual, Plus, Minus, Times, Divide, Modulo}
 use Rattle.tw_machine_text.specs.declared.words.Word.{Word}
 use Rattle.tw_machine_text.specs.declared.words.Word.TheVariants as word
 use Rattle.tw_machine_text.specs.declared.words.SourceChange.TheVariants.{Set, Add}
 use Rattle.tw_machine_text.specs.declared.words.Builtin.TheVariants.{Left, Now, Which}
 use Rattle.tw_machine_text.specs.declared.words.Deed.TheVariants.{Stop}
 use Rattle.tw_machine_text.specs.declared.words.Verb.TheVariants.{Push, Put, Observe}
-use Rattle.tw_machine_text.specs.Letters.{own, own_names, in_number}
+use Rattle.tw_machine_text.specs.Letters.{own, own_names, in_number, item_number}
 use Rattle.tw_machine_text.specs.Limits.{max_levels, max_nodes}
+use Rattle.tw_machine_text.specs.declared.kinds.Field.{Field}
 use Rattle.tw_machine_text.specs.declared.kinds.Kind.{Kind}
+use Rattle.tw_machine_text.specs.declared.kinds.Meaning.{Meaning}
 use Rattle.tw_machine_text.specs.declared.kinds.Kind.TheVariants.{Nothing, Register, Table, Queue, Timer, TimerArray}
 use Rattle.tw_machine_text.specs.declared.kinds.Timing.{Timing}
 use Rattle.tw_machine_text.specs.declared.kinds.Member.TheVariants.{Value}
@@ -76,8 +78,14 @@ observed =
 
 -- ---- numbers that are drawn, a being a register, b a table and c a queue
 
-abbrev pub kinds : List Kind
-kinds = replicate own_names Nothing ++ Register ∷ Table ∷ Queue ∷ []
+abbrev pub plainly : Kind → Meaning
+plainly kind = record { kind = kind; field = None }
+
+abbrev pub functions_alone : List Meaning
+functions_alone = replicate own_names (plainly Nothing)
+
+abbrev pub kinds : List Meaning
+kinds = functions_alone ++ map plainly (Register ∷ Table ∷ Queue ∷ [])
 
 -- sample(b), roll(6), length(b), length(c)
 abbrev pub sample_b : Tree
@@ -149,10 +157,58 @@ few_drawn =
 abbrev pub no_chain : Type 0
 no_chain = (program : Block) → Means max_levels max_nodes (word.Wait ∷ word.Name (own 0) ∷ word.Sign Less ∷ word.Name (own 1) ∷ word.Sign Less ∷ word.Name (own 2) ∷ []) program → ⊥
 
+-- ---- fields, a being a register and a field of 8 bits, b a field of 4 bits above it, and c a register alone
+
+abbrev pub low_field : Field
+low_field = record { unit = 1; size = 256 }
+
+abbrev pub high_field : Field
+high_field = record { unit = 256; size = 16 }
+
+abbrev pub field_kinds : List Meaning
+field_kinds = functions_alone ++ record { kind = Register; field = Some low_field } ∷ record { kind = Nothing; field = Some high_field } ∷ plainly Register ∷ []
+
+-- item(b: c, a: 3)
+abbrev pub item_of : Tree
+item_of = Call item_number (Binary Colon (Binary Comma (Binary Colon b c) a) (Number 3))
+
+-- it is written so
+abbrev pub fields_written : Type 0
+fields_written =
+    Waiting
+    (word.Name item_number ∷ word.Open ∷ word.Name (own 1) ∷ word.Sign Colon ∷ word.Name (own 2) ∷ word.Sign Comma ∷ word.Name (own 0) ∷ word.Sign Colon ∷ word.Number 3 ∷ word.Close ∷ [])
+    item_of
+
+-- and is ((c) % 16 * 256 + (3) % 256 * 1)
+abbrev pub fields_packed : Type 0
+fields_packed =
+    core_tree field_kinds item_of
+    ≡ Group (Binary Plus (Binary Times (Binary Modulo (Group c) (Number 16)) (Number 256)) (Binary Times (Binary Modulo (Group (Number 3)) (Number 256)) (Number 1)))
+
+-- b(a) is ((a) / 256 % 16)
+abbrev pub field_read : Type 0
+field_read = core_tree field_kinds (Call (own 1) a) ≡ Group (Binary Modulo (Binary Divide (Group a) (Number 256)) (Number 16))
+
+-- item(f: 1, g: 2)
+abbrev pub both : (f g : Tree) → Tree
+both f g = Call item_number (Binary Colon (Binary Comma (Binary Colon f (Number 1)) g) (Number 2))
+
+-- c is no field, b is no number, and a field stands once
+abbrev pub fields_named : Type 0
+fields_named =
+    (may_stand_as None Value field_kinds item_of ≡ true)
+    × (may_stand_as None Value field_kinds (both a b) ≡ true)
+    × (may_stand_as None Value field_kinds (both a a) ≡ false)
+    × (may_stand_as None Value field_kinds (both a c) ≡ false)
+    × (may_stand_as None Value field_kinds (Call (own 0) c) ≡ true)
+    × (may_stand_as None Value field_kinds (Call (own 2) a) ≡ false)
+    × (may_stand_as None Value field_kinds b ≡ false)
+    × (may_stand_as None Value kinds (Call item_number (Binary Colon a c)) ≡ false)
+
 -- ---- timers, a being a register, b a timer and c several of them; behind these stand the names that timers need
 
-abbrev pub timed_kinds : List Kind
-timed_kinds = replicate own_names Nothing ++ Register ∷ Timer (own 8) ∷ TimerArray (own 9) (own 10) ∷ []
+abbrev pub timed_kinds : List Meaning
+timed_kinds = functions_alone ++ map plainly (Register ∷ Timer (own 8) ∷ TimerArray (own 9) (own 10) ∷ [])
 
 abbrev pub timing_of : Option ℕ → Timing
 timing_of timer = record { due = own 3; next = own 4; least = own 5; ports = own 6; values = own 7; of = timer }

@@ -1,14 +1,14 @@
 -- The words of a text.
 use Rattle.std.specs.Prelude.{◌≡◌, ℕ, ◌+◌, ◌-◌, ◌*◌, ◌^◌, ◌<◌, ◌≤◌, length, Bool, true, false, not, ◌&&◌, ◌||◌, ◌⊎◌, List, [], ◌∷◌, ◌++◌, Option, Some, None, is_some, ◌==◌, nat_lt, nat_le, if◌then◌else◌, codes}
 use Rattle.std.specs.Option.{option_map}
-use Rattle.tw_machine_text.specs.declared.words.Operator.TheVariants.{Comma, Or, And, Equal, NotEqual, Less, LessEqual, Greater, GreaterEqual, Plus, Minus, Times, Divide, Modulo}
+use Rattle.tw_machine_text.specs.declared.words.Operator.TheVariants.{Comma, Colon, Or, And, Equal, NotEqual, Less, LessEqual, Greater, GreaterEqual, Plus, Minus, Times, Divide, Modulo}
 use Rattle.tw_machine_text.specs.declared.words.Builtin.TheVariants.{Random, Port, Value, Elapsed, Left, Now, Turn, Which}
 use Rattle.tw_machine_text.specs.declared.words.SourceChange.TheVariants.{Set, Add, Subtract, Xor}
 use Rattle.tw_machine_text.specs.declared.words.Verb.TheVariants.{Push, Insert, Remove, Put, Observe}
 use Rattle.tw_machine_text.specs.declared.words.Deed.TheVariants.{Pop, Clear, Do, Stop}
 use Rattle.tw_machine_text.specs.declared.words.Word.{Word}
 use Rattle.tw_machine_text.specs.declared.words.Word.TheVariants as word
-use Rattle.tw_machine_text.specs.declared.kinds.Kind.{Kind}
+use Rattle.tw_machine_text.specs.declared.kinds.Meaning.{Meaning}
 use Rattle.tw_machine_text.specs.declared.kinds.Member.{Member}
 use Rattle.tw_machine_text.specs.declared.kinds.Timing.{Timing}
 use Rattle.tw_machine_text.specs.Letters.{same_text, functions, own_names}
@@ -56,7 +56,7 @@ contextual = (codes "observe", word.Begins Observe) ∷ (codes "clear", word.Doe
 abbrev pub signs : List (List ℕ × Word)
 signs =
     (codes "(", word.Open) ∷ (codes ")", word.Close) ∷ (codes "[", word.OpenBracket) ∷ (codes "]", word.CloseBracket) ∷ (codes "{", word.OpenBrace) ∷ (codes "}", word.CloseBrace)
-    ∷ (codes ";", word.Semicolon) ∷ (codes ",", word.Sign Comma) ∷ (codes "+", word.Sign Plus) ∷ (codes "-", word.Sign Minus) ∷ (codes "*", word.Sign Times) ∷ (codes "/", word.Sign Divide)
+    ∷ (codes ";", word.Semicolon) ∷ (codes ",", word.Sign Comma) ∷ (codes ":", word.Sign Colon) ∷ (codes "+", word.Sign Plus) ∷ (codes "-", word.Sign Minus) ∷ (codes "*", word.Sign Times) ∷ (codes "/", word.Sign Divide)
     ∷ (codes "%", word.Sign Modulo) ∷ (codes "<", word.Sign Less) ∷ (codes ">", word.Sign Greater) ∷ (codes "=", word.Becomes Set) ∷ (codes "==", word.Sign Equal) ∷ (codes "!=", word.Sign NotEqual)
     ∷ (codes "<=", word.Sign LessEqual) ∷ (codes ">=", word.Sign GreaterEqual) ∷ (codes "+=", word.Becomes Add) ∷ (codes "-=", word.Becomes Subtract) ∷ (codes "^=", word.Becomes Xor) ∷ []
 
@@ -135,7 +135,7 @@ HasWords names commented [] text = AreBlank true commented text
 HasWords names commented (w ∷ ws) text = (rest : List ℕ) × Front names commented text w rest × HasWords names false ws rest
 
 -- The text is this program, where the machine has these timers or none, the names stand for these, and procedures are these programs: what is written comes to it, in the core of the language.
-pub record Reads (most many : ℕ) (names : List (List ℕ)) (timing : Option Timing) (kinds : List Kind) (procedures : List Block) (text : List ℕ) (program : Block) : Type 0 where
+pub record Reads (most many : ℕ) (names : List (List ℕ)) (timing : Option Timing) (kinds : List Meaning) (procedures : List Block) (text : List ℕ) (program : Block) : Type 0 where
   pub words : List Word
   pub has : HasWords names false words text
   pub written : Block
@@ -145,7 +145,7 @@ pub record Reads (most many : ℕ) (names : List (List ℕ)) (timing : Option Ti
   pub limits : is_within most many program ≡ true
 
 -- the text of a member is this expression, queue or array register: what is written comes to it
-pub record ReadsTree (most many : ℕ) (member : Member) (names : List (List ℕ)) (timing : Option Timing) (kinds : List Kind) (text : List ℕ) (e : Tree) : Type 0 where
+pub record ReadsTree (most many : ℕ) (member : Member) (names : List (List ℕ)) (timing : Option Timing) (kinds : List Meaning) (text : List ℕ) (e : Tree) : Type 0 where
   pub words : List Word
   pub has : HasWords names false words text
   pub written : Tree
@@ -161,13 +161,13 @@ pub record ReadsTree (most many : ℕ) (member : Member) (names : List (List ℕ
 -- a text says one program at most, however deep
 abbrev pub OneText : Type 0
 OneText =
-    (names : List (List ℕ)) (timing : Option Timing) (kinds : List Kind) (procedures : List Block) (text : List ℕ) (m n i j : ℕ) (a b : Block)
+    (names : List (List ℕ)) (timing : Option Timing) (kinds : List Meaning) (procedures : List Block) (text : List ℕ) (m n i j : ℕ) (a b : Block)
     → Reads m i names timing kinds procedures text a → Reads n j names timing kinds procedures text b → a ≡ b
 
 -- and one expression at most
 abbrev pub OneTree : Type 0
 OneTree =
-    (names : List (List ℕ)) (timing : Option Timing) (kinds : List Kind) (text : List ℕ) (m n i j : ℕ) (s t : Member) (a b : Tree)
+    (names : List (List ℕ)) (timing : Option Timing) (kinds : List Meaning) (text : List ℕ) (m n i j : ℕ) (s t : Member) (a b : Tree)
     → ReadsTree m i s names timing kinds text a → ReadsTree n j t names timing kinds text b → a ≡ b
 
 -- the same by a machine that takes one byte after another: the words so far, and what is being read

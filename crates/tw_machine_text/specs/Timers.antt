@@ -1,6 +1,7 @@
 -- What timers come to in the core of the language: an array register of the ticks at which they are due, -1 for one that does not run, and the register of the timer that goes. These and the others stand behind a machine's own names, and no text names them.
 use Rattle.std.specs.Prelude.{ℕ, zero, suc, ◌+◌, Bool, true, false, not, ◌&&◌, List, Option, Some, None, is_some, nat_eq, if◌then◌else◌}
 use Rattle.tw_machine_text.specs.declared.kinds.Kind.{Kind}
+use Rattle.tw_machine_text.specs.declared.kinds.Meaning.{Meaning}
 use Rattle.tw_machine_text.specs.declared.kinds.Kind.TheVariants.{Timer, TimerArray}
 use Rattle.tw_machine_text.specs.declared.kinds.Member.{Member}
 use Rattle.tw_machine_text.specs.declared.kinds.Timing.{Timing}
@@ -57,11 +58,11 @@ abbrev mutual
   in_time_arms timed (More a t b) = in_time_arms timed a && in_time timed t && in_time_block timed b
 
 -- each name of a program stands where it may, so many procedures may be used, no more numbers are drawn than may be, and time is kept as the machine keeps it
-abbrev pub may_stand : Option Timing → List Kind → ℕ → Block → Bool
+abbrev pub may_stand : Option Timing → List Meaning → ℕ → Block → Bool
 may_stand timing kinds known program = bound_block kinds program && uses kinds known program && few_drawn program && in_time_block (is_some timing) program
 
 -- the same of a member's text, in which no number is drawn
-abbrev pub may_stand_as : Option Timing → Member → List Kind → Tree → Bool
+abbrev pub may_stand_as : Option Timing → Member → List Meaning → Tree → Bool
 may_stand_as timing member kinds e = bound_as member kinds e && draws_none e && in_time (is_some timing) e
 
 -- ---- in the core
@@ -91,21 +92,21 @@ abbrev pub placed_at : (before last : ℕ) → Tree → Tree
 placed_at before last index = Binary Plus (Name before) (lesser (greater index (Number 0)) (Name last))
 
 -- the place of a timer among all
-abbrev pub place_of : List Kind → Tree → Tree
+abbrev pub place_of : List Meaning → Tree → Tree
 place_of kinds (Name n) = Name (before_of (stands_for kinds n))
 place_of kinds (Indexed n index) = placed_at (before_of (stands_for kinds n)) (last_of (stands_for kinds n)) index
 place_of kinds e = e
 
 -- the tick at which a timer is due
-abbrev pub due_of : Timing → List Kind → Tree → Tree
+abbrev pub due_of : Timing → List Meaning → Tree → Tree
 due_of timing kinds timer = Indexed timing.due (place_of kinds timer)
 
 -- `running(T)` is `(due[place] >= 0)`
-abbrev pub runs : Timing → List Kind → Tree → Tree
+abbrev pub runs : Timing → List Meaning → Tree → Tree
 runs timing kinds timer = Group (Binary GreaterEqual (due_of timing kinds timer) (Number 0))
 
 -- `rest(T)` is `max(due[place] - now, -1)`
-abbrev pub rests : Timing → List Kind → Tree → Tree
+abbrev pub rests : Timing → List Meaning → Tree → Tree
 rests timing kinds timer = greater (Binary Minus (due_of timing kinds timer) (Known Now)) minus_one
 
 -- the first that does not run, of those from an index on that are left: `choose(due[place] < 0, index, ..)`, and -1 behind the last. Past the last timer it is the last again, which runs then
@@ -119,7 +120,7 @@ idle_from timing before last index (suc left) =
     (idle_from timing before last (index + 1) left))
 
 -- `idle(T)`
-abbrev pub idles : Timing → List Kind → Tree → Tree
+abbrev pub idles : Timing → List Meaning → Tree → Tree
 idles timing kinds (Name n) = idle_from timing (before_of (stands_for kinds n)) (last_of (stands_for kinds n)) 0 max_count
 idles timing kinds e = e
 
@@ -136,14 +137,14 @@ timed_name timing Which = which_of timing
 timed_name timing g = Known g
 
 -- a function of arguments that are in the core
-abbrev pub timed_call : Timing → List Kind → ℕ → Tree → Tree
+abbrev pub timed_call : Timing → List Meaning → ℕ → Tree → Tree
 timed_call timing kinds n e =
     if nat_eq n 12 then runs timing kinds e
     else if nat_eq n 13 then rests timing kinds e
     else if nat_eq n 14 then idles timing kinds e
     else Call n e
 
-abbrev pub timed_tree : Timing → List Kind → Tree → Tree
+abbrev pub timed_tree : Timing → List Meaning → Tree → Tree
 timed_tree timing kinds (Number n) = Number n
 timed_tree timing kinds (Name n) = Name n
 timed_tree timing kinds (Known g) = timed_name timing g
@@ -160,7 +161,7 @@ abbrev pub started : Timing → Tree → Tree
 started timing e = Binary Plus (Known Now) (lesser (greater e (Name timing.least)) (Number last_due))
 
 -- `stop T` is `due[place] = -1`
-abbrev pub treated : Timing → List Kind → Deed → Tree → SourceStatement
+abbrev pub treated : Timing → List Meaning → Deed → Tree → SourceStatement
 treated timing kinds Stop timer = Assign (due_of timing kinds timer) Set minus_one
 treated timing kinds d q = Treat d q
 
@@ -170,7 +171,7 @@ sent timing b (Send (Binary Comma port value)) m = Then (Then b (Act Push (Name 
 sent timing b s m = Then b s m
 
 abbrev mutual
-  pub timed_statement : Timing → List Kind → SourceStatement → SourceStatement
+  pub timed_statement : Timing → List Meaning → SourceStatement → SourceStatement
   timed_statement timing kinds (Assign p c e) = Assign (timed_tree timing kinds p) c (timed_tree timing kinds e)
   timed_statement timing kinds (Act v q e) = Act v (timed_tree timing kinds q) (timed_tree timing kinds e)
   timed_statement timing kinds (Treat d q) = treated timing kinds d (timed_tree timing kinds q)
@@ -183,20 +184,20 @@ abbrev mutual
   timed_statement timing kinds (IfElse arms last) = IfElse (timed_arms timing kinds arms) (timed_block timing kinds last)
   timed_statement timing kinds (Repeat count each) = Repeat count (timed_block timing kinds each)
 
-  pub timed_block : Timing → List Kind → Block → Block
+  pub timed_block : Timing → List Meaning → Block → Block
   timed_block timing kinds Empty = Empty
   timed_block timing kinds (Then b s m) = sent timing (timed_block timing kinds b) (timed_statement timing kinds s) m
 
-  pub timed_arms : Timing → List Kind → Arms → Arms
+  pub timed_arms : Timing → List Meaning → Arms → Arms
   timed_arms timing kinds (One t b) = One (timed_tree timing kinds t) (timed_block timing kinds b)
   timed_arms timing kinds (More a t b) = More (timed_arms timing kinds a) (timed_tree timing kinds t) (timed_block timing kinds b)
 
 -- a program, in a machine with timers or without
-abbrev pub timed : Option Timing → List Kind → Block → Block
+abbrev pub timed : Option Timing → List Meaning → Block → Block
 timed None kinds b = b
 timed (Some timing) kinds b = timed_block timing kinds b
 
 -- the same of an expression
-abbrev pub timed_text : Option Timing → List Kind → Tree → Tree
+abbrev pub timed_text : Option Timing → List Meaning → Tree → Tree
 timed_text None kinds e = e
 timed_text (Some timing) kinds e = timed_tree timing kinds e

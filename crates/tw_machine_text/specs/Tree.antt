@@ -1,7 +1,7 @@
 -- What an expression is, which words it has, and where it may stand.
 use Rattle.std.specs.Prelude.{◌≡◌, ℕ, suc, ◌+◌, ◌<◌, ◌≤◌, max, Bool, true, false, ◌&&◌, ◌||◌, List, [], ◌∷◌, nat_eq, nat_le, nat_lt, if◌then◌else◌, slice_index}
 use Rattle.tw_machine_text.specs.declared.words.Operator.{Operator}
-use Rattle.tw_machine_text.specs.declared.words.Operator.TheVariants.{Comma, Or, And, Equal, NotEqual, Less, LessEqual, Greater, GreaterEqual, Plus, Minus, Times, Divide, Modulo}
+use Rattle.tw_machine_text.specs.declared.words.Operator.TheVariants.{Comma, Colon, Or, And, Equal, NotEqual, Less, LessEqual, Greater, GreaterEqual, Plus, Minus, Times, Divide, Modulo}
 use Rattle.tw_machine_text.specs.declared.words.Builtin.{Builtin}
 use Rattle.tw_machine_text.specs.declared.words.Builtin.TheVariants.{Random}
 use Rattle.tw_machine_text.specs.declared.words.SourceChange.{SourceChange}
@@ -10,7 +10,7 @@ use Rattle.tw_machine_text.specs.declared.words.Verb.TheVariants.{Push, Insert, 
 use Rattle.tw_machine_text.specs.declared.words.Deed.{Deed}
 use Rattle.tw_machine_text.specs.declared.words.Word.{Word}
 use Rattle.tw_machine_text.specs.declared.words.Word.TheVariants as word
-use Rattle.tw_machine_text.specs.Letters.{in_number}
+use Rattle.tw_machine_text.specs.Letters.{in_number, item_number, own_names}
 use Rattle.tw_machine_text.specs.Limits.{max_nodes}
 
 -- An expression as it is written: a pair of parentheses is a part of it.
@@ -42,6 +42,7 @@ spelled (Binary op a b) ws = spelled a (word.Sign op ∷ spelled b ws)
 -- how tightly an operator binds
 abbrev pub rank : Operator → ℕ
 rank Comma = 0
+rank Colon = 0
 rank Or = 1
 rank And = 2
 rank Equal = 4
@@ -59,6 +60,7 @@ rank Modulo = 6
 -- how tightly its left operand has to: a comparison is no operand of a comparison, and all others go from left to right
 abbrev pub left_rank : Operator → ℕ
 left_rank Comma = 0
+left_rank Colon = 0
 left_rank Or = 1
 left_rank And = 2
 left_rank Equal = 5
@@ -96,16 +98,20 @@ abbrev pub first_level : Tree → ℕ
 first_level (Binary Comma a b) = first_level a
 first_level e = level e
 
--- the functions, in the order of their numbers: min, max, choose, length, room, front, last, sum, at, place, sample, roll, running, rest, idle; `in` is none
+-- the functions, in the order of their numbers: min, max, choose, length, room, front, last, sum, at, place, sample, roll, running, rest, idle; `in` is none; item, whose fields with their numbers are one argument; a field has one
 abbrev pub arity : ℕ → ℕ
-arity n = slice_index (2 ∷ 2 ∷ 3 ∷ 1 ∷ 1 ∷ 1 ∷ 1 ∷ 1 ∷ 2 ∷ 2 ∷ 1 ∷ 1 ∷ 1 ∷ 1 ∷ 1 ∷ 0 ∷ []) n
+arity n = if nat_lt n own_names then slice_index (2 ∷ 2 ∷ 3 ∷ 1 ∷ 1 ∷ 1 ∷ 1 ∷ 1 ∷ 2 ∷ 2 ∷ 1 ∷ 1 ∷ 1 ∷ 1 ∷ 1 ∷ 0 ∷ 1 ∷ []) n else 1
 
--- whether all arguments are numbers: of the first three, and of `roll`; of the others the first is a queue, a table or a timer
+-- whether all arguments are numbers: of the first three, of `roll`, and of a field; of the others the first is a queue, a table, a timer or a field
 abbrev pub takes_numbers : ℕ → Bool
-takes_numbers n = nat_lt n 3 || nat_eq n 11
+takes_numbers n = nat_lt n 3 || nat_eq n 11 || nat_le own_names n
+
+-- how tightly the first argument has to be bound: a field with its number is hardly bound
+abbrev pub first_demand : ℕ → ℕ
+first_demand n = if takes_numbers n then 1 else if nat_eq n item_number then 0 else 9
 
 abbrev pub fits_call : ℕ → Tree → Bool
-fits_call n e = nat_eq (count e) (arity n) && nat_le (if takes_numbers n then 1 else 9) (first_level e)
+fits_call n e = nat_eq (count e) (arity n) && nat_le (first_demand n) (first_level e)
 
 -- each operand binds as tightly as it has to
 abbrev pub IsExpr : Tree → Type 0

@@ -7,6 +7,12 @@ ghost use Rattle.tw_machine_text.specs.Kinds.{
   takes_queue,
   takes_timer,
   is_timers_name,
+  is_field,
+  is_called,
+  is_given,
+  bound_fields,
+  bound_last,
+  is_new_field,
   bound_timer,
   bound_queue,
   bound_place,
@@ -26,7 +32,8 @@ ghost use Rattle.tw_machine_text.specs.Kinds.{
 };
 ghost use Rattle.tw_machine_text.specs.Views.{tree, told, body, chain};
 
-use crate::kinds::{Kind, Member, stands_for};
+use crate::dictionary::{ITEM, OWN_NAMES};
+use crate::kinds::{Meaning, Member, field_of, stands_for};
 use crate::limits::MAX_TURNS;
 use crate::tree::{Arms, Block, SourceExpr, SourceStatement, takes_numbers};
 use crate::words::{Deed, Operator, Verb};
@@ -53,7 +60,7 @@ fn takes_timer(name: usize) -> bool
 }
 
 /// Timers that are alike, by their name.
-fn is_timers_name(kinds: &[Kind], e: &SourceExpr) -> bool
+fn is_timers_name(kinds: &[Meaning], e: &SourceExpr) -> bool
     ensures { result ≡ is_timers_name kinds.now (tree e.now) }
 {
     match e {
@@ -63,7 +70,7 @@ fn is_timers_name(kinds: &[Kind], e: &SourceExpr) -> bool
 }
 
 /// A table by its name.
-pub(crate) fn is_table_name(kinds: &[Kind], e: &SourceExpr) -> bool
+pub(crate) fn is_table_name(kinds: &[Meaning], e: &SourceExpr) -> bool
     ensures { result ≡ is_table_name kinds.now (tree e.now) }
 {
     match e {
@@ -72,9 +79,40 @@ pub(crate) fn is_table_name(kinds: &[Kind], e: &SourceExpr) -> bool
     }
 }
 
+/// Whether a name is a field's.
+pub(crate) fn is_field(kinds: &[Meaning], name: usize) -> bool
+    ensures { result ≡ is_field kinds.now name }
+{
+    field_of(kinds, name).is_some()
+}
+
+/// Whether the name of a call is a function's or a field's.
+fn is_called(kinds: &[Meaning], name: usize) -> bool
+    ensures { result ≡ is_called kinds.now name }
+{
+    name < OWN_NAMES || is_field(kinds, name)
+}
+
+/// Whether a field is given a number among these.
+pub(crate) fn is_given(name: usize, e: &SourceExpr) -> bool
+    ensures { result ≡ is_given name (tree e.now) }
+{
+    match e {
+        SourceExpr::Binary(Operator::Colon, named, _) => match &**named {
+            SourceExpr::Name(last) => name == *last,
+            SourceExpr::Binary(Operator::Comma, before, last) => match &**last {
+                SourceExpr::Name(last) => name == *last || is_given(name, before),
+                _ => false,
+            },
+            _ => false,
+        },
+        _ => false,
+    }
+}
+
 /// An expression, or arguments of which none is a queue, a table or a timer.
 #[cycle(expressions)]
-pub(crate) fn bound(kinds: &[Kind], e: &SourceExpr) -> bool
+pub(crate) fn bound(kinds: &[Meaning], e: &SourceExpr) -> bool
     ensures { result ≡ bound kinds.now (tree e.now) }
 {
     match e {
@@ -84,25 +122,64 @@ pub(crate) fn bound(kinds: &[Kind], e: &SourceExpr) -> bool
             && bound(kinds, index),
         SourceExpr::Call(name, arguments) => {
             if takes_numbers(*name) {
-                bound(kinds, arguments)
+                is_called(kinds, *name) && bound(kinds, arguments)
             } else {
                 (takes_table(*name) && is_table_name(kinds, arguments))
                     || (takes_queue(*name) && bound_queue(kinds, arguments))
                     || (takes_timer(*name) && bound_timer(kinds, arguments))
                     || (*name == 14 && is_timers_name(kinds, arguments))
+                    || (*name == ITEM && bound_fields(kinds, arguments))
             }
         }
         SourceExpr::RandomBelow(e)
         | SourceExpr::Group(e)
         | SourceExpr::Negate(e)
         | SourceExpr::Not(e) => bound(kinds, e),
+        SourceExpr::Binary(Operator::Colon, _, _) => false,
         SourceExpr::Binary(_, a, b) => bound(kinds, a) && bound(kinds, b),
+    }
+}
+
+/// Whether it is a field that has no number among these.
+fn is_new_field(kinds: &[Meaning], before: &SourceExpr, named: &SourceExpr) -> bool
+    ensures { result ≡ is_new_field kinds.now (tree before.now) (tree named.now) }
+{
+    match named {
+        SourceExpr::Name(name) => is_field(kinds, *name) && !is_given(*name, before),
+        _ => false,
+    }
+}
+
+/// Fields, each with its number, and none twice.
+#[cycle(expressions)]
+fn bound_fields(kinds: &[Meaning], e: &SourceExpr) -> bool
+    ensures { result ≡ bound_fields kinds.now (tree e.now) }
+{
+    match e {
+        SourceExpr::Binary(Operator::Colon, named, number) => {
+            bound_last(kinds, named) && bound(kinds, number)
+        }
+        _ => false,
+    }
+}
+
+/// The last of them, behind the others with their numbers.
+#[cycle(expressions)]
+fn bound_last(kinds: &[Meaning], named: &SourceExpr) -> bool
+    ensures { result ≡ bound_last kinds.now (tree named.now) }
+{
+    match named {
+        SourceExpr::Name(name) => is_field(kinds, *name),
+        SourceExpr::Binary(Operator::Comma, before, last) => {
+            bound_fields(kinds, before) && is_new_field(kinds, before, last)
+        }
+        _ => false,
     }
 }
 
 /// A queue, or arguments of which the first is one.
 #[cycle(expressions)]
-pub(crate) fn bound_queue(kinds: &[Kind], e: &SourceExpr) -> bool
+pub(crate) fn bound_queue(kinds: &[Meaning], e: &SourceExpr) -> bool
     ensures { result ≡ bound_queue kinds.now (tree e.now) }
 {
     match e {
@@ -116,7 +193,7 @@ pub(crate) fn bound_queue(kinds: &[Kind], e: &SourceExpr) -> bool
 
 /// A timer.
 #[cycle(expressions)]
-fn bound_timer(kinds: &[Kind], e: &SourceExpr) -> bool
+fn bound_timer(kinds: &[Meaning], e: &SourceExpr) -> bool
     ensures { result ≡ bound_timer kinds.now (tree e.now) }
 {
     match e {
@@ -127,7 +204,7 @@ fn bound_timer(kinds: &[Kind], e: &SourceExpr) -> bool
     }
 }
 
-fn bound_place(kinds: &[Kind], e: &SourceExpr) -> bool
+fn bound_place(kinds: &[Meaning], e: &SourceExpr) -> bool
     ensures { result ≡ bound_place kinds.now (tree e.now) }
 {
     match e {
@@ -138,17 +215,17 @@ fn bound_place(kinds: &[Kind], e: &SourceExpr) -> bool
     }
 }
 
-fn bound_count(kinds: &[Kind], e: &SourceExpr) -> bool
+fn bound_count(kinds: &[Meaning], e: &SourceExpr) -> bool
     ensures { result ≡ bound_count kinds.now (tree e.now) }
 {
     match e {
         SourceExpr::Number(number) => *number <= MAX_TURNS,
-        SourceExpr::Name(name) => stands_for(kinds, *name).is_parameter(),
+        SourceExpr::Name(name) => stands_for(kinds, *name).counts_turns(),
         _ => false,
     }
 }
 
-fn bound_observation(kinds: &[Kind], e: &SourceExpr) -> bool
+fn bound_observation(kinds: &[Meaning], e: &SourceExpr) -> bool
     ensures { result ≡ bound_observation kinds.now (tree e.now) }
 {
     match e {
@@ -157,7 +234,7 @@ fn bound_observation(kinds: &[Kind], e: &SourceExpr) -> bool
     }
 }
 
-fn bound_procedure(kinds: &[Kind], e: &SourceExpr) -> bool
+fn bound_procedure(kinds: &[Meaning], e: &SourceExpr) -> bool
     ensures { result ≡ bound_procedure kinds.now (tree e.now) }
 {
     match e {
@@ -167,7 +244,7 @@ fn bound_procedure(kinds: &[Kind], e: &SourceExpr) -> bool
 }
 
 /// What is treated: a procedure, a timer, or a queue.
-fn bound_treated(kinds: &[Kind], deed: Deed, e: &SourceExpr) -> bool
+fn bound_treated(kinds: &[Meaning], deed: Deed, e: &SourceExpr) -> bool
     ensures { result ≡ bound_treated kinds.now deed (tree e.now) }
 {
     match deed {
@@ -178,7 +255,7 @@ fn bound_treated(kinds: &[Kind], deed: Deed, e: &SourceExpr) -> bool
 }
 
 /// What a verb is said of: an observation, or a queue.
-fn bound_object(kinds: &[Kind], verb: Verb, e: &SourceExpr) -> bool
+fn bound_object(kinds: &[Meaning], verb: Verb, e: &SourceExpr) -> bool
     ensures { result ≡ bound_object kinds.now verb (tree e.now) }
 {
     match verb {
@@ -188,7 +265,7 @@ fn bound_object(kinds: &[Kind], verb: Verb, e: &SourceExpr) -> bool
 }
 
 #[cycle(statements)]
-fn bound_statement(kinds: &[Kind], s: &SourceStatement) -> bool
+fn bound_statement(kinds: &[Meaning], s: &SourceStatement) -> bool
     ensures { result ≡ bound_statement kinds.now (told s.now) }
 {
     match s {
@@ -211,7 +288,7 @@ fn bound_statement(kinds: &[Kind], s: &SourceStatement) -> bool
 
 /// All statements of a block.
 #[cycle(statements)]
-pub(crate) fn bound_block(kinds: &[Kind], b: &Block) -> bool
+pub(crate) fn bound_block(kinds: &[Meaning], b: &Block) -> bool
     ensures { result ≡ bound_block kinds.now (body b.now) }
 {
     match b {
@@ -221,7 +298,7 @@ pub(crate) fn bound_block(kinds: &[Kind], b: &Block) -> bool
 }
 
 #[cycle(statements)]
-fn bound_arms(kinds: &[Kind], a: &Arms) -> bool
+fn bound_arms(kinds: &[Meaning], a: &Arms) -> bool
     ensures { result ≡ bound_arms kinds.now (chain a.now) }
 {
     match a {
@@ -233,7 +310,7 @@ fn bound_arms(kinds: &[Kind], a: &Arms) -> bool
 }
 
 #[cycle(used)]
-fn uses_statement(kinds: &[Kind], known: usize, s: &SourceStatement) -> bool
+fn uses_statement(kinds: &[Meaning], known: usize, s: &SourceStatement) -> bool
     ensures { result ≡ uses_statement kinds.now known (told s.now) }
 {
     match s {
@@ -251,7 +328,7 @@ fn uses_statement(kinds: &[Kind], known: usize, s: &SourceStatement) -> bool
 
 /// Whether only the first so many procedures are used.
 #[cycle(used)]
-pub(crate) fn uses(kinds: &[Kind], known: usize, b: &Block) -> bool
+pub(crate) fn uses(kinds: &[Meaning], known: usize, b: &Block) -> bool
     ensures { result ≡ uses kinds.now known (body b.now) }
 {
     match b {
@@ -263,7 +340,7 @@ pub(crate) fn uses(kinds: &[Kind], known: usize, b: &Block) -> bool
 }
 
 #[cycle(used)]
-fn uses_arms(kinds: &[Kind], known: usize, a: &Arms) -> bool
+fn uses_arms(kinds: &[Meaning], known: usize, a: &Arms) -> bool
     ensures { result ≡ uses_arms kinds.now known (chain a.now) }
 {
     match a {
@@ -274,7 +351,7 @@ fn uses_arms(kinds: &[Kind], known: usize, a: &Arms) -> bool
 
 /// Whether it stands in words as what it is: a queue, one of an array by its number, an array register, or an
 /// observation.
-pub fn is_shown(kinds: &[Kind], e: &SourceExpr) -> bool
+pub fn is_shown(kinds: &[Meaning], e: &SourceExpr) -> bool
     ensures { result ≡ is_shown kinds.now (tree e.now) }
 {
     match e {
@@ -290,7 +367,7 @@ pub fn is_shown(kinds: &[Kind], e: &SourceExpr) -> bool
 }
 
 /// Whether it may be the text of such a member.
-pub(crate) fn bound_as(member: Member, kinds: &[Kind], e: &SourceExpr) -> bool
+pub(crate) fn bound_as(member: Member, kinds: &[Meaning], e: &SourceExpr) -> bool
     ensures { result ≡ bound_as member kinds.now (tree e.now) }
 {
     match member {

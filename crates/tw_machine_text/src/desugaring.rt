@@ -30,7 +30,7 @@ ghost use Rattle.tw_machine_text.specs.Views.{tree, told, body, chain, parted, T
 use crate::counting::{nodes, nodes_block};
 use crate::drawn::{core_tree, draws, draws_in, draws_last};
 use crate::expanding::{expanded, nodes_of};
-use crate::kinds::{Kind, Names, Timing};
+use crate::kinds::{Meaning, Names, Timing};
 use crate::levels::{deep, deep_block};
 use crate::limits::MAX_LEVELS;
 use crate::refused::Refused;
@@ -251,7 +251,7 @@ fn no_else(alloc: Global, drawing: bool) -> Result<Option<Block>, AllocError>
 #[cycle(desugars)]
 fn desugared_statement(
     alloc: Global,
-    kinds: &[Kind],
+    kinds: &[Meaning],
     said: &SourceStatement,
 ) -> Result<SourceStatement, AllocError>
     ensures { IfOk result (λ s. told s ≡ desugared_statement kinds.now (told said.now)) }
@@ -298,7 +298,7 @@ fn desugared_statement(
 #[cycle(desugars)]
 fn desugared_behind(
     alloc: Global,
-    kinds: &[Kind],
+    kinds: &[Meaning],
     drawing: bool,
     program: &Block,
 ) -> Result<Block, AllocError>
@@ -318,7 +318,7 @@ fn desugared_behind(
 
 /// The arms of an `if`, of which tests and blocks are in the core.
 #[cycle(desugars)]
-fn desugared_arms(alloc: Global, kinds: &[Kind], arms: &Arms) -> Result<Chain, AllocError>
+fn desugared_arms(alloc: Global, kinds: &[Meaning], arms: &Arms) -> Result<Chain, AllocError>
     ensures { IfOk result (λ all. parted all ≡ desugared_arms kinds.now (chain arms.now)) }
 {
     match arms {
@@ -387,7 +387,7 @@ pub(crate) fn desugared(
 pub(crate) fn desugared_tree(
     alloc: Global,
     timing: Option<Timing>,
-    kinds: &[Kind],
+    kinds: &[Meaning],
     written: &SourceExpr,
     many: usize,
     place: usize,

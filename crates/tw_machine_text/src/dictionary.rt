@@ -73,7 +73,7 @@ pub const CONTEXTUAL: [(&str, Word); 7] = [
 ];
 
 /// The signs, each with what it is.
-const SIGNS: [(&str, Word); 23] = [
+const SIGNS: [(&str, Word); 24] = [
     ("(", Word::Open),
     (")", Word::Close),
     ("[", Word::OpenBracket),
@@ -82,6 +82,7 @@ const SIGNS: [(&str, Word); 23] = [
     ("}", Word::CloseBrace),
     (";", Word::Semicolon),
     (",", Word::Sign(Operator::Comma)),
+    (":", Word::Sign(Operator::Colon)),
     ("+", Word::Sign(Operator::Plus)),
     ("-", Word::Sign(Operator::Minus)),
     ("*", Word::Sign(Operator::Times)),
@@ -118,17 +119,21 @@ fn lookup(table: &[(&str, Word)], text: &[u8]) -> Option<Word>
     None
 }
 
-/// The names of the functions, in the order of their numbers, and `in`, which is a word behind a timer alone.
+/// The names of the functions, in the order of their numbers, and, before `item`, `in`, which is a word behind a timer
+/// alone.
 pub const FUNCTIONS: [&str; OWN_NAMES] = [
     "min", "max", "choose", "length", "room", "front", "last", "sum", "at", "place", "sample",
-    "roll", "running", "rest", "idle", "in",
+    "roll", "running", "rest", "idle", "in", "item",
 ];
 
 /// How many of these there are. The names that a machine declares have the numbers from here on.
-pub const OWN_NAMES: usize = 16;
+pub const OWN_NAMES: usize = 17;
 
 /// The number of `in`.
 pub(crate) const IN: usize = 15;
+
+/// The number of `item`.
+pub(crate) const ITEM: usize = 16;
 
 /// The number of a function in a list.
 fn function_in(functions: &[&str], text: &[u8]) -> Option<usize>

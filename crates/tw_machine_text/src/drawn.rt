@@ -1,8 +1,11 @@
 //! Numbers that are drawn by themselves, `sample(t)` and `roll(n)`: how many stand where, and what they are in the core
-//! of the language; and `length(t)` of a table there.
+//! of the language; and `length(t)` of a table and fields of values there.
 ghost use Rattle.std.specs.Prelude.{◌≡◌, ◌≤◌, IfOk, min};
 ghost use Rattle.tw_machine_text.specs.Drawn.{
   sampled,
+  called,
+  put_at,
+  packed,
   core_call,
   core_tree,
   is_drawing,
@@ -16,11 +19,16 @@ ghost use Rattle.tw_machine_text.specs.Drawn.{
   draws_in,
   draws_last,
 };
+ghost use Rattle.tw_machine_text.specs.Tree.{Group};
 ghost use Rattle.tw_machine_text.specs.Views.{tree, told, body, chain};
 
 use crate::binding::is_table_name;
-use crate::kinds::Kind;
+use crate::desugaring::copied;
+use crate::dictionary::ITEM;
+use crate::kinds::{Field, Meaning, field_of};
+use crate::timers::binary;
 use crate::tree::{Arms, Block, SourceExpr, SourceStatement};
+use crate::words::Operator;
 use std::alloc::{AllocError, Global};
 
 /// A number of a table that is drawn.
@@ -37,10 +45,85 @@ fn sampled(alloc: Global, table: SourceExpr) -> Result<SourceExpr, AllocError>
     }
 }
 
+/// An expression in parentheses.
+fn group(alloc: Global, e: SourceExpr) -> Result<SourceExpr, AllocError>
+    ensures { IfOk result (λ g. tree g ≡ Group (tree e)) }
+{
+    Ok(SourceExpr::Group(Box::new(alloc, e)?))
+}
+
+/// The field of a value, or else a function of arguments.
+fn called(
+    alloc: Global,
+    field: Option<Field>,
+    name: usize,
+    arguments: SourceExpr,
+) -> Result<SourceExpr, AllocError>
+    ensures { IfOk result (λ e. tree e ≡ called field name (tree arguments)) }
+{
+    let Some(field) = field else {
+        return Ok(SourceExpr::Call(name, Box::new(alloc, arguments)?));
+    };
+    let value = group(alloc, arguments)?;
+    let higher = binary(
+        alloc,
+        Operator::Divide,
+        value,
+        SourceExpr::Number(field.unit),
+    )?;
+    let part = binary(
+        alloc,
+        Operator::Modulo,
+        higher,
+        SourceExpr::Number(field.size),
+    )?;
+    group(alloc, part)
+}
+
+/// A number in its field's place.
+fn put_at(alloc: Global, field: Option<Field>, number: SourceExpr) -> Result<SourceExpr, AllocError>
+    ensures { IfOk result (λ e. tree e ≡ put_at field (tree number)) }
+{
+    let Some(field) = field else {
+        return Ok(number);
+    };
+    let number = group(alloc, number)?;
+    let cut = binary(
+        alloc,
+        Operator::Modulo,
+        number,
+        SourceExpr::Number(field.size),
+    )?;
+    binary(alloc, Operator::Times, cut, SourceExpr::Number(field.unit))
+}
+
+/// The sum of fields with their numbers.
+fn packed(alloc: Global, kinds: &[Meaning], e: &SourceExpr) -> Result<SourceExpr, AllocError>
+    ensures { IfOk result (λ sum. tree sum ≡ packed kinds.now (tree e.now)) }
+{
+    match e {
+        SourceExpr::Binary(Operator::Colon, named, number) => match &**named {
+            SourceExpr::Name(name) => {
+                put_at(alloc, field_of(kinds, *name), copied(alloc, number)?)
+            }
+            SourceExpr::Binary(Operator::Comma, before, last) => match &**last {
+                SourceExpr::Name(name) => {
+                    let before = packed(alloc, kinds, before)?;
+                    let number = put_at(alloc, field_of(kinds, *name), copied(alloc, number)?)?;
+                    binary(alloc, Operator::Plus, before, number)
+                }
+                _ => copied(alloc, e),
+            },
+            _ => copied(alloc, e),
+        },
+        _ => copied(alloc, e),
+    }
+}
+
 /// A function of arguments in the core.
 fn core_call(
     alloc: Global,
-    kinds: &[Kind],
+    kinds: &[Meaning],
     name: usize,
     arguments: SourceExpr,
 ) -> Result<SourceExpr, AllocError>
@@ -52,15 +135,17 @@ fn core_call(
         Ok(SourceExpr::RandomBelow(Box::new(alloc, arguments)?))
     } else if name == 3 && is_table_name(kinds, &arguments) {
         Ok(arguments)
+    } else if name == ITEM {
+        group(alloc, packed(alloc, kinds, &arguments)?)
     } else {
-        Ok(SourceExpr::Call(name, Box::new(alloc, arguments)?))
+        called(alloc, field_of(kinds, name), name, arguments)
     }
 }
 
 /// An expression in the core of the language.
 pub(crate) fn core_tree(
     alloc: Global,
-    kinds: &[Kind],
+    kinds: &[Meaning],
     e: &SourceExpr,
 ) -> Result<SourceExpr, AllocError>
     ensures { IfOk result (λ core. tree core ≡ core_tree kinds.now (tree e.now)) }

@@ -15,6 +15,10 @@ ghost use Rattle.tw_machine_text.specs.Examples.{
   drawn_chain,
   drawn_turns,
   few_drawn,
+  fields_written,
+  fields_packed,
+  field_read,
+  fields_named,
   no_chain,
   timed_words,
   starting,
@@ -48,6 +52,14 @@ pub fn drawing()
     ensures chain { drawn_chain }
     ensures turns { drawn_turns }
     ensures few { few_drawn }
+{}
+
+/// What fields of values come to, and where they may stand.
+pub fn fields()
+    ensures written { fields_written }
+    ensures packed { fields_packed }
+    ensures read { field_read }
+    ensures named { fields_named }
 {}
 
 /// What is said of timers: how it is written, what it comes to, and where it may stand.

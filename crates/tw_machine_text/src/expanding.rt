@@ -18,7 +18,7 @@ ghost use Rattle.tw_machine_text.specs.Views.{told, body, chain};
 
 use crate::counting::{nodes, nodes_block, nodes_statement};
 use crate::desugaring::{copied, then};
-use crate::kinds::{Kind, stands_for};
+use crate::kinds::{Kind, Meaning, stands_for};
 use crate::limits::NODES_END;
 use crate::tree::{Arms, Block, SourceExpr, SourceStatement};
 use crate::words::Deed;
@@ -125,7 +125,7 @@ pub fn joined(alloc: Global, before: Block, program: &Block) -> Result<Block, Al
 /// A statement behind others: of `do` the program of its procedure.
 fn placed(
     alloc: Global,
-    kinds: &[Kind],
+    kinds: &[Meaning],
     procedures: &[Block],
     before: Block,
     last: SourceStatement,
@@ -149,7 +149,7 @@ fn placed(
 #[cycle(expands)]
 fn expanded_statement(
     alloc: Global,
-    kinds: &[Kind],
+    kinds: &[Meaning],
     procedures: &[Block],
     said: &SourceStatement,
 ) -> Result<SourceStatement, AllocError>
@@ -180,7 +180,7 @@ fn expanded_statement(
 #[cycle(expands)]
 pub(crate) fn expanded(
     alloc: Global,
-    kinds: &[Kind],
+    kinds: &[Meaning],
     procedures: &[Block],
     program: &Block,
 ) -> Result<Block, AllocError>
@@ -200,7 +200,7 @@ pub(crate) fn expanded(
 #[cycle(expands)]
 fn expanded_arms(
     alloc: Global,
-    kinds: &[Kind],
+    kinds: &[Meaning],
     procedures: &[Block],
     arms: &Arms,
 ) -> Result<Arms, AllocError>
@@ -235,7 +235,7 @@ fn nodes_done(procedures: &[Block], kind: Kind) -> usize
 
 /// The nodes of a statement, at most 4,097.
 #[cycle(counts_nodes)]
-fn nodes_of_statement(kinds: &[Kind], procedures: &[Block], said: &SourceStatement) -> usize
+fn nodes_of_statement(kinds: &[Meaning], procedures: &[Block], said: &SourceStatement) -> usize
     ensures value { result ≡ min
         (nodes_of_statement kinds.now (map body procedures.now) (told said.now)) nodes_end }
     ensures small { result ≤ nodes_end }
@@ -259,7 +259,7 @@ fn nodes_of_statement(kinds: &[Kind], procedures: &[Block], said: &SourceStateme
 
 /// The nodes that a program will have, at most 4,097.
 #[cycle(counts_nodes)]
-pub(crate) fn nodes_of(kinds: &[Kind], procedures: &[Block], program: &Block) -> usize
+pub(crate) fn nodes_of(kinds: &[Meaning], procedures: &[Block], program: &Block) -> usize
     ensures value { result ≡ min
         (nodes_of kinds.now (map body procedures.now) (body program.now)) nodes_end }
     ensures small { result ≤ nodes_end }
@@ -274,7 +274,7 @@ pub(crate) fn nodes_of(kinds: &[Kind], procedures: &[Block], program: &Block) ->
 }
 
 #[cycle(counts_nodes)]
-fn nodes_of_arms(kinds: &[Kind], procedures: &[Block], arms: &Arms) -> usize
+fn nodes_of_arms(kinds: &[Meaning], procedures: &[Block], arms: &Arms) -> usize
     ensures value { result ≡ min
         (nodes_of_arms kinds.now (map body procedures.now) (chain arms.now)) nodes_end }
     ensures small { result ≤ nodes_end }

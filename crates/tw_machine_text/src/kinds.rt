@@ -10,17 +10,21 @@ ghost use Rattle.tw_machine_text.specs.Kinds.{
   is_queue_array,
   is_observation,
   is_table,
-  is_parameter,
+  counts_turns,
   is_procedure,
   is_timer,
   is_timer_array,
   is_among,
-  kind_named,
+  field_of,
+  meaning_named,
+  no_meaning,
+  without_field,
   kinds_of,
 };
 ghost use Rattle.tw_machine_text.specs.TextViews.{declarations};
 
 use crate::dictionary::{FUNCTIONS, same_text};
+use crate::limits::MAX_TURNS;
 use std::alloc::{AllocError, Global};
 
 /// What a machine declares by a name.
@@ -37,6 +41,8 @@ pub enum Kind {
     Table,
     /// A parameter that is a number.
     Parameter,
+    /// This number, which the file says once.
+    Constant(i64),
     /// A parameter that is a list.
     ListParameter,
     Observation,
@@ -66,11 +72,27 @@ pub struct Timing {
     pub of: Option<usize>,
 }
 
-/// A name that a machine declares, and what it is the name of.
+/// A part of a value: so many bits from a lowest one on.
+#[derive(Clone, Copy, Debug, PartialEq, Eq)]
+pub struct Field {
+    /// What its lowest bit counts in the value.
+    pub unit: u64,
+    /// How many numbers it tells apart.
+    pub size: u64,
+}
+
+/// What a name stands for: what the machine declares by it, and the field that it names before a parenthesis.
+#[derive(Clone, Copy, Debug, PartialEq, Eq)]
+pub struct Meaning {
+    pub kind: Kind,
+    pub field: Option<Field>,
+}
+
+/// A name that a machine declares, or a field's, and what it stands for.
 #[derive(Drop)]
 pub struct Declared {
     pub name: String,
-    pub kind: Kind,
+    pub meaning: Meaning,
 }
 
 /// The names that a text may use.
@@ -78,7 +100,7 @@ pub struct Declared {
 pub(crate) struct Names<'a> {
     pub declared: &'a [Declared],
     /// What each stands for, by its number: the functions' names first.
-    pub kinds: &'a [Kind],
+    pub kinds: &'a [Meaning],
     /// Of a machine with timers the names behind these, and the timer that the text is of.
     pub timing: Option<Timing>,
 }
@@ -94,16 +116,32 @@ pub enum Member {
     Shown,
 }
 
+/// What a name that nothing has stands for.
+const NO_MEANING: Meaning = Meaning {
+    kind: Kind::Nothing,
+    field: None,
+};
+
 /// What is declared by a name.
-fn kind_named(declared: &[Declared], name: &[u8]) -> Kind
-    ensures { result ≡ kind_named (declarations declared.now) name.now }
+fn meaning_named(declared: &[Declared], name: &[u8]) -> Meaning
+    ensures { result ≡ meaning_named (declarations declared.now) name.now }
 {
     for one in declared {
         if same_text(one.name.as_bytes(), name) {
-            return one.kind;
+            return one.meaning;
         }
     }
-    Kind::Nothing
+    NO_MEANING
+}
+
+/// What a function's name stands for, which is no field's.
+fn without_field(meaning: Meaning) -> Meaning
+    ensures { result ≡ without_field meaning }
+{
+    Meaning {
+        kind: meaning.kind,
+        field: None,
+    }
 }
 
 /// What is declared by each of these names.
@@ -111,31 +149,31 @@ fn kinds_named(
     alloc: Global,
     declared: &[Declared],
     names: &[&str],
-) -> Result<Vec<Kind>, AllocError>
+) -> Result<Vec<Meaning>, AllocError>
     ensures { IfOk result (λ kinds. kinds.items
-        ≡ map (λ name. kind_named (declarations declared.now) name.now) names.now) }
+        ≡ map (λ name. without_field (meaning_named (declarations declared.now) name.now)) names.now) }
 {
     let mut kinds = Vec::with_capacity(alloc, names.len())?;
     for name in names {
-        kinds.push(kind_named(declared, name.as_bytes()))?;
+        kinds.push(without_field(meaning_named(declared, name.as_bytes())))?;
     }
     Ok(kinds)
 }
 
 /// What is declared, without the names.
-fn kinds_declared(alloc: Global, declared: &[Declared]) -> Result<Vec<Kind>, AllocError>
+fn kinds_declared(alloc: Global, declared: &[Declared]) -> Result<Vec<Meaning>, AllocError>
     ensures { IfOk result (λ kinds. kinds.items ≡ map (λ d. d.1) (declarations declared.now)) }
 {
     let mut kinds = Vec::with_capacity(alloc, declared.len())?;
     for one in declared {
-        kinds.push(one.kind)?;
+        kinds.push(one.meaning)?;
     }
     Ok(kinds)
 }
 
 /// What each name stands for, by its number: first the functions' names, then those that are declared. The only error
 /// is want of memory.
-pub fn kinds_of(alloc: Global, declared: &[Declared]) -> Result<Vec<Kind>, AllocError>
+pub fn kinds_of(alloc: Global, declared: &[Declared]) -> Result<Vec<Meaning>, AllocError>
     ensures { IfOk result (λ kinds. kinds.items ≡ kinds_of (declarations declared.now)) }
 {
     let mut kinds = kinds_named(alloc, declared, &FUNCTIONS)?;
@@ -145,10 +183,17 @@ pub fn kinds_of(alloc: Global, declared: &[Declared]) -> Result<Vec<Kind>, Alloc
 }
 
 /// What is declared by the name of this number.
-pub(crate) fn stands_for(kinds: &[Kind], name: usize) -> Kind
+pub(crate) fn stands_for(kinds: &[Meaning], name: usize) -> Kind
     ensures { result ≡ stands_for kinds.now name }
 {
-    kinds.get(name).copied().unwrap_or(Kind::Nothing)
+    kinds.get(name).copied().unwrap_or(NO_MEANING).kind
+}
+
+/// The field that the name of this number names before a parenthesis.
+pub(crate) fn field_of(kinds: &[Meaning], name: usize) -> Option<Field>
+    ensures { result ≡ field_of kinds.now name }
+{
+    kinds.get(name).copied().unwrap_or(NO_MEANING).field
 }
 
 impl Kind {
@@ -156,7 +201,7 @@ impl Kind {
     pub fn reads(self) -> bool
         ensures { result ≡ reads self }
     {
-        matches!(self, Kind::Register | Kind::Parameter)
+        matches!(self, Kind::Register | Kind::Parameter | Kind::Constant(_))
     }
 
     /// Whether it is a number with an index.
@@ -232,9 +277,14 @@ impl Kind {
         }
     }
 
-    pub fn is_parameter(self) -> bool
-        ensures { result ≡ is_parameter self }
+    /// Whether it may say how often something is repeated: a parameter, or a number of 0 to 64.
+    pub fn counts_turns(self) -> bool
+        ensures { result ≡ counts_turns self }
     {
-        matches!(self, Kind::Parameter)
+        match self {
+            Kind::Parameter => true,
+            Kind::Constant(number) => number >= 0 && number <= MAX_TURNS as i64,
+            _ => false,
+        }
     }
 }

@@ -16,12 +16,14 @@ ghost use Rattle.tw_machine_text.specs.Limits.{written_levels};
 ghost use Rattle.tw_machine_text.specs.Machine.{nests, closes, demand, depth, wants, starts_timer, is_bottom};
 ghost use Rattle.tw_machine_text.specs.Views.{framed, held, Gives};
 
+use crate::binding::is_given;
+use crate::dictionary::{ITEM, OWN_NAMES};
 use crate::drawn::draws;
 use crate::fault::Fault;
 use crate::frames::Frame;
-use crate::kinds::{Kind, Member, stands_for};
+use crate::kinds::{Meaning, Member, stands_for};
 use crate::limits::{MAX_LEVELS, WRITTEN_LEVELS};
-use crate::tree::{Arms, arity, takes_numbers};
+use crate::tree::{Arms, SourceExpr, arity, takes_numbers};
 use crate::words::{Deed, Operator, Verb};
 use std::alloc::{AllocError, Global};
 
@@ -50,6 +52,8 @@ pub(crate) enum Role {
     /// The argument of `sample`.
     Table,
     Count,
+    /// A field that is given a number.
+    Field,
     /// A queue alone.
     Each,
     /// An expression, a queue, an array register or an observation, alone.
@@ -81,11 +85,12 @@ impl Frame {
 
 impl Frame {
     /// How many levels deeper what it holds is in the core: `observe` is three statements with its number in
-    /// parentheses, what stands behind the `else` of a test that draws is a block, and of timers stands more.
+    /// parentheses, what stands behind the `else` of a test that draws is a block, and of timers and fields stands more.
     fn more_levels(&self) -> usize {
         match self {
             Frame::InQueue(_, Verb::Observe) | Frame::InItem(_, Verb::Observe, _) => 1,
-            Frame::InCall(12 | 13) => 1,
+            Frame::InCall(12 | 13 | ITEM) => 1,
+            Frame::InCall(name) if *name >= OWN_NAMES => 1,
             Frame::InTicks(..) => 2,
             Frame::InElseIf(_, arms) | Frame::InElseThen(_, arms, _) => tests_that_draw(arms),
             Frame::InElse(_, arms) => match arms {
@@ -206,7 +211,7 @@ impl Stack {
     }
 
     /// What the next operand is to stand for, or the one that has come.
-    pub fn role(&self, member: Option<Member>, kinds: &[Kind]) -> Role {
+    pub fn role(&self, member: Option<Member>, kinds: &[Meaning]) -> Role {
         match self.frames.last() {
             Some(Frame::InWait(_)) => match member {
                 Some(Member::Each) => Role::Each,
@@ -228,6 +233,8 @@ impl Stack {
             Some(Frame::InDeed(_, Deed::Do)) => Role::Procedure,
             Some(Frame::InStart(_) | Frame::InDeed(_, Deed::Stop)) => Role::Timer,
             Some(Frame::InQueue(..) | Frame::InDeed(..)) => Role::Queue,
+            Some(Frame::InCall(_) | Frame::Operand(_, Operator::Comma))
+                if self.fields_before().is_some() => Role::Field,
             Some(Frame::InCall(name)) => match *name {
                 3 => Role::Measured,
                 10 => Role::Table,
@@ -287,11 +294,35 @@ impl Stack {
         true
     }
 
+    /// The fields with their numbers before the one that is to come, where one is.
+    fn fields_before(&self) -> Option<Option<&SourceExpr>> {
+        let mut before = None;
+        for frame in self.frames.iter().rev() {
+            match frame {
+                Frame::Operand(fields, Operator::Comma) if before.is_none() => {
+                    before = Some(fields)
+                }
+                Frame::InCall(ITEM) => return Some(before),
+                _ => return None,
+            }
+        }
+        None
+    }
+
+    /// Whether a field is to come that has come before.
+    pub fn is_given(&self, name: usize) -> bool {
+        match self.fields_before() {
+            Some(Some(before)) => is_given(name, before),
+            _ => false,
+        }
+    }
+
     /// Whether one argument more may come.
     pub fn takes_comma(&self) -> bool {
         let mut before = None;
         for frame in self.frames.iter().rev() {
             match frame {
+                Frame::Operand(_, Operator::Colon) => return true,
                 Frame::Operand(arguments, Operator::Comma) => before = Some(arguments),
                 Frame::Operand(..) | Frame::InNot | Frame::InNegative => {}
                 Frame::InCall(name) => {

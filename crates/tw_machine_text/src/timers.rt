@@ -41,7 +41,7 @@ ghost use Rattle.tw_machine_text.specs.Views.{tree, told, body, chain};
 use crate::binding::{bound_as, bound_block, uses};
 use crate::desugaring::{copied, then};
 use crate::drawn::{draws_none, few_drawn};
-use crate::kinds::{Kind, Member, Timing, stands_for};
+use crate::kinds::{Kind, Meaning, Member, Timing, stands_for};
 use crate::limits::{LAST_DUE, MAX_COUNT};
 use crate::tree::{Arms, Block, SourceExpr, SourceStatement};
 use crate::words::{Builtin, Deed, Operator, SourceChange, Verb};
@@ -115,7 +115,7 @@ fn in_time_arms(timed: bool, arms: &Arms) -> bool
 /// drawn than may be, and time is kept as the machine keeps it.
 pub(crate) fn may_stand(
     timing: Option<Timing>,
-    kinds: &[Kind],
+    kinds: &[Meaning],
     known: usize,
     program: &Block,
 ) -> bool
@@ -131,7 +131,7 @@ pub(crate) fn may_stand(
 pub(crate) fn may_stand_as(
     timing: Option<Timing>,
     member: Member,
-    kinds: &[Kind],
+    kinds: &[Meaning],
     e: &SourceExpr,
 ) -> bool
     ensures { result ≡ may_stand_as timing member kinds.now (tree e.now) }
@@ -207,7 +207,7 @@ fn placed_at(
 }
 
 /// The place of a timer among all.
-fn place_of(alloc: Global, kinds: &[Kind], timer: SourceExpr) -> Result<SourceExpr, AllocError>
+fn place_of(alloc: Global, kinds: &[Meaning], timer: SourceExpr) -> Result<SourceExpr, AllocError>
     ensures { IfOk result (λ e. tree e ≡ place_of kinds.now (tree timer)) }
 {
     match timer {
@@ -229,7 +229,7 @@ fn place_of(alloc: Global, kinds: &[Kind], timer: SourceExpr) -> Result<SourceEx
 fn due_of(
     alloc: Global,
     timing: Timing,
-    kinds: &[Kind],
+    kinds: &[Meaning],
     timer: SourceExpr,
 ) -> Result<SourceExpr, AllocError>
     ensures { IfOk result (λ e. tree e ≡ due_of timing kinds.now (tree timer)) }
@@ -242,7 +242,7 @@ fn due_of(
 fn runs(
     alloc: Global,
     timing: Timing,
-    kinds: &[Kind],
+    kinds: &[Meaning],
     timer: SourceExpr,
 ) -> Result<SourceExpr, AllocError>
     ensures { IfOk result (λ e. tree e ≡ runs timing kinds.now (tree timer)) }
@@ -256,7 +256,7 @@ fn runs(
 fn rests(
     alloc: Global,
     timing: Timing,
-    kinds: &[Kind],
+    kinds: &[Meaning],
     timer: SourceExpr,
 ) -> Result<SourceExpr, AllocError>
     ensures { IfOk result (λ e. tree e ≡ rests timing kinds.now (tree timer)) }
@@ -317,7 +317,7 @@ fn idle_from(
 fn idles(
     alloc: Global,
     timing: Timing,
-    kinds: &[Kind],
+    kinds: &[Meaning],
     timers: SourceExpr,
 ) -> Result<SourceExpr, AllocError>
     ensures { IfOk result (λ e. tree e ≡ idles timing kinds.now (tree timers)) }
@@ -341,7 +341,7 @@ fn idles(
 fn timed_call(
     alloc: Global,
     timing: Timing,
-    kinds: &[Kind],
+    kinds: &[Meaning],
     name: usize,
     arguments: SourceExpr,
 ) -> Result<SourceExpr, AllocError>
@@ -362,7 +362,7 @@ fn timed_call(
 fn timed_tree(
     alloc: Global,
     timing: Timing,
-    kinds: &[Kind],
+    kinds: &[Meaning],
     e: &SourceExpr,
 ) -> Result<SourceExpr, AllocError>
     ensures { IfOk result (λ core. tree core ≡ timed_tree timing kinds.now (tree e.now)) }
@@ -421,7 +421,7 @@ fn started(alloc: Global, timing: Timing, ticks: SourceExpr) -> Result<SourceExp
 fn treated(
     alloc: Global,
     timing: Timing,
-    kinds: &[Kind],
+    kinds: &[Meaning],
     deed: Deed,
     named: SourceExpr,
 ) -> Result<SourceStatement, AllocError>
@@ -463,7 +463,7 @@ fn sent(
 fn timed_statement(
     alloc: Global,
     timing: Timing,
-    kinds: &[Kind],
+    kinds: &[Meaning],
     said: &SourceStatement,
 ) -> Result<SourceStatement, AllocError>
     ensures { IfOk result (λ s. told s ≡ timed_statement timing kinds.now (told said.now)) }
@@ -519,7 +519,7 @@ fn timed_statement(
 fn timed_block(
     alloc: Global,
     timing: Timing,
-    kinds: &[Kind],
+    kinds: &[Meaning],
     program: &Block,
 ) -> Result<Block, AllocError>
     ensures { IfOk result (λ block. body block ≡ timed_block timing kinds.now (body program.now)) }
@@ -538,7 +538,7 @@ fn timed_block(
 fn timed_arms(
     alloc: Global,
     timing: Timing,
-    kinds: &[Kind],
+    kinds: &[Meaning],
     arms: &Arms,
 ) -> Result<Arms, AllocError>
     ensures { IfOk result (λ all. chain all ≡ timed_arms timing kinds.now (chain arms.now)) }
@@ -562,7 +562,7 @@ fn timed_arms(
 pub(crate) fn timed(
     alloc: Global,
     timing: Option<Timing>,
-    kinds: &[Kind],
+    kinds: &[Meaning],
     program: Block,
 ) -> Result<Block, AllocError>
     ensures { IfOk result (λ block. body block ≡ timed timing kinds.now (body program)) }
@@ -577,7 +577,7 @@ pub(crate) fn timed(
 pub(crate) fn timed_text(
     alloc: Global,
     timing: Option<Timing>,
-    kinds: &[Kind],
+    kinds: &[Meaning],
     e: SourceExpr,
 ) -> Result<SourceExpr, AllocError>
     ensures { IfOk result (λ core. tree core ≡ timed_text timing kinds.now (tree e)) }

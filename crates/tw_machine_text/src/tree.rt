@@ -1,9 +1,9 @@
 //! A program as a tree, as it is written: parentheses and semicolons are parts of it.
 ghost use Rattle.std.specs.Prelude.{◌≡◌, ◌==◌, nat_eq};
-ghost use Rattle.tw_machine_text.specs.Tree.{level, count, first_level, arity, takes_numbers, fits_call, is_count};
+ghost use Rattle.tw_machine_text.specs.Tree.{level, count, first_level, arity, takes_numbers, first_demand, fits_call, is_count};
 ghost use Rattle.tw_machine_text.specs.Views.{tree};
 
-use crate::dictionary::OWN_NAMES;
+use crate::dictionary::{ITEM, OWN_NAMES};
 use crate::words::{Builtin, Deed, Operator, SourceChange, Verb};
 
 /// An expression. A place and a queue are one too: a name, with or without an index.
@@ -104,8 +104,7 @@ impl SourceExpr {
     pub fn fits_call(&self, name: usize) -> bool
         ensures { result ≡ fits_call name (tree self.now) }
     {
-        let least = if takes_numbers(name) { 1 } else { 9 };
-        self.is_many(arity(name)) && least <= self.first_level()
+        self.is_many(arity(name)) && first_demand(name) <= self.first_level()
     }
 
     /// Whether it may say how many turns are made.
@@ -117,20 +116,33 @@ impl SourceExpr {
 }
 
 /// How many arguments the functions take: min, max, choose, length, room, front, last, sum, at, place, sample, roll,
-/// running, rest, idle; `in` is none.
-const ARITIES: [usize; OWN_NAMES] = [2, 2, 3, 1, 1, 1, 1, 1, 2, 2, 1, 1, 1, 1, 1, 0];
+/// running, rest, idle; `in` is none; item, whose fields with their numbers are one.
+const ARITIES: [usize; OWN_NAMES] = [2, 2, 3, 1, 1, 1, 1, 1, 2, 2, 1, 1, 1, 1, 1, 0, 1];
 
-/// Whether all arguments of a function are numbers: of the first three, and of `roll`. Of the others the first is a queue,
-/// a table or a timer.
+/// Whether all arguments of a function are numbers: of the first three, of `roll`, and of a field. Of the others the first
+/// is a queue, a table, a timer or a field.
 pub(crate) fn takes_numbers(name: usize) -> bool
     ensures { result ≡ takes_numbers name }
 {
-    name < 3 || name == 11
+    name < 3 || name == 11 || name >= OWN_NAMES
 }
 
-/// How many arguments a function takes.
+/// How tightly the first argument of a function has to be bound.
+fn first_demand(name: usize) -> usize
+    ensures { result ≡ first_demand name }
+{
+    if takes_numbers(name) {
+        1
+    } else if name == ITEM {
+        0
+    } else {
+        9
+    }
+}
+
+/// How many arguments a function takes, or a field.
 pub(crate) fn arity(name: usize) -> usize
     ensures { result ≡ arity name }
 {
-    ARITIES.get(name).copied().unwrap_or(0)
+    if name < OWN_NAMES { ARITIES[name] } else { 1 }
 }

@@ -3,10 +3,12 @@ ghost use Rattle.std.specs.Prelude.{◌≡◌, ◌≤◌, if◌then◌else◌};
 ghost use Rattle.tw_machine_text.specs.Tree.{rank, left_rank, wanted, head};
 ghost use Rattle.tw_machine_text.specs.Machine.{weight};
 
-/// An operator between two operands. A comma stands between the arguments of a function, below all others.
+/// An operator between two operands. A comma stands between the arguments of a function, a colon between a field and its
+/// number, both below all others.
 #[derive(Clone, Copy, Debug, PartialEq, Eq)]
 pub enum Operator {
     Comma,
+    Colon,
     Or,
     And,
     Equal,
@@ -103,7 +105,7 @@ impl Operator {
         ensures { result ≡ rank self }
     {
         match self {
-            Operator::Comma => 0,
+            Operator::Comma | Operator::Colon => 0,
             Operator::Or => 1,
             Operator::And => 2,
             Operator::Equal
@@ -122,7 +124,7 @@ impl Operator {
         ensures { result ≡ left_rank self }
     {
         match self {
-            Operator::Comma => 0,
+            Operator::Comma | Operator::Colon => 0,
             Operator::Or => 1,
             Operator::And => 2,
             Operator::Equal

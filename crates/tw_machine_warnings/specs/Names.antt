@@ -5,7 +5,7 @@ use Rattle.std.specs.Prelude.{◌+◌, ◌==◌, ◌++◌, [], ◌∷◌, ℕ, �
 use Rattle.std.specs.List.{list_any}
 use Rattle.tw_machine_text.specs.Letters.{functions}
 use Rattle.tw_machine_text.specs.Text.{position}
-use Rattle.tw_machine_declaration.specs.Seen.{Declaration, Declares, Name, parameter, list_parameter, register, registers, queue, queues, table, list_table, observation, procedure, timer, timer_array, number as plain_number, together, greatest, due, next}
+use Rattle.tw_machine_declaration.specs.Seen.{Declaration, Declares, Name, parameter, list_parameter, register, registers, queue, queues, table, list_table, observation, procedure, timer, timer_array, fixed, field, number as plain_number, together, greatest, due, next}
 use Rattle.tw_machine_declaration.specs.declared.declaration.Timer.{Timer}
 use Rattle.tw_machine_declaration.specs.declared.declaration.Constant.{Constant}
 use Rattle.tw_machine_declaration.specs.declared.declaration.Constant.TheVariants as c
@@ -60,7 +60,7 @@ is_set d c = does_machine (doing.Sets c) d
 abbrev pub held_warnings : Declaration → Called → List ℕ → List Warning
 held_warnings d by place = if is_read d by then where_so (not (is_set d by)) place kind.NotSet else where_so true place kind.NotRead
 
--- a list is read by the table that has its name; observations are shown or not, procedures are put in; a timer runs; of what is hidden nothing is said
+-- a list is read by the table that has its name; observations are shown or not, procedures are put in; a timer runs; of what the file says, and of what is hidden, nothing is said
 abbrev pub thing_warnings : Declaration → Called → List ℕ → Declares → List Warning
 thing_warnings d by place (parameter k) = where_so (not (is_read d by || constant_uses k d)) place kind.NotRead
 thing_warnings d by place (list_parameter k) = []
@@ -74,6 +74,8 @@ thing_warnings d by place observation = []
 thing_warnings d by place (procedure k) = []
 thing_warnings d by place (timer before) = where_so (never_runs d before) place kind.NeverRuns
 thing_warnings d by place (timer_array before last) = where_so (never_runs d before) place kind.NeverRuns
+thing_warnings d by place (fixed n) = []
+thing_warnings d by place field = []
 thing_warnings d by place (plain_number c) = []
 thing_warnings d by place (together ts) = []
 thing_warnings d by place (greatest t) = []

@@ -214,6 +214,8 @@ fn add_thing(
         Thing::ListParameter(_)
         | Thing::Observation
         | Thing::Procedure(_)
+        | Thing::Constant(_)
+        | Thing::Field
         | Thing::Number(_)
         | Thing::Together(_)
         | Thing::Greatest(_)

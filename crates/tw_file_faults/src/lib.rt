@@ -8,8 +8,8 @@
 //! - `lines`: [`explain`], [`explain_text`].
 //! - `outline`: the models and components of a file as it is written, well-formed or not, each with its place and its name.
 //! - `shape`, `parameters`, `connections`, `counts`: the first place of a fault of each kind.
-//! - `given`: components of machines. The machines themselves, the first fault of `models`, are left to
-//!   `tw_machine_faults`, the words that lines are made of to `tw_machine_text_faults`.
+//! - `given`: components of machines. The machines themselves, the first fault of `fields`, `constants` and `models`, are
+//!   left to `tw_machine_faults`, the words that lines are made of to `tw_machine_text_faults`.
 //! - `syntax`: what a text that is no JSON wants where it goes wrong.
 #![tactic(auto)]
 

@@ -26,6 +26,8 @@ use tw_network::NetworkRefused;
 /// - `couplings[500]: no component is named "h1001"`, and in the same form a place in `inputs`; a coupling of a
 ///   coupled model has that model's place before it.
 /// - `the file: micro_limit is 0, at least 1`.
+/// - `fields[1] "size": has 0 bits, 1 to 62` and `constants "N": 1.5, not a whole number ..`: a field, by its place from 0
+///   and its name, and a constant.
 ///
 /// The words are those of the first place of this fault; which they are is shown by tests. For a fault that the value does
 /// not have, the words are the fault's own.

@@ -13,7 +13,19 @@ use tw_models::{KINDS, Kind, Numbers};
 const MEMBERS: [&str; 5] = ["format", "micro_limit", "components", "couplings", "inputs"];
 
 /// The members of a network file of format tw-3.
-const MEMBERS_OF_MACHINES: [&str; 6] = [
+const MEMBERS_OF_MACHINES: [&str; 8] = [
+    "format",
+    "micro_limit",
+    "fields",
+    "constants",
+    "models",
+    "components",
+    "couplings",
+    "inputs",
+];
+
+/// Those of them that have to be there.
+const NEEDED: [&str; 6] = [
     "format",
     "micro_limit",
     "models",
@@ -22,8 +34,8 @@ const MEMBERS_OF_MACHINES: [&str; 6] = [
     "inputs",
 ];
 
-/// Looks for another shape: first in the members of the file, then in its machines in order, then in its models in
-/// order, then in its inputs.
+/// Looks for another shape: first in the members of the file, then in its fields, its constants and its machines in
+/// order, then in its models in order, then in its inputs.
 pub(crate) fn bad_shape(alloc: Global, value: &Value, outline: &Outline<'_>) -> Result<(), Stop> {
     check_file(alloc, value, outline)?;
     let machines = if outline.has_machines {
@@ -31,6 +43,7 @@ pub(crate) fn bad_shape(alloc: Global, value: &Value, outline: &Outline<'_>) -> 
     } else {
         Machines::none(alloc)
     };
+    check_list(alloc, "the file", value, "inputs")?;
     check_levels(alloc, outline, &machines)?;
     check_tables(alloc, outline, &machines)?;
     for (i, input) in items_in(value, "inputs").iter().enumerate() {
@@ -75,7 +88,17 @@ fn check_file(alloc: Global, value: &Value, outline: &Outline<'_>) -> Result<(),
     let place = "the file";
     let what = "a network file";
     if outline.has_machines {
-        check_members(alloc, place, value, what, &[], &MEMBERS_OF_MACHINES)?;
+        let takes = listed(alloc, &MEMBERS_OF_MACHINES)?;
+        let what = format!(in alloc; "{what}, which takes {takes}")?;
+        check_known(
+            alloc,
+            place,
+            value,
+            what.as_str(),
+            &[],
+            &MEMBERS_OF_MACHINES,
+        )?;
+        check_all_present(alloc, place, value, what.as_str(), &NEEDED)?;
     } else {
         check_members(alloc, place, value, what, &[], &MEMBERS)?;
     }
@@ -89,9 +112,7 @@ fn check_file(alloc: Global, value: &Value, outline: &Outline<'_>) -> Result<(),
             return Err(Stop::Fault(line));
         }
     }
-    check_count(alloc, place, value, "micro_limit")?;
-    check_list(alloc, place, value, "models")?;
-    check_list(alloc, place, value, "inputs")
+    check_count(alloc, place, value, "micro_limit")
 }
 
 /// Looks at a component: an atom, or where there are trees a coupled model.
@@ -239,7 +260,7 @@ pub(crate) fn check_members(
     alloc: Global,
     place: &str,
     value: &Value,
-    what: &str,
+    said: &str,
     common: &[&str],
     own: &[&str],
 ) -> Result<(), Stop> {
@@ -248,6 +269,23 @@ pub(crate) fn check_members(
     } else {
         listed(alloc, own)?
     };
+    let what = format!(in alloc; "{said}, which takes {takes}")?;
+    check_known(alloc, place, value, what.as_str(), common, own)?;
+    for name in common {
+        check_present(alloc, place, value, said, name)?;
+    }
+    check_all_present(alloc, place, value, what.as_str(), own)
+}
+
+/// Stops at what is no object, and at a member that is neither of the common ones nor of its own.
+fn check_known(
+    alloc: Global,
+    place: &str,
+    value: &Value,
+    what: &str,
+    common: &[&str],
+    own: &[&str],
+) -> Result<(), Stop> {
     let Some(members) = value.as_object() else {
         let found = described(alloc, value)?;
         let line = format!(in alloc; "{place}: {found}, not an object")?;
@@ -256,22 +294,23 @@ pub(crate) fn check_members(
     for name in members.keys() {
         if !has_word(common, name.as_str()) && !has_word(own, name.as_str()) {
             let name = quoted(alloc, name.as_str())?;
-            let line = format!(in alloc;
-                "{place}: no member {name} in {what}, which takes {takes}"
-            )?;
+            let line = format!(in alloc; "{place}: no member {name} in {what}")?;
             return Err(Stop::Fault(line));
         }
     }
-    for name in common {
+    Ok(())
+}
+
+/// Stops where one of these members is missing.
+fn check_all_present(
+    alloc: Global,
+    place: &str,
+    value: &Value,
+    what: &str,
+    names: &[&str],
+) -> Result<(), Stop> {
+    for name in names {
         check_present(alloc, place, value, what, name)?;
-    }
-    for name in own {
-        if value.get(*name).is_none() {
-            let line = format!(in alloc;
-                "{place}: \"{name}\" is missing in {what}, which takes {takes}"
-            )?;
-            return Err(Stop::Fault(line));
-        }
     }
     Ok(())
 }

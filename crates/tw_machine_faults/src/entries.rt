@@ -2,7 +2,7 @@
 
 use crate::machines::other_type;
 use crate::names::{
-    bad_name, bad_parameter, is_list, is_parameter, observations_of, parameters_of,
+    Written, bad_name, bad_parameter, is_list, is_parameter, observations_of, parameters_of,
 };
 use serde_json::Value;
 use std::alloc::{AllocError, Global};
@@ -82,10 +82,10 @@ fn first_text(texts: &[Value], text: &str) -> usize {
 /// The first fault of registers, queues or tables.
 pub(crate) fn section_fault(
     alloc: Global,
-    machine: &Value,
+    machine: Written<'_>,
     member: &str,
 ) -> Result<Option<String>, AllocError> {
-    let Some(value) = machine.get(member) else {
+    let Some(value) = machine.value.get(member) else {
         return Ok(None);
     };
     let Some(members) = value.as_object() else {
@@ -94,7 +94,7 @@ pub(crate) fn section_fault(
     };
     for (name, value) in members.iter() {
         let name = name.as_str();
-        if let Some(reason) = name_fault(alloc, machine, member, name)? {
+        if let Some(reason) = name_fault(alloc, machine.value, member, name)? {
             return Ok(Some(format!(in alloc; "{member}: {reason}")?));
         }
         if let Some(reason) = entry_fault(alloc, machine, member, value)? {
@@ -186,7 +186,7 @@ pub(crate) fn procedures_fault(
 /// What is wrong with what a name declares, as words behind the name.
 fn entry_fault(
     alloc: Global,
-    machine: &Value,
+    machine: Written<'_>,
     member: &str,
     value: &Value,
 ) -> Result<Option<String>, AllocError> {
@@ -195,7 +195,7 @@ fn entry_fault(
         ("registers", Some(cells)) => cells_fault(alloc, machine, cells.as_slice()),
         ("queues", None) => out_of_range(alloc, machine, value, "has room for", MAX_ROOM as i64),
         ("queues", Some(parts)) => queues_fault(alloc, machine, parts.as_slice()),
-        (_, None) => not_list(alloc, machine, value),
+        (_, None) => not_list(alloc, machine.value, value),
         (_, Some(numbers)) => numbers_fault(alloc, numbers.as_slice()),
     }
 }
@@ -203,7 +203,7 @@ fn entry_fault(
 /// What is wrong with the cells of an array register.
 fn cells_fault(
     alloc: Global,
-    machine: &Value,
+    machine: Written<'_>,
     cells: &[Value],
 ) -> Result<Option<String>, AllocError> {
     let count = cells.len();
@@ -222,7 +222,7 @@ fn cells_fault(
 /// What is wrong with an array of queues.
 fn queues_fault(
     alloc: Global,
-    machine: &Value,
+    machine: Written<'_>,
     parts: &[Value],
 ) -> Result<Option<String>, AllocError> {
     let (Some(count), Some(room), 2) = (parts.first(), parts.last(), parts.len()) else {
@@ -264,7 +264,7 @@ fn not_list(alloc: Global, machine: &Value, value: &Value) -> Result<Option<Stri
         return Ok(None);
     }
     let found = described(alloc, value)?;
-    let question = nearest_parameter(alloc, machine, name, true)?;
+    let question = nearest_list(alloc, machine, name)?;
     let line = format!(in alloc;
         "is {found}, neither a list nor the name of a parameter{question}"
     )?;
@@ -274,18 +274,25 @@ fn not_list(alloc: Global, machine: &Value, value: &Value) -> Result<Option<Stri
 /// Why a value is no constant, if it is none.
 pub(crate) fn not_constant(
     alloc: Global,
-    machine: &Value,
+    machine: Written<'_>,
     value: &Value,
     is: &str,
 ) -> Result<Option<String>, AllocError> {
-    let name = value.as_str().unwrap_or("");
-    if value.is_i64() || (is_parameter(machine, name) && !is_list(machine, name)) {
+    let (written, name) = (machine.value, value.as_str().unwrap_or(""));
+    let is_number = is_parameter(written, name) && !is_list(written, name);
+    if value.is_i64() || is_number || machine.constant(name).is_some() {
         return Ok(None);
     }
     let found = described(alloc, value)?;
-    let question = nearest_parameter(alloc, machine, name, false)?;
+    let constants = machine.constants(alloc)?;
+    let others = if constants.is_empty() {
+        ""
+    } else {
+        " or of a constant"
+    };
+    let question = nearest_number(alloc, written, &constants, name)?;
     let line = format!(in alloc;
-        "{is} {found}, neither {WHOLE} nor the name of a parameter that is a number{question}"
+        "{is} {found}, neither {WHOLE} nor the name of a parameter that is a number{others}{question}"
     )?;
     Ok(Some(line))
 }
@@ -293,7 +300,7 @@ pub(crate) fn not_constant(
 /// Why a value is no constant from 1 to this, if it is none.
 pub(crate) fn out_of_range(
     alloc: Global,
-    machine: &Value,
+    machine: Written<'_>,
     value: &Value,
     is: &str,
     most: i64,
@@ -301,28 +308,48 @@ pub(crate) fn out_of_range(
     if let Some(reason) = not_constant(alloc, machine, value, is)? {
         return Ok(Some(reason));
     }
-    match value.as_i64() {
-        Some(number) if number < 1 => { Ok(Some(format!(in alloc; "{is} {number}, at least 1")?)) }
+    let found = described(alloc, value)?;
+    let (number, shown) = match machine.constant(value.as_str().unwrap_or("")) {
+        Some(number) => (
+            Some(number),
+            format!(in alloc; "{found}, which is {number}")?,
+        ),
+        None => (value.as_i64(), found),
+    };
+    match number {
+        Some(number) if number < 1 => Ok(Some(format!(in alloc; "{is} {shown}, at least 1")?)),
         Some(number) if number > most => {
-            Ok(Some(format!(in alloc; "{is} {number}, at most {most}")?))
+            Ok(Some(format!(in alloc; "{is} {shown}, at most {most}")?))
         }
         _ => Ok(None),
     }
 }
 
-/// The question for the parameter that was meant, of those that may be lists or of those that are numbers.
-fn nearest_parameter(
+/// The question for the parameter that was meant.
+fn nearest_list(alloc: Global, machine: &Value, name: &str) -> Result<String, AllocError> {
+    let mut nearest = Nearest::new(name);
+    for one in parameters_of(machine) {
+        nearest.look(alloc, one.as_str().unwrap_or(""))?;
+    }
+    nearest.question(alloc)
+}
+
+/// The question for the parameter that is a number, or for the constant of these, that was meant.
+fn nearest_number(
     alloc: Global,
     machine: &Value,
+    constants: &[(&str, i64)],
     name: &str,
-    lists: bool,
 ) -> Result<String, AllocError> {
     let mut nearest = Nearest::new(name);
     for one in parameters_of(machine) {
         let one = one.as_str().unwrap_or("");
-        if lists || !is_list(machine, one) {
+        if !is_list(machine, one) {
             nearest.look(alloc, one)?;
         }
+    }
+    for (one, _) in constants {
+        nearest.look(alloc, one)?;
     }
     nearest.question(alloc)
 }

@@ -6,7 +6,8 @@ use crate::entries::{
 };
 use crate::limits::{limit_fault, own_numbers};
 use crate::members::{entry_fault, member_text, outputs_fault, word_again};
-use crate::names::{declared_in, is_list, is_timed, parameter_names};
+use crate::names::{Written, declared_in, is_list, is_timed, parameter_names};
+use crate::shared::shared_of;
 use crate::stop::Stop;
 use crate::timers::{timer_lines_fault, timers_fault};
 use crate::values::name_of;
@@ -15,7 +16,7 @@ use std::alloc::{AllocError, Global};
 use tw_file_members::{items_in, machine_index};
 use tw_machine::limits::{MAX_MACHINES, MAX_WORDS};
 use tw_machine_compiler::{BadMachine, Given, compile};
-use tw_machine_file::{FileMachine, MachineFault, Part, Why, is_used, machine_of};
+use tw_machine_file::{FileMachine, MachineFault, Part, SharedNames, Why, is_used, machine_of};
 use tw_machine_text::Place;
 use tw_machine_text_faults::{Nearest, described, listed, quoted, reason};
 use tw_models::is_kind_name;
@@ -114,9 +115,13 @@ impl<'a> Machine<'a> {
     }
 }
 
-/// The machines of a file in order; stops at the first fault of one.
-pub fn machines_of<'a>(alloc: Global, value: &'a Value) -> Result<Machines<'a>, Stop> {
-    let models = items_in(value, "models");
+/// The machines of a file in order; stops at the first fault of `fields`, of `constants` and then of `models`.
+pub fn machines_of<'a>(alloc: Global, file: &'a Value) -> Result<Machines<'a>, Stop> {
+    let said = shared_of(alloc, file)?;
+    if let Some(line) = other_type(alloc, file, "models", "a list")? {
+        return Err(Stop::Fault(format!(in alloc; "the file: {line}")?));
+    }
+    let models = items_in(file, "models");
     let count = models.len();
     if count > MAX_MACHINES {
         let line = format!(in alloc;
@@ -126,10 +131,12 @@ pub fn machines_of<'a>(alloc: Global, value: &'a Value) -> Result<Machines<'a>, 
     }
     let mut read = Vec::new(alloc);
     let mut names = Vec::new(alloc);
-    for (i, model) in models.iter().enumerate() {
+    for (i, value) in models.iter().enumerate() {
+        let said = &said;
+        let model = Written { value, said };
         let machine = read_machine(alloc, names.as_slice(), models, i, model)?;
-        if !is_used(value, machine.name.as_str()) {
-            check_alone(alloc, i, model, &machine)?;
+        if !is_used(file, machine.name.as_str()) {
+            check_alone(alloc, i, value, &machine)?;
         }
         names.push(machine.name.clone()?)?;
         read.push(machine)?;
@@ -157,10 +164,10 @@ fn read_machine(
     before: &[String],
     models: &[Value],
     i: usize,
-    model: &Value,
+    model: Written<'_>,
 ) -> Result<FileMachine, Stop> {
-    let place = machine_place(alloc, i, model)?;
-    match machine_of(alloc, before, model) {
+    let place = machine_place(alloc, i, model.value)?;
+    match machine_of(alloc, model.said, before, model.value) {
         Ok(read) => Ok(read),
         Err(MachineFault::OutOfMemory) => Err(Stop::OutOfMemory),
         Err(MachineFault::Wrong(part, why)) => {
@@ -187,10 +194,15 @@ fn machine_place(alloc: Global, i: usize, model: &Value) -> Result<String, Alloc
 }
 
 /// Why the text of a part goes wrong at a place.
-fn wrong_text(alloc: Global, model: &Value, part: Part, at: Place) -> Result<String, AllocError> {
-    let said = member_text(alloc, model, part)?;
+fn wrong_text(
+    alloc: Global,
+    model: Written<'_>,
+    part: Part,
+    at: Place,
+) -> Result<String, AllocError> {
+    let said = member_text(alloc, model.value, part)?;
     let names = declared_in(alloc, model)?;
-    let timed = is_timed(model);
+    let timed = is_timed(model.value);
     let text = said.text.as_str();
     let reason = reason(alloc, names.as_slice(), timed, said.member, text, at)?;
     let (line, column) = (at.line, at.column);
@@ -202,26 +214,27 @@ fn wrong_text(alloc: Global, model: &Value, part: Part, at: Place) -> Result<Str
 fn wrong(
     alloc: Global,
     models: &[Value],
-    model: &Value,
+    model: Written<'_>,
     part: Part,
     why: Why,
 ) -> Result<String, AllocError> {
+    let value = model.value;
     let found = match part {
-        Part::Whole => whole_fault(alloc, model)?,
-        Part::Name => name_fault(alloc, models, model, why)?,
-        Part::Parameters => match other_type(alloc, model, "parameters", "a list")? {
+        Part::Whole => whole_fault(alloc, value)?,
+        Part::Name => name_fault(alloc, models, value, why)?,
+        Part::Parameters => match other_type(alloc, value, "parameters", "a list")? {
             Some(line) => Some(line),
-            None => parameters_fault(alloc, model)?,
+            None => parameters_fault(alloc, value)?,
         },
         Part::Registers => section_fault(alloc, model, "registers")?,
         Part::Queues => section_fault(alloc, model, "queues")?,
         Part::Tables => section_fault(alloc, model, "tables")?,
-        Part::Observations => match other_type(alloc, model, "observations", "a list")? {
+        Part::Observations => match other_type(alloc, value, "observations", "a list")? {
             Some(line) => Some(line),
-            None => observations_fault(alloc, model)?,
+            None => observations_fault(alloc, value)?,
         },
         Part::Random => constant_fault(alloc, model, "random", None)?,
-        Part::Procedures => procedures_fault(alloc, model)?,
+        Part::Procedures => procedures_fault(alloc, value)?,
         Part::Procedure(i) => {
             let line = format!(in alloc;
                 "procedures[{i}][1] is neither a text nor a list of texts"
@@ -239,7 +252,7 @@ fn wrong(
 /// Why a part behind the names of procedures has not its form.
 fn behind_names(
     alloc: Global,
-    model: &Value,
+    model: Written<'_>,
     part: Part,
     why: Why,
 ) -> Result<Option<String>, AllocError> {
@@ -256,8 +269,20 @@ fn behind_names(
         | Part::TimerName(_)
         | Part::TimerCount(_)
         | Part::TimerFirst(_) => timers_fault(alloc, model),
-        Part::TimerProgram(i) => timer_lines_fault(alloc, model, i),
         Part::Least => constant_fault(alloc, model, "least", Some(MAX_TICK as i64)),
+        _ => said_fault(alloc, model.value, part, why),
+    }
+}
+
+/// Why a program, the outputs or the words have not their form.
+fn said_fault(
+    alloc: Global,
+    model: &Value,
+    part: Part,
+    why: Why,
+) -> Result<Option<String>, AllocError> {
+    match part {
+        Part::TimerProgram(i) => timer_lines_fault(alloc, model, i),
         Part::Internal => lines_fault(alloc, model, "internal"),
         Part::External => lines_fault(alloc, model, "external"),
         Part::Output(sender) => outputs_fault(alloc, model, sender),
@@ -360,11 +385,11 @@ pub(crate) fn other_type(
 /// What is wrong with a member that is a constant, from 1 to what is said.
 fn constant_fault(
     alloc: Global,
-    model: &Value,
+    model: Written<'_>,
     member: &str,
     most: Option<i64>,
 ) -> Result<Option<String>, AllocError> {
-    let Some(value) = model.get(member) else {
+    let Some(value) = model.value.get(member) else {
         return Ok(None);
     };
     let is = format!(in alloc; "{member} is")?;

@@ -3,6 +3,7 @@
 use crate::entries::{name_fault, not_constant, out_of_range};
 use crate::machines::{other_type, program_fault};
 use crate::members::{timer_at, timer_place};
+use crate::names::Written;
 use serde_json::Value;
 use std::alloc::{AllocError, Global};
 use tw_file_members::items_in;
@@ -14,11 +15,14 @@ use tw_machine_text_faults::{described, quoted};
 const MEMBERS: [&str; 5] = ["name", "count", "first", "do", "output"];
 
 /// The first fault of the timers' names, counts and first waits.
-pub(crate) fn timers_fault(alloc: Global, machine: &Value) -> Result<Option<String>, AllocError> {
-    if let Some(line) = other_type(alloc, machine, "timers", "a list")? {
+pub(crate) fn timers_fault(
+    alloc: Global,
+    machine: Written<'_>,
+) -> Result<Option<String>, AllocError> {
+    if let Some(line) = other_type(alloc, machine.value, "timers", "a list")? {
         return Ok(Some(line));
     }
-    let timers = items_in(machine, "timers");
+    let timers = items_in(machine.value, "timers");
     let count = timers.len();
     if count > MAX_TIMER_NAMES {
         let line = format!(in alloc; "timers has {count} entries, at most {MAX_TIMER_NAMES}")?;
@@ -35,7 +39,7 @@ pub(crate) fn timers_fault(alloc: Global, machine: &Value) -> Result<Option<Stri
 /// What is wrong with a timer, as words behind its place.
 fn timer_fault(
     alloc: Global,
-    machine: &Value,
+    machine: Written<'_>,
     timers: &[Value],
     i: usize,
     timer: &Value,
@@ -53,7 +57,7 @@ fn timer_fault(
             return Ok(Some(line));
         }
     }
-    if let Some(reason) = timer_name_fault(alloc, machine, timers, i, timer)? {
+    if let Some(reason) = timer_name_fault(alloc, machine.value, timers, i, timer)? {
         return Ok(Some(format!(in alloc; "{reason}")?));
     }
     timer_constants_fault(alloc, machine, timer)
@@ -88,7 +92,7 @@ fn timer_name_fault(
 /// What is wrong with the count of a timer, or with when it is first due.
 fn timer_constants_fault(
     alloc: Global,
-    machine: &Value,
+    machine: Written<'_>,
     timer: &Value,
 ) -> Result<Option<String>, AllocError> {
     if let Some(count) = timer.get("count") {

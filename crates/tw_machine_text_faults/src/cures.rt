@@ -33,6 +33,8 @@ enum Spot {
     Comparison,
     /// An operator in parentheses, in a statement that has a comma.
     Group,
+    /// Anything in parentheses or an index, in a file with fields.
+    Packed,
 }
 
 impl Spot {
@@ -56,6 +58,7 @@ impl Spot {
             Spot::Operator => operator,
             Spot::Comparison => operator && !matches!(open, Some(Open::Index(_))),
             Spot::Group => operator && open == Some(Open::Group) && reading.head == Head::Put,
+            Spot::Packed => reading.fielded && !matches!(open, Some(Open::Block(..)) | None),
         }
     }
 }
@@ -125,10 +128,14 @@ const NO_PARENTHESES: &str = "a statement has no parentheses, as push q 3";
 
 const NO_COMMA: &str = "no comma stands behind a statement or its queue";
 
+const COLON: &str = "a number stands behind its field in item alone, as item(f: 1)";
+
+const FIELD: &str = "the field f of a value is f(e)";
+
 const START: &str = "start T in e lets a timer run, and stop T ends it";
 
 /// The mistakes. Of those that fit the first counts.
-const MISTAKES: [Mistake; 71] = [
+const MISTAKES: [Mistake; 72] = [
     // Signs.
     (Spot::Change, &["==", "<-"], SET),
     (
@@ -169,6 +176,7 @@ const MISTAKES: [Mistake; 71] = [
     (Spot::Anything, &["=<", "≤"], NOT_GREATER),
     (Spot::Anything, &["=>", "≥"], NOT_LESS),
     (Spot::Anything, &[":="], SET),
+    (Spot::Packed, &[":"], COLON),
     (Spot::Anything, &[":"], BLOCK),
     (
         Spot::Anything,
@@ -507,9 +515,18 @@ fn cure_of_name(reading: &Reading, wrong: &Wrong, kind: Kind) -> Option<&'static
         }
         Kind::Procedure(_) if is_statement => Some("do p does what a procedure says"),
         Kind::Timer(_) | Kind::TimerArray(..) if is_statement => Some(START),
-        Kind::Register | Kind::Parameter if wrong.behind == "(" => {
+        Kind::Register | Kind::Parameter | Kind::Constant(_) if wrong.behind == "(" => {
             find(&MISTAKES, reading, wrong.word, wrong.behind)
         }
         _ => None,
+    }
+}
+
+/// The cure where the name of a field cannot stand that is no other name.
+pub(crate) fn cure_of_field(reading: &Reading, wrong: &Wrong) -> Option<&'static str> {
+    if Spot::Operand.is_here(reading, wrong.behind) && wrong.behind != "(" {
+        Some(FIELD)
+    } else {
+        None
     }
 }

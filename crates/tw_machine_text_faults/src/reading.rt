@@ -16,6 +16,10 @@ pub(crate) enum First {
     Timer,
     /// A timer with a count.
     Timers,
+    /// The value of which a field is taken.
+    Value,
+    /// A field that is given a number, as every argument of `item`.
+    Field,
 }
 
 /// The arguments that a function takes.
@@ -25,6 +29,16 @@ pub(crate) struct Called {
     pub(crate) first: First,
     /// Whether it draws a number.
     pub(crate) draws: bool,
+}
+
+impl Called {
+    /// How many levels deeper than they are written its arguments stand in the core.
+    pub(crate) fn more_levels(self) -> usize {
+        match self.first {
+            First::Value | First::Field => 1,
+            _ => 0,
+        }
+    }
 }
 
 /// What is open, and waits for its end.
@@ -73,8 +87,12 @@ pub(crate) enum Last {
     NoTimer,
     /// A timer with a count has to come.
     NoTimers,
+    /// A field has to come.
+    NoField,
     /// `in` has to come, behind the timer of `start`.
     NoIn,
+    /// `:` has to come, behind a field of `item`.
+    NoColon,
     /// The queue of a statement or a function has come, or the observation of a statement.
     Queue,
     /// A name that has an index.
@@ -111,6 +129,10 @@ pub(crate) enum Head {
 pub(crate) struct Reading {
     /// Whether it is of a machine with timers.
     pub(crate) timed: bool,
+    /// Whether its file has fields.
+    pub(crate) fielded: bool,
+    /// Whether it has constants of its file.
+    pub(crate) has_constants: bool,
     pub(crate) last: Last,
     pub(crate) head: Head,
     pub(crate) open: Vec<Open>,
@@ -129,9 +151,16 @@ pub(crate) struct Reading {
 
 impl Reading {
     /// Of no words yet.
-    pub(crate) fn new(alloc: Global, timed: bool, member: Option<Member>) -> Reading {
+    pub(crate) fn new(
+        alloc: Global,
+        declared: &[Declared],
+        timed: bool,
+        member: Option<Member>,
+    ) -> Reading {
         Reading {
             timed,
+            fielded: has_fields(declared),
+            has_constants: has_constants(declared),
             last: match member {
                 None => Last::Statement,
                 Some(Member::Each) => Last::NoQueue,
@@ -153,9 +182,11 @@ impl Reading {
         let mut depth = self.open.len().saturating_add(self.signs);
         depth = depth.saturating_add(self.chain);
         for open in self.open.iter() {
-            if let Open::Block(more, _) = open {
-                depth = depth.saturating_add(*more);
-            }
+            depth = depth.saturating_add(match open {
+                Open::Block(more, _) => *more,
+                Open::Function(called, _) => called.more_levels(),
+                _ => 0,
+            });
         }
         depth
     }
@@ -202,11 +233,25 @@ impl Reading {
             First::Table => Last::NoTable,
             First::Timer => Last::NoTimer,
             First::Timers => Last::NoTimers,
+            First::Value => self.begin_part(),
+            First::Field => self.begin_item(),
         };
         if called.draws {
             self.begin_draw(called);
         }
         Ok(self.open.push(Open::Function(called, 0))?)
+    }
+
+    /// A field of a value is a quotient and a remainder.
+    fn begin_part(&mut self) -> Last {
+        self.nodes = self.nodes.saturating_add(self.times().saturating_mul(3));
+        Last::Operator
+    }
+
+    /// `item` is the sum of its fields, each with its number.
+    fn begin_item(&mut self) -> Last {
+        self.nodes = self.nodes.saturating_sub(self.times());
+        Last::NoField
     }
 
     /// A number is drawn: `sample` makes a node more than its words, and so does the `draw` behind a statement; a test has
@@ -276,8 +321,20 @@ impl Reading {
         }
     }
 
+    /// Whether the arguments of `item` are open.
+    fn is_in_item(&self) -> bool {
+        match self.open.last() {
+            Some(Open::Function(called, _)) => called.first == First::Field,
+            _ => false,
+        }
+    }
+
     fn separate(&mut self) {
         self.last = Last::Operator;
+        if self.is_in_item() {
+            self.last = Last::NoField;
+            self.nodes = self.nodes.saturating_add(self.times());
+        }
         if let Some(Open::Function(_, commas)) = self.open.last_mut() {
             *commas = commas.saturating_add(1);
         } else if self.head == Head::Put {
@@ -358,25 +415,16 @@ impl Reading {
     fn read_name(&mut self, declared: &[Declared], word: &str) {
         let kind = kind_of(declared, word);
         match self.last {
-            Last::NoQueue => {
-                if kind == Some(Kind::QueueArray) {
-                    self.last = Last::Array(Role::Queue);
-                } else {
-                    self.end_queue();
-                }
-            }
             Last::NoSized if kind == Some(Kind::Table) => {
                 self.nodes = self.nodes.saturating_sub(self.times());
                 self.last = Last::Operand;
             }
-            Last::NoSized => {
-                if kind == Some(Kind::QueueArray) {
-                    self.last = Last::Array(Role::Queue);
-                } else {
-                    self.end_queue();
-                }
-            }
+            Last::NoQueue | Last::NoSized => self.read_queue(kind),
             Last::NoTable | Last::NoTimers => self.last = Last::Operand,
+            Last::NoField => {
+                self.nodes = self.nodes.saturating_add(self.times().saturating_mul(2));
+                self.last = Last::NoColon;
+            }
             Last::NoTimer => {
                 if matches!(kind, Some(Kind::TimerArray(..))) {
                     self.last = Last::Array(Role::Timer);
@@ -387,7 +435,7 @@ impl Reading {
             Last::NoObservation => self.last = Last::Queue,
             Last::NoProcedure => self.end_statement(),
             Last::Operator | Last::Queue => {
-                self.called = self.function(word);
+                self.called = self.function(declared, word);
                 self.last = self.after_operand(kind);
             }
             Last::Repeat | Last::ShownIndex => self.last = Last::Operand,
@@ -401,9 +449,21 @@ impl Reading {
         }
     }
 
+    /// Reads the name of a queue, or of an array of queues.
+    fn read_queue(&mut self, kind: Option<Kind>) {
+        if kind == Some(Kind::QueueArray) {
+            self.last = Last::Array(Role::Queue);
+        } else {
+            self.end_queue();
+        }
+    }
+
     /// The arguments of the function of this name, if it may stand here.
-    fn function(&self, word: &str) -> Option<Called> {
-        if is_of_timers(word) && !self.timed {
+    fn function(&self, declared: &[Declared], word: &str) -> Option<Called> {
+        if is_field(declared, word) {
+            return Some(OF_VALUE);
+        }
+        if (is_of_timers(word) && !self.timed) || (is_item(word) && !self.fielded) {
             return None;
         }
         arguments(word)
@@ -437,15 +497,60 @@ fn more_nodes(last: Last) -> usize {
     if last == Last::NoObservation { 7 } else { 2 }
 }
 
-/// What is declared by a name.
+/// What is declared by a name, but for a field alone.
 pub(crate) fn kind_of(declared: &[Declared], name: &str) -> Option<Kind> {
     for one in declared {
         if one.name.as_str() == name {
-            return Some(one.kind);
+            return match one.meaning.kind {
+                Kind::Nothing => None,
+                kind => Some(kind),
+            };
         }
     }
     None
 }
+
+/// Whether a name is a field's.
+pub(crate) fn is_field(declared: &[Declared], name: &str) -> bool {
+    for one in declared {
+        if one.name.as_str() == name {
+            return one.meaning.field.is_some();
+        }
+    }
+    false
+}
+
+/// Whether one of the names is a field's.
+fn has_fields(declared: &[Declared]) -> bool {
+    for one in declared {
+        if one.meaning.field.is_some() {
+            return true;
+        }
+    }
+    false
+}
+
+/// Whether one of the names is that of a constant of the file.
+fn has_constants(declared: &[Declared]) -> bool {
+    for one in declared {
+        if matches!(one.meaning.kind, Kind::Constant(_)) {
+            return true;
+        }
+    }
+    false
+}
+
+/// Whether it is the function that packs fields.
+pub(crate) fn is_item(word: &str) -> bool {
+    word == "item"
+}
+
+/// The argument of a field.
+const OF_VALUE: Called = Called {
+    count: 1,
+    first: First::Value,
+    draws: false,
+};
 
 /// The arguments of the function of this name.
 pub(crate) fn arguments(name: &str) -> Option<Called> {
@@ -459,6 +564,7 @@ pub(crate) fn arguments(name: &str) -> Option<Called> {
         "sample" => (1, First::Table),
         "running" | "rest" => (1, First::Timer),
         "idle" => (1, First::Timers),
+        "item" => (1, First::Field),
         _ => return None,
     };
     let draws = matches!(name, "sample" | "roll");

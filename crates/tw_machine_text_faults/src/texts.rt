@@ -1,17 +1,17 @@
 //! What is wrong in a machine's text, in words.
 
-use crate::cures::{Wrong, cure_of, is_change};
+use crate::cures::{Wrong, cure_of, cure_of_field, is_change};
 use crate::nearest::Nearest;
 use crate::reading::{
-    Called, First, Head, Last, Open, Reading, Role, arguments, can_begin_statement, is_name,
-    is_number, is_of_timers, kind_of,
+    Called, First, Head, Last, Open, Reading, Role, arguments, can_begin_statement, is_field,
+    is_item, is_name, is_number, is_of_timers, kind_of,
 };
 use crate::spelling::{Spelled, words_of};
 use crate::words::quoted;
 use std::alloc::{AllocError, Global};
 use tw_machine_text::{
-    CONTEXTUAL, Declared, FUNCTIONS, Kind, MAX_LEVELS, MAX_NODES, Member, Place, RESERVED, Word,
-    is_reserved, is_sign,
+    CONTEXTUAL, Declared, FUNCTIONS, Kind, MAX_LEVELS, MAX_NODES, MAX_TURNS, Meaning, Member,
+    Place, RESERVED, Word, is_reserved, is_sign,
 };
 
 /// The greatest number that a text may have.
@@ -42,7 +42,7 @@ pub fn reason(
     place: Place,
 ) -> Result<String, AllocError> {
     let words = words_of(alloc, text)?;
-    let mut reading = Reading::new(alloc, timed, member);
+    let mut reading = Reading::new(alloc, declared, timed, member);
     let mut wrong = None;
     for (i, word) in words.iter().enumerate() {
         if is_before(word, place) {
@@ -62,19 +62,42 @@ pub fn reason(
         let wanted = wanted(&reading);
         return format!(in alloc; "the text ends too early: expected {wanted}");
     };
-    let wrong = Wrong::new(words.as_slice(), i);
+    reason_of(alloc, declared, &reading, &Wrong::new(words.as_slice(), i))
+}
+
+/// Why a text goes wrong at a word.
+fn reason_of(
+    alloc: Global,
+    declared: &[Declared],
+    reading: &Reading,
+    wrong: &Wrong,
+) -> Result<String, AllocError> {
     let word = wrong.word;
-    let cure = cure_of(alloc, &reading, &wrong, kind_of(declared, word))?;
-    if let Some(reason) = no_word(alloc, word, cure)? {
+    let cure = cure_in(alloc, declared, reading, wrong)?;
+    if let Some(reason) = no_word(alloc, reading.fielded, word, cure)? {
         return Ok(reason);
     }
-    if let Some(limit) = limit(&reading, word) {
+    if let Some(limit) = limit(reading, word) {
         return String::from_str(alloc, limit);
     }
-    if is_name(word) && !is_number(word) && !is_known(declared, timed, word) {
-        return unknown(alloc, declared, &reading, &wrong, cure);
+    if is_name(word) && !is_number(word) && !is_known(declared, reading, word) {
+        return unknown(alloc, declared, reading, wrong, cure);
     }
-    out_of_place(alloc, declared, &reading, &wrong, cure)
+    out_of_place(alloc, declared, reading, wrong, cure)
+}
+
+/// The cure of a wrong word, if one is known.
+fn cure_in(
+    alloc: Global,
+    declared: &[Declared],
+    reading: &Reading,
+    wrong: &Wrong,
+) -> Result<Option<&'static str>, AllocError> {
+    let kind = kind_of(declared, wrong.word);
+    if kind.is_none() && is_field(declared, wrong.word) {
+        return Ok(cure_of_field(reading, wrong));
+    }
+    cure_of(alloc, reading, wrong, kind)
 }
 
 /// A cure as it stands behind a line; nothing where there is none.
@@ -91,13 +114,19 @@ fn is_before(word: &Spelled, place: Place) -> bool {
         || (word.place.line == place.line && word.place.column < place.column)
 }
 
-/// Why a word is none of the language, if it is none.
-fn no_word(alloc: Global, word: &str, cure: Option<&str>) -> Result<Option<String>, AllocError> {
+/// Why a word is none of the language, if it is none: a colon is none in a file without fields.
+fn no_word(
+    alloc: Global,
+    fielded: bool,
+    word: &str,
+    cure: Option<&str>,
+) -> Result<Option<String>, AllocError> {
     let shown = quoted(alloc, word)?;
     if is_number(word) {
         return no_number(alloc, word, shown.as_str());
     }
-    if !is_name(word) && !is_sign(word.as_bytes()) {
+    let is_sign = is_sign(word.as_bytes()) && (fielded || word != ":");
+    if !is_name(word) && !is_sign {
         let advice = advice(alloc, cure)?;
         return Ok(Some(format!(in alloc; "the language has no sign {shown}{advice}")?));
     }
@@ -149,24 +178,27 @@ fn limit(reading: &Reading, word: &str) -> Option<&'static str> {
 /// Whether a word that could stand here is too deep once it is in the core.
 fn is_too_deep(reading: &Reading, word: &str) -> bool {
     let opens = matches!(word, "(" | "[" | "{" | "not" | "-");
-    let first = reading.called.map(|called| called.first);
-    if reading.last == Last::NoSized {
-        reading.depth() > MAX_LEVELS
-    } else if reading.head == Head::Observe || (word == "(" && first == Some(First::Table)) {
-        opens && reading.depth() >= MAX_LEVELS - 1
-    } else if word == "(" && first == Some(First::Sized) {
-        reading.depth() > MAX_LEVELS
+    let called = if word == "(" { reading.called } else { None };
+    let first = called.map(|called| called.first);
+    let more = called.map(|called| called.more_levels()).unwrap_or(0);
+    let depth = reading.depth().saturating_add(more);
+    if reading.last == Last::NoSized || first == Some(First::Sized) {
+        depth > MAX_LEVELS
+    } else if reading.head == Head::Observe || first == Some(First::Table) {
+        opens && depth >= MAX_LEVELS - 1
     } else {
-        (opens || word == "observe") && reading.depth() >= MAX_LEVELS
+        (opens || word == "observe") && depth >= MAX_LEVELS
     }
 }
 
 /// Whether a name is declared, or one of the language.
-fn is_known(declared: &[Declared], timed: bool, word: &str) -> bool {
+fn is_known(declared: &[Declared], reading: &Reading, word: &str) -> bool {
+    let timed = reading.timed;
     kind_of(declared, word).is_some()
+        || is_field(declared, word)
         || is_reserved(word.as_bytes())
         || is_contextual(timed, word)
-        || is_function(timed, word)
+        || is_function(reading, word)
         || (timed && word == "in")
 }
 
@@ -181,8 +213,11 @@ fn is_contextual(timed: bool, word: &str) -> bool {
 }
 
 /// Whether it is a function.
-fn is_function(timed: bool, word: &str) -> bool {
-    FUNCTIONS.contains(&word) && word != "in" && (timed || !is_of_timers(word))
+fn is_function(reading: &Reading, word: &str) -> bool {
+    FUNCTIONS.contains(&word)
+        && word != "in"
+        && (reading.timed || !is_of_timers(word))
+        && (reading.fielded || !is_item(word))
 }
 
 /// The line for a name that nothing has.
@@ -197,13 +232,22 @@ fn unknown(
         return out_of_place(alloc, declared, reading, wrong, cure);
     };
     let shown = quoted(alloc, wrong.word)?;
+    let is_value = matches!(reading.last, Last::Operator | Last::Queue);
+    let is_called = is_value && wrong.behind == "(";
+    if is_called && is_item(wrong.word) {
+        return format!(in alloc; "{shown} packs fields, of which the file has none");
+    }
     let mut nearest = Nearest::new(wrong.word);
     if can_begin_statement(reading) && !is_change(wrong.behind) {
         look_at_language(alloc, &mut nearest, reading)?;
     }
+    if is_called {
+        look_at_fields(alloc, &mut nearest, declared)?;
+    }
+    let is_near_field = is_called && nearest.is_found();
     look_at_names(alloc, &mut nearest, declared, reading.last)?;
-    let is_operand = matches!(reading.last, Last::Operator | Last::Queue) && wrong.behind != "(";
-    if cure.is_some() && !(is_operand && nearest.is_found()) {
+    let is_near = is_near_field || (is_value && !is_called && nearest.is_found());
+    if cure.is_some() && !is_near {
         let advice = advice(alloc, cure)?;
         return format!(in alloc; "no {nothing} {shown}{advice}");
     }
@@ -228,11 +272,36 @@ fn nothing(reading: &Reading, behind: &str) -> Option<&'static str> {
         Last::NoProcedure => Some("procedure is named"),
         Last::NoTimer => Some("timer is named"),
         Last::NoTimers => Some("timer with a count is named"),
+        Last::NoField => Some("field is named"),
+        Last::Repeat if reading.has_constants => Some("parameter or constant is named"),
         Last::Repeat => Some("parameter is named"),
-        Last::Operator | Last::Queue if behind == "(" => Some("function is named"),
-        Last::Operator | Last::Queue => Some("register, parameter or table is named"),
+        Last::Operator | Last::Queue => Some(no_value(reading, behind)),
         _ => None,
     }
+}
+
+/// What an unknown name with another word behind it is not, in an expression.
+fn no_value(reading: &Reading, behind: &str) -> &'static str {
+    match (behind == "(", reading.fielded, reading.has_constants) {
+        (true, true, _) => "function or field is named",
+        (true, false, _) => "function is named",
+        (false, _, true) => "register, parameter, constant or table is named",
+        (false, _, false) => "register, parameter or table is named",
+    }
+}
+
+/// Looks at the fields.
+fn look_at_fields<'b>(
+    alloc: Global,
+    nearest: &mut Nearest<'_, 'b>,
+    declared: &'b [Declared],
+) -> Result<(), AllocError> {
+    for one in declared {
+        if one.meaning.field.is_some() {
+            nearest.look(alloc, one.name.as_str())?;
+        }
+    }
+    Ok(())
 }
 
 /// Looks at the names of the machine that could stand here.
@@ -243,7 +312,7 @@ fn look_at_names<'b>(
     last: Last,
 ) -> Result<(), AllocError> {
     for one in declared {
-        if may_stand(last, one.kind) {
+        if may_stand(last, one.meaning) {
             nearest.look(alloc, one.name.as_str())?;
         }
     }
@@ -260,16 +329,21 @@ fn look_at_language(
     if can_begin_statement(reading) {
         look_at_words(alloc, nearest, timed, false)?;
     } else if matches!(reading.last, Last::Operator | Last::Queue) {
-        look_at_functions(alloc, nearest, timed)?;
+        look_at_functions(alloc, nearest, reading)?;
         look_at_words(alloc, nearest, timed, true)?;
     }
     Ok(())
 }
 
 /// Looks at the functions.
-fn look_at_functions(alloc: Global, nearest: &mut Nearest, timed: bool) -> Result<(), AllocError> {
+fn look_at_functions(
+    alloc: Global,
+    nearest: &mut Nearest,
+    reading: &Reading,
+) -> Result<(), AllocError> {
     for function in &FUNCTIONS {
-        if timed || !is_of_timers(function) {
+        let is_there = reading.timed || !is_of_timers(function);
+        if is_there && (reading.fielded || !is_item(function)) {
             nearest.look(alloc, function)?;
         }
     }
@@ -297,8 +371,9 @@ fn look_at_words(
     Ok(())
 }
 
-/// Whether a name of this kind can stand here.
-fn may_stand(last: Last, kind: Kind) -> bool {
+/// Whether a name of this meaning can stand here.
+fn may_stand(last: Last, meaning: Meaning) -> bool {
+    let kind = meaning.kind;
     match last {
         Last::NoQueue => matches!(kind, Kind::Queue | Kind::QueueArray),
         Last::NoSized => matches!(kind, Kind::Queue | Kind::QueueArray | Kind::Table),
@@ -307,11 +382,9 @@ fn may_stand(last: Last, kind: Kind) -> bool {
         Last::NoProcedure => matches!(kind, Kind::Procedure(_)),
         Last::NoTimer => matches!(kind, Kind::Timer(_) | Kind::TimerArray(..)),
         Last::NoTimers => matches!(kind, Kind::TimerArray(..)),
-        Last::Repeat => kind == Kind::Parameter,
-        Last::Operator | Last::Queue => matches!(
-            kind,
-            Kind::Register | Kind::RegisterArray | Kind::Table | Kind::Parameter
-        ),
+        Last::NoField => meaning.field.is_some(),
+        Last::Repeat => kind.counts_turns(),
+        Last::Operator | Last::Queue => kind.reads() || kind.indexes(),
         _ => matches!(kind, Kind::Register | Kind::RegisterArray),
     }
 }
@@ -338,12 +411,37 @@ fn out_of_place(
     if is_drawing(word) && next == "(" && is_operand {
         return no_draw(alloc, reading, shown.as_str());
     }
-    let more = more_of(alloc, reading, word, kind, cure)?;
+    if let Some(line) = known_out_of_place(alloc, declared, reading, word)? {
+        return Ok(line);
+    }
+    let more = more_of(alloc, declared, reading, wrong, cure)?;
     if is_name(word) && !is_number(word) && can_begin_statement(reading) {
         return format!(in alloc; "no statement begins with {shown}{more}");
     }
     let wanted = wanted(reading);
     format!(in alloc; "expected {wanted}, not {shown}{more}")
+}
+
+/// The line for a field that has a number before, or for a constant that says how often something is done and may not.
+fn known_out_of_place(
+    alloc: Global,
+    declared: &[Declared],
+    reading: &Reading,
+    word: &str,
+) -> Result<Option<String>, AllocError> {
+    let shown = quoted(alloc, word)?;
+    if reading.last == Last::NoField && is_field(declared, word) {
+        return Ok(Some(format!(in alloc; "{shown} has a number in this item before")?));
+    }
+    match (reading.last, kind_of(declared, word)) {
+        (Last::Repeat, Some(Kind::Constant(number))) if number < 0 => {
+            Ok(Some(format!(in alloc; "the constant {shown} is {number}, at least 0")?))
+        }
+        (Last::Repeat, Some(Kind::Constant(number))) if number > MAX_TURNS as i64 => {
+            Ok(Some(format!(in alloc; "the constant {shown} is {number}, at most {MAX_TURNS}")?))
+        }
+        _ => Ok(None),
+    }
 }
 
 /// Whether a function draws a number.
@@ -368,20 +466,30 @@ fn no_draw(alloc: Global, reading: &Reading, shown: &str) -> Result<String, Allo
 /// What is to be said of a word that cannot stand here.
 fn more_of(
     alloc: Global,
+    declared: &[Declared],
     reading: &Reading,
-    word: &str,
-    kind: Option<Kind>,
+    wrong: &Wrong,
     cure: Option<&str>,
 ) -> Result<String, AllocError> {
-    if let Some(kind) = kind {
-        let (named, advice) = (kind_words(kind), advice(alloc, cure)?);
+    let word = wrong.word;
+    if let Some(named) = named(declared, word) {
+        let advice = advice(alloc, cure)?;
         return format!(in alloc; "{named}{advice}");
     }
     match (remark(reading, word), cure) {
         (Some(remark), _) => String::from_str(alloc, remark),
         (None, Some(_)) => advice(alloc, cure),
-        (None, None) if is_function(reading.timed, word) => String::from_str(alloc, ", a function"),
+        (None, None) if is_function(reading, word) => String::from_str(alloc, ", a function"),
         (None, None) => Ok(String::new(alloc)),
+    }
+}
+
+/// What a name is, if it is declared.
+fn named(declared: &[Declared], word: &str) -> Option<&'static str> {
+    match kind_of(declared, word) {
+        Some(kind) => Some(kind_words(kind)),
+        None if is_field(declared, word) => Some(", a field"),
+        None => None,
     }
 }
 
@@ -414,6 +522,7 @@ fn kind_words(kind: Kind) -> &'static str {
         Kind::QueueArray => ", an array of queues",
         Kind::Table => ", a table",
         Kind::Parameter => ", a parameter",
+        Kind::Constant(_) => ", a constant",
         Kind::ListParameter => ", a list",
         Kind::Observation => ", an observation",
         Kind::Procedure(_) => ", a procedure",
@@ -438,12 +547,17 @@ fn wanted(reading: &Reading) -> &'static str {
         Last::NoProcedure => "a procedure that stands before",
         Last::NoTimer => "a timer",
         Last::NoTimers => "a timer with a count",
+        Last::NoField => "a field",
         Last::NoIn => "in and a number of ticks",
+        Last::NoColon => ": and a number",
         Last::Array(Role::Shown) => "[ and a number",
         Last::Array(_) => "[ and an index",
         Last::Function(_) => "( and arguments",
         Last::Place => "=, +=, -= or ^=",
         Last::Else => "if or {",
+        Last::Repeat if reading.has_constants => {
+            "a number from 0 to 64, a parameter that is a number, or a constant"
+        }
         Last::Repeat => "a number from 0 to 64, or a parameter that is a number",
         Last::ShownIndex => "a number",
     }
@@ -469,8 +583,12 @@ fn behind_operand(reading: &Reading) -> &'static str {
 
 /// What can stand behind an argument of a function.
 fn behind_argument(called: Called, commas: usize) -> &'static str {
+    if called.first == First::Field {
+        return "an operator, a comma or )";
+    }
+    let is_number = matches!(called.first, First::Number | First::Value);
     let is_last = commas.saturating_add(1) >= called.count;
-    match (called.first != First::Number && commas == 0, is_last) {
+    match (!is_number && commas == 0, is_last) {
         (true, true) => ")",
         (true, false) => "a comma",
         (false, true) => "an operator or )",

@@ -44,6 +44,7 @@ examples/polling.json 25 --seed-all 1
 examples/inventory.json 40 --seed-all 2
 examples/router.json 40 --seed-all 9
 examples/token-ring.json 25 --seed-all 4
+tests/program/machine-fields/network.json 30 --seed-all 4
 NETWORKS
 
 # Numbers of which another fault of the file comes: those of the changed file.

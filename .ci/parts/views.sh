@@ -27,7 +27,12 @@ as_table() {
                 many = split(words, word, " ")
                 for (i = 1; i <= many; i++) print cells (i - 1) "," word[i]
             }
-        }'
+        }' | with_fields "$1"
+}
+
+# A table as it is; of items, where the network has fields, with their columns.
+with_fields() {
+    if [ "$1" = items ] && grep -q '"fields"' "$network"; then python3 tests/views/fields.py "$network"; else cat; fi
 }
 
 # Runs a view of a network, and compares what it writes with a file, and its standard error with the fault of the trace.

@@ -3,8 +3,8 @@
 what `twarp table --figures` does, computed from its trace and its network file alone.
 
 It is a second, independent way to the numbers: the trace is that of tests/program/ and examples/, whose bytes are not the
-program's own. Of machines it knows the start values of registers, queues, `length` and a table's number at `random`, which is what the networks here
-show."""
+program's own. Of machines it knows the start values of registers, constants, queues, `length` and a table's number at `random`, which is what the
+networks here show."""
 import csv
 import json
 import os
@@ -24,11 +24,12 @@ def atoms(model, prefix=""):
             yield name, part
 
 
-def machine_figures(machine, part):
+def machine_figures(machine, part, constants):
     """The names of its figures, each with what it is of the words; the words of its start state; and its observations with their places."""
     registers, queues, start, figures, behind = machine.get("registers", {}), machine.get("queues", {}), [], [], []
     observations = []
-    constant = lambda it: part[it] if isinstance(it, str) else it
+    named = {**constants, **{it: part[it] for it in machine.get("parameters", [])}}
+    constant = lambda it: named[it] if isinstance(it, str) else it
     random = permuted(mixed(constant(machine.get("random", 0)) % 2**64))
     plain = 0
     for entry in machine["words"]:
@@ -51,6 +52,8 @@ def machine_figures(machine, part):
             values, names = [entry], [text]
         elif bare in registers:
             values, names = [constant(registers[bare])], [text]
+        elif bare in constants and not {bare} & {*queues, *machine.get("tables", {})}:
+            values, names = [constant(bare)], [text]
         elif re.fullmatch(r"length\(\w+\)", bare):
             values, names = [0], [text]
         elif drawn := re.fullmatch(r"(\w+)\[random\((\d+)\)\]", bare):
@@ -78,7 +81,7 @@ def figures_of(net, part):
         "relay": lambda: ([("dropped", word(0)), ("held", beyond)], [0], []),
         "queue": lambda: ([("dropped", word(0)), ("jobs", beyond)], [0], []),
         "hop": lambda: ([], [], []),
-    }.get(model, lambda: machine_figures(next(it for it in net["models"] if it["name"] == model), part))()
+    }.get(model, lambda: machine_figures(next(it for it in net["models"] if it["name"] == model), part, net.get("constants", {})))()
 
 
 def read(trace):

@@ -302,7 +302,7 @@ fn items<'a>(alloc: Global) -> Arg<'a>
     ensures { IsArg (flag_rule (codes "items")) result }
 {
     flag(alloc, "items").help(
-        "Print one line for each item of a record. Not with --words or --figures",
+        "Print one line for each item of a record, with a column for each field of the file. Not with --words or --figures",
     )
 }
 

@@ -26,7 +26,7 @@ use Rattle.tw_engine.specs.Ends.{Fault, RunEnd, failed_of}
 use Rattle.tw_engine.specs.declared.failed.Failed.{Failed}
 use Rattle.tw_engine.specs.declared.failed.Failed.TheVariants.{Bad, Want, NoWrite}
 use Rattle.tw_engine.specs.declared.job_run.Made.{Made}
-use Rattle.tw_engine.specs.Runs.{IsDemo, IsMadeInOrder, IsRun, IsRunByWorkers, IsShown, IsUnmade, IsWhole, IsWorked, demo_network, fault_text, name_in, text_or_nothing, run_fault}
+use Rattle.tw_engine.specs.Runs.{HasNoNetwork, IsDemo, IsMadeInOrder, IsRun, IsRunByWorkers, IsShown, IsUnmade, IsWhole, IsWorked, demo_network, fault_text, name_in, text_or_nothing, run_fault}
 
 pub no_name : (names : List (List ℕ)) (component : ℕ) → length names ≤ component → [] ≡ name_in names component
 no_name names component past = sym (ap text_or_nothing (slice_get_past names component past))
@@ -110,3 +110,8 @@ demo_of_worked n end old new is (inl ordered) = demo_of end (subst (λ (m : Cont
     demo_of (Err why) (inr late) = let after = late.0.1 in absurd (omega (arith, after))
 demo_of_worked n (Ok fault) old new is (inr full) = absurd full.0
 demo_of_worked n (Err why) old new is (inr full) = subst (λ w. IsDemo (Err w) old new) (sym full.0.0) (inr (refl, full.1))
+
+-- there is no network to run
+pub no_run : (bytes : List ℕ) (until : ℕ) (why : Failed) (old : Option (List ℕ)) → HasNoNetwork bytes why → IsRun bytes until (Err why) old old
+no_run bytes until why old (inl want) = subst (λ w. IsRun bytes until (Err w) old old) (sym want) (refl, inl (keeps_all old))
+no_run bytes until why old (inr (fault, is, bad)) = subst (λ w. IsRun bytes until (Err w) old old) (sym bad) (keeps_all old, refl, inr (fault, is, refl))

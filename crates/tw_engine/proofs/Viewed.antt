@@ -11,7 +11,7 @@ use Rattle.tw_any_model.specs.declared.any_model.AnyModel.{AnyModel}
 use Rattle.tw_engine.proofs.Driven.{keeps_all}
 use Rattle.tw_engine.specs.Ends.{Fails, Fault, ViewEnd, failed_of}
 use Rattle.tw_engine.specs.Runs.{HasNoRun, IsLate, IsUnmade, name_in, run_fault}
-use Rattle.tw_engine.specs.Views.{HasNoneShown, IsLineOf, IsReportWritten, IsSummedByWorkers, IsSummedOf, IsTableWritten, IsTabulatedByWorkers, IsTabulatedOf, Summed, Tabulated, figures_table, file_labels, run_table, table_with}
+use Rattle.tw_engine.specs.Views.{HasNoneShown, IsLineOf, IsReportWritten, IsSummedByWorkers, IsSummedOf, IsTableWritten, IsTabulatedByWorkers, IsTabulatedOf, Summed, Tabulated, columns_said, figures_table, file_fields, file_labels, run_table, table_with}
 use Rattle.tw_figures.specs.declared.seeing.Rows.{Rows}
 use Rattle.tw_figures.specs.declared.seeing.Tabled.TheVariants.{OfRun, OfFigures}
 use Rattle.tw_engine.specs.declared.failed.Failed.{Failed}
@@ -28,6 +28,7 @@ use Rattle.tw_network.specs.Contents.{Contents, network_of}
 use Rattle.tw_stats.specs.Reports.{IsReport}
 use Rattle.tw_stats.specs.Written.{report_bytes}
 use Rattle.tw_stats.specs.declared.report.Report.{Report}
+use Rattle.tw_record_lines.specs.Fields.{Field}
 use Rattle.tw_rounds.specs.Refusals.{seq_refusal}
 use Rattle.tw_rounds.specs.declared.refused.SeqRefused.{SeqRefused}
 use Rattle.tw_rounds.specs.declared.refused.SeqRefused.TheVariants as run
@@ -50,6 +51,11 @@ as_many file models = as_many_from (machines_said file) (items_in (codes "models
 pub labels_of_bytes : (bytes : List ℕ) (file : Data) (n : Contents AnyModel) → json_of bytes ≡ Ok file → labels_said file n.models ≡ file_labels bytes n
 unfolding file_labels
 labels_of_bytes bytes file n is = sym (ap (λ (r : Result Data FileRefused). option_map_or (λ file. labels_said file n.models) (result_ok r) []) is)
+
+-- and so are the fields
+pub fields_of_bytes : (bytes : List ℕ) (file : Data) → json_of bytes ≡ Ok file → columns_said file ≡ file_fields bytes
+unfolding file_fields
+fields_of_bytes bytes file is = sym (ap (λ (r : Result Data FileRefused). option_map_or columns_said (result_ok r) []) is)
 
 -- ---- counts and figures
 
@@ -154,13 +160,13 @@ text_begun n fault text writing.WriteFailed old new begun = tt
 -- workers made no run
 pub untabulated : (bytes : List ℕ) (n : Contents AnyModel) → IsMeaning bytes n → (way : Cancel) (t : Tabulated) (why : Failed) (old : Option (List ℕ))
     → IsUnmade n way t.until why → IsTabulatedByWorkers bytes way t (Err why) old old
-untabulated bytes n means way t why old (inl none) = inl (inr (n, means, not_tabulated n (table_with n (file_labels bytes n) t) t why old none))
+untabulated bytes n means way t why old (inl none) = inl (inr (n, means, not_tabulated n (table_with n (file_fields bytes) (file_labels bytes n) t) t why old none))
 untabulated bytes n means way t why old (inr full) = inr (n, means, (full, keeps_all old))
 
 -- a table that is of records
-pub of_rows : (n : Contents AnyModel) (labels : List Label) (t : Tabulated) (rows : Rows) → t.of ≡ OfRun rows → ◌≡◌ {A = List Bool → List ℕ} (λ shown. run_table n rows shown t.from t.until) (λ shown. table_with n labels t shown)
-of_rows n labels t rows is = λ i. λ shown. elim (sym is i) [ OfRun rows ↦ run_table n rows shown t.from t.until | OfFigures ↦ figures_table n labels shown t.from t.until ]
+pub of_rows : (n : Contents AnyModel) (fields : List Field) (labels : List Label) (t : Tabulated) (rows : Rows) → t.of ≡ OfRun rows → ◌≡◌ {A = List Bool → List ℕ} (λ shown. run_table n rows fields shown t.from t.until) (λ shown. table_with n fields labels t shown)
+of_rows n fields labels t rows is = λ i. λ shown. elim (sym is i) [ OfRun rows ↦ run_table n rows fields shown t.from t.until | OfFigures ↦ figures_table n labels shown t.from t.until ]
 
 -- a table that is of figures
-pub of_figures : (n : Contents AnyModel) (labels : List Label) (t : Tabulated) → t.of ≡ OfFigures → ◌≡◌ {A = List Bool → List ℕ} (λ shown. figures_table n labels shown t.from t.until) (λ shown. table_with n labels t shown)
-of_figures n labels t is = λ i. λ shown. elim (sym is i) [ OfRun rows ↦ run_table n rows shown t.from t.until | OfFigures ↦ figures_table n labels shown t.from t.until ]
+pub of_figures : (n : Contents AnyModel) (fields : List Field) (labels : List Label) (t : Tabulated) → t.of ≡ OfFigures → ◌≡◌ {A = List Bool → List ℕ} (λ shown. figures_table n labels shown t.from t.until) (λ shown. table_with n fields labels t shown)
+of_figures n fields labels t is = λ i. λ shown. elim (sym is i) [ OfRun rows ↦ run_table n rows fields shown t.from t.until | OfFigures ↦ figures_table n labels shown t.from t.until ]

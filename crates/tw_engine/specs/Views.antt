@@ -2,14 +2,16 @@
 --     IsLineOf n fault line      a line says the fault that a run ends in, and there is none where there is no fault
 --     file_labels bytes n      what the models of the network of a file are called, and their figures
 --     IsSummed bytes summed end old new      counts, figures and observations of the run of the network that a file's bytes mean, of the components that are shown
---     table_with n labels t shown      the table of a run, of its records or of its figures
+--     file_fields bytes      the fields of an item's value that a file names
+--     table_with n fields labels t shown      the table of a run, of its records or of its figures
 --     IsTabulated bytes tabulated end old new      that table is written
 --     IsSummedBy, IsTabulatedBy by bytes      the same in order, or by workers, who may also give up for nodes
 use Rattle.std.specs.Global.{Global}
 use Rattle.std.specs.Option.{option_map_or}
-use Rattle.std.specs.Prelude.{◌≡◌, ◌⊎◌, ℕ, [], Bool, List, Option, None, Some, IfSome, Ok, Err, String, option_map, string_bytes}
+use Rattle.std.specs.Prelude.{◌≡◌, ◌⊎◌, ℕ, [], Bool, List, Option, None, Some, IfSome, Ok, Err, String, map, option_map, string_bytes}
 use Rattle.std.specs.Result.{result_ok}
 use Rattle.std.specs.Io.KnownBytes.{Appends, Keeps}
+use Rattle.serde_json.specs.Data.{Data}
 use Rattle.tw_actions.specs.declared.cancel.Cancel.{Cancel}
 use Rattle.tw_any_model.specs.AnyModel.{any_meaning}
 use Rattle.tw_any_model.specs.declared.any_model.AnyModel.{AnyModel}
@@ -30,8 +32,10 @@ use Rattle.tw_figures.specs.declared.seeing.Rows.{Rows}
 use Rattle.tw_figures.specs.declared.seeing.Tabled.{Tabled}
 use Rattle.tw_figures.specs.declared.seeing.Tabled.TheVariants.{OfRun, OfFigures}
 use Rattle.tw_file_network.specs.Meaning.{json_of}
+use Rattle.tw_machine_file.specs.Shared.{FieldSaid, fields_said}
 use Rattle.tw_network.specs.Contents.{Contents, network_of}
 use Rattle.tw_record_lines.specs.declared.held.Held.{Held}
+use Rattle.tw_record_lines.specs.Fields.{Field, field}
 use Rattle.tw_record_lines.specs.FigureTables.{figures_text}
 use Rattle.tw_record_lines.specs.Tables.{listed, table_text}
 use Rattle.tw_stats.specs.Reports.{IsReport}
@@ -119,12 +123,23 @@ pub record Tabulated : Type 0 where
 abbrev pub tabulation_of : Tabulation → Tabulated
 tabulation_of t = record { only = option_map (λ o. o.now) t.only; from = t.from; until = t.until; of = t.of }
 
--- the table of the records of a network's sequential run, of the components that are shown and from a tick on
-abbrev pub run_table : Contents AnyModel → Rows → List Bool → ℕ → ℕ → List ℕ
-run_table n rows shown from until = table_text rows (name_in n.names) (listed shown from (sequential (network_of any_meaning n) until).records)
+-- the fields that a file says, as columns of a table of items
+abbrev pub column : FieldSaid → Field
+column f = record { name = f.name; low = f.low; bits = f.bits }
+
+abbrev pub columns_said : Data → List Field
+columns_said file = map column (fields_said file)
+
+-- those of the file of these bytes
+unfoldable pub file_fields : List ℕ → List Field
+file_fields bytes = option_map_or columns_said (result_ok (json_of bytes)) []
+
+-- the table of the records of a network's sequential run, of the components that are shown and from a tick on, with these fields of items
+abbrev pub run_table : Contents AnyModel → Rows → List Field → List Bool → ℕ → ℕ → List ℕ
+run_table n rows fields shown from until = table_text rows fields (name_in n.names) (listed shown from (sequential (network_of any_meaning n) until).records)
 
 abbrev pub listing_text : Listing → List ℕ
-listing_text l = run_table l.run.network.now l.rows l.shown.now l.from l.run.until
+listing_text l = run_table l.run.network.now l.rows (map field l.fields.now) l.shown.now l.from l.run.until
 
 -- the table of the figures of that run, by these labels
 abbrev pub figures_table : Contents AnyModel → List Label → List Bool → ℕ → ℕ → List ℕ
@@ -132,8 +147,8 @@ figures_table n labels shown from until =
     figures_text (record { name_of = name_in n.names; labels = labels; shown = shown; from = from }) (start_words (network_of any_meaning n)) (sequential (network_of any_meaning n) until).records
 
 -- by what it is of
-abbrev pub table_with : Contents AnyModel → List Label → Tabulated → List Bool → List ℕ
-table_with n labels t shown = elim t.of [ OfRun rows ↦ run_table n rows shown t.from t.until | OfFigures ↦ figures_table n labels shown t.from t.until ]
+abbrev pub table_with : Contents AnyModel → List Field → List Label → Tabulated → List Bool → List ℕ
+table_with n fields labels t shown = elim t.of [ OfRun rows ↦ run_table n rows fields shown t.from t.until | OfFigures ↦ figures_table n labels shown t.from t.until ]
 
 -- the table of the components that are shown is written
 pub record IsTableOf (n : Contents AnyModel) (table : List Bool → List ℕ) (t : Tabulated) (old new : Option (List ℕ)) : Type 0 where
@@ -155,7 +170,7 @@ IsTabulatedOf n table t (Err NoWrite) old new = Unit {0}
 
 abbrev pub IsTabulated : List ℕ → Tabulated → ViewEnd → Option (List ℕ) → Option (List ℕ) → Type 0
 IsTabulated bytes t end old new =
-    (Fails end (HasNoNetwork bytes) × Keeps old new) ⊎ Means bytes (λ n. IsTabulatedOf n (table_with n (file_labels bytes n) t) t end old new)
+    (Fails end (HasNoNetwork bytes) × Keeps old new) ⊎ Means bytes (λ n. IsTabulatedOf n (table_with n (file_fields bytes) (file_labels bytes n) t) t end old new)
 
 -- by workers
 abbrev pub IsTabulatedByWorkers : List ℕ → Cancel → Tabulated → ViewEnd → Option (List ℕ) → Option (List ℕ) → Type 0

@@ -1,12 +1,14 @@
 //! The job `table`: the records of a run, or how its figures changed, as comma-separated values; in order or by workers.
 
-ghost use Rattle.std.specs.Prelude.{◌≡◌, ◌≤◌, Bool, IfSome, List, Some, ℕ};
+ghost use Rattle.std.specs.Prelude.{◌≡◌, ◌≤◌, Bool, IfOk, IfSome, List, Some, map, ℕ};
 ghost use Rattle.serde_json.specs.View.{view};
 ghost use Rattle.tw_any_model.specs.AnyModel.{any_meaning};
-ghost use Rattle.tw_engine.specs.Views.{IsListed, IsTableHeld, IsTableWritten, IsTabulated, IsTabulatedByWorkers, IsTabulatedOf, figures_table, listing_text, run_table, table_with, tabulation_of};
+ghost use Rattle.tw_engine.specs.Views.{IsListed, IsTableHeld, IsTableWritten, IsTabulated, IsTabulatedByWorkers, IsTabulatedOf, column, columns_said, figures_table, listing_text, run_table, table_with, tabulation_of};
 ghost use Rattle.tw_figure_names.specs.Said.{labels_said};
 ghost use Rattle.tw_figures.specs.Shown.{shown_of};
+ghost use Rattle.tw_machine_file.specs.Shared.{file_field};
 ghost use Rattle.tw_network.specs.Contents.{network_of};
+ghost use Rattle.tw_record_lines.specs.Fields.{field};
 ghost use Rattle.tw_stats.specs.Gathering.{IsMade};
 ghost use Rattle.tw_theory.specs.Simulator.{sequential};
 ghost use Rattle.tw_vtime.specs.Stamps.{max_tick};
@@ -16,23 +18,22 @@ use crate::failed::Failed;
 use crate::faults::{fault_line, fault_of};
 use crate::job_run::{FileRun, Plan, make};
 use crate::names::NetworkNames;
-use crate::reading::{NetworkFile, Run, file_in, network_in};
+use crate::reading::{NetworkFile, Run, file_in};
 use crate::shown::shown_in;
 use crate::telling::Teller;
-use std::alloc::Global;
+use std::alloc::{AllocError, Global};
 use std::io::Write;
 use std::sync::Wait;
 use std::thread::Threads;
 use std::time::Clock;
 use tw_actions::Fault;
-use tw_any_model::AnyModel;
 use tw_cli::ByWorkers;
 use tw_figure_names::labels_in;
 use tw_figures::{Rows, Tabled};
 use tw_listen::Listener;
-use tw_network::Network;
+use tw_machine_file::{FileField, fields_of};
 use tw_record_lines::{
-    FigureTable, Held, Table, hold_table, write_figures, write_figures_of, write_table,
+    Column, FigureTable, Held, Table, hold_table, write_figures, write_figures_of, write_table,
     write_table_of,
 };
 use tw_rounds::meets_no_limit;
@@ -67,26 +68,13 @@ pub fn table<L: Listener, W: Write>(
     ensures { IsTabulated bytes.now (tabulation_of tabulation.now) result
         (W.contents out.old) (W.contents out.new) }
 {
-    match tabulation.of {
-        Tabled::OfRun(rows) => {
-            let network = network_in(alloc, bytes)?;
-            let shown = shown_in(alloc, &network, tabulation.only)?;
-            let asked = Asked {
-                tabulation,
-                shown: shown.as_slice(),
-            };
-            tabulate(alloc, &network, rows, &asked, listener, out)
-        }
-        Tabled::OfFigures => {
-            let file = file_in(alloc, bytes)?;
-            let shown = shown_in(alloc, &file.network, tabulation.only)?;
-            let asked = Asked {
-                tabulation,
-                shown: shown.as_slice(),
-            };
-            tabulate_figures(alloc, &file, &asked, listener, out)
-        }
-    }
+    let file = file_in(alloc, bytes)?;
+    let shown = shown_in(alloc, &file.network, tabulation.only)?;
+    let asked = Asked {
+        tabulation,
+        shown: shown.as_slice(),
+    };
+    tabulate_file(alloc, &file, &asked, listener, out)
 }
 
 /// What of a network's run stands in a table, and which components this shows.
@@ -96,37 +84,58 @@ struct Asked<'a> {
     shown: &'a [bool],
 }
 
-/// A table of records: of which run, what its lines are of, which components it shows, and from which tick on.
+/// A table of records: of which run, what its lines are of, the fields of an item's value, which components it shows, and from which tick on.
 #[derive(Clone, Copy)]
 pub(crate) struct Listing<'a> {
     pub(crate) run: Run<'a>,
     pub(crate) rows: Rows,
+    pub(crate) fields: &'a [Column<'a>],
     pub(crate) shown: &'a [bool],
     pub(crate) from: u64,
 }
 
-/// Writes the table of the records of a network's run, of the components that are shown.
+/// The columns of a table of items for these fields.
+fn columns_of<'a>(alloc: Global, fields: &'a [FileField]) -> Result<Vec<Column<'a>>, AllocError>
+    ensures { IfOk result
+        (λ columns. map field columns.items ≡ map column (map file_field fields.now)) }
+{
+    let mut columns = Vec::with_capacity(alloc, fields.len())?;
+    for one in fields {
+        columns.push(Column {
+            name: one.name.as_str(),
+            low: one.low,
+            bits: one.bits,
+        })?;
+    }
+    Ok(columns)
+}
+
+/// Writes the table of the records of a network's run, of the components that are shown, with the fields that its file says.
 fn tabulate<L: Listener, W: Write>(
     alloc: Global,
-    network: &Network<AnyModel>,
+    file: &NetworkFile,
     rows: Rows,
     asked: &Asked<'_>,
     listener: &mut L,
     out: &mut W,
 ) -> Result<Option<String>, Failed>
     requires { let t = tabulation_of asked.now.tabulation.now in
-        shown_of network.now.names t.only ≡ Some asked.now.shown.now }
+        shown_of file.now.network.names t.only ≡ Some asked.now.shown.now }
     ensures { let t = tabulation_of asked.now.tabulation.now in
-        let written : List Bool → List ℕ = λ shown.
-        run_table network.now rows shown t.from t.until in
-        IsTabulatedOf network.now written t result (W.contents out.old) (W.contents out.new) }
+        let n = file.now.network in
+        let fields = columns_said (view file.now.value) in
+        let written : List Bool → List ℕ = λ shown. run_table n rows fields shown t.from t.until in
+        IsTabulatedOf n written t result (W.contents out.old) (W.contents out.new) }
 {
+    let fields = fields_of(alloc, &file.value)?;
+    let columns = columns_of(alloc, fields.as_slice())?;
     let listing = Listing {
         run: Run {
-            network,
+            network: &file.network,
             until: asked.tabulation.until,
         },
         rows,
+        fields: columns.as_slice(),
         shown: asked.shown,
         from: asked.tabulation.from,
     };
@@ -167,6 +176,7 @@ fn held_of<L: Listener>(alloc: Global, listing: &Listing<'_>, listener: &mut L) 
     let names = NetworkNames { network };
     let table = Table {
         rows: listing.rows,
+        fields: listing.fields,
         names: &names,
         shown: listing.shown,
         from: listing.from,
@@ -208,6 +218,7 @@ fn write_streamed<L: Listener, W: Write>(
     let names = NetworkNames { network };
     let table = Table {
         rows: listing.rows,
+        fields: listing.fields,
         names: &names,
         shown: listing.shown,
         from: listing.from,
@@ -309,11 +320,12 @@ fn tabulate_file<L: Listener, W: Write>(
         shown_of file.now.network.names t.only ≡ Some asked.now.shown.now }
     ensures { let t = tabulation_of asked.now.tabulation.now in
         let n = file.now.network in
-        IsTabulatedOf n (table_with n (labels_said (view file.now.value) n.models) t) t
+        let fields = columns_said (view file.now.value) in
+        IsTabulatedOf n (table_with n fields (labels_said (view file.now.value) n.models) t) t
         result (W.contents out.old) (W.contents out.new) }
 {
     match asked.tabulation.of {
-        Tabled::OfRun(rows) => tabulate(alloc, &file.network, rows, asked, listener, out),
+        Tabled::OfRun(rows) => tabulate(alloc, file, rows, asked, listener, out),
         Tabled::OfFigures => tabulate_figures(alloc, file, asked, listener, out),
     }
 }
@@ -332,7 +344,8 @@ fn tabulate_made<W: Write>(
         IsMade (sequential net asked.now.tabulation.now.until) made.now.run }
     ensures { let t = tabulation_of asked.now.tabulation.now in
         let n = made.now.network.now in
-        IsTabulatedOf n (table_with n (labels_said (view made.now.value.now) n.models) t) t
+        let fields = columns_said (view made.now.value.now) in
+        IsTabulatedOf n (table_with n fields (labels_said (view made.now.value.now) n.models) t) t
         result (W.contents out.old) (W.contents out.new) }
 {
     match asked.tabulation.of {
@@ -355,15 +368,19 @@ fn tabulate_made_rows<W: Write>(
         IsMade (sequential net asked.now.tabulation.now.until) made.now.run }
     ensures { let t = tabulation_of asked.now.tabulation.now in
         let n = made.now.network.now in
-        let written : List Bool → List ℕ = λ shown. run_table n rows shown t.from t.until in
+        let fields = columns_said (view made.now.value.now) in
+        let written : List Bool → List ℕ = λ shown. run_table n rows fields shown t.from t.until in
         IsTabulatedOf n written t result (W.contents out.old) (W.contents out.new) }
 {
     let run = &made.run;
     let network = made.network;
+    let fields = fields_of(alloc, made.value)?;
+    let columns = columns_of(alloc, fields.as_slice())?;
     let line = fault_line(alloc, network, run.fault)?;
     let names = NetworkNames { network };
     let table = Table {
         rows,
+        fields: columns.as_slice(),
         names: &names,
         shown: asked.shown,
         from: asked.tabulation.from,

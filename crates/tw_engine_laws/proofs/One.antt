@@ -15,6 +15,7 @@ use Rattle.tw_file_network.specs.TreeMeaning.{IsMeaning}
 use Rattle.tw_laws.specs.Couplings.{AreAlike, CouplingsLaw}
 use Rattle.tw_network.specs.Contents.{Contents, message_of, network_of}
 use Rattle.tw_network.specs.FlatTrees.{IsSameNetwork}
+use Rattle.tw_record_lines.specs.Fields.{Field}
 use Rattle.tw_record_lines.specs.Tables.{listed, table_text}
 use Rattle.tw_texts.specs.Texts.{trace_text}
 use Rattle.tw_theory.specs.Simulator.{Run, sequential}
@@ -54,8 +55,8 @@ one_fault n m one until = ap (λ (r : Run AnyState). r.fault) (one.run until)
 pub one_line : (n m : Contents AnyModel) → AreOne n m → (until : ℕ) → fault_text n.names (run_fault n until) ≡ fault_text m.names (run_fault m until)
 one_line n m one until = ap₂ (λ names (r : Run AnyState). fault_text names r.fault) (sym one.same.names) (one.run until)
 
-pub one_table : (n m : Contents AnyModel) → AreOne n m → (rows : Rows) (shown : List Bool) (from until : ℕ) → run_table n rows shown from until ≡ run_table m rows shown from until
-one_table n m one rows shown from until = ap₂ (λ names (r : Run AnyState). table_text rows (name_in names) (listed shown from r.records)) (sym one.same.names) (one.run until)
+pub one_table : (n m : Contents AnyModel) → AreOne n m → (rows : Rows) (fields : List Field) (shown : List Bool) (from until : ℕ) → run_table n rows fields shown from until ≡ run_table m rows fields shown from until
+one_table n m one rows fields shown from until = ap₂ (λ names (r : Run AnyState). table_text rows fields (name_in names) (listed shown from r.records)) (sym one.same.names) (one.run until)
 
 -- what a network has, by the counts
 abbrev counts_text : ℕ → ℕ → ℕ → List ℕ

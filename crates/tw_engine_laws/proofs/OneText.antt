@@ -24,7 +24,7 @@ use Rattle.tw_engine.specs.Jobs.{Ends, IsPlay, IsScriptedBy}
 use Rattle.tw_engine.specs.Plays.{IsScripted, IsSeeded, committed_text, first}
 use Rattle.tw_engine.specs.Runs.{IsDemo, IsRun, IsRunByWorkers, demo_network, name_in, run_fault, run_text}
 use Rattle.tw_machine_warnings.specs.Warning.{lines_of}
-use Rattle.tw_engine.specs.Views.{IsLineOf, IsSummed, IsSummedBy, IsTabulated, IsTabulatedBy, IsTabulatedOf, Summed, Tabulated, file_labels, table_with}
+use Rattle.tw_engine.specs.Views.{IsLineOf, IsSummed, IsSummedBy, IsTabulated, IsTabulatedBy, IsTabulatedOf, Summed, Tabulated, file_fields, file_labels, table_with}
 use Rattle.tw_engine.specs.declared.exit.Exit.{Exit}
 use Rattle.tw_engine.specs.declared.failed.Failed.{Failed}
 use Rattle.tw_engine.specs.declared.failed.Failed.TheVariants as failed
@@ -134,21 +134,21 @@ module _ (means : (bytes : List ℕ) → MeansOne bytes) (law : CouplingsLaw Any
 
   -- the table is one
   one_table_of : (n m : Contents AnyModel) → IsMeaning bytes n → AreOne n m → (only : Option (List ℕ)) (from until : ℕ) (of : Tabled) (shown : List Bool)
-      → table_with n (file_labels bytes n) (record { only = only; from = from; until = until; of = of }) shown ≡ table_with m (file_labels bytes m) (record { only = only; from = from; until = until; of = of }) shown
-  one_table_of n m of_n same only from until (OfRun rows) shown = one_table n m same rows shown from until
+      → table_with n (file_fields bytes) (file_labels bytes n) (record { only = only; from = from; until = until; of = of }) shown ≡ table_with m (file_fields bytes) (file_labels bytes m) (record { only = only; from = from; until = until; of = of }) shown
+  one_table_of n m of_n same only from until (OfRun rows) shown = one_table n m same rows (file_fields bytes) shown from until
   one_table_of n m of_n same only from until OfFigures shown = one_figures bytes n m same shown from until
 
   table_ends : (only : Option (List ℕ)) (from until : ℕ) (of : Tabled) (line line' : Option (String Global)) → exit ≡ exit_of_view (Ok line) → exit' ≡ exit_of_view (Ok line')
       → (n m : Contents AnyModel) → IsMeaning bytes n → IsMeaning bytes m
-      → IsTabulatedOf n (table_with n (file_labels bytes n) (record { only = only; from = from; until = until; of = of })) (record { only = only; from = from; until = until; of = of }) (Ok line) (Some old) (Some new)
-      → IsTabulatedOf m (table_with m (file_labels bytes m) (record { only = only; from = from; until = until; of = of })) (record { only = only; from = from; until = until; of = of }) (Ok line') (Some old) (Some new') → IsSameEnd exit exit' new new'
+      → IsTabulatedOf n (table_with n (file_fields bytes) (file_labels bytes n) (record { only = only; from = from; until = until; of = of })) (record { only = only; from = from; until = until; of = of }) (Ok line) (Some old) (Some new)
+      → IsTabulatedOf m (table_with m (file_fields bytes) (file_labels bytes m) (record { only = only; from = from; until = until; of = of })) (record { only = only; from = from; until = until; of = of }) (Ok line') (Some old) (Some new') → IsSameEnd exit exit' new new'
   table_ends only from until of line line' is is' n m of_n of_m done done' =
       let t : Tabulated = record { only = only; from = from; until = until; of = of } in
       let same = one n m of_n of_m in
       let shown = one_shown only n m same done.1.shown done'.1.shown done.1.are done'.1.are in
       view_end n m same until exit exit' old new new' line line' is is'
-      (one_out old new new' (table_with n (file_labels bytes n) t done.1.shown) (table_with m (file_labels bytes m) t done'.1.shown) done.1.written done'.1.written
-      (one_table_of n m of_n same only from until of done.1.shown ∙ ap (table_with m (file_labels bytes m) t) shown)) done.0 done'.0
+      (one_out old new new' (table_with n (file_fields bytes) (file_labels bytes n) t done.1.shown) (table_with m (file_fields bytes) (file_labels bytes m) t done'.1.shown) done.1.written done'.1.written
+      (one_table_of n m of_n same only from until of done.1.shown ∙ ap (table_with m (file_fields bytes) (file_labels bytes m) t) shown)) done.0 done'.0
 
   tabulated_ends : (only : Option (List ℕ)) (from until : ℕ) (of : Tabled) (line line' : Option (String Global)) → exit ≡ exit_of_view (Ok line) → exit' ≡ exit_of_view (Ok line')
       → IsTabulated bytes (record { only = only; from = from; until = until; of = of }) (Ok line) (Some old) (Some new)

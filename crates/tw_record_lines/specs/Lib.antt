@@ -1,3 +1,4 @@
+pub mod Fields
 pub mod FigureRows
 pub mod FigureTables
 pub mod Gathering

@@ -1,14 +1,14 @@
 //! The table of a run, held as text until it is known how the run ends.
 
-ghost use Rattle.std.specs.Prelude.{◌≡◌, ◌≤◌, IfOk, IfSome};
+ghost use Rattle.std.specs.Prelude.{◌≡◌, ◌≤◌, IfOk, IfSome, map};
 ghost use Rattle.tw_network.specs.Contents.{network_of};
+ghost use Rattle.tw_record_lines.specs.Fields.{field};
 ghost use Rattle.tw_record_lines.specs.Tables.{listed, table_text};
 ghost use Rattle.tw_theory.specs.Simulator.{sequential};
 ghost use Rattle.tw_vtime.specs.Stamps.{max_tick};
 
 use crate::held::{Held, MOST_HELD};
-use crate::rows::head;
-use crate::table_lines::{Table, TableLines};
+use crate::table_lines::{Table, TableLines, head_of};
 use std::alloc::Global;
 use tw_atomic::Atomic;
 use tw_listen::{Counting, Listener, run_out};
@@ -33,11 +33,11 @@ pub fn hold_table<M: Atomic, N: Names, L: Listener>(
         (λ held. held.fault ≡ (sequential (network_of M.meaning network.now) until).fault) }
     ensures lines { let run = sequential (network_of M.meaning network.now) until in IfOk result
         (λ held. IfSome held.lines (λ lines. lines.text ≡ table_text table.now.rows
-        (N.name_of table.now.names.now) (listed table.now.shown.now table.now.from run.records))) }
+        (map field table.now.fields.now) (N.name_of table.now.names.now)
+        (listed table.now.shown.now table.now.from run.records))) }
 {
     let mut simulation = begin(alloc, network, until)?;
-    let mut first = Lines::new(alloc);
-    first.add_line(head(table.rows).as_bytes())?;
+    let first = head_of(alloc, table)?;
     let mut outputs = TableLines::new(alloc, table, first);
     let mut transitions = TableLines::new(alloc, table, Lines::new(alloc));
     while outputs.lines.len() <= MOST_HELD {

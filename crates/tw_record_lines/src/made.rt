@@ -1,23 +1,23 @@
 //! The table of a run that is made already, of its records or of its figures.
 
-ghost use Rattle.std.specs.Prelude.{◌≡◌, OnOk, IfErr};
+ghost use Rattle.std.specs.Prelude.{◌≡◌, OnOk, IfErr, map};
 ghost use Rattle.std.specs.Io.KnownBytes.{Appends};
 ghost use Rattle.tw_figures.specs.Figures.{IsSteady};
 ghost use Rattle.tw_figures.specs.Gathered.{start_words};
 ghost use Rattle.tw_network.specs.Contents.{network_of};
+ghost use Rattle.tw_record_lines.specs.Fields.{field};
 ghost use Rattle.tw_record_lines.specs.FigureTables.{figures_text, table_of};
 ghost use Rattle.tw_record_lines.specs.Tables.{listed, table_text};
 ghost use Rattle.tw_texts.specs.Traces.{AppendsBeginning};
 
 use crate::figure_lines::{FigureLines, FigureTable};
-use crate::rows::head;
-use crate::table_lines::{Table, TableLines};
+use crate::table_lines::{Table, TableLines, head_of};
 use std::alloc::Global;
 use std::io::Write;
 use tw_atomic::Atomic;
 use tw_msgs::Record;
 use tw_network::Network;
-use tw_texts::{Lines, Names, NotWritten, write_out, write_portion};
+use tw_texts::{Names, NotWritten, write_out, write_portion};
 
 /// Writes this table of records that are there, of those components that it shows and from its first tick on, in portions of about
 /// 65,536 bytes.
@@ -32,14 +32,15 @@ pub fn write_table_of<N: Names, W: Write>(
 ) -> Result<(), NotWritten>
     ensures ok { let name_of = N.name_of table.now.names.now in
         OnOk result (Appends (W.contents out.old) (W.contents out.new)
-        (table_text table.now.rows name_of (listed table.now.shown.now table.now.from records.now))) }
+        (table_text table.now.rows (map field table.now.fields.now) name_of
+        (listed table.now.shown.now table.now.from records.now))) }
     ensures err { let name_of = N.name_of table.now.names.now in
         IfErr result (λ e. e ≡ NotWritten.OutOfMemory
         → AppendsBeginning (W.contents out.old) (W.contents out.new)
-        (table_text table.now.rows name_of (listed table.now.shown.now table.now.from records.now))) }
+        (table_text table.now.rows (map field table.now.fields.now) name_of
+        (listed table.now.shown.now table.now.from records.now))) }
 {
-    let mut first = Lines::new(alloc);
-    let Ok(()) = first.add_line(head(table.rows).as_bytes()) else {
+    let Ok(first) = head_of(alloc, table) else {
         return Err(NotWritten::OutOfMemory);
     };
     let mut lines = TableLines::new(alloc, table, first);

@@ -1,8 +1,10 @@
 //! The lines of a table: of a record, of its items, of its words. Where memory is wanting (4) a part of a line may stand at the end.
 
-ghost use Rattle.std.specs.Prelude.{◌≡◌, ◌≤◌, ◌+◌, ◌*◌, ◌++◌, OnOk, drop, length, string_bytes};
+ghost use Rattle.std.specs.Prelude.{◌≡◌, ◌≤◌, ◌+◌, ◌*◌, ◌++◌, OnOk, drop, length, map, string_bytes};
+ghost use Rattle.tw_record_lines.specs.Fields.{field};
 ghost use Rattle.tw_record_lines.specs.Tables.{cells_text, head_text, item_row, items_text, items_rows, record_row, time_cells, word_row, word_rows};
 
+use crate::fields::{Column, add_names, put_fields};
 use std::alloc::AllocError;
 use tw_figures::Rows;
 use tw_msgs::RecordKind;
@@ -12,14 +14,23 @@ use tw_texts::{
 };
 use tw_vtime::Stamp;
 
-/// The first line: what stands in each column.
-pub(crate) fn head(rows: Rows) -> &'static str
-    ensures { result.now ≡ head_text rows }
+/// Adds the first line: what stands in each column.
+pub(crate) fn add_head(
+    lines: &mut Lines,
+    rows: Rows,
+    fields: &[Column<'_>],
+) -> Result<(), AllocError>
+    ensures { OnOk result
+        (lines.new.text ≡ lines.old.text ++ head_text rows (map field fields.now)) }
 {
     match rows {
-        Rows::Records => "tick,microstep,component,kind,items,words\n",
-        Rows::Items => "tick,microstep,component,kind,port,value\n",
-        Rows::Words => "tick,microstep,component,kind,place,number\n",
+        Rows::Records => lines.add_line(b"tick,microstep,component,kind,items,words\n"),
+        Rows::Items => {
+            lines.add_line(b"tick,microstep,component,kind,port,value")?;
+            add_names(lines, fields)?;
+            lines.add_line(b"\n")
+        }
+        Rows::Words => lines.add_line(b"tick,microstep,component,kind,place,number\n"),
     }
 }
 
@@ -119,15 +130,16 @@ pub(crate) fn add_record(
     lines.add_line(&room.as_slice()[start..])
 }
 
-/// Puts the line of an item at the end of the room.
-fn put_item(line: &mut [u8], cells: &Cells<'_>, item: (u8, i64)) -> usize
-    requires { 89 + length cells.now.name.now ≤ length line.old }
+/// Puts the line of an item at the end of the room, with the numbers that these fields have of its value.
+fn put_item(line: &mut [u8], cells: &Cells<'_>, fields: &[Column<'_>], item: (u8, i64)) -> usize
+    requires { 89 + length cells.now.name.now + 21 * length fields.now ≤ length line.old }
     ensures start { result ≤ length line.new }
     ensures written { drop result line.new
-        ≡ item_row cells.now.name.now cells.now.at cells.now.kind item }
+        ≡ item_row (map field fields.now) cells.now.name.now cells.now.at cells.now.kind item }
 {
     let (port, value) = item;
     let end = put_byte(line, line.len(), b'\n');
+    let end = put_fields(line, end, fields, value);
     let end = put_value(line, end, value);
     let end = put_byte(line, end, b',');
     let end = put_whole(line, end, port as u64);
@@ -140,13 +152,19 @@ fn add_item(
     lines: &mut Lines,
     room: &mut Vec<u8>,
     cells: &Cells<'_>,
+    fields: &[Column<'_>],
     item: (u8, i64),
 ) -> Result<(), AllocError>
     ensures { OnOk result (lines.new.text ≡ lines.old.text
-        ++ item_row cells.now.name.now cells.now.at cells.now.kind item) }
+        ++ item_row (map field fields.now) cells.now.name.now cells.now.at cells.now.kind item) }
 {
-    make_room(room, 89 + cells.name.len())?;
-    let start = put_item(room.as_mut_slice(), cells, item);
+    let most = fields
+        .len()
+        .saturating_mul(21)
+        .saturating_add(cells.name.len())
+        .saturating_add(89);
+    make_room(room, most)?;
+    let start = put_item(room.as_mut_slice(), cells, fields, item);
     lines.add_line(&room.as_slice()[start..])
 }
 
@@ -181,18 +199,20 @@ fn add_word(
     lines.add_line(&room.as_slice()[start..])
 }
 
-/// Adds the lines of a record's items, which are made in this room.
+/// Adds the lines of a record's items, which are made in this room, with these fields of their values.
 pub(crate) fn add_each_item(
     lines: &mut Lines,
     room: &mut Vec<u8>,
     cells: &Cells<'_>,
+    fields: &[Column<'_>],
     bag: &[(u8, i64)],
 ) -> Result<(), AllocError>
-    ensures { OnOk result (lines.new.text ≡ lines.old.text
-        ++ items_rows cells.now.name.now cells.now.at cells.now.kind bag.now) }
+    ensures { let fields = map field fields.now in
+        OnOk result (lines.new.text ≡ lines.old.text
+        ++ items_rows fields cells.now.name.now cells.now.at cells.now.kind bag.now) }
 {
     for item in bag {
-        add_item(lines, room, cells, *item)?;
+        add_item(lines, room, cells, fields, *item)?;
     }
     Ok(())
 }

@@ -1,15 +1,15 @@
 //! The table of a run, written after each round.
 
-ghost use Rattle.std.specs.Prelude.{◌≡◌, ◌≤◌, OnOk, IfErr};
+ghost use Rattle.std.specs.Prelude.{◌≡◌, ◌≤◌, OnOk, IfErr, map};
 ghost use Rattle.std.specs.Io.KnownBytes.{Appends};
 ghost use Rattle.tw_network.specs.Contents.{network_of};
+ghost use Rattle.tw_record_lines.specs.Fields.{field};
 ghost use Rattle.tw_record_lines.specs.Tables.{listed, table_text};
 ghost use Rattle.tw_texts.specs.Traces.{AppendsBeginning};
 ghost use Rattle.tw_theory.specs.Simulator.{sequential};
 ghost use Rattle.tw_vtime.specs.Stamps.{max_tick};
 
-use crate::rows::head;
-use crate::table_lines::{Table, TableLines};
+use crate::table_lines::{Table, TableLines, head_of};
 use std::alloc::Global;
 use std::io::Write;
 use tw_atomic::Atomic;
@@ -35,17 +35,18 @@ pub fn write_table<M: Atomic, N: Names, L: Listener, W: Write>(
     requires { until ≤ max_tick }
     ensures ok { let run = sequential (network_of M.meaning network.now) until in
         OnOk result (Appends (W.contents out.old) (W.contents out.new) (table_text table.now.rows
-        (N.name_of table.now.names.now) (listed table.now.shown.now table.now.from run.records))) }
+        (map field table.now.fields.now) (N.name_of table.now.names.now)
+        (listed table.now.shown.now table.now.from run.records))) }
     ensures err { let run = sequential (network_of M.meaning network.now) until in
         IfErr result (λ e. e ≡ NotWritten.OutOfMemory
         → AppendsBeginning (W.contents out.old) (W.contents out.new) (table_text table.now.rows
-        (N.name_of table.now.names.now) (listed table.now.shown.now table.now.from run.records))) }
+        (map field table.now.fields.now) (N.name_of table.now.names.now)
+        (listed table.now.shown.now table.now.from run.records))) }
 {
     let Ok(mut simulation) = begin(alloc, network, until) else {
         return Err(NotWritten::OutOfMemory);
     };
-    let mut first = Lines::new(alloc);
-    let Ok(()) = first.add_line(head(table.rows).as_bytes()) else {
+    let Ok(first) = head_of(alloc, table) else {
         return Err(NotWritten::OutOfMemory);
     };
     let mut outputs = TableLines::new(alloc, table, first);

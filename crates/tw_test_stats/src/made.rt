@@ -16,6 +16,7 @@ use tw_stats::{Layout, MadeRun, report_of_made, write_report};
 fn records() -> Table<'static, TwoNames> {
     Table {
         rows: Rows::Records,
+        fields: &[],
         names: &COUNTED.names,
         shown: &[true, true],
         from: 0,

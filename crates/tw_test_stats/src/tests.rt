@@ -473,6 +473,7 @@ fn assert_table(
     let mut out = Vec::new(alloc);
     let lines = Table {
         rows: listing.rows,
+        fields: &[],
         names: &scene.names,
         shown: &[true, true],
         from: listing.from,

@@ -4,9 +4,9 @@ use Rattle.serde_json.specs.View.{view}
 use Rattle.tw_any_model.specs.AnyModel.{any_meaning}
 use Rattle.tw_any_model.specs.declared.any_model.AnyModel.{AnyModel}
 use Rattle.tw_engine.proofs.Passing.{on_err}
-use Rattle.tw_engine.proofs.Viewed.{labels_of_bytes, none_tabulated, untabulated}
+use Rattle.tw_engine.proofs.Viewed.{fields_of_bytes, labels_of_bytes, none_tabulated, untabulated}
 use Rattle.tw_engine.specs.Runs.{run_fault}
-use Rattle.tw_engine.specs.Views.{IsTabulatedByWorkers, IsTabulatedOf, file_labels, table_with, tabulation_of}
+use Rattle.tw_engine.specs.Views.{IsTabulatedByWorkers, IsTabulatedOf, columns_said, file_fields, file_labels, table_with, tabulation_of}
 use Rattle.tw_figure_names.specs.Said.{labels_said}
 use Rattle.tw_network.specs.Contents.{Contents, network_of}
 use Rattle.tw_theory.specs.Simulator.{sequential}
@@ -30,7 +30,7 @@ returns-in_err-shown g c =
     let bytes = c.args.bytes.now in
     let old = g.W.Write.contents c.args.out.now in
     on_err (λ end. IsTabulatedByWorkers bytes c.args.by.cancel t end old old) c.from_residual-in_err-shown.result c.in_err-shown.field-0.0 c.from_residual-in_err-shown.ensures.1
-    (inl (inr (n, c.in_ok-file.ensures.network, none_tabulated n (table_with n (file_labels bytes n) t) t c.in_err-shown.field-0.0 old c.in_err-shown.ensures)))
+    (inl (inr (n, c.in_ok-file.ensures.network, none_tabulated n (table_with n (file_fields bytes) (file_labels bytes n) t) t c.in_err-shown.field-0.0 old c.in_err-shown.ensures)))
 
 pub returns-in_ok-made-in-Some : goal.returns-in_ok-made-in-Some
 returns-in_ok-made-in-Some g c =
@@ -43,8 +43,9 @@ returns-in_ok-made-in-Some g c =
     inl (inr (
       n,
       c.in_ok-file.ensures.network,
-      subst (λ ls. IsTabulatedOf n (table_with n ls t) t c.tabulate_made.result old new) (labels_of_bytes c.args.bytes.now file n c.in_ok-file.ensures.value)
-          (subst (λ (m : Contents AnyModel). IsTabulatedOf m (table_with m (labels_said file m.models) t) t c.tabulate_made.result old new) (same ∙ c.in_ok-made-in-Some.ensures.network) c.tabulate_made.ensures),
+      subst (λ ls. IsTabulatedOf n (table_with n (file_fields c.args.bytes.now) ls t) t c.tabulate_made.result old new) (labels_of_bytes c.args.bytes.now file n c.in_ok-file.ensures.value)
+          (subst (λ fs. IsTabulatedOf n (table_with n fs (labels_said file n.models) t) t c.tabulate_made.result old new) (fields_of_bytes c.args.bytes.now file c.in_ok-file.ensures.value)
+          (subst (λ (m : Contents AnyModel). IsTabulatedOf m (table_with m (columns_said file) (labels_said file m.models) t) t c.tabulate_made.result old new) (same ∙ c.in_ok-made-in-Some.ensures.network) c.tabulate_made.ensures)),
     ))
 
 pub returns-in_err-made-in-Some : goal.returns-in_err-made-in-Some
@@ -63,6 +64,8 @@ returns-in-None g c =
     inl (inr (
       n,
       c.in_ok-file.ensures.network,
-      subst (λ ls. IsTabulatedOf n (table_with n ls (tabulation_of c.args.tabulation.now)) (tabulation_of c.args.tabulation.now) c.tabulate_file.result old new)
-          (labels_of_bytes c.args.bytes.now (view c.in_ok-file.file.value) n c.in_ok-file.ensures.value) c.tabulate_file.ensures,
+      subst (λ ls. IsTabulatedOf n (table_with n (file_fields c.args.bytes.now) ls (tabulation_of c.args.tabulation.now)) (tabulation_of c.args.tabulation.now) c.tabulate_file.result old new)
+          (labels_of_bytes c.args.bytes.now (view c.in_ok-file.file.value) n c.in_ok-file.ensures.value)
+          (subst (λ fs. IsTabulatedOf n (table_with n fs (labels_said (view c.in_ok-file.file.value) n.models) (tabulation_of c.args.tabulation.now)) (tabulation_of c.args.tabulation.now) c.tabulate_file.result old new)
+          (fields_of_bytes c.args.bytes.now (view c.in_ok-file.file.value) c.in_ok-file.ensures.value) c.tabulate_file.ensures),
     ))

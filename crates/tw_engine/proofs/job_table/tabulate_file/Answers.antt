@@ -2,7 +2,7 @@ use Rattle.std.proofs.Common.{ℕ, List, subst}
 use Rattle.std.specs.Prelude.{Bool}
 use Rattle.serde_json.specs.View.{view}
 use Rattle.tw_engine.proofs.Viewed.{of_figures, of_rows}
-use Rattle.tw_engine.specs.Views.{IsTabulatedOf, tabulation_of}
+use Rattle.tw_engine.specs.Views.{IsTabulatedOf, columns_said, tabulation_of}
 use Rattle.tw_figure_names.specs.Said.{labels_said}
 use Rattle.tw_engine.proofs.job_table.tabulate_file.Goals as goal
 
@@ -13,7 +13,7 @@ returns-in-OfRun g c =
     let labels = labels_said (view c.args.file.now.value) n.models in
     let old = g.W.Write.contents c.args.out.now in
     let new = g.W.Write.contents c.tabulate.new.out in
-    subst (λ (table : List Bool → List ℕ). IsTabulatedOf n table t c.tabulate.result old new) (of_rows n labels t c.in-OfRun.rows c.in-OfRun.is) c.tabulate.ensures
+    subst (λ (table : List Bool → List ℕ). IsTabulatedOf n table t c.tabulate.result old new) (of_rows n (columns_said (view c.args.file.now.value)) labels t c.in-OfRun.rows c.in-OfRun.is) c.tabulate.ensures
 
 pub returns-in-OfFigures : goal.returns-in-OfFigures
 returns-in-OfFigures g c =
@@ -22,4 +22,4 @@ returns-in-OfFigures g c =
     let labels = labels_said (view c.args.file.now.value) n.models in
     let old = g.W.Write.contents c.args.out.now in
     let new = g.W.Write.contents c.tabulate_figures.new.out in
-    subst (λ (table : List Bool → List ℕ). IsTabulatedOf n table t c.tabulate_figures.result old new) (of_figures n labels t c.in-OfFigures.is) c.tabulate_figures.ensures
+    subst (λ (table : List Bool → List ℕ). IsTabulatedOf n table t c.tabulate_figures.result old new) (of_figures n (columns_said (view c.args.file.now.value)) labels t c.in-OfFigures.is) c.tabulate_figures.ensures

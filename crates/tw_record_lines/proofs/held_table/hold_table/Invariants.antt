@@ -1,7 +1,8 @@
 -- The records so far were handed over, and the lines that are held are the table of them.
-use Rattle.std.proofs.Common.{◌≡◌, ◌-◌, List, []}
+use Rattle.std.proofs.Common.{◌≡◌, ◌-◌, List, [], map}
 use Rattle.tw_msgs.specs.declared.record.Record.{Record}
 use Rattle.tw_rounds.specs.Parts.{IsSimulating}
+use Rattle.tw_record_lines.specs.Fields.{field}
 use Rattle.tw_record_lines.specs.Tables.{listed, table_text}
 use Rattle.tw_theory.specs.Simulator.{round_time}
 use Rattle.tw_vtime.specs.Stamps.{stamp}
@@ -16,12 +17,14 @@ invariant-loop-simulation g l = record {
   names' : l.transitions.names.now ≡ l.table.names.now;
   kinds : l.outputs.rows ≡ l.table.rows;
   kinds' : l.transitions.rows ≡ l.table.rows;
+  fields : l.outputs.fields.now ≡ l.table.fields.now;
+  fields' : l.transitions.fields.now ≡ l.table.fields.now;
   shows : l.outputs.shown.now ≡ l.table.shown.now;
   shows' : l.transitions.shown.now ≡ l.table.shown.now;
   first : l.outputs.from ≡ l.table.from;
   first' : l.transitions.from ≡ l.table.from;
   none : l.transitions.lines.text ≡ [];
-  held : l.outputs.lines.text ≡ table_text l.table.rows (g.N.Names.name_of l.table.names.now) (listed l.table.shown.now l.table.from done);
+  held : l.outputs.lines.text ≡ table_text l.table.rows (map field l.table.fields.now) (g.N.Names.name_of l.table.names.now) (listed l.table.shown.now l.table.from done);
 }
 
 abbrev pub decreases-loop-simulation : goal.decreases-loop-simulation

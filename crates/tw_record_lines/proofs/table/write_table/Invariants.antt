@@ -1,7 +1,8 @@
 -- The records so far were handed over; the writer and the lines that are gathered have the table of them.
-use Rattle.std.proofs.Common.{◌≡◌, ◌-◌, List, []}
+use Rattle.std.proofs.Common.{◌≡◌, ◌-◌, List, [], map}
 use Rattle.tw_msgs.specs.declared.record.Record.{Record}
 use Rattle.tw_rounds.specs.Parts.{IsSimulating}
+use Rattle.tw_record_lines.specs.Fields.{field}
 use Rattle.tw_record_lines.specs.Tables.{listed, table_text}
 use Rattle.tw_texts.specs.Traces.{MovesBytes}
 use Rattle.tw_theory.specs.Simulator.{round_time}
@@ -17,12 +18,14 @@ invariant-loop-step g l = record {
   names' : l.transitions.names.now ≡ l.table.names.now;
   kinds : l.outputs.rows ≡ l.table.rows;
   kinds' : l.transitions.rows ≡ l.table.rows;
+  fields : l.outputs.fields.now ≡ l.table.fields.now;
+  fields' : l.transitions.fields.now ≡ l.table.fields.now;
   shows : l.outputs.shown.now ≡ l.table.shown.now;
   shows' : l.transitions.shown.now ≡ l.table.shown.now;
   first : l.outputs.from ≡ l.table.from;
   first' : l.transitions.from ≡ l.table.from;
   none : l.transitions.lines.text ≡ [];
-  written : MovesBytes (g.W.Write.contents l.fn.out) (g.W.Write.contents l.out) (table_text l.table.rows (g.N.Names.name_of l.table.names.now) (listed l.table.shown.now l.table.from done)) l.outputs.lines.text;
+  written : MovesBytes (g.W.Write.contents l.fn.out) (g.W.Write.contents l.out) (table_text l.table.rows (map field l.table.fields.now) (g.N.Names.name_of l.table.names.now) (listed l.table.shown.now l.table.from done)) l.outputs.lines.text;
 }
 
 abbrev pub decreases-loop-step : goal.decreases-loop-step

@@ -79,6 +79,8 @@ def with_machines(draw):
     """An example of machines, with other numbers here and there, and an end tick."""
     files = sorted(it for it in EXAMPLES.glob("*.json") if '"tw-3"' in it.read_text())
     value = json.loads(draw.choice(files).read_text())
+    if draw.random() < 0.5:
+        fielded(draw, value)
     for machine in value["models"]:
         if draw.random() < 0.5:
             observed(draw, machine)
@@ -124,6 +126,40 @@ def observed(draw, machine):
         rest = "now" if "timers" in machine else "left"
         name, number = draw.choice(["seen", "other_seen"]), draw.choice(["value", "now - 3", "-elapsed", f"4611686018427387904 + {rest}"])
         lead(where, member, f"observe {name} {number}")
+
+
+def fielded(draw, value):
+    """A file with fields and constants besides, of which its machines make use in programs, outputs, rooms and starts."""
+    value["constants"] = {**value.get("constants", {}), "few": draw.randint(1, 5), "many": draw.choice([-(2**63), -1, 0, 7, 2**63 - 1])}
+    if "fields" not in value:
+        split = draw.choice([[7, 21, 35], [1, 62], [62, 1], [3], [1, 2, 4, 8, 16, 32], [1]])
+        value["fields"] = [[f"part_{at}", bits] for at, bits in enumerate(split)]
+    names = [name for name, _ in value["fields"]]
+    for machine in value["models"]:
+        one, other = draw.choice(names), draw.choice(names)
+        both = f"item({one}: now, {other}: fielded)" if one != other else f"item({one}: fielded - many)"
+        if draw.random() < 0.3:
+            machine["parameters"] = [*machine.get("parameters", []), "few"]
+            for part in parts_of(value):
+                if part.get("model") == machine["name"]:
+                    part["few"] = draw.randint(1, 9)
+        machine["registers"] = {**machine.get("registers", {}), "fielded": "many"}
+        machine["queues"] = {**machine.get("queues", {}), "fields_kept": "few"}
+        machine["words"] = [*machine["words"], "fielded", f"{one}(fielded) + few"][-64:]
+        lines = [f"fielded = {both}", f"fielded ^= {one}(value) + {other}(-now)", "repeat few { fielded += turn * many }", f"push fields_kept {both}"]
+        lines += [f"if {one}(front(fields_kept)) > few {{ pop fields_kept }} else {{ insert fields_kept {other}(fielded) }}"]
+        for where, member in programs(machine):
+            lead(where, member, draw.choice(lines), draw.choice(lines))
+        for where in [machine, *machine.get("timers", [])]:
+            for sent in where.get("output", []):
+                if draw.random() < 0.5:
+                    sent["value"] = draw.choice([f"item({one}: {sent['value']})", f"{other}({sent['value']})", f"{sent['value']} + item({one}: many)"])
+
+
+def parts_of(model):
+    """The components of a network that have a model, also those of coupled models."""
+    for part in model["components"]:
+        yield from parts_of(part) if "components" in part else [part]
 
 
 def cleared(draw, machine):
@@ -179,7 +215,7 @@ def put(value, at, other):
     return value
 
 
-WORDS = ["draw ", " sample(t) ", " roll(3) ", " length(t) ", " observe a value ", " clear q ", "(", ")", "[", "]", "{", "}", " if ", " else ", " repeat ", " + ", " * ", " / ", " % ", " - ", ":=", ";", "t[0]", "0", "9" * 20, "\u00e9", "\\", "\"", "a", ".", "tw-2", "in", " "]
+WORDS = ["draw ", " sample(t) ", " roll(3) ", " length(t) ", " observe a value ", " clear q ", " size(a) ", " item(size: 1, to: a) ", ":", " ways ", "(", ")", "[", "]", "{", "}", " if ", " else ", " repeat ", " + ", " * ", " / ", " % ", " - ", ":=", ";", "t[0]", "0", "9" * 20, "\u00e9", "\\", "\"", "a", ".", "tw-2", "in", " "]
 
 
 def changed(draw, value):

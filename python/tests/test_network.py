@@ -104,6 +104,52 @@ def test_machines_are_taken_once() -> None:
     assert raised.value.number == 21
 
 
+def test_fields_and_constants() -> None:
+    one = Network().fields(size=6, to=4).fields(sent=np.int64(40)).constants(places=4, gap=np.int16(-3)).constants(places=5)
+    one.use(ADDER).add("a", "adder")
+    file = json.loads(one.to_json())
+    assert (file["format"], file["fields"]) == ("tw-3", [["size", 6], ["to", 4], ["sent", 40]])
+    assert file["constants"] == {"gap": -3, "places": 5}
+    assert Network.from_json(one.to_json()).to_json() == one.to_json()
+    again = Network().constants(gap=-3, places=5).fields(size=6, to=4, sent=40).use(ADDER).add("a", "adder")
+    assert again.to_json() == one.to_json() == pickle.loads(pickle.dumps(one)).to_json()
+    assert Network().fields(**{"from": 3}).item(**{"from": 11}) == 3
+    assert json.loads(Network().fields(size=6).to_json())["models"] == []
+    empty = json.dumps({**file, "fields": [], "constants": {}, "inputs": []})
+    assert "fields" not in Network.from_json(empty).to_json() and "constants" not in Network.from_json(empty).to_json()
+    for call in (lambda: one.fields(size=object()), lambda: one.constants(gap=1j)):  # type: ignore[arg-type]
+        with pytest.raises(TypeError, match="size|gap"):
+            call()
+
+
+def test_values_by_their_fields() -> None:
+    one = Network().fields(size=6, to=4, sent=53)
+    assert one.item(to=3, size=5) == 5 + 3 * 64
+    assert one.item() == 0 and one.item(size=-1) == 63 and one.item(to=np.int8(17)) == 64
+    assert one.item(size=63, to=15, sent=-1) == 2**63 - 1
+    with pytest.raises(ValueError, match="'weight': there are size, to, sent"):
+        one.item(weight=3)
+    with pytest.raises(TypeError):
+        one.item(size=2.5)  # type: ignore[arg-type]
+
+
+def test_fields_and_constants_of_a_tree() -> None:
+    line = Network().fields(size=6).constants(places=4).add("t", "tally")
+    plant = Network().constants(gap=3).add("left", line).add("right", Network().add("inner", line))
+    file = json.loads(plant.to_json())
+    assert (file["fields"], file["constants"]) == ([["size", 6]], {"gap": 3, "places": 4})
+    line.constants(gap=3)
+    plant.fields(size=6)
+    assert json.loads(plant.to_json())["constants"] == {"gap": 3, "places": 4}
+    line.constants(gap=4)
+    with pytest.raises(ValueError, match="'gap' is 4 in one network and 3 in another"):
+        plant.to_json()
+    line.constants(gap=3)
+    plant.fields(to=4)
+    with pytest.raises(ValueError, match="other fields"):
+        plant.to_json()
+
+
 def test_a_machine_is_kept_as_it_was() -> None:
     machine = copy.deepcopy(ADDER)
     one = Network().use(machine).add("a", "adder")
@@ -172,6 +218,11 @@ WRONG = [
     (5, Network().input(1, "u", 2), "inputs[0]", '"u"'),
     (10, Network().add("g", "gen", period=0, value=1), 'components[0] "g"', "period"),
     (11, Network(0), "the file", "micro_limit"),
+    (21, Network().fields(size=63), "", ""),
+    (21, Network().fields(size=40, to=24), "", ""),
+    (21, Network().fields(min=3), "", ""),
+    (21, Network().constants(**{"if": 3}), "", ""),
+    (21, Network().constants(gap=2**63), "", ""),
     (21, Network().use({"name": "m", "words": ["1 +"]}), 'models[0] "m": words[0], line 1, column 4', "expected"),
     (21, Network().use({"name": "m", "internal": "wait 1 +", "words": ["1"]}), 'models[0] "m": internal, line', ""),
     (9, Network().add("a", Network().add("b", "hop", seed=1, ports=1, spread=1).add("c", "tally")), "", ""),

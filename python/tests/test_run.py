@@ -3,6 +3,7 @@
 from __future__ import annotations
 
 import gc
+import json
 import pickle
 import subprocess
 from decimal import ROUND_HALF_UP, Decimal
@@ -12,7 +13,7 @@ from itertools import groupby
 import numpy as np
 import pandas as pd
 import pytest
-from common import examples, network, own_programs, short_run
+from common import TOP, examples, network, own_programs, short_run
 
 import twarp
 from twarp import Item, LimitFault, Network, Record, simulate
@@ -62,9 +63,10 @@ def test_the_frames_are_the_trace(name: str, until: int) -> None:
     assert list(table[keys].itertuples(index=False, name=None)) == heads
     assert table["items"].tolist() == [" ".join(f"{i.port}={i.value}" for i in record.items) for record in records]
     assert table["words"].tolist() == [" ".join(map(str, record.words)) for record in records]
-    assert list(items.itertuples(index=False, name=None)) == [
+    assert list(items.iloc[:, :6].itertuples(index=False, name=None)) == [
         (*head, *item) for head, record in zip(heads, records) for item in record.items
     ]
+    assert list(items.columns[6:]) == [name for name, _ in json.loads(run_of(name, until)._network).get("fields", [])]
     assert list(words.itertuples(index=False, name=None)) == [
         (*head, place, number) for head, record in zip(heads, records) for place, number in enumerate(record.words)
     ]
@@ -74,6 +76,21 @@ def test_the_frames_are_the_trace(name: str, until: int) -> None:
         assert frame["tick"].dtype == frame["microstep"].dtype == np.int64
     assert items["port"].dtype == items["value"].dtype == words["place"].dtype == np.int64
     assert words["number"].dtype == (np.uint64 if "hops" in name else np.int64)
+
+
+def test_fields_are_columns_of_items() -> None:
+    folder = TOP / "tests" / "program"
+    run = simulate(Network.load(folder / "machine-fields" / "network.json"), 12)
+    items = run.items()
+    wanted = (folder / "items-with-fields" / "stdout").read_text()
+    assert items.to_csv(index=False, lineterminator="\n") == wanted
+    assert set(items.dtypes[["port", "value", "source", "size", "sent"]]) == {np.dtype("int64")}
+    assert run.items(start=5, only="t").columns.tolist() == items.columns.tolist()
+    one = Network().fields(tick=3, component=60).add("t", "tally").input(1, "t", 13)
+    named = simulate(one, 3).items()
+    assert named.columns.tolist() == ["tick", "microstep", "component", "kind", "port", "value", "tick.1", "component.1"]
+    assert named[["tick", "component", "tick.1", "component.1"]].values.tolist() == [[1, "t", 5, 1]]
+    assert simulate(one, 0).items().shape == (0, 8)
 
 
 def test_words_of_hops_among_others() -> None:

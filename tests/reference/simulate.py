@@ -143,13 +143,23 @@ BUILT_IN = {"gen": Gen, "tally": Tally, "relay": Relay, "queue": Queue, "hop": H
 WORDS = re.compile(r"[A-Za-z0-9_]+|[+\-^]=|==|!=|<=|>=|[^\sA-Za-z0-9_]")
 
 
-class Machine:
-    """A machine of the file with the numbers of a component. Its texts are read anew each time they run."""
+def places_of(fields):
+    """Of each field by its name the number that its lowest bit stands for, and how many numbers it has."""
+    places, low = {}, 0
+    for name, bits in fields:
+        places[name] = 2**low, 2**bits
+        low += bits
+    return places
 
-    def __init__(self, machine, part):
-        self.part = part
-        number = lambda it: part[it] if isinstance(it, str) else it
-        self.number = number
+
+class Machine:
+    """A machine of the file with the numbers of a component, and the file's fields and constants. Its texts are read anew each
+    time they run."""
+
+    def __init__(self, machine, part, fields, constants):
+        self.part, self.fields, self.constants = part, fields, constants
+        self.own = set(machine.get("parameters", []))
+        number = self.number
         self.machine = machine
         self.registers = {}
         for name, it in machine.get("registers", {}).items():
@@ -163,7 +173,8 @@ class Machine:
         self.parameters = {it: part[it] for it in machine.get("parameters", []) if not isinstance(part[it], list)}
         self.observations = {name: [0, 0, 0] for name in machine.get("observations", [])}
         self.procedures = dict(machine.get("procedures", []))
-        self.names = {*self.procedures, *machine.get("parameters", []), *self.registers, *self.queues, *self.tables, *self.observations}
+        timers = [it["name"] for it in machine.get("timers", [])]
+        self.names = {*self.procedures, *self.own, *self.registers, *self.queues, *self.tables, *self.observations, *timers}
         self.x = mixed(number(machine.get("random", 0)) & MASK)
         self.time = 0
         self.left = None
@@ -174,6 +185,10 @@ class Machine:
         if first >= 0:
             self.left = self.brought(first)
         self.declare_timers()
+
+    def number(self, it):
+        """What stands where a number may stand: a number, or the name of a parameter or of a constant of the file."""
+        return it if not isinstance(it, str) else self.part[it] if it in self.own else self.constants[it]
 
     def declare_timers(self):
         """Timers: by name where its first is among all, and its count; of each which entry it is of, its number, and when it is due."""
@@ -312,7 +327,9 @@ class Machine:
         if token in self.registers:
             cells = self.registers[token]
             return cells[self.index(len(cells))] if isinstance(cells, list) else cells
-        return self.parameters[token] if token in self.parameters else self.seen[token]
+        if token in self.parameters:
+            return self.parameters[token]
+        return self.constants[token] if token in self.constants else self.seen[token]
 
     def below(self, end):
         return permuted(self.x) * end >> 32 if end > 0 else 0
@@ -323,8 +340,25 @@ class Machine:
             self.x = stepped(self.x)
         self.drawn = False
 
+    def item(self):
+        """The value of an item by its fields; those that are not named are 0."""
+        value, sign = 0, ","
+        while sign == ",":
+            one, count = self.fields[self.take()]
+            self.take(":")
+            value += self.expr() % count * one
+            sign = self.take(",", ")")
+        return value
+
     def function(self, name):
         self.take("(")
+        if name in self.fields:
+            one, count = self.fields[name]
+            value = self.expr() // one % count
+            self.take(")")
+            return value
+        if name == "item":
+            return self.item()
         if name == "roll":
             self.drawn = True
             end = self.expr()
@@ -469,7 +503,7 @@ class Machine:
 
     def repeat(self):
         token = self.take()
-        count = int(token) if token.isdigit() else self.parameters[token]
+        count = int(token) if token.isdigit() else self.number(token)
         start, outer = self.at, self.seen["turn"]
         for turn in range(count):
             self.at, self.seen["turn"] = start, turn
@@ -631,7 +665,9 @@ def simulate(net, until, write):
     routes = routes_of(atoms, edges)
     names = [name for name, _ in atoms]
     machines = {it["name"]: it for it in net.get("models", [])}
-    parts = [BUILT_IN[part["model"]](part) if part["model"] in BUILT_IN else Machine(machines[part["model"]], part) for _, part in atoms]
+    fields, constants = places_of(net.get("fields", [])), net.get("constants", {})
+    made = lambda part: Machine(machines[part["model"]], part, fields, constants)
+    parts = [BUILT_IN[part["model"]](part) if part["model"] in BUILT_IN else made(part) for _, part in atoms]
     last = [0] * len(parts)
     due = [None if it.left is None else (it.left, 0) for it in parts]
     inputs = {}

@@ -74,6 +74,8 @@ class Network:
 
     def __init__(self, micro_limit: SupportsIndex = 1000) -> None:
         self.micro_limit: Any = _plain(micro_limit, "micro_limit")
+        self._fields: dict[str, Any] = {}
+        self._constants: dict[str, Any] = {}
         self._machines: list[Any] = []
         self._components: list[tuple[str, Union[Network, dict[str, Any]]]] = []
         self._couplings: list[tuple[str, int, str, int]] = []
@@ -178,6 +180,53 @@ class Network:
         _take(self._machines, _plain(machine, "the machine"))
         return self
 
+    def fields(self, /, **bits: SupportsIndex) -> Network:
+        """Splits each value into fields, from the lowest bit on: of each its name and how many bits it has,
+        1 to 62, and 63 together. Programs of machines read them by their names and make values by `item`
+        (docs/MACHINES.md, "Fields"), and `Run.items` has a column for each.
+
+        Those of a later call stand above those of an earlier one; a name that is given again keeps its
+        place. The networks of a tree that have fields have the same ones.
+
+        Raises `TypeError` for bits that are no whole number.
+
+        >>> Network().fields(size=6, to=4).to_json().splitlines()[1]
+        ' "fields": [["size", 6], ["to", 4]],'
+        """
+        self._fields.update((name, _plain(width, f"the field {name!r}")) for name, width in bits.items())
+        return self
+
+    def constants(self, /, **numbers: SupportsIndex) -> Network:
+        """Gives numbers names that all machines know, where a number or a parameter may stand
+        (docs/MACHINES.md, "Constants"). A name that is given again has the later number. In the networks
+        of a tree a name has one number.
+
+        Raises `TypeError` for what is no whole number.
+
+        >>> Network().constants(places=4, gap=20).to_json().splitlines()[1]
+        ' "constants": {"gap": 20, "places": 4},'
+        """
+        self._constants.update((name, _plain(number, f"the constant {name!r}")) for name, number in numbers.items())
+        return self
+
+    def item(self, /, **numbers: SupportsIndex) -> int:
+        """The value with these numbers in its fields, each modulo what the field holds, and 0 in the others,
+        as `item(..)` of a machine gives it: for `input`, and for parameters.
+
+        Raises `ValueError` where this network itself has no such field, `TypeError` for what is no whole number.
+
+        >>> Network().fields(size=6, to=4).item(to=3, size=5)
+        197
+        """
+        unknown = [name for name in numbers if name not in self._fields]
+        if unknown:
+            raise ValueError(f"no field is named {unknown[0]!r}: there are {', '.join(self._fields) or 'none'}")
+        value, low = 0, 0
+        for name, bits in self._fields.items():
+            value += operator.index(numbers.get(name, 0)) % 2**bits * 2**low
+            low += bits
+        return value
+
     @property
     def names(self) -> tuple[str, ...]:
         """The flat names of all components that have a model, in their order.
@@ -217,11 +266,12 @@ class Network:
         return answer(["dot", "/dev/stdin"], self._bytes()).out.decode()
 
     def to_json(self) -> str:
-        """The text of the network's file, in the least format that serves: tw-3 where it has machines,
-        else tw-2 where it has coupled models, else tw-1. The same network gives the same text, in
-        whatever order parameters were given.
+        """The text of the network's file, in the least format that serves: tw-3 where it has machines, fields
+        or constants, else tw-2 where it has coupled models, else tw-1. The same network gives the same
+        text, in whatever order parameters and constants were given.
 
-        Raises `ValueError` where a network is a part of itself.
+        Raises `ValueError` where a network is a part of itself, and where networks of the tree have different
+        fields, or different numbers for one constant.
 
         >>> print(Network(100).add("t", "tally").to_json(), end="")
         {"format": "tw-1", "micro_limit": 100,
@@ -233,10 +283,15 @@ class Network:
         machines: list[Any] = []
         inputs: list[Any] = []
         components = self._parts("", (), machines, inputs)
+        fields, constants = _shared(self)
         coupled = any("components" in component for component in components)
-        standing = "tw-3" if machines else "tw-2" if coupled else "tw-1"
+        standing = "tw-3" if machines or fields or constants else "tw-2" if coupled else "tw-1"
         members = [f'{{"format": "{standing}", "micro_limit": {json.dumps(self.micro_limit)}']
-        if machines:
+        if fields:
+            members.append(f' "fields": {json.dumps(list(fields.items()))}')
+        if constants:
+            members.append(f' "constants": {json.dumps(constants, sort_keys=True)}')
+        if standing == "tw-3":
             members.append(f' "models": {_lines(machines)}')
         members.append(f' "components": {_lines(components)}')
         members.append(f' "couplings": {_lines(self._couplings)}')
@@ -322,11 +377,12 @@ class Network:
             else:
                 yield way + name, part["model"]
 
-    def _all_machines(self, around: tuple[Network, ...]) -> Iterator[Any]:
-        yield from self._machines
+    def _networks(self) -> Iterator[Network]:
+        """The network and those that are parts of it, which no network is of itself."""
+        yield self
         for _, part in self._components:
             if isinstance(part, Network):
-                yield from part._all_machines((*around, self))
+                yield from part._networks()
 
 
 def flat_models(network: Network) -> list[tuple[str, str, bool]]:
@@ -337,10 +393,35 @@ def flat_models(network: Network) -> list[tuple[str, str, bool]]:
     [('q', 'queue', True), ('t', 'tally', False)]
     """
     counting = {"relay", "queue"}
-    for machine in network._all_machines(()):
-        if isinstance(machine.get("name"), str) and _shows_queue(machine):
-            counting.add(machine["name"])
+    for part in network._networks():
+        for machine in part._machines:
+            if isinstance(machine.get("name"), str) and _shows_queue(machine):
+                counting.add(machine["name"])
     return [(name, model, model in counting) for name, model in network._atoms("", ())]
+
+
+def field_names(network: Network) -> list[str]:
+    """The names of the fields of a network, from the lowest bit on.
+
+    >>> field_names(Network().add("inner", Network().fields(size=6, to=4)))
+    ['size', 'to']
+    """
+    return list(_shared(network)[0])
+
+
+def _shared(network: Network) -> tuple[dict[str, Any], dict[str, Any]]:
+    """The fields and the constants of a tree, which its networks say alike."""
+    fields: dict[str, Any] = {}
+    constants: dict[str, Any] = {}
+    for part in network._networks():
+        if part._fields:
+            if fields and list(fields.items()) != list(part._fields.items()):
+                raise ValueError(f"a network is a part of one with other fields: {part._fields} beside {fields}")
+            fields = part._fields
+        for name, number in part._constants.items():
+            if constants.setdefault(name, number) != number:
+                raise ValueError(f"the constant {name!r} is {number} in one network and {constants[name]} in another")
+    return fields, constants
 
 
 _SHOWN = re.compile(r"([A-Za-z_][A-Za-z0-9_]*)\s*(?:\[.*\])?", re.DOTALL)
@@ -408,11 +489,13 @@ def _network(file: Any) -> Network:
     members = {"format", "micro_limit", "components", "couplings", "inputs"}
     _demand(isinstance(file, dict) and file.get("format") in ("tw-1", "tw-2", "tw-3"), "the format")
     standing = file["format"]
-    _demand(file.keys() == members | ({"models"} if standing == "tw-3" else set()), "the members of the file")
+    more = file.keys() & {"fields", "constants"} | {"models"} if standing == "tw-3" else set()
+    _demand(file.keys() == members | more, "the members of the file")
     network = _coupled(file["components"], file["couplings"], standing != "tw-1")
     _demand(type(file["micro_limit"]) is int, "micro_limit")
     network.micro_limit = file["micro_limit"]
     _demand(isinstance(file["inputs"], list) and isinstance(file.get("models", []), list), "a list")
+    _say(network, file.get("fields", []), file.get("constants", {}))
     for machine in file.get("models", []):
         network.use(machine)
     _demand(len(network._machines) == len(file.get("models", [])), "a machine that stands twice")
@@ -420,6 +503,17 @@ def _network(file: Any) -> Network:
         _demand(isinstance(given, dict) and given.keys() == {"tick", "to", "port", "value"}, "an input")
         network.input(**given)
     return network
+
+
+def _say(network: Network, fields: Any, constants: Any) -> None:
+    """Gives a network the fields and the constants of a file."""
+    _demand(isinstance(fields, list) and isinstance(constants, dict), "fields or constants")
+    for field in fields:
+        _demand(isinstance(field, list) and len(field) == 2 and isinstance(field[0], str), "a field")
+        _demand(type(field[1]) is int and field[0] not in network._fields, "a field")
+        network.fields(**{field[0]: field[1]})
+    _demand(all(type(number) is int for number in constants.values()), "a constant")
+    network.constants(**constants)
 
 
 def _coupled(components: Any, couplings: Any, nested: bool) -> Network:

@@ -13,7 +13,7 @@ import numpy as np
 import pandas as pd
 
 from .errors import LimitFault, ProgramFailed, ProgramTooOld, RequestError
-from .network import Network, flat_models
+from .network import Network, field_names, flat_models
 from .pictures import Picture, titled
 from .program import BUILD, Process, answer, find, outcome
 from .tables import read_table
@@ -240,6 +240,7 @@ def simulate(
         count,
         on_fault == "keep",
         _settings(numbers or {}, _whole(replication, "replication")),
+        field_names(network),
     )
 
 
@@ -259,8 +260,10 @@ class Run:
         workers: Optional[str],
         keep: bool,
         settings: Sequence[str] = (),
+        fields: Sequence[str] = (),
     ) -> None:
         self.until = until
+        self._fields = list(fields)
         self._settings = list(settings)
         self._network = network
         self._models = models
@@ -331,8 +334,9 @@ class Run:
 
     def items(self, start: Optional[int] = None, only: Union[None, str, Sequence[str]] = None) -> pd.DataFrame:
         """A row for each item of a record: `tick`, `microstep`, `component`, `kind` (both categories),
-        `port` and `value`. Of a kind `out` it was sent, of another it came. `start` and `only` are as of
-        `table`.
+        `port` and `value`, and a column for each field of the network by its name (`tick.1` of a field that
+        is called as a column before it). Of a kind `out` it was sent, of another it came. `start` and `only`
+        are as of `table`.
 
         It is read as the program writes. Raises `LimitFault` (with the rows up to it as `partial`), and
         what `simulate` says.
@@ -341,7 +345,9 @@ class Run:
         >>> simulate(Network().add("g", "gen", period=2, value=5), until=5).items().value.sum()
         10
         """
-        return self._table(["--items", *_shown(start, only)], {"port": "int64", "value": "int64"})
+        columns = {"port": "int64", "value": "int64"}
+        columns.update({f"{name}.1" if name in _FIRST else name: "int64" for name in self._fields})
+        return self._table(["--items", *_shown(start, only)], columns)
 
     def words(self, start: Optional[int] = None, only: Union[None, str, Sequence[str]] = None) -> pd.DataFrame:
         """A row for each word of a state after a transition: `tick`, `microstep`, `component`, `kind`
@@ -535,6 +541,9 @@ class Run:
 
 # How many rows of a table are looked at together where not all are kept.
 _ROWS = 200_000
+
+# The columns of each table that a field can be named after; pandas counts names that stand twice.
+_FIRST = ("tick", "microstep", "component", "kind")
 
 
 def _only(names: Union[None, str, Sequence[str]]) -> list[str]:

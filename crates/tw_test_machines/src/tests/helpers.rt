@@ -6,7 +6,7 @@ use std::process::Abort;
 use tw_any_model::AnyModel;
 use tw_machine::machine::{Machine, Shared};
 use tw_machine_compiler::compile;
-use tw_machine_file::{FileMachine, given_of, machine_of};
+use tw_machine_file::{FileMachine, SharedNames, given_of, machine_of};
 use tw_msgs::Record;
 use tw_network::{Coupling, Input, Network};
 use tw_seq::simulate;
@@ -32,7 +32,7 @@ pub(crate) struct Scene {
 /// The machine that a text declares.
 pub(crate) fn read(rt: &impl Abort, alloc: Global, text: &str) -> FileMachine {
     let value = Value::from_slice(alloc, text.as_bytes()).expect(rt, "JSON");
-    machine_of(alloc, &[], &value).expect(rt, "a machine")
+    machine_of(alloc, &SharedNames::nothing(alloc), &[], &value).expect(rt, "a machine")
 }
 
 /// The model of a component.

@@ -2,10 +2,10 @@
 
 use std::alloc::Global;
 use std::process::Abort;
-use tw_machine_text::{Declared, Kind, Program, TextRefused, Timing, read_program};
+use tw_machine_text::{Declared, Kind, Meaning, Program, TextRefused, Timing, read_program};
 
 // The numbers of names begin behind those of the functions and `in`.
-const FIRST: usize = 16;
+const FIRST: usize = 17;
 
 // A register `n` and a timer `shift`, and behind them the names that no text has: how many timers are before `shift`, when timers are
 // due, which goes next, the least wait, and the queues of ports and of values.
@@ -39,7 +39,10 @@ fn read(
     let mut declared = Vec::new(alloc);
     for (name, kind) in NAMES {
         let name = String::from_str(alloc, name).expect(rt, "memory");
-        declared.push(Declared { name, kind }).expect(rt, "memory");
+        let meaning = Meaning { kind, field: None };
+        declared
+            .push(Declared { name, meaning })
+            .expect(rt, "memory");
     }
     read_program(alloc, declared.as_slice(), timing, &[], text, 4096)
 }
